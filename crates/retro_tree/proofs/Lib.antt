@@ -1,0 +1,10 @@
+pub mod Small
+pub mod Fronts
+pub mod Parents
+pub mod MapLemmas
+pub mod StateLaws
+pub mod Results
+pub mod LawLemmas
+pub mod WholeLaw
+pub mod Standing
+pub mod StateLaw

@@ -1,0 +1,14 @@
+pub mod Order
+pub mod Name
+pub mod VarName
+pub mod Path
+pub mod Node
+pub mod Entry
+pub mod Tree
+pub mod Maps
+pub mod SessionCode
+pub mod Session
+pub mod Settings
+pub mod State
+pub mod Lawful
+pub mod Resolving

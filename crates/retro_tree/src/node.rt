@@ -1,0 +1,60 @@
+//! What stands at a path, and whether it may be written to.
+ghost use Rattle.std.specs.Prelude.{◌≡◌, OnOk, OnErr};
+ghost use Rattle.retro_tree.specs.Node.{entry_grown};
+
+use crate::bytes::Bytes;
+use std::alloc::AllocError;
+
+/// The greatest size of a file, in bytes.
+pub const FILE_LIMIT: u64 = 1_048_576;
+
+/// What is at a path.
+#[derive(Drop, Clone)]
+pub enum Node {
+    Missing,
+    Dir,
+    File(Bytes),
+}
+
+/// Which kind of node is at a path.
+#[derive(Drop, Clone, Copy, PartialEq, Eq)]
+pub enum Kind {
+    Missing,
+    Dir,
+    File,
+}
+
+/// Whether bytes may be written to a file, or what stands against it.
+#[derive(Drop, Clone, Copy, PartialEq, Eq)]
+pub enum Permit {
+    /// They may be written.
+    Yes,
+    /// The parent is missing.
+    NoParent,
+    /// The parent is a file.
+    NotDir,
+    /// The path is a directory.
+    IsDir,
+    /// The file would be over the limit.
+    TooLarge,
+}
+
+/// What a tree holds at a path.
+#[derive(Drop, Clone)]
+pub enum Entry {
+    Dir,
+    File(Bytes),
+}
+
+impl Entry {
+    /// Adds bytes at the end of a file. A directory stays.
+    pub fn grow(&mut self, bytes: &Bytes) -> Result<(), AllocError>
+        ensures ok { OnOk result (self.new ≡ entry_grown bytes.now self.old) }
+        ensures err { OnErr result (self.new ≡ self.old) }
+    {
+        match self {
+            Entry::Dir => Ok(()),
+            Entry::File(old) => old.extend(bytes),
+        }
+    }
+}

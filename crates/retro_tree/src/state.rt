@@ -1,0 +1,161 @@
+//! A tree and its sessions.
+ghost use Rattle.std.specs.Prelude.{◌≡◌, IfOk, OnOk, OnErr};
+ghost use Rattle.std.specs.Option.{option_copied};
+ghost use Rattle.std.specs.FinMap as map;
+ghost use Rattle.retro_tree.specs.Node.{bytes_in, kind_of};
+ghost use Rattle.retro_tree.specs.Tree.{node_in};
+ghost use Rattle.retro_tree.specs.Session.{session_in};
+ghost use Rattle.retro_tree.specs.State.{empty_state, put_node, grow_file, put_session, put_status, permit_of};
+
+use crate::bytes::Bytes;
+use crate::node::{Entry, Kind, Node, Permit};
+use crate::path::Path;
+use crate::session::{Session, Sessions, Setting, Vars};
+use crate::text::Text;
+use crate::tree::Tree;
+use crate::var_name::VarName;
+use std::alloc::{AllocError, Global};
+use std::collections::BTreeMap;
+
+/// A tree of files and the sessions that work in it.
+#[derive(Drop, Clone)]
+pub struct State {
+    tree: Tree,
+    sessions: Sessions,
+}
+
+impl State {
+    /// The root alone, without sessions.
+    #[tactic(auto, unfolding(crate::specs::State::empty_state))]
+    pub fn empty(alloc: Global) -> Result<State, AllocError>
+        ensures { IfOk result (λ state. state ≡ empty_state) }
+    {
+        let mut tree = Tree::new(alloc);
+        tree.insert(Path::root(alloc), Entry::Dir)?;
+        Ok(State {
+            tree,
+            sessions: Sessions::new(alloc),
+        })
+    }
+
+    pub fn copy(&self) -> Result<State, AllocError>
+        ensures { IfOk result (λ copy. copy ≡ self.now) }
+    {
+        self.clone()
+    }
+
+    /// The files and directories.
+    pub fn tree(&self) -> &Tree
+        ensures { result.now ≡ self.now.tree }
+    {
+        &self.tree
+    }
+
+    /// The sessions, by their numbers.
+    pub fn sessions(&self) -> &Sessions
+        ensures { result.now ≡ self.now.sessions }
+    {
+        &self.sessions
+    }
+
+    /// Puts a node at a path, where Missing removes. After want of memory the state is as before.
+    pub fn place(&mut self, path: Path, node: Node) -> Result<(), AllocError>
+        ensures ok { OnOk result (self.new ≡ put_node path node self.old) }
+        ensures err { OnErr result (self.new ≡ self.old) }
+    {
+        match node {
+            Node::Missing => {
+                self.tree.remove(&path);
+                Ok(())
+            }
+            Node::Dir => self.tree.insert(path, Entry::Dir),
+            Node::File(bytes) => self.tree.insert(path, Entry::File(bytes)),
+        }
+    }
+
+    /// Adds bytes at the end of a file, in place. A missing file is made, and a directory stays.
+    /// After want of memory the state is as before.
+    pub fn grow(&mut self, path: &Path, bytes: &Bytes) -> Result<(), AllocError>
+        ensures ok { OnOk result (self.new ≡ grow_file path.now bytes.now self.old) }
+        ensures err { OnErr result (self.new ≡ self.old) }
+    {
+        self.tree.grow(path, bytes)
+    }
+
+    /// Adds a session, or puts another in its place.
+    pub fn add_session(
+        &mut self,
+        sid: u32,
+        cwd: Path,
+        status: u8,
+        vars: BTreeMap<VarName, Text>,
+    ) -> Result<(), AllocError>
+        ensures ok { OnOk result (self.new ≡ put_session sid
+            (record { cwd = cwd; vars = map.from_entries vars.entries; status = status })
+            self.old) }
+        ensures err { OnErr result (self.new ≡ self.old) }
+    {
+        let session = Session {
+            cwd,
+            vars: Vars::of(vars),
+            status,
+        };
+        self.sessions.insert(sid, session)
+    }
+
+    /// Sets the status of a session. One that isn't there is made first: at the root, without
+    /// variables.
+    pub fn set_status(&mut self, alloc: Global, sid: u32, status: u8) -> Result<(), AllocError>
+        ensures ok { OnOk result (self.new ≡ put_status sid status self.old) }
+        ensures err { OnErr result (self.new ≡ self.old) }
+    {
+        self.sessions.set(alloc, sid, Setting::Status(status))
+    }
+
+    /// Which kind of node is at a path.
+    pub fn kind(&self, path: &Path) -> Kind
+        ensures { result ≡ kind_of (node_in path.now self.now.tree) }
+    {
+        self.tree.kind(path)
+    }
+
+    /// What is at a path, copied.
+    pub fn node(&self, path: &Path) -> Result<Node, AllocError>
+        ensures { IfOk result (λ node. node ≡ node_in path.now self.now.tree) }
+    {
+        self.tree.node(path)
+    }
+
+    /// The bytes of the file at a path, where one is.
+    pub fn file(&self, path: &Path) -> Option<&Bytes>
+        ensures { option_copied result ≡ bytes_in (node_in path.now self.now.tree) }
+    {
+        self.tree.file(path)
+    }
+
+    /// Whether so many bytes more may be written to the file at a path.
+    pub fn permit(&self, alloc: Global, path: &Path, more: u64) -> Result<Permit, AllocError>
+        ensures { IfOk result (λ permit. permit ≡ permit_of path.now more self.now) }
+    {
+        let parent = path.parent(alloc)?;
+        Ok(self.tree.permit(path, &parent, more))
+    }
+
+    /// The directory of a session, which is the root where the session isn't there.
+    #[tactic(auto, unfolding(crate::specs::Session::fresh_session))]
+    pub fn cwd(&self, alloc: Global, sid: u32) -> Result<Path, AllocError>
+        ensures { IfOk result (λ cwd. cwd ≡ (session_in sid self.now.sessions).cwd) }
+    {
+        match self.sessions.get(sid) {
+            Some(session) => Ok(session.cwd.copy()?),
+            None => Ok(Path::root(alloc)),
+        }
+    }
+
+    /// Whether a session is there.
+    pub fn has_session(&self, sid: u32) -> bool
+        ensures { result ≡ map.contains_key self.now.sessions sid }
+    {
+        self.sessions.get(sid).is_some()
+    }
+}

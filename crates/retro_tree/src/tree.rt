@@ -1,0 +1,191 @@
+//! A tree of files.
+ghost use Rattle.std.specs.Prelude.{◌≡◌, IfOk, OnOk, OnErr, None};
+ghost use Rattle.std.specs.Option.{option_copied};
+ghost use Rattle.std.specs.FinMap as map;
+ghost use Rattle.retro_tree.specs.Node.{bytes_in, kind_of, size_of, permit_at, grown};
+ghost use Rattle.retro_tree.specs.Tree.{node_in, put};
+ghost use Rattle.retro_tree.specs.Lawful.{is_lawful_tree, entry_passes};
+
+use crate::bytes::Bytes;
+use crate::node::{Entry, FILE_LIMIT, Kind, Node, Permit};
+use crate::path::Path;
+use std::alloc::{AllocError, Global};
+use std::collections::BTreeMap;
+use std::collections::btree_map::Iter;
+use std::marker::Model;
+
+/// A map from paths to directories and files.
+#[derive(Drop, Clone)]
+pub struct Tree {
+    entries: BTreeMap<Path, Entry>,
+}
+
+impl Model for Tree {
+    ghost use Rattle.std.specs.FinMap as map;
+    ghost use Rattle.std.specs.Coded.{coded_ℕ, coded_list};
+    ghost use Rattle.retro_tree.specs.Order.{path_cmp};
+    ghost use Rattle.retro_tree.specs.declared.node.Entry.{Entry};
+    ghost use Rattle.retro_tree.specs.Entry.{coded_entry};
+
+    ghost Value = { map.FinMap path_cmp Entry };
+
+    ghost coded = { map.code (coded_list (coded_list coded_ℕ)) coded_entry };
+
+    ghost view = { λ a. map.from_entries a.entries.entries };
+}
+
+impl Tree {
+    pub fn new(alloc: Global) -> Tree
+        ensures { result ≡ map.empty }
+    {
+        Tree {
+            entries: BTreeMap::new(alloc),
+        }
+    }
+
+    pub fn get(&self, path: &Path) -> Option<&Entry>
+        ensures { option_copied result ≡ map.get self.now path.now }
+    {
+        self.entries.get(path)
+    }
+
+    pub fn insert(&mut self, path: Path, entry: Entry) -> Result<(), AllocError>
+        ensures ok { OnOk result (self.new ≡ map.insert self.old path entry) }
+        ensures err { OnErr result (self.new ≡ self.old) }
+    {
+        self.entries.insert(path, entry)?;
+        Ok(())
+    }
+
+    pub fn remove(&mut self, path: &Path)
+        ensures { self.new ≡ map.remove self.old path.now }
+    {
+        self.entries.remove(path);
+    }
+
+    /// What the tree holds, in order of paths.
+    pub fn iter(&self) -> Iter<'_, Path, Entry>
+        ensures { result ≡ map.entries self.now }
+    {
+        self.entries.iter()
+    }
+
+    pub fn copy(&self) -> Result<Tree, AllocError>
+        ensures { IfOk result (λ copy. copy ≡ self.now) }
+    {
+        self.clone()
+    }
+
+    /// What is at a path.
+    #[tactic(auto, unfolding(crate::specs::Tree::node_in))]
+    pub fn node(&self, path: &Path) -> Result<Node, AllocError>
+        ensures { IfOk result (λ node. node ≡ node_in path.now self.now) }
+    {
+        match self.get(path) {
+            None => Ok(Node::Missing),
+            Some(Entry::Dir) => Ok(Node::Dir),
+            Some(Entry::File(bytes)) => Ok(Node::File(bytes.copy()?)),
+        }
+    }
+
+    #[tactic(auto, unfolding(crate::specs::Tree::node_in))]
+    pub fn kind(&self, path: &Path) -> Kind
+        ensures { result ≡ kind_of (node_in path.now self.now) }
+    {
+        match self.get(path) {
+            None => Kind::Missing,
+            Some(Entry::Dir) => Kind::Dir,
+            Some(Entry::File(_)) => Kind::File,
+        }
+    }
+
+    /// The bytes of the file at a path, where one is.
+    #[tactic(auto, unfolding(crate::specs::Tree::node_in))]
+    pub fn file(&self, path: &Path) -> Option<&Bytes>
+        ensures { option_copied result ≡ bytes_in (node_in path.now self.now) }
+    {
+        match self.get(path) {
+            Some(Entry::File(bytes)) => Some(bytes),
+            _ => None,
+        }
+    }
+
+    /// How many bytes the file at a path has, or 0 where none is.
+    #[tactic(auto, unfolding(crate::specs::Tree::node_in))]
+    pub fn size(&self, path: &Path) -> usize
+        ensures { result ≡ size_of (node_in path.now self.now) }
+    {
+        match self.get(path) {
+            Some(Entry::File(bytes)) => bytes.len(),
+            _ => 0,
+        }
+    }
+
+    /// Whether so many bytes more may be written to a file.
+    pub fn permit(&self, path: &Path, parent: &Path, more: u64) -> Permit
+        ensures { result ≡ permit_at (node_in path.now self.now) (node_in parent.now self.now) more }
+    {
+        if self.kind(path) == Kind::Dir {
+            return Permit::IsDir;
+        }
+        match self.kind(parent) {
+            Kind::Missing => Permit::NoParent,
+            Kind::File => Permit::NotDir,
+            Kind::Dir => {
+                if more > FILE_LIMIT || self.size(path) as u64 > FILE_LIMIT - more {
+                    Permit::TooLarge
+                } else {
+                    Permit::Yes
+                }
+            }
+        }
+    }
+
+    /// Adds bytes at the end of a file. A missing file is made, and a directory stays.
+    pub fn grow(&mut self, path: &Path, bytes: &Bytes) -> Result<(), AllocError>
+        ensures ok { OnOk result (self.new ≡ put path.now (grown bytes.now (node_in path.now self.old)) self.old) }
+        ensures err { OnErr result (self.new ≡ self.old) }
+    {
+        if let Some(entry) = self.entries.get_mut(path) {
+            return entry.grow(bytes);
+        }
+        let path = path.copy()?;
+        let bytes = bytes.copy()?;
+        self.insert(path, Entry::File(bytes))
+    }
+
+    /// Whether the root is a directory and all that stands in the tree may stand there.
+    #[tactic(auto, unfolding(crate::specs::Lawful::is_lawful_tree))]
+    pub fn is_lawful(&self, alloc: Global) -> Result<bool, AllocError>
+        ensures { IfOk result (λ lawful. lawful ≡ is_lawful_tree self.now) }
+    {
+        let root = Path::root(alloc);
+        if self.kind(&root) != Kind::Dir {
+            return Ok(false);
+        }
+        for (path, entry) in self.iter() {
+            if !self.entry_passes(alloc, path, entry)? {
+                return Ok(false);
+            }
+        }
+        Ok(true)
+    }
+
+    #[tactic(auto, unfolding(crate::specs::Lawful::entry_passes))]
+    fn entry_passes(&self, alloc: Global, path: &Path, entry: &Entry) -> Result<bool, AllocError>
+        ensures { IfOk result (λ passes. passes ≡ entry_passes self.now (path.now, entry.now)) }
+    {
+        let is_dir = matches!(entry, Entry::Dir);
+        if path.is_root() {
+            return Ok(is_dir);
+        }
+        let parent = path.parent(alloc)?;
+        if self.kind(&parent) != Kind::Dir || !path.may_stand() {
+            return Ok(false);
+        }
+        match entry {
+            Entry::File(bytes) => Ok(bytes.len() as u64 <= FILE_LIMIT),
+            Entry::Dir => Ok(true),
+        }
+    }
+}
