@@ -1,0 +1,7 @@
+pub mod WordLemmas
+pub mod Complete
+pub mod Sound
+pub mod ViewLemmas
+pub mod ReaderLemmas
+pub mod LineLemmas
+pub mod QuotingLemmas
