@@ -4,4 +4,5 @@ pub mod Sound
 pub mod ViewLemmas
 pub mod ReaderLemmas
 pub mod LineLemmas
+pub mod PlainLemmas
 pub mod QuotingLemmas

@@ -4,7 +4,7 @@ use Rattle.std.specs.declared.alloc.AllocError.{AllocError}
 use Rattle.std.specs.declared.alloc.Global.{Global}
 use Rattle.retro_syntax.specs.Tree as T
 use Rattle.retro_syntax.specs.Quoting as Q
-use Rattle.retro_syntax.specs.View.{token_view, piece_view}
+use Rattle.retro_syntax.specs.View.{tokens_view, piece_view}
 use Rattle.retro_syntax.specs.declared.tree.Piece.{Piece}
 use Rattle.retro_syntax.specs.declared.tree.Token.{Token}
 use Rattle.retro_syntax.specs.declared.quoting.Reading.{Reading}
@@ -30,10 +30,7 @@ pending_view (p.Operator op) = Q.operator op
 pending_view (p.Reading r) = Q.reading (reading_view r)
 
 abbrev pub lexing_view : Lexing → Q.Lexing
-lexing_view l = record { tokens = map token_view l.tokens.items; pending = pending_view l.pending; backslash = l.backslash }
-
-abbrev pub tokens_view : Vec Token Global → List T.Token
-tokens_view ts = map token_view ts.items
+lexing_view l = record { tokens = tokens_view l.tokens; pending = pending_view l.pending; backslash = l.backslash }
 
 -- the answer is this state, or none where there is none
 abbrev pub LexesTo : Result (Option Lexing) AllocError → Option Q.Lexing → Type 0

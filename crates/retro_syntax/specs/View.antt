@@ -45,6 +45,9 @@ token_view (t.Connector c) = T.connector c
 token_view (t.Redirection d) = T.redirection d
 token_view (t.Word w) = T.word (word_view w)
 
+abbrev pub tokens_view : Vec Token Global → List T.Token
+tokens_view ts = map token_view ts.items
+
 module _ {C : Type 0} (of : C → T.Command) where
   abbrev pub pipeline_of : Pipeline C → T.Pipeline
   pipeline_of p = T.pipeline p.negated (of p.command)

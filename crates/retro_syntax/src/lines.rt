@@ -86,6 +86,13 @@ fn has_foreign(text: &[u8]) -> bool
     false
 }
 
+/// Whether the line is a list of plain commands.
+fn is_plain(alloc: Global, line: &Line) -> Result<bool, AllocError>
+    ensures { IfOk result (λ plain. plain ≡ is_some (Plain.plain_commands (line_view line.now))) }
+{
+    Ok(plain_commands(alloc, line)?.is_some())
+}
+
 /// The line that the text spells, where it has at most 4,096 bytes and is a list of plain commands: words and output
 /// redirections, parted by `;`.
 ///
@@ -106,10 +113,11 @@ pub fn parse(alloc: Global, text: &str) -> Result<Line, Refused>
     match line_of(alloc, text)? {
         None => Err(Refused::Unsupported),
         Some(line) => {
-            if plain_commands(alloc, &line)?.is_none() {
-                return Err(Refused::Unsupported);
+            if is_plain(alloc, &line)? {
+                Ok(line)
+            } else {
+                Err(Refused::Unsupported)
             }
-            Ok(line)
         }
     }
 }

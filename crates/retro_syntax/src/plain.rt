@@ -4,10 +4,10 @@ ghost use Rattle.std.specs.Prelude.{◌≡◌, [], ◌∷◌, ◌++◌, IfOk, Op
 ghost use Rattle.retro_syntax.specs.Lines.{line_view};
 ghost use Rattle.retro_syntax.specs.Plain as Plain;
 ghost use Rattle.retro_syntax.specs.PlainViews.{plain_command_view, plain_commands_view, plain_item_view};
-ghost use Rattle.retro_syntax.specs.View.{and_or_of, item_view, simple_view, view, word_view};
+ghost use Rattle.retro_syntax.specs.View.{and_or_of, item_view, pipeline_of, simple_view, view, word_view};
 
 use crate::lines::Line;
-use crate::tree::{AndOr, Command, Direction, Item, Piece, Simple, Word};
+use crate::tree::{AndOr, Command, Direction, Item, Piece, Pipeline, Simple, Word};
 use std::alloc::{AllocError, Global};
 
 /// A part of a plain command, in the order in which it is written.
@@ -106,14 +106,27 @@ fn plain_command<'a>(alloc: Global, command: &'a Command) -> Result<Option<Plain
     }
 }
 
+fn plain_pipeline<'a>(
+    alloc: Global,
+    pipeline: &'a Pipeline<Command>,
+) -> Result<Option<PlainCommand<'a>>, AllocError>
+    ensures { IfOk result (λ found.
+        option_map plain_command_view found ≡ Plain.plain_pipeline (pipeline_of view pipeline.now)) }
+{
+    if pipeline.negated {
+        return Ok(None);
+    }
+    plain_command(alloc, &pipeline.command)
+}
+
 fn plain_and_or<'a>(alloc: Global, and_or: &'a AndOr<Command>) -> Result<Option<PlainCommand<'a>>, AllocError>
     ensures { IfOk result (λ found.
         option_map plain_command_view found ≡ Plain.plain_and_or (and_or_of view and_or.now)) }
 {
-    if and_or.joined.len() != 0 || and_or.last.negated {
-        return Ok(None);
+    match and_or.joined.as_slice() {
+        [] => plain_pipeline(alloc, &and_or.last),
+        [_first, _more @ ..] => Ok(None),
     }
-    plain_command(alloc, &and_or.last.command)
 }
 
 fn plain_list<'a>(

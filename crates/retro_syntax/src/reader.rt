@@ -9,7 +9,7 @@ ghost use Rattle.std.specs.Prelude.{◌≡◌, ◌∷◌, ◌++◌, IfOk, List, 
 ghost use Rattle.retro_syntax.specs.Tree;
 ghost use Rattle.retro_syntax.specs.Reader;
 ghost use Rattle.retro_syntax.specs.View;
-ghost use Rattle.retro_syntax.specs.View.{token_view, view, commands_of, word_view, simple_view, item_view};
+ghost use Rattle.retro_syntax.specs.View.{token_view, tokens_view, view, commands_of, word_view, simple_view, item_view};
 ghost use Rattle.retro_syntax.specs.ReaderViews.{StepsTo, frame_view, items_view, level_view, open_view, place_view, stack_view, stages_view, state_view, words_view};
 
 use crate::tree::{AndOr, Command, Commands, Connector, Direction, Item, Pipeline, Simple, Token, Word};
@@ -63,7 +63,7 @@ pub struct State {
 }
 
 
-#[tactic(auto, unfolding(crate::specs::Machine::step))]
+#[tactic(auto, unfolding(crate::specs::Reader::step))]
 pub fn step(alloc: Global, state: State, token: Token) -> Result<Option<State>, AllocError>
     ensures { StepsTo result (Reader.step (state_view state) (token_view token)) }
 {
@@ -101,7 +101,7 @@ pub fn finish(state: State) -> Result<Option<Commands<Command>>, AllocError>
 }
 
 /// The list that the tokens are.
-#[tactic(auto, unfolding(crate::specs::Machine::commands_of))]
+#[tactic(auto, unfolding(crate::specs::Reader::commands_of))]
 pub fn read_tokens(alloc: Global, tokens: Vec<Token>) -> Result<Option<Commands<Command>>, AllocError>
     ensures { IfOk result (λ c. option_map (commands_of view) c ≡ Reader.commands_of (tokens_view tokens)) }
 {

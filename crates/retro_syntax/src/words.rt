@@ -153,6 +153,24 @@ pub fn class_of(word: &Word) -> Class
     }
 }
 
+pub fn is_assignment(class: Class) -> bool
+    ensures { result ≡ Words.is_assignment class }
+{
+    match class {
+        Class::Assignment => true,
+        Class::Keyword(_) | Class::Forbidden | Class::Ordinary => false,
+    }
+}
+
+pub fn is_ordinary(class: Class) -> bool
+    ensures { result ≡ Words.is_ordinary class }
+{
+    match class {
+        Class::Ordinary => true,
+        Class::Keyword(_) | Class::Forbidden | Class::Assignment => false,
+    }
+}
+
 /// The name that the word is, for `for`.
 #[tactic(auto, unfolding(crate::specs::Words::name_of))]
 pub fn name_of(alloc: Global, word: &Word) -> Result<Option<String>, AllocError>

@@ -6,8 +6,8 @@ ghost use Rattle.std.specs.Str.{chars};
 ghost use Rattle.retro_syntax.specs.Quoting;
 ghost use Rattle.retro_syntax.specs.Tree;
 ghost use Rattle.retro_syntax.specs.Words.{is_one_of};
-ghost use Rattle.retro_syntax.specs.View.{token_view, piece_view};
-ghost use Rattle.retro_syntax.specs.QuotingViews.{LexesTo, TokenizesTo, lexing_view, pending_view, pieces_view, reading_view, tokens_view};
+ghost use Rattle.retro_syntax.specs.View.{token_view, tokens_view, piece_view};
+ghost use Rattle.retro_syntax.specs.QuotingViews.{LexesTo, TokenizesTo, lexing_view, pending_view, pieces_view, reading_view};
 
 use crate::quoting::{Lexing, Operator, Pending, Quote, Reading};
 use crate::tree::{Connector, Direction, Piece, Token, Word};

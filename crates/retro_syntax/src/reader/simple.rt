@@ -10,7 +10,7 @@ ghost use Rattle.retro_syntax.specs.ReaderViews.{StepsTo, frame_view, items_view
 use crate::build::{conditional, conditional_else, pipe, repetition};
 use crate::reader::{Arm, Frame, Open, Place, State};
 use crate::tree::{AndOr, Command, Commands, Conditional, Connector, Direction, Item, Key, Loop, Pipeline, Simple, Token, Word};
-use crate::words::{Class, class_of, name_of};
+use crate::words::{Class, class_of, is_assignment, is_ordinary};
 use crate::reader::lists::go_on;
 use std::alloc::{AllocError, Global};
 
@@ -51,24 +51,6 @@ pub fn no_argument(items: &[Item]) -> bool
         }
     }
     true
-}
-
-pub fn is_assignment(class: Class) -> bool
-    ensures { result ≡ Reader.is_assignment class }
-{
-    match class {
-        Class::Assignment => true,
-        Class::Keyword(_) | Class::Forbidden | Class::Ordinary => false,
-    }
-}
-
-pub fn is_ordinary(class: Class) -> bool
-    ensures { result ≡ Reader.is_ordinary class }
-{
-    match class {
-        Class::Ordinary => true,
-        Class::Keyword(_) | Class::Forbidden | Class::Assignment => false,
-    }
 }
 
 pub fn add_word(stack: Vec<(Open, Frame)>, here: Open, stages: Vec<Simple>, simple: Simple, word: Word) -> Result<Option<State>, AllocError>
