@@ -1,0 +1,11 @@
+pub mod Tree
+pub mod Words
+pub mod Reader
+pub mod Spells
+pub mod View
+pub mod ReaderViews
+pub mod Quoting
+pub mod QuotingViews
+pub mod Plain
+pub mod PlainViews
+pub mod Lines

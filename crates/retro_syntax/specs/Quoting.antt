@@ -1,0 +1,258 @@
+-- Token recognition with quotes and parameters, character by character (XCU 2.2, 2.3, 2.6.2).
+use Rattle.std.specs.Prelude.{◌≡◌, ℕ, Bool, true, false, not, ◌&&◌, ◌||◌, ◌==◌, if◌then◌else◌, List, [], ◌∷◌, ◌++◌, Option, Some, None, option_map, option_and_then, codes}
+use Rattle.std.specs.Char.{encode_utf8, is_ascii_digit, is_ascii_alphabetic, is_ascii_alphanumeric}
+use Rattle.retro_syntax.specs.Tree.{Piece, plain, quoted, parameter, quoted_parameter, Token, semicolon, bar, connector, redirection, word}
+use Rattle.retro_syntax.specs.Words.{is_one_of}
+use Rattle.retro_syntax.specs.declared.tree.Direction.TheVariants.{From, Onto, Append}
+use Rattle.retro_syntax.specs.declared.tree.Connector.TheVariants.{AndIf, OrIf}
+use Rattle.retro_syntax.specs.declared.quoting.Operator.{Operator}
+use Rattle.retro_syntax.specs.declared.quoting.Operator.TheVariants as o
+use Rattle.retro_syntax.specs.declared.quoting.Quote.{Quote}
+use Rattle.retro_syntax.specs.declared.quoting.Quote.TheVariants.{Unquoted, Single, Double}
+
+-- what a parameter is read as
+pub data Reading : Type 0 where
+  -- in a word, which is all unquoted digits or isn't
+  in_word : List Piece → Bool → Quote → Reading
+  -- behind `$`, in double quotes or not
+  dollar : List Piece → Bool → Reading
+  named : List Piece → Bool → List ℕ → Reading
+  braced : List Piece → Bool → List ℕ → Reading
+  question : List Piece → Bool → Reading
+
+pub data Pending : Type 0 where
+  between : Pending
+  comment : Pending
+  operator : Operator → Pending
+  reading : Reading → Pending
+
+pub record Lexing : Type 0 where
+  pub tokens : List Token
+  pub pending : Pending
+  -- whether the last character is a backslash that may quote the next
+  pub backslash : Bool
+
+abbrev pub with_pending : List Token → Pending → Lexing
+with_pending ts p = record { tokens = ts; pending = p; backslash = false }
+
+-- ---- pieces
+
+-- what stands in the last piece's place
+abbrev pub grown_plain : Piece → ℕ → List Piece
+grown_plain (plain t) c = plain (t ++ encode_utf8 c) ∷ []
+grown_plain (quoted t) c = quoted t ∷ plain (encode_utf8 c) ∷ []
+grown_plain (parameter t) c = parameter t ∷ plain (encode_utf8 c) ∷ []
+grown_plain (quoted_parameter t) c = quoted_parameter t ∷ plain (encode_utf8 c) ∷ []
+
+abbrev pub add_plain : List Piece → ℕ → List Piece
+add_plain [] c = plain (encode_utf8 c) ∷ []
+add_plain (p ∷ []) c = grown_plain p c
+add_plain (p ∷ q ∷ ps) c = p ∷ add_plain (q ∷ ps) c
+
+abbrev pub grown_quoted : Piece → List ℕ → List Piece
+grown_quoted (quoted t) s = quoted (t ++ s) ∷ []
+grown_quoted (plain t) s = plain t ∷ quoted s ∷ []
+grown_quoted (parameter t) s = parameter t ∷ quoted s ∷ []
+grown_quoted (quoted_parameter t) s = quoted_parameter t ∷ quoted s ∷ []
+
+abbrev pub add_quoted : List Piece → List ℕ → List Piece
+add_quoted [] s = quoted s ∷ []
+add_quoted (p ∷ []) s = grown_quoted p s
+add_quoted (p ∷ q ∷ ps) s = p ∷ add_quoted (q ∷ ps) s
+
+abbrev pub unsupported_names : List (List ℕ)
+unsupported_names = codes "IFS" ∷ codes "PWD" ∷ codes "OLDPWD" ∷ codes "CDPATH" ∷ []
+
+abbrev pub parameter_piece : Bool → List ℕ → Piece
+parameter_piece inside n = if inside then quoted_parameter n else parameter n
+
+abbrev pub quote_of : Bool → Quote
+quote_of inside = if inside then Double else Unquoted
+
+abbrev pub with_parameter : List Token → List Piece → Bool → List ℕ → Option Lexing
+with_parameter ts ps inside n =
+    if is_one_of unsupported_names n then None else Some (with_pending ts (reading (in_word (ps ++ parameter_piece inside n ∷ []) false (quote_of inside))))
+
+abbrev pub add : List Piece → Bool → ℕ → List Piece
+add ps inside c = if inside then add_quoted ps (encode_utf8 c) else add_plain ps c
+
+-- ---- where a token may begin
+
+abbrev pub is_blank : ℕ → Bool
+is_blank c = c == 32 || c == 9
+
+abbrev pub is_operator : ℕ → Bool
+is_operator c = c == 59 || c == 38 || c == 124 || c == 60 || c == 62
+
+abbrev pub is_refused : ℕ → Bool
+is_refused c = c == 0 || c == 10 || c == 40 || c == 41 || c == 96
+
+abbrev pub unquoted_at : List Token → List Piece → Bool → ℕ → Option Lexing
+unquoted_at ts ps digits c =
+    if c == 39 then Some (with_pending ts (reading (in_word (add_quoted ps []) false Single)))
+    else (if c == 34 then Some (with_pending ts (reading (in_word (add_quoted ps []) false Double)))
+    else (if c == 36 then Some (with_pending ts (reading (dollar ps false)))
+    else (if is_refused c then None
+    else Some (with_pending ts (reading (in_word (add_plain ps c) (digits && is_ascii_digit c) Unquoted))))))
+
+abbrev pub fresh : List Token → ℕ → Option Lexing
+fresh ts c =
+    if is_blank c then Some (with_pending ts between)
+    else (if c == 59 then Some (with_pending ts (operator o.Semicolon))
+    else (if c == 38 then Some (with_pending ts (operator o.And))
+    else (if c == 124 then Some (with_pending ts (operator o.Bar))
+    else (if c == 60 then Some (with_pending ts (operator o.Less))
+    else (if c == 62 then Some (with_pending ts (operator o.Greater))
+    else (if c == 35 then Some (with_pending ts comment)
+    else unquoted_at ts [] true c))))))
+
+-- an operator that doesn't go on
+abbrev pub settled : List Token → Operator → Option (List Token)
+settled ts o.Semicolon = Some (ts ++ semicolon ∷ [])
+settled ts o.And = None
+settled ts o.Bar = Some (ts ++ bar ∷ [])
+settled ts o.Less = Some (ts ++ redirection From ∷ [])
+settled ts o.Greater = Some (ts ++ redirection Onto ∷ [])
+
+-- ---- in a word
+
+abbrev pub word_at : List Token → List Piece → Bool → Quote → ℕ → Option Lexing
+word_at ts ps digits Unquoted c =
+    if is_blank c || is_operator c then (if digits && (c == 60 || c == 62) then None else fresh (ts ++ word ps ∷ []) c)
+    else unquoted_at ts ps digits c
+word_at ts ps digits Single c =
+    if c == 39 then Some (with_pending ts (reading (in_word ps false Unquoted)))
+    else (if c == 0 then None else Some (with_pending ts (reading (in_word (add_quoted ps (encode_utf8 c)) false Single))))
+word_at ts ps digits Double c =
+    if c == 34 then Some (with_pending ts (reading (in_word ps false Unquoted)))
+    else (if c == 36 then Some (with_pending ts (reading (dollar ps true)))
+    else (if c == 0 || c == 96 then None else Some (with_pending ts (reading (in_word (add_quoted ps (encode_utf8 c)) false Double)))))
+
+abbrev pub begins_name : ℕ → Bool
+begins_name c = is_ascii_alphabetic c || c == 95
+
+abbrev pub continues_name : ℕ → Bool
+continues_name c = is_ascii_alphanumeric c || c == 95
+
+-- one of @*#-$!(
+abbrev pub is_other_parameter : ℕ → Bool
+is_other_parameter c = is_ascii_digit c || c == 64 || c == 42 || c == 35 || c == 45 || c == 36 || c == 33 || c == 40
+
+-- the character behind a parameter
+abbrev pub after_parameter : List Token → List Piece → Bool → List ℕ → ℕ → Option Lexing
+after_parameter ts ps inside n c =
+    if is_one_of unsupported_names n then None else word_at ts (ps ++ parameter_piece inside n ∷ []) false (quote_of inside) c
+
+abbrev pub reading_at : List Token → Reading → ℕ → Option Lexing
+reading_at ts (in_word ps digits q) c = word_at ts ps digits q c
+reading_at ts (dollar ps inside) c =
+    if begins_name c then Some (with_pending ts (reading (named ps inside (encode_utf8 c))))
+    else (if c == 123 then Some (with_pending ts (reading (braced ps inside [])))
+    else (if c == 63 then with_parameter ts ps inside (codes "?")
+    else (if is_other_parameter c then None
+    else word_at ts (add ps inside 36) false (quote_of inside) c)))
+reading_at ts (named ps inside n) c =
+    if continues_name c then Some (with_pending ts (reading (named ps inside (n ++ encode_utf8 c)))) else after_parameter ts ps inside n c
+reading_at ts (braced ps inside []) c =
+    if c == 63 then Some (with_pending ts (reading (question ps inside)))
+    else (if begins_name c then Some (with_pending ts (reading (braced ps inside (encode_utf8 c)))) else None)
+reading_at ts (braced ps inside (b ∷ n)) c =
+    if c == 125 then with_parameter ts ps inside (b ∷ n)
+    else (if continues_name c then Some (with_pending ts (reading (braced ps inside ((b ∷ n) ++ encode_utf8 c)))) else None)
+reading_at ts (question ps inside) c = if c == 125 then with_parameter ts ps inside (codes "?") else None
+
+-- an operator that the character goes on
+abbrev pub operator_at : List Token → Operator → ℕ → Option Lexing
+operator_at ts o.Semicolon c = if c == 59 then None else fresh (ts ++ semicolon ∷ []) c
+operator_at ts o.And c = if c == 38 then Some (with_pending (ts ++ connector AndIf ∷ []) between) else None
+operator_at ts o.Bar c = if c == 124 then Some (with_pending (ts ++ connector OrIf ∷ []) between) else fresh (ts ++ bar ∷ []) c
+operator_at ts o.Less c = if c == 60 || c == 38 || c == 62 then None else fresh (ts ++ redirection From ∷ []) c
+operator_at ts o.Greater c =
+    if c == 62 then Some (with_pending (ts ++ redirection Append ∷ []) between)
+    else (if c == 38 || c == 124 then None else fresh (ts ++ redirection Onto ∷ []) c)
+
+abbrev pub plain_at : List Token → Pending → ℕ → Option Lexing
+plain_at ts between c = fresh ts c
+plain_at ts comment c = if c == 0 || c == 10 then None else Some (with_pending ts comment)
+plain_at ts (operator op) c = operator_at ts op c
+plain_at ts (reading r) c = reading_at ts r c
+
+-- ---- a character behind a backslash
+
+-- what a backslash quotes in double quotes
+abbrev pub is_special_inside : ℕ → Bool
+is_special_inside c = c == 36 || c == 96 || c == 34 || c == 92
+
+abbrev pub escaped_in : List Token → List Piece → Quote → ℕ → Option Lexing
+escaped_in ts ps Double c =
+    if is_special_inside c then Some (with_pending ts (reading (in_word (add_quoted ps (encode_utf8 c)) false Double)))
+    else Some (with_pending ts (reading (in_word (add_quoted ps (92 ∷ encode_utf8 c)) false Double)))
+escaped_in ts ps Unquoted c = Some (with_pending ts (reading (in_word (add_quoted ps (encode_utf8 c)) false Unquoted)))
+escaped_in ts ps Single c = None
+
+abbrev pub escaped_reading : List Token → Reading → ℕ → Option Lexing
+escaped_reading ts (in_word ps digits q) c = escaped_in ts ps q c
+escaped_reading ts (dollar ps inside) c = escaped_in ts (add ps inside 36) (quote_of inside) c
+escaped_reading ts (named ps inside n) c = if is_one_of unsupported_names n then None else escaped_in ts (ps ++ parameter_piece inside n ∷ []) (quote_of inside) c
+escaped_reading ts (braced ps inside n) c = None
+escaped_reading ts (question ps inside) c = None
+
+abbrev pub escaped_operator : Option (List Token) → ℕ → Option Lexing
+escaped_operator None c = None
+escaped_operator (Some ts) c = escaped_in ts [] Unquoted c
+
+abbrev pub escaped_at : List Token → Pending → ℕ → Option Lexing
+escaped_at ts between c = escaped_in ts [] Unquoted c
+escaped_at ts comment c = None
+escaped_at ts (operator op) c = escaped_operator (settled ts op) c
+escaped_at ts (reading r) c = escaped_reading ts r c
+
+-- whether a backslash quotes there
+abbrev pub takes_backslash : Pending → Bool
+takes_backslash between = true
+takes_backslash comment = false
+takes_backslash (operator op) = true
+takes_backslash (reading (in_word ps digits Single)) = false
+takes_backslash (reading (in_word ps digits Unquoted)) = true
+takes_backslash (reading (in_word ps digits Double)) = true
+takes_backslash (reading (dollar ps inside)) = true
+takes_backslash (reading (named ps inside n)) = true
+takes_backslash (reading (braced ps inside n)) = true
+takes_backslash (reading (question ps inside)) = true
+
+-- A backslash and newline are removed.
+unfoldable pub lex_step : Lexing → ℕ → Option Lexing
+lex_step l c =
+    if l.backslash then (if c == 10 then Some (with_pending l.tokens l.pending) else (if c == 0 then None else escaped_at l.tokens l.pending c))
+    else (if c == 92 && takes_backslash l.pending then Some (record l { backslash = true }) else plain_at l.tokens l.pending c)
+
+abbrev pub lex_run : Option Lexing → List ℕ → Option Lexing
+lex_run None cs = None
+lex_run (Some l) [] = Some l
+lex_run (Some l) (c ∷ cs) = lex_run (lex_step l c) cs
+
+abbrev pub reading_end : List Token → Reading → Option (List Token)
+reading_end ts (in_word ps digits Unquoted) = Some (ts ++ word ps ∷ [])
+reading_end ts (in_word ps digits Single) = None
+reading_end ts (in_word ps digits Double) = None
+reading_end ts (dollar ps true) = None
+reading_end ts (dollar ps false) = Some (ts ++ word (add ps false 36) ∷ [])
+reading_end ts (named ps true n) = None
+reading_end ts (named ps false n) = if is_one_of unsupported_names n then None else Some (ts ++ word (ps ++ parameter n ∷ []) ∷ [])
+reading_end ts (braced ps inside n) = None
+reading_end ts (question ps inside) = None
+
+abbrev pub lex_end_at : List Token → Pending → Bool → Option (List Token)
+lex_end_at ts p true = None
+lex_end_at ts between false = Some ts
+lex_end_at ts comment false = Some ts
+lex_end_at ts (operator op) false = settled ts op
+lex_end_at ts (reading r) false = reading_end ts r
+
+abbrev pub lex_end : Option Lexing → Option (List Token)
+lex_end None = None
+lex_end (Some l) = lex_end_at l.tokens l.pending l.backslash
+
+-- the tokens of a list of characters
+unfoldable pub tokens_of : List ℕ → Option (List Token)
+tokens_of cs = lex_end (lex_run (Some (with_pending [] between)) cs)

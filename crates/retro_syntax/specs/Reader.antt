@@ -1,0 +1,196 @@
+-- A line read token by token: what stands open, and where in it the next token comes.
+use Rattle.std.specs.Prelude.{◌≡◌, ℕ, Bool, true, false, List, [], ◌∷◌, ◌++◌, Option, Some, None, if◌then◌else◌, option_and_then, option_map, codes}
+use Rattle.std.specs.Prelude.{◌||◌, ◌&&◌, ◌==◌}
+use Rattle.retro_syntax.specs.Tree.{Piece, plain, quoted, parameter, quoted_parameter, Word, Token, semicolon, bar, connector, redirection, word, spelling, Item, argument, redirect, Simple, assignments, command, Commands, last, more, AndOr, end, chain, Pipeline, pipeline, Command, simples, conditional, loop, Arms, fi, otherwise, elif}
+use Rattle.retro_syntax.specs.Words.{class, name_of, is_ordinary, is_assignment}
+use Rattle.retro_syntax.specs.declared.tree.Direction.{Direction}
+use Rattle.retro_syntax.specs.declared.tree.Connector.{Connector}
+use Rattle.retro_syntax.specs.declared.tree.Key.{Key}
+use Rattle.retro_syntax.specs.declared.tree.Key.TheVariants.{Bang as bang, If as key_if, Then as key_then, Elif as key_elif, Else as key_else, Fi as key_fi, For as key_for, In as key_in, Do as key_do, Done as key_done}
+use Rattle.retro_syntax.specs.declared.words.Class.{Class}
+use Rattle.retro_syntax.specs.declared.words.Class.TheVariants.{Keyword as keyword, Forbidden as forbidden, Assignment as assignment, Ordinary as ordinary}
+
+-- ---- what is open
+
+-- a list that isn't at its end: whole and-or lists, pipelines with what joins them to the next, and whether `!` stands here
+pub record Open : Type 0 where
+  pub done : List AndOr
+  pub joined : List (Pipeline × Connector)
+  pub negated : Bool
+
+abbrev pub nothing : Open
+nothing = record { done = []; joined = []; negated = false }
+
+-- what a list is read for
+pub data Frame : Type 0 where
+  condition : List (Commands × Commands) → Frame
+  consequence : List (Commands × Commands) → Commands → Frame
+  alternative : List (Commands × Commands) → Commands → Commands → Frame
+  body : List ℕ → List Word → Frame
+
+pub data Place : Type 0 where
+  start : Place
+  within : List Simple → Simple → Place
+  target : List Simple → List Item → Direction → Place
+  piped : List Simple → Place
+  closed : Command → Place
+  for_name : Place
+  for_in : List ℕ → Place
+  for_words : List ℕ → List Word → Place
+  for_do : List ℕ → List Word → Place
+
+-- the innermost list is `here`; the stack holds those around it, the innermost first
+pub record State : Type 0 where
+  pub stack : List (Open × Frame)
+  pub here : Open
+  pub place : Place
+
+abbrev pub at : List (Open × Frame) → Open → Place → State
+at st o p = record { stack = st; here = o; place = p }
+
+-- ---- what was read, put together
+
+abbrev pub join : List (Pipeline × Connector) → Pipeline → AndOr
+join [] p = end p
+join (j ∷ js) p = chain j.0 j.1 (join js p)
+
+abbrev pub and_or : Open → Command → AndOr
+and_or o c = join o.joined (pipeline o.negated c)
+
+abbrev pub listed : List AndOr → AndOr → Bool → Commands
+listed [] a closing = last a closing
+listed (d ∷ ds) a closing = more d (listed ds a closing)
+
+-- the list of these, each with a `;` behind it
+abbrev pub all_closed : List AndOr → Option Commands
+all_closed [] = None
+all_closed (a ∷ []) = Some (last a true)
+all_closed (a ∷ b ∷ more_of) = option_map (more a) (all_closed (b ∷ more_of))
+
+abbrev pub arms_up_to : List (Commands × Commands) → Arms → Arms
+arms_up_to [] a = a
+arms_up_to (x ∷ xs) a = elif x.0 x.1 (arms_up_to xs a)
+
+-- ---- steps
+
+abbrev pub close_by : List (Open × Frame) → Open → Frame → Commands → Key → Option State
+close_by st o (condition xs) l key_then = Some (at ((o, consequence xs l) ∷ st) nothing start)
+close_by st o (consequence xs c) l key_elif = Some (at ((o, condition (xs ++ (c, l) ∷ [])) ∷ st) nothing start)
+close_by st o (consequence xs c) l key_else = Some (at ((o, alternative xs c l) ∷ st) nothing start)
+close_by st o (consequence xs c) l key_fi = Some (at st o (closed (conditional (arms_up_to xs (fi c l)))))
+close_by st o (alternative xs c t) l key_fi = Some (at st o (closed (conditional (arms_up_to xs (otherwise c t l)))))
+close_by st o (body n ws) l key_done = Some (at st o (closed (loop n ws l)))
+close_by st o f l k = None
+
+-- a word that ends the list
+abbrev pub close : List (Open × Frame) → Commands → Key → Option State
+close [] l k = None
+close (x ∷ st) l k = close_by st x.0 x.1 l k
+
+abbrev pub close_some : List (Open × Frame) → Option Commands → Key → Option State
+close_some st None k = None
+close_some st (Some l) k = close st l k
+
+-- the list at a place where a command may begin, if it may end there
+abbrev pub end_of : List AndOr → List (Pipeline × Connector) → Bool → Option Commands
+end_of done [] false = all_closed done
+end_of done [] true = None
+end_of done (j ∷ js) negated = None
+
+abbrev pub may_end : Open → Option Commands
+may_end o = end_of o.done o.joined o.negated
+
+abbrev pub begin_key : List (Open × Frame) → Open → Key → Option State
+begin_key st o bang = if o.negated then None else Some (at st (record o { negated = true }) start)
+begin_key st o key_if = Some (at ((o, condition []) ∷ st) nothing start)
+begin_key st o key_for = Some (at st o for_name)
+begin_key st o k = close_some st (may_end o) k
+
+abbrev pub begin_simple : List (Open × Frame) → Open → List Simple → Word → Class → Option State
+begin_simple st o ss w assignment = Some (at st o (within ss (assignments (w ∷ []))))
+begin_simple st o ss w ordinary = Some (at st o (within ss (command (argument w ∷ []))))
+begin_simple st o ss w c = None
+
+abbrev pub begin : List (Open × Frame) → Open → Word → Class → Option State
+begin st o w (keyword k) = begin_key st o k
+begin st o w c = begin_simple st o [] w c
+
+-- whether no word stands there yet, targets aside
+abbrev pub no_argument : List Item → Bool
+no_argument [] = true
+no_argument (argument w ∷ is) = false
+no_argument (redirect d w ∷ is) = no_argument is
+
+abbrev pub add_word : List (Open × Frame) → Open → List Simple → Simple → Word → Option State
+add_word st o ss (assignments ws) w = if is_assignment (class w) then Some (at st o (within ss (assignments (ws ++ w ∷ [])))) else None
+add_word st o ss (command is) w =
+    if no_argument is then (if is_ordinary (class w) then Some (at st o (within ss (command (is ++ argument w ∷ [])))) else None)
+    else Some (at st o (within ss (command (is ++ argument w ∷ []))))
+
+abbrev pub add_direction : List (Open × Frame) → Open → List Simple → Simple → Direction → Option State
+add_direction st o ss (assignments ws) d = None
+add_direction st o ss (command is) d = Some (at st o (target ss is d))
+
+-- an operator behind a whole command
+abbrev pub go_on : List (Open × Frame) → Open → Command → Token → Option State
+go_on st o c semicolon = Some (at st (record { done = o.done ++ and_or o c ∷ []; joined = []; negated = false }) start)
+go_on st o c (connector op) = Some (at st (record { done = o.done; joined = o.joined ++ (pipeline o.negated c, op) ∷ []; negated = false }) start)
+go_on st o c t = None
+
+abbrev pub close_word : List (Open × Frame) → Open → Command → Class → Option State
+close_word st o c (keyword k) = close st (listed o.done (and_or o c) false) k
+close_word st o c _ = None
+
+abbrev pub only_key : Key → Class → Option State → Option State
+only_key key_in (keyword key_in) s = s
+only_key key_do (keyword key_do) s = s
+only_key k c s = None
+
+abbrev pub step_at : List (Open × Frame) → Open → Place → Token → Option State
+step_at st o start (word w) = begin st o w (class w)
+step_at st o start (redirection d) = Some (at st o (target [] [] d))
+step_at st o start t = None
+step_at st o (within ss s) (word w) = add_word st o ss s w
+step_at st o (within ss s) (redirection d) = add_direction st o ss s d
+step_at st o (within ss s) bar = Some (at st o (piped (ss ++ s ∷ [])))
+step_at st o (within ss s) t = go_on st o (simples (ss ++ s ∷ [])) t
+step_at st o (target ss is d) (word w) = Some (at st o (within ss (command (is ++ redirect d w ∷ []))))
+step_at st o (target ss is d) t = None
+step_at st o (piped ss) (word w) = begin_simple st o ss w (class w)
+step_at st o (piped ss) (redirection d) = Some (at st o (target ss [] d))
+step_at st o (piped ss) t = None
+step_at st o (closed c) (word w) = close_word st o c (class w)
+step_at st o (closed c) t = go_on st o c t
+step_at st o for_name (word w) = option_map (λ n. at st o (for_in n)) (name_of w)
+step_at st o for_name t = None
+step_at st o (for_in n) (word w) = only_key key_in (class w) (Some (at st o (for_words n [])))
+step_at st o (for_in n) t = None
+step_at st o (for_words n ws) (word w) = Some (at st o (for_words n (ws ++ w ∷ [])))
+step_at st o (for_words n ws) semicolon = Some (at st o (for_do n ws))
+step_at st o (for_words n ws) t = None
+step_at st o (for_do n ws) (word w) = only_key key_do (class w) (Some (at ((o, body n ws) ∷ st) nothing start))
+step_at st o (for_do n ws) t = None
+
+unfoldable pub step : State → Token → Option State
+step s t = step_at s.stack s.here s.place t
+
+abbrev pub run : Option State → List Token → Option State
+run None ts = None
+run (Some s) [] = Some s
+run (Some s) (t ∷ ts) = run (step s t) ts
+
+-- ---- the end of the text
+
+abbrev pub finish_at : List (Open × Frame) → Open → Place → Option Commands
+finish_at [] o start = may_end o
+finish_at [] o (within ss s) = Some (listed o.done (and_or o (simples (ss ++ s ∷ []))) false)
+finish_at [] o (closed c) = Some (listed o.done (and_or o c) false)
+finish_at st o p = None
+
+abbrev pub finish : Option State → Option Commands
+finish None = None
+finish (Some s) = finish_at s.stack s.here s.place
+
+-- the list that the tokens are
+unfoldable pub commands_of : List Token → Option Commands
+commands_of ts = finish (run (Some (at [] nothing start)) ts)

@@ -1,0 +1,75 @@
+-- Which trees the grammar has, and what a list of tokens spells.
+use Rattle.std.specs.Prelude.{◌≡◌, ℕ, Bool, true, false, ◌&&◌, List, [], ◌∷◌, Option, Some, None}
+use Rattle.retro_syntax.specs.Tree.{plain, Word, Token, Item, argument, redirect, Simple, assignments, command, Commands, last, more, AndOr, end, chain, Pipeline, pipeline, Command, simples, conditional, loop, Arms, fi, otherwise, elif, commands_then}
+use Rattle.retro_syntax.specs.declared.words.Class.{Class}
+use Rattle.retro_syntax.specs.declared.words.Class.TheVariants.{Ordinary as ordinary, Assignment as assignment}
+use Rattle.retro_syntax.specs.Words.{class, name_of, is_ordinary, is_assignment}
+
+abbrev pub are_assignments : List Word → Bool
+are_assignments [] = true
+are_assignments (w ∷ ws) = is_assignment (class w) && are_assignments ws
+
+-- The first word, targets aside, is neither reserved nor an assignment.
+abbrev pub begins_well : List Item → Bool
+begins_well [] = true
+begins_well (argument w ∷ is) = is_ordinary (class w)
+begins_well (redirect d w ∷ is) = begins_well is
+
+abbrev pub is_simple : Simple → Bool
+is_simple (assignments []) = false
+is_simple (assignments (w ∷ ws)) = are_assignments (w ∷ ws)
+is_simple (command []) = false
+is_simple (command (i ∷ is)) = begins_well (i ∷ is)
+
+abbrev pub are_simple : List Simple → Bool
+are_simple [] = true
+are_simple (s ∷ ss) = is_simple s && are_simple ss
+
+abbrev pub are_stages : List Simple → Bool
+are_stages [] = false
+are_stages (s ∷ ss) = are_simple (s ∷ ss)
+
+abbrev pub is_compound : Command → Bool
+is_compound (simples ss) = false
+is_compound (conditional a) = true
+is_compound (loop n ws c) = true
+
+-- A simple command ends only at an operator, so in `if` and `for` a list is closed by `;` or ends in `fi` or `done`.
+abbrev pub ends_compound : AndOr → Bool
+ends_compound (end (pipeline negated c)) = is_compound c
+ends_compound (chain p op a) = ends_compound a
+
+abbrev pub ends_itself : Commands → Bool
+ends_itself (last a true) = true
+ends_itself (last a false) = ends_compound a
+ends_itself (more a c) = ends_itself c
+
+abbrev pub EndsItself : Commands → Type 0
+EndsItself c = ends_itself c ≡ true
+
+abbrev mutual
+  pub IsCommands : Commands → Type 0
+  IsCommands (last a closed) = IsAndOr a
+  IsCommands (more a c) = IsAndOr a × IsCommands c
+
+  pub IsAndOr : AndOr → Type 0
+  IsAndOr (end p) = IsPipeline p
+  IsAndOr (chain p op a) = IsPipeline p × IsAndOr a
+
+  pub IsPipeline : Pipeline → Type 0
+  IsPipeline (pipeline negated c) = IsCommand c
+
+  pub IsCommand : Command → Type 0
+  IsCommand (simples ss) = are_stages ss ≡ true
+  IsCommand (conditional a) = IsArms a
+  IsCommand (loop name ws c) = (name_of (plain name ∷ []) ≡ Some name) × (IsCommands c × EndsItself c)
+
+  pub IsArms : Arms → Type 0
+  IsArms (fi c t) = (IsCommands c × EndsItself c) × (IsCommands t × EndsItself t)
+  IsArms (otherwise c t e) = (IsCommands c × EndsItself c) × (IsCommands t × EndsItself t) × (IsCommands e × EndsItself e)
+  IsArms (elif c t a) = (IsCommands c × EndsItself c) × (IsCommands t × EndsItself t) × IsArms a
+
+-- the tokens are the list written out
+pub record Spells (ts : List Token) (c : Commands) : Type 0 where
+  pub tree : IsCommands c
+  pub written : ts ≡ commands_then c []

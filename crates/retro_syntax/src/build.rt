@@ -1,0 +1,39 @@
+//! Commands that are put together.
+
+ghost use Rattle.std.specs.Prelude.{◌≡◌, IfOk, ◌∷◌, map, string_bytes};
+ghost use Rattle.retro_syntax.specs.Tree;
+ghost use Rattle.retro_syntax.specs.Reader.{arms_up_to};
+ghost use Rattle.retro_syntax.specs.View.{view, arms_of, arms_else_of, commands_of, word_view, simple_view};
+
+use crate::tree::{Command, Commands, Conditional, Loop, Simple, Word};
+use std::alloc::{AllocError, Global};
+
+pub fn conditional(alloc: Global, parts: Conditional<Command>) -> Result<Command, AllocError>
+    ensures { IfOk result (λ c. view c ≡ Tree.conditional (arms_of view parts)) }
+{
+    Ok(Command::If(Box::new(alloc, parts)?))
+}
+
+#[tactic(auto, unfolding(crate::specs::View::view))]
+pub fn pipe(stages: Vec<Simple>) -> Command
+    ensures { view result ≡ Tree.simples (map simple_view stages.items) }
+{
+    Command::Pipe(stages)
+}
+
+pub fn conditional_else(
+    alloc: Global,
+    parts: Conditional<Command>,
+    alternative: Commands<Command>,
+) -> Result<Command, AllocError>
+    ensures { IfOk result (λ c. view c ≡ Tree.conditional (arms_else_of view parts alternative)) }
+{
+    let parts = Box::new(alloc, parts)?;
+    Ok(Command::IfElse(parts, Box::new(alloc, alternative)?))
+}
+
+pub fn repetition(alloc: Global, parts: Loop<Command>) -> Result<Command, AllocError>
+    ensures { IfOk result (λ c. view c ≡ Tree.loop (string_bytes parts.name) (map word_view parts.words.items) (commands_of view parts.body)) }
+{
+    Ok(Command::For(Box::new(alloc, parts)?))
+}

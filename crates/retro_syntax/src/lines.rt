@@ -1,0 +1,132 @@
+//! Lines, and the texts that spell them.
+
+ghost use Rattle.std.specs.Prelude.{◌≡◌, ◌≤◌, ◌<◌, [], ◌∷◌, length, map, IfOk, IsSome, Option, Some, None, List, ℕ, option_map, is_some};
+ghost use Rattle.std.specs.Str.{chars};
+ghost use Rattle.retro_syntax.specs.Lines as Lines;
+ghost use Rattle.retro_syntax.specs.Lines.{Answers, Meets, PlainSpells, TextSpells, line_view, plain_line};
+ghost use Rattle.retro_syntax.specs.Plain as Plain;
+ghost use Rattle.retro_syntax.specs.Tree as Tree;
+ghost use Rattle.retro_syntax.specs.View.{view, commands_of, token_view};
+
+use crate::plain::plain_commands;
+use crate::quoting::tokens_of;
+use crate::reader::read_tokens;
+use crate::tree::{Command, Commands};
+use std::alloc::{AllocError, Global};
+
+/// Why a text is no line.
+#[derive(Clone, Copy, Debug, PartialEq, Eq)]
+pub enum Refused {
+    /// Refusal 5: the text spells no line of the grammar.
+    Unsupported,
+    /// Refusal 6: the text has over 4,096 bytes.
+    TooLong,
+    /// Memory is wanting.
+    NoMem,
+}
+
+/// The tree of a line.
+#[derive(Drop)]
+pub struct Line {
+    /// The line's list; a blank line has none.
+    pub commands: Option<Commands<Command>>,
+}
+
+impl From<AllocError> for Refused {
+    ghost use Rattle.retro_syntax.specs.declared.lines.Refused.TheVariants.{NoMem};
+
+    ghost from_gives = { λ _ e. e ≡ NoMem };
+
+    fn from(_error: AllocError) -> Refused {
+        Refused::NoMem
+    }
+}
+
+/// The line that the text spells in the whole grammar.
+#[tactic(auto, unfolding(crate::specs::Lines::line_of))]
+fn line_of(alloc: Global, text: &str) -> Result<Option<Line>, AllocError>
+    ensures { IfOk result (λ found. option_map line_view found ≡ Lines.line_of text.now) }
+{
+    match tokens_of(alloc, text)? {
+        None => Ok(None),
+        Some(tokens) => {
+            if tokens.len() == 0 {
+                return Ok(Some(Line { commands: None }));
+            }
+            match read_tokens(alloc, tokens)? {
+                None => Ok(None),
+                Some(commands) => Ok(Some(Line {
+                    commands: Some(commands),
+                })),
+            }
+        }
+    }
+}
+
+fn is_foreign(character: u8) -> bool
+    ensures { result ≡ Lines.is_foreign character }
+{
+    match character {
+        b'\0' | b'\n' | b'&' | b'|' | b'<' | b'(' | b')' | b'{' | b'}' => true,
+        b'\\' | b'\'' | b'"' | b'$' | b'`' | b'#' | b'~' | b'=' | b'!' => true,
+        _ => false,
+    }
+}
+
+fn has_foreign(text: &[u8]) -> bool
+    ensures { result ≡ Lines.has_foreign text.now }
+{
+    let mut rest = text;
+    while let [first, more @ ..] = rest {
+        if is_foreign(*first) {
+            return true;
+        }
+        rest = more;
+    }
+    false
+}
+
+/// Whether the line is a list of plain commands.
+fn is_plain(alloc: Global, line: &Line) -> Result<bool, AllocError>
+    ensures { IfOk result (λ plain. plain ≡ is_some (Plain.plain_commands (line_view line.now))) }
+{
+    Ok(plain_commands(alloc, line)?.is_some())
+}
+
+/// The line that the text spells, where it has at most 4,096 bytes and is a list of plain commands: words and output
+/// redirections, parted by `;`.
+///
+/// # Errors
+///
+/// `TooLong` for a text of over 4,096 bytes; else `Unsupported` where it spells no such line; `NoMem` where memory is
+/// wanting.
+pub fn parse(alloc: Global, text: &str) -> Result<Line, Refused>
+    ensures meets { Meets text.now result }
+    ensures function { Answers text.now result }
+{
+    if text.len() > 4096 {
+        return Err(Refused::TooLong);
+    }
+    if has_foreign(text.as_bytes()) {
+        return Err(Refused::Unsupported);
+    }
+    match line_of(alloc, text)? {
+        None => Err(Refused::Unsupported),
+        Some(line) => {
+            if is_plain(alloc, &line)? {
+                Ok(line)
+            } else {
+                Err(Refused::Unsupported)
+            }
+        }
+    }
+}
+
+/// A text spells at most one line.
+pub fn one_line()
+    ensures whole {
+        (text : List ℕ) (k l : Option Tree.Commands) → TextSpells text k → TextSpells text l → k ≡ l }
+    ensures plain {
+        (text : List ℕ) (k l : Option Tree.Commands) → PlainSpells text k → PlainSpells text l → k ≡ l }
+{
+}

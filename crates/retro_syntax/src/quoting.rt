@@ -1,0 +1,192 @@
+//! The tokens of a text, with quotes, parameters and comments (XCU 2.2, 2.3).
+
+mod backslashes;
+mod characters;
+mod operators;
+mod parameters;
+mod pieces;
+
+ghost use Rattle.std.specs.Prelude.{◌≡◌, ◌∷◌, [], ◌++◌, Bool, IfOk, Option, Some, None, map, option_map, string_bytes, true, false};
+ghost use Rattle.std.specs.Char.{encode_utf8};
+ghost use Rattle.std.specs.Str.{chars};
+ghost use Rattle.retro_syntax.specs.Quoting;
+ghost use Rattle.retro_syntax.specs.Tree;
+ghost use Rattle.retro_syntax.specs.Words.{is_one_of};
+ghost use Rattle.retro_syntax.specs.View.{token_view, tokens_view, piece_view};
+ghost use Rattle.retro_syntax.specs.QuotingViews.{LexesTo, TokenizesTo, lexing_view, pending_view, pieces_view, reading_view};
+
+use crate::quoting::backslashes::escaped_at;
+use crate::quoting::characters::fresh;
+use crate::quoting::operators::{operator_at, settled};
+use crate::quoting::parameters::{is_unsupported_name, reading_at};
+use crate::quoting::pieces::add_dollar;
+use crate::tree::{Piece, Token, Word};
+use std::alloc::{AllocError, Global};
+
+#[derive(Clone, Copy, Debug, PartialEq, Eq)]
+pub enum Operator {
+    Semicolon,
+    And,
+    Bar,
+    Less,
+    Greater,
+}
+
+#[derive(Clone, Copy, Debug, PartialEq, Eq)]
+pub enum Quote {
+    Unquoted,
+    Single,
+    Double,
+}
+
+/// Where in a word the next character comes.
+#[derive(Drop)]
+pub enum Reading {
+    InWord(Vec<Piece>, bool, Quote),
+    Dollar(Vec<Piece>, bool),
+    Named(Vec<Piece>, bool, String),
+    Braced(Vec<Piece>, bool, String),
+    Question(Vec<Piece>, bool),
+}
+
+#[derive(Drop)]
+pub enum Pending {
+    Between,
+    Comment,
+    Operator(Operator),
+    Reading(Reading),
+}
+
+#[derive(Drop)]
+pub struct Lexing {
+    pub tokens: Vec<Token>,
+    pub pending: Pending,
+    pub backslash: bool,
+}
+
+
+pub fn plain_at(alloc: Global, tokens: Vec<Token>, pending: Pending, c: char) -> Result<Option<Lexing>, AllocError>
+    ensures { LexesTo result (Quoting.plain_at (tokens_view tokens) (pending_view pending) c) }
+{
+    match pending {
+        Pending::Between => fresh(alloc, tokens, c),
+        Pending::Comment => {
+            if c == '\0' || c == '\n' {
+                return Ok(None);
+            }
+            Ok(Some(Lexing { tokens, pending: Pending::Comment, backslash: false }))
+        }
+        Pending::Operator(operator) => operator_at(alloc, tokens, operator, c),
+        Pending::Reading(reading) => reading_at(alloc, tokens, reading, c),
+    }
+}
+
+pub fn takes_backslash(pending: &Pending) -> bool
+    ensures { result ≡ Quoting.takes_backslash (pending_view pending.now) }
+{
+    match pending {
+        Pending::Comment | Pending::Reading(Reading::InWord(_, _, Quote::Single)) => false,
+        Pending::Between
+        | Pending::Operator(_)
+        | Pending::Reading(Reading::InWord(_, _, Quote::Unquoted))
+        | Pending::Reading(Reading::InWord(_, _, Quote::Double))
+        | Pending::Reading(Reading::Dollar(_, _))
+        | Pending::Reading(Reading::Named(_, _, _))
+        | Pending::Reading(Reading::Braced(_, _, _))
+        | Pending::Reading(Reading::Question(_, _)) => true,
+    }
+}
+
+#[tactic(auto, unfolding(crate::specs::Quoting::lex_step))]
+pub fn lex_step(alloc: Global, lexing: Lexing, c: char) -> Result<Option<Lexing>, AllocError>
+    ensures { LexesTo result (Quoting.lex_step (lexing_view lexing) c) }
+{
+    let Lexing { tokens, pending, backslash } = lexing;
+    if backslash {
+        if c == '\n' {
+            Ok(Some(Lexing { tokens, pending, backslash: false }))
+        } else if c == '\0' {
+            Ok(None)
+        } else {
+            escaped_at(alloc, tokens, pending, c)
+        }
+    } else if c == '\\' && takes_backslash(&pending) {
+        Ok(Some(Lexing { tokens, pending, backslash: true }))
+    } else {
+        plain_at(alloc, tokens, pending, c)
+    }
+}
+
+pub fn reading_end(alloc: Global, mut tokens: Vec<Token>, reading: Reading) -> Result<Option<Vec<Token>>, AllocError>
+    ensures { TokenizesTo result (Quoting.reading_end (tokens_view tokens) (reading_view reading)) }
+{
+    match reading {
+        Reading::InWord(pieces, _, Quote::Unquoted) => {
+            tokens.push(Token::Word(Word { pieces }))?;
+            Ok(Some(tokens))
+        }
+        Reading::Dollar(pieces, false) => {
+            let pieces = add_dollar(alloc, pieces, false)?;
+            tokens.push(Token::Word(Word { pieces }))?;
+            Ok(Some(tokens))
+        }
+        Reading::Named(mut pieces, false, name) => {
+            if is_unsupported_name(&name) {
+                return Ok(None);
+            }
+            pieces.push(Piece::Parameter(name))?;
+            tokens.push(Token::Word(Word { pieces }))?;
+            Ok(Some(tokens))
+        }
+        Reading::InWord(_, _, Quote::Single)
+        | Reading::InWord(_, _, Quote::Double)
+        | Reading::Dollar(_, true)
+        | Reading::Named(_, true, _)
+        | Reading::Braced(_, _, _)
+        | Reading::Question(_, _) => Ok(None),
+    }
+}
+
+pub fn lex_end(alloc: Global, lexing: Lexing) -> Result<Option<Vec<Token>>, AllocError>
+    ensures { TokenizesTo result (Quoting.lex_end (Some (lexing_view lexing))) }
+{
+    let Lexing { tokens, pending, backslash } = lexing;
+    if backslash {
+        return Ok(None);
+    }
+    match pending {
+        Pending::Between | Pending::Comment => Ok(Some(tokens)),
+        Pending::Operator(operator) => settled(tokens, operator),
+        Pending::Reading(reading) => reading_end(alloc, tokens, reading),
+    }
+}
+
+#[tactic(auto, unfolding(crate::specs::Quoting::tokens_of))]
+pub fn lex(alloc: Global, characters: &[char]) -> Result<Option<Vec<Token>>, AllocError>
+    ensures { TokenizesTo result (Quoting.tokens_of characters.now) }
+{
+    let mut lexing = Lexing { tokens: Vec::new(alloc), pending: Pending::Between, backslash: false };
+    let mut rest = characters;
+    while let [c, more @ ..] = rest {
+        match lex_step(alloc, lexing, *c)? {
+            None => return Ok(None),
+            Some(next) => lexing = next,
+        }
+        rest = more;
+    }
+    lex_end(alloc, lexing)
+}
+
+pub fn characters_of(alloc: Global, text: &str) -> Result<Vec<char>, AllocError>
+    ensures { IfOk result (λ v. v.items ≡ chars text.now) }
+{
+    text.chars().collect(alloc)
+}
+
+/// The tokens of the text.
+pub fn tokens_of(alloc: Global, text: &str) -> Result<Option<Vec<Token>>, AllocError>
+    ensures { TokenizesTo result (Quoting.tokens_of (chars text.now)) }
+{
+    let characters = characters_of(alloc, text)?;
+    lex(alloc, &characters)
+}

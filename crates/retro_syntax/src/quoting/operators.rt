@@ -1,0 +1,73 @@
+//! Operators (XCU 2.3, 2.10.2).
+
+ghost use Rattle.std.specs.Prelude.{◌≡◌, ◌∷◌, [], ◌++◌, Bool, IfOk, Option, Some, None, map, option_map, string_bytes, true, false};
+ghost use Rattle.std.specs.Char.{encode_utf8};
+ghost use Rattle.std.specs.Str.{chars};
+ghost use Rattle.retro_syntax.specs.Quoting;
+ghost use Rattle.retro_syntax.specs.Tree;
+ghost use Rattle.retro_syntax.specs.Words.{is_one_of};
+ghost use Rattle.retro_syntax.specs.View.{token_view, tokens_view, piece_view};
+ghost use Rattle.retro_syntax.specs.QuotingViews.{LexesTo, TokenizesTo, lexing_view, pending_view, pieces_view, reading_view};
+
+use crate::quoting::{Lexing, Operator, Pending, Quote, Reading};
+use crate::tree::{Connector, Direction, Piece, Token, Word};
+use crate::quoting::characters::fresh;
+use std::alloc::{AllocError, Global};
+
+pub fn after_operator(alloc: Global, mut tokens: Vec<Token>, token: Token, c: char) -> Result<Option<Lexing>, AllocError>
+    ensures { LexesTo result (Quoting.fresh (tokens_view tokens ++ token_view token ∷ []) c) }
+{
+    tokens.push(token)?;
+    fresh(alloc, tokens, c)
+}
+
+pub fn whole_operator(mut tokens: Vec<Token>, token: Token) -> Result<Option<Lexing>, AllocError>
+    ensures { LexesTo result (Some (Quoting.with_pending (tokens_view tokens ++ token_view token ∷ []) Quoting.between)) }
+{
+    tokens.push(token)?;
+    Ok(Some(Lexing { tokens, pending: Pending::Between, backslash: false }))
+}
+
+pub fn operator_at(alloc: Global, tokens: Vec<Token>, operator: Operator, c: char) -> Result<Option<Lexing>, AllocError>
+    ensures { LexesTo result (Quoting.operator_at (tokens_view tokens) operator c) }
+{
+    match operator {
+        Operator::Semicolon => {
+            if c == ';' { Ok(None) } else { after_operator(alloc, tokens, Token::Semicolon, c) }
+        }
+        Operator::And => {
+            if c == '&' { whole_operator(tokens, Token::Connector(Connector::AndIf)) } else { Ok(None) }
+        }
+        Operator::Bar => {
+            if c == '|' { whole_operator(tokens, Token::Connector(Connector::OrIf)) } else { after_operator(alloc, tokens, Token::Bar, c) }
+        }
+        Operator::Less => {
+            if c == '<' || c == '&' || c == '>' {
+                return Ok(None);
+            }
+            after_operator(alloc, tokens, Token::Redirection(Direction::From), c)
+        }
+        Operator::Greater => {
+            if c == '>' {
+                return whole_operator(tokens, Token::Redirection(Direction::Append));
+            }
+            if c == '&' || c == '|' {
+                return Ok(None);
+            }
+            after_operator(alloc, tokens, Token::Redirection(Direction::Onto), c)
+        }
+    }
+}
+
+pub fn settled(mut tokens: Vec<Token>, operator: Operator) -> Result<Option<Vec<Token>>, AllocError>
+    ensures { TokenizesTo result (Quoting.settled (tokens_view tokens) operator) }
+{
+    match operator {
+        Operator::Semicolon => tokens.push(Token::Semicolon)?,
+        Operator::And => return Ok(None),
+        Operator::Bar => tokens.push(Token::Bar)?,
+        Operator::Less => tokens.push(Token::Redirection(Direction::From))?,
+        Operator::Greater => tokens.push(Token::Redirection(Direction::Onto))?,
+    }
+    Ok(Some(tokens))
+}

@@ -1,0 +1,116 @@
+//! A line, read token by token (XCU 2.10).
+
+mod compound;
+mod lists;
+mod repetition;
+mod simple;
+
+ghost use Rattle.std.specs.Prelude.{◌≡◌, ◌∷◌, ◌++◌, IfOk, List, Option, Some, None, map, option_map, reverse, string_bytes, true, false};
+ghost use Rattle.retro_syntax.specs.Tree;
+ghost use Rattle.retro_syntax.specs.Reader;
+ghost use Rattle.retro_syntax.specs.View;
+ghost use Rattle.retro_syntax.specs.View.{token_view, tokens_view, view, commands_of, word_view, simple_view, item_view};
+ghost use Rattle.retro_syntax.specs.ReaderViews.{StepsTo, frame_view, items_view, level_view, open_view, place_view, stack_view, stages_view, state_view, words_view};
+
+use crate::tree::{AndOr, Command, Commands, Connector, Direction, Item, Pipeline, Simple, Token, Word};
+use compound::{at_closed, at_start};
+use lists::{may_end, nothing, whole_list};
+use repetition::{at_for_do, at_for_in, at_for_name, at_for_words};
+use simple::{at_piped, at_target, at_within};
+use crate::build::pipe;
+use std::alloc::{AllocError, Global};
+
+/// A list that isn't at its end: whole and-or lists, pipelines with what joins them to the next, and whether `!`
+/// stands here.
+#[derive(Drop)]
+pub struct Open {
+    pub done: Vec<AndOr<Command>>,
+    pub joined: Vec<(Pipeline<Command>, Connector)>,
+    pub negated: bool,
+}
+
+/// A condition and what it leads to.
+pub type Arm = (Commands<Command>, Commands<Command>);
+
+/// What a list is read for.
+#[derive(Drop)]
+pub enum Frame {
+    Condition(Vec<Arm>),
+    Consequence(Vec<Arm>, Commands<Command>),
+    Alternative(Vec<Arm>, Commands<Command>, Commands<Command>),
+    Body(String, Vec<Word>),
+}
+
+#[derive(Drop)]
+pub enum Place {
+    Start,
+    Within(Vec<Simple>, Simple),
+    Target(Vec<Simple>, Vec<Item>, Direction),
+    Piped(Vec<Simple>),
+    Closed(Command),
+    ForName,
+    ForIn(String),
+    ForWords(String, Vec<Word>),
+    ForDo(String, Vec<Word>),
+}
+
+/// The innermost list is `here`. The stack holds those around it, the innermost last.
+#[derive(Drop)]
+pub struct State {
+    pub stack: Vec<(Open, Frame)>,
+    pub here: Open,
+    pub place: Place,
+}
+
+
+#[tactic(auto, unfolding(crate::specs::Reader::step))]
+pub fn step(alloc: Global, state: State, token: Token) -> Result<Option<State>, AllocError>
+    ensures { StepsTo result (Reader.step (state_view state) (token_view token)) }
+{
+    let State { stack, here, place } = state;
+    match place {
+        Place::Start => at_start(alloc, stack, here, token),
+        Place::Within(stages, simple) => at_within(alloc, stack, here, stages, simple, token),
+        Place::Target(stages, items, direction) => at_target(stack, here, stages, items, direction, token),
+        Place::Piped(stages) => at_piped(alloc, stack, here, stages, token),
+        Place::Closed(command) => at_closed(alloc, stack, here, command, token),
+        Place::ForName => at_for_name(alloc, stack, here, token),
+        Place::ForIn(name) => at_for_in(alloc, stack, here, name, token),
+        Place::ForWords(name, words) => at_for_words(stack, here, name, words, token),
+        Place::ForDo(name, words) => at_for_do(alloc, stack, here, name, words, token),
+    }
+}
+
+/// The list, where the tokens may end here.
+pub fn finish(state: State) -> Result<Option<Commands<Command>>, AllocError>
+    ensures { IfOk result (λ c. option_map (commands_of view) c ≡ Reader.finish (Some (state_view state))) }
+{
+    let State { stack, here, place } = state;
+    if stack.len() != 0 {
+        return Ok(None);
+    }
+    match place {
+        Place::Start => Ok(may_end(here)),
+        Place::Within(mut stages, simple) => {
+            stages.push(simple)?;
+            Ok(Some(whole_list(here, pipe(stages))))
+        }
+        Place::Closed(command) => Ok(Some(whole_list(here, command))),
+        Place::Target(_, _, _) | Place::Piped(_) | Place::ForName | Place::ForIn(_) | Place::ForWords(_, _) | Place::ForDo(_, _) => Ok(None),
+    }
+}
+
+/// The list that the tokens are.
+#[tactic(auto, unfolding(crate::specs::Reader::commands_of))]
+pub fn read_tokens(alloc: Global, tokens: Vec<Token>) -> Result<Option<Commands<Command>>, AllocError>
+    ensures { IfOk result (λ c. option_map (commands_of view) c ≡ Reader.commands_of (tokens_view tokens)) }
+{
+    let mut state = State { stack: Vec::new(alloc), here: nothing(alloc), place: Place::Start };
+    for token in tokens {
+        match step(alloc, state, token)? {
+            None => return Ok(None),
+            Some(next) => state = next,
+        }
+    }
+    finish(state)
+}
