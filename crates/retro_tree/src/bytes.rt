@@ -1,7 +1,7 @@
 //! The bytes of a file.
-ghost use Rattle.std.specs.Prelude.{◌≡◌, ◌++◌, IfOk, OnOk, OnErr, length};
+ghost use Rattle.std.specs.Prelude.{[], ◌==◌, ◌≡◌, ◌++◌, IfOk, OnOk, OnErr, length};
 
-use std::alloc::AllocError;
+use std::alloc::{AllocError, Global};
 use std::marker::Model;
 
 /// The bytes of a file.
@@ -19,11 +19,27 @@ impl Model for Bytes {
 }
 
 impl Bytes {
-    pub fn extend(&mut self, more: &Bytes) -> Result<(), AllocError>
+    /// No bytes.
+    pub fn new(alloc: Global) -> Bytes
+        ensures { result ≡ [] }
+    {
+        Bytes {
+            items: Vec::new(alloc),
+        }
+    }
+
+    /// Adds bytes at the end. After want of memory the bytes are as before.
+    pub fn extend(&mut self, more: &[u8]) -> Result<(), AllocError>
         ensures ok { OnOk result (self.new ≡ self.old ++ more.now) }
         ensures err { OnErr result (self.new ≡ self.old) }
     {
-        self.items.extend_from_slice(more.items.as_slice())
+        self.items.extend_from_slice(more)
+    }
+
+    pub fn is_empty(&self) -> bool
+        ensures { result ≡ (length self.now == 0) }
+    {
+        self.items.is_empty()
     }
 
     pub fn len(&self) -> usize

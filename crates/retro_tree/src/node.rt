@@ -54,7 +54,7 @@ impl Entry {
     {
         match self {
             Entry::Dir => Ok(()),
-            Entry::File(old) => old.extend(bytes),
+            Entry::File(old) => old.extend(bytes.as_slice()),
         }
     }
 }

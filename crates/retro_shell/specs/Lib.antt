@@ -1,0 +1,5 @@
+pub mod Diagnostics
+pub mod Utilities
+pub mod Redirections
+pub mod Commands
+pub mod Line

@@ -1,0 +1,74 @@
+//! Simple commands, and lists of them (XCU 2.9.1, 2.9.3).
+ghost use Rattle.std.specs.Prelude.{◌≡◌, IfOk, OnOk, map};
+ghost use Rattle.retro_tree.specs.Lawful.{IsLawful};
+ghost use Rattle.retro_syntax.specs.PlainViews.{plain_item_view, plain_command_view};
+ghost use Rattle.retro_shell.specs.Commands.{fields, command, run, nothing_printed};
+
+use crate::diagnostics::push_fault;
+use crate::redirection::{Opened, Printed, deliver, redirect};
+use crate::utilities::utility;
+use retro_syntax::{PlainCommand, PlainItem};
+use retro_tree::{Bytes, NoMem, State};
+use std::alloc::Global;
+
+/// The fields of a command: its words, redirections left out.
+fn fields<'a>(alloc: Global, items: &[PlainItem<'a>]) -> Result<Vec<&'a str>, NoMem>
+    ensures { IfOk result (λ f. map (λ word. word.now) f.items ≡ fields (map plain_item_view items.now)) }
+{
+    let mut fields = Vec::new(alloc);
+    for item in items {
+        if let PlainItem::Word(word) = item {
+            fields.push(*word)?;
+        }
+    }
+    Ok(fields)
+}
+
+/// Runs a simple command: redirections first, then the utility, then its output.
+#[tactic(auto, unfolding(crate::specs::Commands::command))]
+fn run_command(
+    alloc: Global,
+    state: &mut State,
+    sid: u32,
+    plain: &PlainCommand,
+) -> Result<Printed, NoMem>
+    ensures means { IfOk result (λ p.
+        (state.new, p) ≡ command sid (plain_command_view plain.now) state.old) }
+    ensures lawful { OnOk result (IsLawful state.old → IsLawful state.new) }
+    ensures sessions { OnOk result (state.new.sessions ≡ state.old.sessions) }
+{
+    let fields = fields(alloc, &plain.items)?;
+    match redirect(alloc, state, sid, &plain.items)? {
+        Opened::Ready(target) => {
+            let done = utility(alloc, state, sid, &fields)?;
+            Ok(deliver(alloc, state, done, target)?)
+        }
+        Opened::Failed(word, reason) => {
+            let mut text = Bytes::new(alloc);
+            push_fault(&mut text, "sh", word, reason)?;
+            Ok(Printed { text, status: 1 })
+        }
+    }
+}
+
+/// Runs the commands of a list one after the other; the status is the last one's.
+pub(crate) fn run_commands(
+    alloc: Global,
+    state: &mut State,
+    sid: u32,
+    commands: &[PlainCommand],
+) -> Result<Printed, NoMem>
+    ensures means { IfOk result (λ p.
+        (state.new, p) ≡ run sid (map plain_command_view commands.now) nothing_printed state.old) }
+    ensures lawful { OnOk result (IsLawful state.old → IsLawful state.new) }
+    ensures sessions { OnOk result (state.new.sessions ≡ state.old.sessions) }
+{
+    let mut text = Bytes::new(alloc);
+    let mut status = 0;
+    for command in commands {
+        let printed = run_command(alloc, state, sid, command)?;
+        text.extend(printed.text.as_slice())?;
+        status = printed.status;
+    }
+    Ok(Printed { text, status })
+}

@@ -1,0 +1,62 @@
+//! The texts that a line prints about its own faults.
+ghost use Rattle.std.specs.Prelude.{◌≡◌, ◌++◌, OnOk};
+ghost use Rattle.retro_shell.specs.Diagnostics.{reason_text, refusal, fault_text};
+
+use retro_tree::{Bytes, NoMem, Permit};
+use std::alloc::Global;
+
+/// Why a path can't be read or written.
+#[derive(Clone, Copy, Debug, PartialEq, Eq)]
+pub enum Reason {
+    NoSuchFile,
+    NotDirectory,
+    IsDirectory,
+    TooLarge,
+    NameTooLong,
+}
+
+impl Reason {
+    /// The reason in words, as diagnostics end.
+    pub fn text(self) -> &'static str
+        ensures { result.now ≡ reason_text self }
+    {
+        match self {
+            Reason::NoSuchFile => "No such file or directory",
+            Reason::NotDirectory => "Not a directory",
+            Reason::IsDirectory => "Is a directory",
+            Reason::TooLarge => "File too large",
+            Reason::NameTooLong => "File name too long",
+        }
+    }
+}
+
+/// Why a write isn't permitted, where it isn't.
+pub(crate) fn refusal(permit: Permit) -> Option<Reason>
+    ensures { result ≡ refusal permit }
+{
+    match permit {
+        Permit::Yes => None,
+        Permit::NoParent => Some(Reason::NoSuchFile),
+        Permit::NotDir => Some(Reason::NotDirectory),
+        Permit::IsDir => Some(Reason::IsDirectory),
+        Permit::TooLarge => Some(Reason::TooLarge),
+    }
+}
+
+/// Adds `SPEAKER: WORD: REASON` and a newline.
+#[tactic(auto, unfolding(crate::specs::Diagnostics::fault_text))]
+pub(crate) fn push_fault(
+    text: &mut Bytes,
+    speaker: &str,
+    word: &str,
+    reason: Reason,
+) -> Result<(), NoMem>
+    ensures { OnOk result (text.new ≡ text.old ++ fault_text speaker.now word.now reason) }
+{
+    text.extend(speaker.as_bytes())?;
+    text.extend(b": ")?;
+    text.extend(word.as_bytes())?;
+    text.extend(b": ")?;
+    text.extend(reason.text().as_bytes())?;
+    text.extend(b"\n")
+}
