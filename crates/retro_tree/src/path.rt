@@ -1,10 +1,8 @@
 //! Paths: the names from the root down to a file or directory.
 ghost use Rattle.std.specs.Prelude.{◌≡◌, ◌++◌, ◌∷◌, [], IfOk, OnOk, MatchOption, string_bytes, false, length, ◌-◌, take, map};
 ghost use Rattle.std.specs.List.{list_all};
-ghost use Rattle.std.specs.Option.{option_map};
 ghost use Rattle.retro_tree.specs.Name.{is_name, AllNames};
-ghost use Rattle.retro_tree.specs.Path.{parent_of, below, is_child, may_stand, is_null, is_root};
-ghost use Rattle.retro_tree.specs.Order.{path_eq};
+ghost use Rattle.retro_tree.specs.Path.{parent_of, may_stand, is_null, is_root};
 ghost use Rattle.retro_tree.specs.Resolving.{step};
 
 use crate::name::Name;
@@ -91,23 +89,6 @@ impl Path {
             names.push(name.copy()?)?;
         }
         Ok(Path { names })
-    }
-
-    /// The names below a path, where it is a front of this one.
-    #[tactic(auto, using(crate::proofs::Fronts::fronts))]
-    pub fn below(&self, front: &Path) -> Option<&[Name]>
-        ensures { option_map (λ rest. rest.now) result ≡ below front.now self.now }
-    {
-        let count = front.names.len();
-        if count > self.names.len() {
-            return None;
-        }
-        let (start, rest) = self.names.as_slice().split_at(count);
-        if start == front.names.as_slice() {
-            Some(rest)
-        } else {
-            None
-        }
     }
 
     /// Goes down to a name, or up at two dots.
