@@ -1,12 +1,12 @@
 //! A tree and its sessions.
-ghost use Rattle.std.specs.Prelude.{◌≡◌, IfOk, OnOk, OnErr};
+ghost use Rattle.std.specs.Prelude.{◌≡◌, ◌↔◌, IfOk, IsTrue, OnOk, OnErr};
 ghost use Rattle.std.specs.Option.{option_copied};
 ghost use Rattle.std.specs.FinMap as map;
 ghost use Rattle.retro_tree.specs.Node.{bytes_in, kind_of};
 ghost use Rattle.retro_tree.specs.Tree.{node_in};
 ghost use Rattle.retro_tree.specs.Session.{session_in};
-ghost use Rattle.retro_tree.specs.Limits.{within_limits};
-ghost use Rattle.retro_tree.specs.Lawful.{is_lawful};
+ghost use Rattle.retro_tree.specs.Limits.{IsWithinLimits, within_limits};
+ghost use Rattle.retro_tree.specs.Lawful.{IsLawful, is_lawful};
 ghost use Rattle.retro_tree.specs.State.{empty_state, put_node, grow_file, put_session, put_status, permit_of};
 
 use crate::bytes::Bytes;
@@ -162,16 +162,31 @@ impl State {
     }
 
     /// Whether the state is within the limits: each file, the values of variables, statuses.
-    #[tactic(auto, unfolding(crate::specs::Limits::within_limits))]
     pub fn is_within_limits(&self) -> bool
+        ensures value { result ≡ within_limits self.now }
+        ensures exact { IsTrue result ↔ IsWithinLimits self.now }
+    {
+        self.passes_limits()
+    }
+
+    #[tactic(auto, unfolding(crate::specs::Limits::within_limits))]
+    fn passes_limits(&self) -> bool
         ensures { result ≡ within_limits self.now }
     {
         self.tree.fits() && self.sessions.are_lawful()
     }
 
-    /// Whether the state is lawful.
-    #[tactic(auto, unfolding(crate::specs::Lawful::is_lawful))]
+    /// Whether the state is lawful: the root is a directory, as is the parent of each other path,
+    /// nothing stands at `/dev/null` or below it, and the state is within the limits.
     pub fn is_lawful(&self, alloc: Global) -> Result<bool, AllocError>
+        ensures value { IfOk result (λ lawful. lawful ≡ is_lawful self.now) }
+        ensures exact { IfOk result (λ lawful. IsTrue lawful ↔ IsLawful self.now) }
+    {
+        Ok(self.passes_law(alloc)?)
+    }
+
+    #[tactic(auto, unfolding(crate::specs::Lawful::is_lawful))]
+    fn passes_law(&self, alloc: Global) -> Result<bool, AllocError>
         ensures { IfOk result (λ lawful. lawful ≡ is_lawful self.now) }
     {
         Ok(self.tree.is_lawful(alloc)? && self.sessions.are_lawful())
