@@ -173,29 +173,6 @@ lawful_put p node tree lawful may q =
     (λ ne. law_there p q node tree ne lawful may)
     (same_or_apart q p)
 
-child_needs_dir : (p q : PathValue) (node : Node) (tree : Tree) → is_child p q ≡ true → finmap.contains_key tree q ≡ true → IsLawfulTree (put p node tree) → is_dir node ≡ true
-unfolding IsLawfulTree
-child_needs_dir p [] node tree e there lawful = absurd (true≢false (sym e ∙ not_own_child p))
-child_needs_dir p (name ∷ rest) node tree e there lawful =
-    let up = parent_of_child p (name ∷ rest) e in
-    let ne : name ∷ rest ≢ p = λ same. apart_from_parent name rest (up ∙ sym same) in
-    let law = (λ i. law_at (name ∷ rest) (sym (node_put_apart p (name ∷ rest) node tree ne) i) (sym (ap (λ k. node_in k (put p node tree)) up ∙ node_put p node tree) i)) ∙ lawful (name ∷ rest) in
-    dir_above name rest (node_in (name ∷ rest) tree) node (there_of_key tree (name ∷ rest) there) law
-
-childless : (p : PathValue) (node : Node) (tree : Tree) (b : Bool) → has_child p tree ≡ b → IsLawfulTree (put p node tree) → (is_dir node || not b) ≡ true
-unfolding has_child
-childless p node tree true h lawful =
-    let some = some_child p (finmap.keys tree) h in
-    ap (λ b. b || false) (child_needs_dir p some.0 node tree some.1 (finmap.contains_key-keys tree some.0 ∙ some.2) lawful)
-childless p Missing tree false h lawful = refl
-childless p Dir tree false h lawful = refl
-childless p (File bytes) tree false h lawful = refl
-
--- and one that leaves a lawful tree passes the test
-pub may_put_back : (p : PathValue) (node : Node) (tree : Tree) → IsLawfulTree (put p node tree) → may_put p node tree ≡ true
-unfolding IsLawfulTree
-may_put_back p node tree lawful = and_true _ _ (sym (law_here p node tree) ∙ lawful p) (childless p node tree (has_child p tree) refl lawful)
-
 parent_is_dir : (p q : PathValue) (tree : Tree) → is_child p q ≡ true → finmap.contains_key tree q ≡ true → IsLawfulTree tree → is_dir (node_in p tree) ≡ true
 unfolding IsLawfulTree
 parent_is_dir p [] tree e there lawful = absurd (true≢false (sym e ∙ not_own_child p))
@@ -216,5 +193,3 @@ none_below_file p tree lawful h = go (has_child p tree) refl
 pub may_grow : (p : PathValue) (bytes : List ℕ) (tree : Tree) → IsLawfulTree tree → is_dir (node_in p tree) ≡ false → law_at p (grown bytes (node_in p tree)) (node_in (parent_of p) tree) ≡ true → IsLawfulTree (put p (grown bytes (node_in p tree)) tree)
 may_grow p bytes tree lawful h law =
     lawful_put p (grown bytes (node_in p tree)) tree lawful (and_true _ _ law (or_last (is_dir (grown bytes (node_in p tree))) _ (ap not (none_below_file p tree lawful h))))
-
-pub ruleset laws = (lawful_put, may_put_back, may_grow)

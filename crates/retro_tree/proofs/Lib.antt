@@ -1,6 +1,6 @@
 pub mod Small
-pub mod Fronts
 pub mod Parents
+pub mod Entries
 pub mod MapLemmas
 pub mod StateLaws
 pub mod Results

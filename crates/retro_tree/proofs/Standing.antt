@@ -1,9 +1,9 @@
 -- Where a write is permitted in a lawful tree, the tree stays lawful.
-use Rattle.std.proofs.Common.{nat_lt, length-append, arith, ◌+◌, ◌≡◌, ℕ, Bool, true, false, not, nat_le, length, List, [], ◌∷◌, ◌++◌, Option, Some, None, refl, sym, ap, ◌∙◌, nat_eq}
+use Rattle.std.proofs.Common.{nat_lt, length-append, arith, ◌+◌, ◌≡◌, ◌≤◌, ℕ, Bool, true, false, not, nat_le, length, List, [], ◌∷◌, ◌++◌, Option, Some, None, refl, sym, ap, ◌∙◌, nat_eq}
 use Rattle.std.specs.Option.{is_some}
 use Rattle.std.specs.Bool.{if◌then◌else◌}
 use Rattle.std.specs.Cmp.Lexicographic.{pointwise}
-use Rattle.std.proofs.lemmas.Bool.{false≢true}
+use Rattle.std.proofs.lemmas.Bool.{false≢true, le-leb}
 use Rattle.retro_tree.specs.Name.{AllNames}
 use Rattle.retro_tree.specs.Path.{PathValue, below, parent_of, null_path, nothing_left, is_null, may_stand}
 use Rattle.retro_tree.specs.Node.{file_limit, is_dir, grown, permit_under, permit_at}
@@ -73,10 +73,10 @@ law_of_file [] bytes t l names apart fit file up = absurd (false≢true (sym fil
 law_of_file (m ∷ r) bytes t l names apart fit file up = and_true _ _ (ap is_dir up) (and_true _ _ (stands_under (m ∷ r) t l names apart up) fit)
 
 -- a file put where a write is permitted
-pub file_stands : (q : PathValue) (bytes : List ℕ) (t : Tree) (n : ℕ) → IsLawfulTree t → AllNames q → is_null q ≡ false → permit_at (node_in q t) (node_in (parent_of q) t) n ≡ permits.Yes → nat_le (length bytes) file_limit ≡ true → IsLawfulTree (put q (File bytes) t)
+pub file_stands : (q : PathValue) (bytes : List ℕ) (t : Tree) (n : ℕ) → IsLawfulTree t → AllNames q → is_null q ≡ false → permit_at (node_in q t) (node_in (parent_of q) t) n ≡ permits.Yes → length bytes ≤ file_limit → IsLawfulTree (put q (File bytes) t)
 file_stands q bytes t n l names apart may fit =
     let file = permit_no_dir (node_in q t) (node_in (parent_of q) t) n may in
-    lawful_put q (File bytes) t l (and_true _ _ (law_of_file q bytes t l names apart fit file (permit_above (node_in q t) (node_in (parent_of q) t) n may)) (ap not (none_below_file q t l file)))
+    lawful_put q (File bytes) t l (and_true _ _ (law_of_file q bytes t l names apart (le-leb _ _ fit) file (permit_above (node_in q t) (node_in (parent_of q) t) n may)) (ap not (none_below_file q t l file)))
 
 fits_under : (above : Node) (size : ℕ) → permit_under above size ≡ permits.Yes → nat_le size file_limit ≡ true
 fits_under Missing size e = cc

@@ -1,15 +1,12 @@
 -- Lawful trees, by one test at each path, and lawful states.
-use Rattle.std.specs.Prelude.{◌≡◌, ℕ, Bool, true, not, ◌&&◌, ◌||◌, nat_le, List, [], ◌∷◌, length, Some}
+use Rattle.std.specs.Prelude.{◌≡◌, Bool, true, not, ◌&&◌, ◌||◌, nat_le, [], ◌∷◌, length, Some}
 use Rattle.std.specs.List.{list_all}
-use Rattle.std.specs.Ordering.{nat_cmp}
-use Rattle.std.specs.Option.{unwrap_or}
 use Rattle.std.specs.FinMap as map
 use Rattle.retro_tree.specs.Path.{PathValue, parent_of, may_stand}
 use Rattle.retro_tree.specs.Node.{file_limit, node_of, is_dir}
 use Rattle.retro_tree.specs.Tree.{Tree, node_in, has_child}
-use Rattle.retro_tree.specs.Session.{session_in, value_limit}
+use Rattle.retro_tree.specs.Limits.{AreLawfulSessions, are_lawful_sessions}
 use Rattle.retro_tree.specs.declared.node.Entry.{Entry}
-use Rattle.retro_tree.specs.declared.session.Session.{Session}
 use Rattle.retro_tree.specs.declared.state.State.{State}
 use Rattle.retro_tree.specs.declared.node.Node.{Node}
 use Rattle.retro_tree.specs.declared.node.Node.TheVariants.{Missing, Dir, File}
@@ -25,18 +22,6 @@ law_at (name ∷ rest) (File bytes) above = is_dir above && (may_stand (name ∷
 unfoldable pub IsLawfulTree : Tree → Type 0
 IsLawfulTree tree = (p : PathValue) → law_at p (node_in p tree) (node_in (parent_of p) tree) ≡ true
 
--- a status is at most 255, and each variable's value within the limit
-abbrev pub IsLawfulSession : Session → Type 0
-IsLawfulSession t = (nat_le t.status 255 ≡ true) × ((name : List ℕ) → nat_le (length (unwrap_or (map.get t.vars name) [])) value_limit ≡ true)
-
-unfoldable pub AreLawfulSessions : map.FinMap nat_cmp Session → Type 0
-AreLawfulSessions m = (sid : ℕ) → IsLawfulSession (session_in sid m)
-
--- a lawful state
-pub record IsLawful (s : State) : Type 0 where
-  pub tree : IsLawfulTree s.tree
-  pub sessions : AreLawfulSessions s.sessions
-
 -- whether a node may be put at a path of a lawful tree
 abbrev pub may_put : PathValue → Node → Tree → Bool
 may_put p node tree = law_at p node (node_in (parent_of p) tree) && (is_dir node || not (has_child p tree))
@@ -48,3 +33,12 @@ entry_passes tree e = law_at e.0 (node_of (Some e.1)) (node_in (parent_of e.0) t
 -- the whole test of a tree: the root, and each entry
 unfoldable pub is_lawful_tree : Tree → Bool
 is_lawful_tree tree = is_dir (node_in [] tree) && list_all (entry_passes tree) (map.entries tree)
+
+-- a lawful state: its tree is, and its sessions are within the limits
+pub record IsLawful (s : State) : Type 0 where
+  pub tree : IsLawfulTree s.tree
+  pub sessions : AreLawfulSessions s.sessions
+
+-- the whole test of a state
+unfoldable pub is_lawful : State → Bool
+is_lawful s = is_lawful_tree s.tree && are_lawful_sessions s.sessions

@@ -8,7 +8,7 @@ pub mod Tree
 pub mod Maps
 pub mod SessionCode
 pub mod Session
-pub mod Settings
 pub mod State
+pub mod Limits
 pub mod Lawful
 pub mod Resolving

@@ -1,20 +1,36 @@
-//! Laws of trees and states, as contracts of functions that do nothing.
-ghost use Rattle.std.specs.Prelude.{◌≡◌, true, false, ℕ, List, [], length, nat_le};
+//! Laws of lawful states, as contracts of functions that do nothing.
+ghost use Rattle.std.specs.Prelude.{◌≡◌, ◌≤◌, IsTrue, false, ℕ, List, [], length};
 ghost use Rattle.retro_tree.specs.Name.{AllNames};
 ghost use Rattle.retro_tree.specs.Path.{PathValue, is_null};
 ghost use Rattle.retro_tree.specs.Node.{file_limit};
 ghost use Rattle.retro_tree.specs.Tree.{Tree};
 ghost use Rattle.retro_tree.specs.State.{put_node, grow_file, put_status, permit_of};
-ghost use Rattle.retro_tree.specs.Lawful.{IsLawful, IsLawfulTree, is_lawful_tree};
+ghost use Rattle.retro_tree.specs.Limits.{IsWithinLimits, within_limits};
+ghost use Rattle.retro_tree.specs.Lawful.{IsLawful, IsLawfulTree, is_lawful, is_lawful_tree};
 ghost use Rattle.retro_tree.specs.declared.node.Node.TheVariants.{File};
 ghost use Rattle.retro_tree.specs.declared.node.Permit.TheVariants.{Yes};
 ghost use Rattle.retro_tree.specs.declared.state.State.{State};
 
-/// A tree passes the whole test exactly where it is lawful.
-#[tactic(auto, using(crate::proofs::WholeLaw::whole))]
+/// The whole test of a tree is true exactly where the tree is lawful.
+#[tactic(auto, using(crate::proofs::WholeLaw::whole_tree))]
 pub fn lawful_trees_pass()
-    ensures sound { (tree : Tree) → is_lawful_tree tree ≡ true → IsLawfulTree tree }
-    ensures whole { (tree : Tree) → IsLawfulTree tree → is_lawful_tree tree ≡ true }
+    ensures sound { (tree : Tree) → IsTrue (is_lawful_tree tree) → IsLawfulTree tree }
+    ensures whole { (tree : Tree) → IsLawfulTree tree → IsTrue (is_lawful_tree tree) }
+{}
+
+/// The whole test of a state is true exactly where the state is lawful.
+#[tactic(auto, using(crate::proofs::WholeLaw::whole_state))]
+pub fn lawful_states_pass()
+    ensures sound { (s : State) → IsTrue (is_lawful s) → IsLawful s }
+    ensures whole { (s : State) → IsLawful s → IsTrue (is_lawful s) }
+{}
+
+/// The test of the limits is true exactly where a state is within them, as each lawful state is.
+#[tactic(auto, using(crate::proofs::WholeLaw::whole_limits))]
+pub fn lawful_states_are_within_limits()
+    ensures sound { (s : State) → IsTrue (within_limits s) → IsWithinLimits s }
+    ensures whole { (s : State) → IsWithinLimits s → IsTrue (within_limits s) }
+    ensures lawful { (s : State) → IsLawful s → IsWithinLimits s }
 {}
 
 /// A lawful state stays lawful where a file within the limit, or an empty one, is put at a path
@@ -23,7 +39,7 @@ pub fn lawful_trees_pass()
 pub fn lawful_files()
     ensures put { (p : PathValue) (bytes : List ℕ) (n : ℕ) (s : State)
         → IsLawful s → AllNames p → is_null p ≡ false → permit_of p n s ≡ Yes
-        → nat_le (length bytes) file_limit ≡ true → IsLawful (put_node p (File bytes) s) }
+        → length bytes ≤ file_limit → IsLawful (put_node p (File bytes) s) }
     ensures emptied { (p : PathValue) (n : ℕ) (s : State)
         → IsLawful s → AllNames p → is_null p ≡ false → permit_of p n s ≡ Yes
         → IsLawful (put_node p (File []) s) }
@@ -41,5 +57,5 @@ pub fn lawful_growths()
 #[tactic(auto, using(crate::proofs::StateLaw::keeping))]
 pub fn lawful_statuses()
     ensures { (sid status : ℕ) (s : State)
-        → IsLawful s → nat_le status 255 ≡ true → IsLawful (put_status sid status s) }
+        → IsLawful s → status ≤ 255 → IsLawful (put_status sid status s) }
 {}

@@ -1,6 +1,6 @@
 //! What stands at a path, and whether it may be written to.
-ghost use Rattle.std.specs.Prelude.{◌≡◌, OnOk, OnErr};
-ghost use Rattle.retro_tree.specs.Node.{entry_grown};
+ghost use Rattle.std.specs.Prelude.{◌≡◌, OnOk, OnErr, Some, nat_le};
+ghost use Rattle.retro_tree.specs.Node.{entry_grown, node_of, size_of, file_limit};
 
 use crate::bytes::Bytes;
 use std::alloc::AllocError;
@@ -55,6 +55,16 @@ impl Entry {
         match self {
             Entry::Dir => Ok(()),
             Entry::File(old) => old.extend(bytes.as_slice()),
+        }
+    }
+
+    /// Whether a file is within the limit, as a directory always is.
+    pub fn fits(&self) -> bool
+        ensures { result ≡ nat_le (size_of (node_of (Some self.now))) file_limit }
+    {
+        match self {
+            Entry::Dir => true,
+            Entry::File(bytes) => bytes.len() as u64 <= FILE_LIMIT,
         }
     }
 }

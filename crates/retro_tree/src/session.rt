@@ -1,17 +1,21 @@
 //! The sessions of a state.
-ghost use Rattle.std.specs.Prelude.{◌≡◌, IfOk, OnOk, OnErr, None, IfSome, IsSome};
+ghost use Rattle.std.specs.Prelude.{◌≡◌, ◌&&◌, nat_le, OnOk, OnErr};
 ghost use Rattle.std.specs.Option.{option_copied};
 ghost use Rattle.std.specs.FinMap as map;
 ghost use Rattle.retro_tree.specs.Maps.{update};
-ghost use Rattle.retro_tree.specs.Session.{fresh_session};
-ghost use Rattle.retro_tree.specs.Settings.{with_setting};
+ghost use Rattle.retro_tree.specs.Session.{fresh_session, with_status};
+ghost use Rattle.retro_tree.specs.Limits.{values_fit, are_lawful_sessions};
 
 use crate::path::Path;
 use crate::text::Text;
 use crate::var_name::VarName;
 use std::alloc::{AllocError, Global};
 use std::collections::BTreeMap;
+use std::collections::btree_map::Iter;
 use std::marker::Model;
+
+/// The greatest size of the value of a variable, in bytes.
+pub const VALUE_LIMIT: usize = 65_536;
 
 /// The variables of a session.
 #[derive(Drop, Clone)]
@@ -53,12 +57,24 @@ impl Vars {
         self.values.get(name)
     }
 
-    pub fn insert(&mut self, name: VarName, value: Text) -> Result<(), AllocError>
-        ensures ok { OnOk result (self.new ≡ map.insert self.old name value) }
-        ensures err { OnErr result (self.new ≡ self.old) }
+    /// The variables with their values, in order of names.
+    pub fn iter(&self) -> Iter<'_, VarName, Text>
+        ensures { result ≡ map.entries self.now }
     {
-        self.values.insert(name, value)?;
-        Ok(())
+        self.values.iter()
+    }
+
+    /// Whether each value is within the limit.
+    #[tactic(auto, unfolding(crate::specs::Limits::values_fit))]
+    fn fit(&self) -> bool
+        ensures { result ≡ values_fit self.now }
+    {
+        for (_, value) in self.iter() {
+            if value.bytes().len() > VALUE_LIMIT {
+                return false;
+            }
+        }
+        true
     }
 }
 
@@ -105,7 +121,28 @@ impl Sessions {
         self.sessions.get(&sid)
     }
 
-    pub fn insert(&mut self, sid: u32, session: Session) -> Result<(), AllocError>
+    /// The sessions, in order of their numbers.
+    pub fn iter(&self) -> Iter<'_, u32, Session>
+        ensures { result ≡ map.entries self.now }
+    {
+        self.sessions.iter()
+    }
+
+    /// Whether each session is within the limits.
+    #[tactic(auto, unfolding(crate::specs::Limits::are_lawful_sessions))]
+    pub(crate) fn are_lawful(&self) -> bool
+        ensures { result ≡ are_lawful_sessions self.now }
+    {
+        for (_, session) in self.iter() {
+            if !session.fits() {
+                return false;
+            }
+        }
+        true
+    }
+
+    /// Adds a session, or puts another in its place.
+    pub(crate) fn insert(&mut self, sid: u32, session: Session) -> Result<(), AllocError>
         ensures ok { OnOk result (self.new ≡ map.insert self.old sid session) }
         ensures err { OnErr result (self.new ≡ self.old) }
     {
@@ -113,30 +150,28 @@ impl Sessions {
         Ok(())
     }
 
-    /// Makes a setting in a session. One that isn't there is made first.
-    pub fn set(&mut self, alloc: Global, sid: u32, setting: Setting) -> Result<(), AllocError>
-        ensures ok { OnOk result (self.new ≡ update self.old sid fresh_session (with_setting setting)) }
+    /// Sets the status of a session. One that isn't there is made first.
+    pub(crate) fn set_status(
+        &mut self,
+        alloc: Global,
+        sid: u32,
+        status: u8,
+    ) -> Result<(), AllocError>
+        ensures ok { OnOk result (self.new ≡ update self.old sid fresh_session (with_status status)) }
         ensures err { OnErr result (self.new ≡ self.old) }
     {
         if let Some(session) = self.sessions.get_mut(&sid) {
-            return session.set(setting);
+            session.status = status;
+            return Ok(());
         }
         let mut session = Session::fresh(alloc);
-        session.set(setting)?;
+        session.status = status;
         self.insert(sid, session)
     }
 }
 
-/// What a change sets in a session.
-#[derive(Drop)]
-pub enum Setting {
-    Var(VarName, Text),
-    Cwd(Path),
-    Status(u8),
-}
-
 impl Session {
-    /// At the root, with no variables and status 0.
+    /// At the root, without variables, with status 0.
     #[tactic(auto, unfolding(crate::specs::Session::fresh_session))]
     pub fn fresh(alloc: Global) -> Session
         ensures { result ≡ fresh_session }
@@ -148,15 +183,11 @@ impl Session {
         }
     }
 
-    pub fn set(&mut self, setting: Setting) -> Result<(), AllocError>
-        ensures ok { OnOk result (self.new ≡ with_setting setting self.old) }
-        ensures err { OnErr result (self.new ≡ self.old) }
+    /// Whether the values of the variables are within the limit, as the status always is.
+    fn fits(&self) -> bool
+        ensures { result ≡ nat_le self.now.status 255 && values_fit self.now.vars }
     {
-        match setting {
-            Setting::Var(name, value) => self.vars.insert(name, value)?,
-            Setting::Cwd(path) => self.cwd = path,
-            Setting::Status(status) => self.status = status,
-        }
-        Ok(())
+        let Session { status, vars, .. } = self;
+        *status <= u8::MAX && vars.fit()
     }
 }

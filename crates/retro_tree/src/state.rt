@@ -1,16 +1,18 @@
 //! A tree and its sessions.
-ghost use Rattle.std.specs.Prelude.{◌≡◌, IfOk, OnOk, OnErr};
+ghost use Rattle.std.specs.Prelude.{◌≡◌, ◌↔◌, IfOk, IsTrue, OnOk, OnErr};
 ghost use Rattle.std.specs.Option.{option_copied};
 ghost use Rattle.std.specs.FinMap as map;
 ghost use Rattle.retro_tree.specs.Node.{bytes_in, kind_of};
 ghost use Rattle.retro_tree.specs.Tree.{node_in};
 ghost use Rattle.retro_tree.specs.Session.{session_in};
+ghost use Rattle.retro_tree.specs.Limits.{IsWithinLimits, within_limits};
+ghost use Rattle.retro_tree.specs.Lawful.{IsLawful, is_lawful};
 ghost use Rattle.retro_tree.specs.State.{empty_state, put_node, grow_file, put_session, put_status, permit_of};
 
 use crate::bytes::Bytes;
 use crate::node::{Entry, Kind, Node, Permit};
 use crate::path::Path;
-use crate::session::{Session, Sessions, Setting, Vars};
+use crate::session::{Session, Sessions, Vars};
 use crate::text::Text;
 use crate::tree::Tree;
 use crate::var_name::VarName;
@@ -109,7 +111,7 @@ impl State {
         ensures ok { OnOk result (self.new ≡ put_status sid status self.old) }
         ensures err { OnErr result (self.new ≡ self.old) }
     {
-        self.sessions.set(alloc, sid, Setting::Status(status))
+        self.sessions.set_status(alloc, sid, status)
     }
 
     /// Which kind of node is at a path.
@@ -157,5 +159,36 @@ impl State {
         ensures { result ≡ map.contains_key self.now.sessions sid }
     {
         self.sessions.get(sid).is_some()
+    }
+
+    /// Whether the state is within the limits: each file, the values of variables, statuses.
+    pub fn is_within_limits(&self) -> bool
+        ensures value { result ≡ within_limits self.now }
+        ensures exact { IsTrue result ↔ IsWithinLimits self.now }
+    {
+        self.passes_limits()
+    }
+
+    #[tactic(auto, unfolding(crate::specs::Limits::within_limits))]
+    fn passes_limits(&self) -> bool
+        ensures { result ≡ within_limits self.now }
+    {
+        self.tree.fits() && self.sessions.are_lawful()
+    }
+
+    /// Whether the state is lawful: the root is a directory, as is the parent of each other path,
+    /// nothing stands at `/dev/null` or below it, and the state is within the limits.
+    pub fn is_lawful(&self, alloc: Global) -> Result<bool, AllocError>
+        ensures value { IfOk result (λ lawful. lawful ≡ is_lawful self.now) }
+        ensures exact { IfOk result (λ lawful. IsTrue lawful ↔ IsLawful self.now) }
+    {
+        Ok(self.passes_law(alloc)?)
+    }
+
+    #[tactic(auto, unfolding(crate::specs::Lawful::is_lawful))]
+    fn passes_law(&self, alloc: Global) -> Result<bool, AllocError>
+        ensures { IfOk result (λ lawful. lawful ≡ is_lawful self.now) }
+    {
+        Ok(self.tree.is_lawful(alloc)? && self.sessions.are_lawful())
     }
 }

@@ -4,6 +4,7 @@ ghost use Rattle.std.specs.Option.{option_copied};
 ghost use Rattle.std.specs.FinMap as map;
 ghost use Rattle.retro_tree.specs.Node.{bytes_in, kind_of, size_of, permit_at, grown};
 ghost use Rattle.retro_tree.specs.Tree.{node_in, put};
+ghost use Rattle.retro_tree.specs.Limits.{files_fit};
 ghost use Rattle.retro_tree.specs.Lawful.{is_lawful_tree, entry_passes};
 
 use crate::bytes::Bytes;
@@ -152,6 +153,19 @@ impl Tree {
         let path = path.copy()?;
         let bytes = bytes.copy()?;
         self.insert(path, Entry::File(bytes))
+    }
+
+    /// Whether each file is within the limit.
+    #[tactic(auto, unfolding(crate::specs::Limits::files_fit))]
+    pub(crate) fn fits(&self) -> bool
+        ensures { result ≡ files_fit self.now }
+    {
+        for (_, entry) in self.iter() {
+            if !entry.fits() {
+                return false;
+            }
+        }
+        true
     }
 
     /// Whether the root is a directory and all that stands in the tree may stand there.

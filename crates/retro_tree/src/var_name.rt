@@ -1,15 +1,15 @@
-//! Names of variables.
-ghost use Rattle.std.specs.Prelude.{◌≡◌, IfOk, IsTrue, MatchOption, string_bytes, false};
-ghost use Rattle.std.specs.Ordering.{nat_cmp};
-ghost use Rattle.std.specs.Cmp.Lexicographic.{slice_cmp};
-ghost use Rattle.retro_tree.specs.VarName.{is_var_name};
+//! The name of a variable.
+ghost use Rattle.std.specs.Prelude.{◌≡◌, IfOk, IsTrue, MatchOption, false};
+ghost use Rattle.std.specs.List.{list_all};
+ghost use Rattle.retro_tree.specs.VarName.{starts_name, continues_name, is_shell_name, is_var_name};
 
 use crate::text::Text;
-use std::alloc::AllocError;
+use std::alloc::{AllocError, Global};
 use std::cmp::Ordering;
 use std::marker::Model;
 
-/// The name of a variable that a line may assign.
+/// The name of a variable that a line may assign: a letter or an underscore, then letters, digits
+/// and underscores, of ASCII (POSIX.1-2017 XBD 3.235). IFS, PWD, OLDPWD and CDPATH are none.
 #[derive(Drop, Clone, PartialEq, Eq, PartialOrd, Ord)]
 pub struct VarName {
     text: Text,
@@ -17,10 +17,9 @@ pub struct VarName {
 
 impl Model for VarName {
     ghost use Rattle.std.specs.Prelude.{List, ℕ, IsTrue};
+    ghost use Rattle.retro_tree.specs.VarName.{is_var_name};
 
     ghost Value = { List ℕ };
-
-    ghost use Rattle.retro_tree.specs.VarName.{is_var_name};
 
     ghost view = { λ a. a.text };
 
@@ -29,33 +28,72 @@ impl Model for VarName {
     ghost inverse = { λ v. record { text = v } };
 }
 
+/// Whether a byte may be the first of a name.
+fn starts_name(byte: u8) -> bool
+    ensures { result ≡ starts_name byte }
+{
+    byte.is_ascii_alphabetic() || byte == b'_'
+}
+
+/// Whether a byte may follow in a name.
+fn continues_name(byte: u8) -> bool
+    ensures { result ≡ continues_name byte }
+{
+    byte.is_ascii_alphanumeric() || byte == b'_'
+}
+
+/// Whether each byte may follow in a name.
+fn all_continue(bytes: &[u8]) -> bool
+    ensures { result ≡ list_all continues_name bytes.now }
+{
+    bytes.iter().all(|byte| continues_name(*byte))
+}
+
+/// Whether bytes are a name in the shell's grammar.
+#[tactic(auto, unfolding(crate::specs::VarName::is_shell_name))]
+fn is_shell_name(bytes: &[u8]) -> bool
+    ensures { result ≡ is_shell_name bytes.now }
+{
+    match bytes {
+        [] => false,
+        [first, rest @ ..] => { starts_name(*first) && all_continue(rest) }
+    }
+}
+
+/// Whether a line may assign a variable of this name.
 #[tactic(auto, unfolding(crate::specs::VarName::is_var_name))]
 fn is_var_name(text: &str) -> bool
     ensures { result ≡ is_var_name text.now }
 {
-    !text.is_empty() && !(text == "IFS" || text == "PWD")
+    is_shell_name(text.as_bytes())
+        && !(text == "IFS" || text == "PWD" || text == "OLDPWD" || text == "CDPATH")
 }
 
 impl VarName {
-    pub fn of(text: Text) -> Option<VarName>
-        ensures { MatchOption result (is_var_name text ≡ false) (λ name. name ≡ text) }
+    /// The name that a text is, where a line may assign it.
+    pub fn of(alloc: Global, text: &str) -> Result<Option<VarName>, AllocError>
+        ensures { IfOk result (λ found. MatchOption found
+            (is_var_name text.now ≡ false)
+            (λ name. (name ≡ text.now) × IsTrue (is_var_name name))) }
     {
-        if is_var_name(text.as_str()) {
-            Some(VarName { text })
-        } else {
-            None
+        if !is_var_name(text) {
+            return Ok(None);
         }
+        Ok(Some(VarName {
+            text: Text::of(String::from_str(alloc, text)?),
+        }))
+    }
+
+    pub fn as_str(&self) -> &str
+        ensures value { result.now ≡ self.now }
+        ensures name { IsTrue (is_var_name self.now) }
+    {
+        self.text.as_str()
     }
 
     pub fn copy(&self) -> Result<VarName, AllocError>
         ensures { IfOk result (λ copy. copy ≡ self.now) }
     {
         self.clone()
-    }
-
-    pub fn order(&self, other: &VarName) -> Ordering
-        ensures { result ≡ slice_cmp nat_cmp self.now other.now }
-    {
-        self.cmp(other)
     }
 }
