@@ -1,0 +1,12 @@
+use Rattle.std.proofs.Common.{ap, ap₂, codes, [], ◌∷◌, ◌≡◌, ◌∙◌}
+use Rattle.std.proofs.lemmas.Result.{IfOk-weaker}
+use Rattle.clap.specs.Words.{App, Shape, app_of, with_subcommand}
+use Rattle.retro_cli.specs.Words.{bare, cancel, command}
+use Rattle.retro_cli.proofs.words.program_command.Goals as goal
+
+abbrev top : App → Shape
+top a = a.top
+
+pub returns : goal.returns
+returns c =
+    IfOk-weaker c.subcommand.result _ _ (λ m h. h.shape c.in_ok-replay_command.ensures.local ∙ ap₂ with_subcommand c.bare_command.ensures (ap top c.in_ok-replay_command.ensures.shape)) c.subcommand.ensures

@@ -1,0 +1,4 @@
+pub mod Edge
+pub mod Numbers
+pub mod Replay
+pub mod Words

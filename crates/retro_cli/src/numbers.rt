@@ -1,0 +1,63 @@
+//! Lists of numbers on the command line.
+ghost use Rattle.std.specs.Prelude.{◌≡◌, ◌==◌, IfOk, map};
+ghost use Rattle.std.specs.Str.{all_ascii_digits};
+ghost use Rattle.std.specs.List.{slice_split};
+ghost use Rattle.retro_cli.specs.Numbers.{number_in, numbers_in, list_in};
+ghost use Rattle.retro_cli.specs.Words.{Means};
+
+use crate::words::WordsFault;
+use std::alloc::{AllocError, Global};
+
+fn are_digits(text: &[u8]) -> bool
+    ensures { result ≡ all_ascii_digits text.now }
+{
+    for byte in text {
+        if !byte.is_ascii_digit() {
+            return false;
+        }
+    }
+    true
+}
+
+/// A decimal number of one to ten digits, at most 4,294,967,295.
+#[tactic(auto, unfolding(crate::specs::Numbers::number_in))]
+fn number_of(text: &str) -> Option<u32>
+    ensures { result ≡ number_in text.now }
+{
+    if text.len() > 10 || !are_digits(text.as_bytes()) {
+        return None;
+    }
+    text.parse().ok()
+}
+
+/// What stands between the commas.
+fn pieces(alloc: Global, text: &str) -> Result<Vec<&str>, AllocError>
+    ensures { IfOk result (λ v. map (λ s. s.now) v.items ≡ slice_split (λ b. b == 44) text.now) }
+{
+    text.split(',').collect(alloc)
+}
+
+fn numbers_of(alloc: Global, texts: &[&str]) -> Result<Vec<u32>, WordsFault>
+    ensures { Means (λ v. v.items) result (numbers_in (map (λ s. s.now) texts.now)) }
+{
+    let mut numbers = Vec::new(alloc);
+    for text in texts {
+        match number_of(text) {
+            Some(number) => numbers.push(number)?,
+            None => return Err(WordsFault::BadWords),
+        }
+    }
+    Ok(numbers)
+}
+
+/// The numbers of a list: nothing, or numbers with single commas between.
+#[tactic(auto, unfolding(crate::specs::Numbers::list_in))]
+pub(crate) fn list_of(alloc: Global, text: &str) -> Result<Vec<u32>, WordsFault>
+    ensures { Means (λ v. v.items) result (list_in text.now) }
+{
+    if text.is_empty() {
+        return Ok(Vec::new(alloc));
+    }
+    let texts = pieces(alloc, text)?;
+    numbers_of(alloc, texts.as_slice())
+}

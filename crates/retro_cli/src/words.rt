@@ -1,0 +1,121 @@
+//! What the words of the command line ask for, as `clap` reads them.
+ghost use Rattle.std.specs.Prelude.{◌≡◌, ◌∷◌, [], false, map, IfOk, codes, string_bytes};
+ghost use Rattle.clap.specs.Words.{app_of, rule_of};
+ghost use Rattle.clap.specs.declared.builder.command.Command.TheViews.{out-Command as fields_of};
+ghost use Rattle.retro_cli.specs.Words.{option, cancel, command, bare, program, given, given_view, request_of, request_view, requested, Means};
+ghost use Rattle.retro_cli.specs.declared.words.WordsFault.TheVariants.{NoMem};
+
+use crate::numbers::list_of;
+use clap::error::ErrorKind;
+use clap::{Arg, ArgAction, Command};
+use std::alloc::{AllocError, AllocFailed, Global};
+
+/// What the program is asked to do.
+#[derive(Debug, Drop)]
+pub enum Request {
+    /// To run a script's lines but for those with these numbers.
+    Replay { cancel: Vec<u32> },
+}
+
+/// Why words ask for nothing.
+#[derive(Clone, Copy, Debug, PartialEq, Eq)]
+pub enum WordsFault {
+    NoMem,
+    /// Refusal 31.
+    BadWords,
+}
+
+impl From<AllocError> for WordsFault {
+    ghost from_gives = { λ _ e. e ≡ NoMem };
+
+    fn from(_error: AllocError) -> WordsFault {
+        WordsFault::NoMem
+    }
+}
+
+impl<T: Drop> From<AllocFailed<T>> for WordsFault {
+    ghost from_gives = { λ _ e. e ≡ NoMem };
+
+    fn from(_error: AllocFailed<T>) -> WordsFault {
+        WordsFault::NoMem
+    }
+}
+
+/// A command's name and the text of its option.
+#[derive(Debug, Drop)]
+struct Given<'a> {
+    name: &'a str,
+    cancel: Option<&'a str>,
+}
+
+fn cancel_option<'a>(alloc: Global) -> Arg<'a>
+    ensures rule { rule_of result ≡ cancel }
+    ensures local { result.global ≡ false }
+{
+    Arg::new(alloc, "cancel")
+        .long("cancel")
+        .action(ArgAction::Set)
+        .default_value("")
+}
+
+fn replay_command<'a>(alloc: Global) -> Result<Command<'a>, AllocError>
+    ensures shape { IfOk result (λ c.
+        app_of c ≡ record { top = command (codes "replay") (cancel ∷ []); subs = [] }) }
+    ensures local { IfOk result (λ c. (fields_of c).has_globals ≡ false) }
+{
+    Command::new(alloc, "replay").arg(cancel_option(alloc))
+}
+
+fn bare_command<'a>(alloc: Global) -> Command<'a>
+    ensures { app_of result ≡ bare }
+{
+    Command::new(alloc, "retro")
+        .disable_help_flag(true)
+        .disable_help_subcommand(true)
+        .subcommand_required(true)
+}
+
+fn program_command<'a>(alloc: Global) -> Result<Command<'a>, AllocError>
+    ensures { IfOk result (λ c. app_of c ≡ program) }
+{
+    bare_command(alloc).subcommand(replay_command(alloc)?)
+}
+
+fn given_words<'a>(alloc: Global, words: &'a [String]) -> Result<Given<'a>, WordsFault>
+    ensures { Means given_view result (given (map string_bytes words.entry.now)) }
+{
+    let command = program_command(alloc)?;
+    match command.try_get_matches_from(words) {
+        Ok(matches) => match matches.subcommand() {
+            Some((name, inner)) => Ok(Given {
+                name,
+                cancel: inner.get_str("cancel"),
+            }),
+            None => Err(WordsFault::BadWords),
+        },
+        Err(error) => match error.kind() {
+            ErrorKind::OutOfMemory => Err(WordsFault::NoMem),
+            _ => Err(WordsFault::BadWords),
+        },
+    }
+}
+
+/// What the words ask for; the first is the program's name.
+///
+/// Words that `clap` refuses, a wish for help among them, and lists that aren't numbers with single
+/// commas between are bad words.
+#[tactic(auto, unfolding(crate::specs::Words::requested))]
+pub fn read_words(alloc: Global, words: &[String]) -> Result<Request, WordsFault>
+    ensures { Means request_view result (requested (map string_bytes words.now)) }
+{
+    let given = given_words(alloc, words)?;
+    match given.name {
+        "replay" => match given.cancel {
+            Some(text) => Ok(Request::Replay {
+                cancel: list_of(alloc, text)?,
+            }),
+            None => Err(WordsFault::BadWords),
+        },
+        _ => Err(WordsFault::BadWords),
+    }
+}
