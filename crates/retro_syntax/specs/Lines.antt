@@ -63,6 +63,13 @@ plain_read false text = None
 unfoldable pub plain_line : List ℕ → Option (List (List PlainItem))
 plain_line text = plain_read (nat_le (length text) 4096 && not (has_foreign text)) text
 
+-- The text spells a line of these plain commands.
+pub record SpellsPlain (text : List ℕ) (found : List (List PlainItem)) : Type 0 where
+  pub line : Option Commands
+  pub short : length text ≤ 4096
+  pub spelled : PlainSpells text line
+  pub commands : plain_commands line ≡ Some found
+
 -- ---- what `parse` answers
 
 abbrev pub Meets : List ℕ → Result Line Refused → Type 0
