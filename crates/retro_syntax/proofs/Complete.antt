@@ -1,6 +1,6 @@
 -- What is written for a tree is read as that tree.
-use Rattle.std.proofs.Common.{◌≡◌, ℕ, Bool, true, false, ◌&&◌, List, [], ◌∷◌, ◌++◌, Option, Some, None, cond, option_map, subst, refl, sym, ap, ◌∙◌, append_assoc, append-nil}
-use Rattle.retro_syntax.specs.Tree.{Piece, plain, Word, Token, semicolon, bar, connector, redirection, word, whole, spelling, key, Item, argument, redirect, Simple, assignments, command, Commands, last, more, AndOr, end, chain, Pipeline, pipeline, Command, simples, conditional, loop, Arms, fi, otherwise, elif, items_then, words_then, simple_then, stages_then, commands_then, andor_then, pipeline_then, command_then, arms_then, bang_then, closing_then, for_then}
+use Rattle.std.proofs.Common.{◌≡◌, ℕ, Bool, true, false, ◌&&◌, List, [], ◌∷◌, ◌++◌, Some, None, cond, option_map, subst, refl, sym, ap, ◌∙◌, append_assoc, append-nil}
+use Rattle.retro_syntax.specs.Tree.{plain, Word, Token, semicolon, bar, connector, redirection, word, whole, key, Item, argument, redirect, Simple, assignments, command, Commands, last, more, AndOr, end, chain, Pipeline, pipeline, Command, simples, conditional, loop, Arms, fi, otherwise, elif, items_then, words_then, simple_then, stages_then, commands_then, andor_then, pipeline_then, command_then, arms_then, for_then}
 use Rattle.retro_syntax.specs.declared.tree.Direction.{Direction}
 use Rattle.retro_syntax.specs.declared.tree.Connector.{Connector}
 use Rattle.retro_syntax.specs.declared.tree.Key.{Key}
@@ -8,9 +8,9 @@ use Rattle.retro_syntax.specs.declared.tree.Key.TheVariants.{Bang as bang, If as
 use Rattle.retro_syntax.specs.declared.words.Class.{Class}
 use Rattle.retro_syntax.specs.declared.words.Class.TheVariants.{Keyword as keyword, Forbidden as forbidden, Assignment as assignment, Ordinary as ordinary}
 use Rattle.retro_syntax.specs.Words.{class, name_of, is_ordinary, is_assignment}
-use Rattle.retro_syntax.specs.Reader.{Open, Frame, condition, consequence, alternative, body, Place, start, within, target, piped, closed, for_name, for_in, for_words, for_do, State, at, step, step_at, run, join, and_or, listed, arms_up_to, nothing, no_argument, finish, commands_of, close, close_by, close_some, begin_key, may_end, all_closed, finish_at, go_on}
+use Rattle.retro_syntax.specs.Reader.{Open, Frame, condition, consequence, alternative, body, Place, start, within, target, piped, closed, for_name, for_in, for_words, for_do, State, at, step, run, join, and_or, listed, arms_up_to, nothing, no_argument, finish, commands_of, close, close_some, begin_key, may_end, all_closed, finish_at, go_on}
 use Rattle.retro_syntax.specs.Spells.{are_assignments, begins_well, is_simple, are_simple, are_stages, is_compound, ends_compound, ends_itself, Spells, IsCommands, IsAndOr, IsPipeline, IsCommand, IsArms}
-use Rattle.retro_syntax.proofs.WordLemmas.{key_of_class, class_key}
+use Rattle.retro_syntax.proofs.WordLemmas.{class_key}
 
 abbrev Stack : Type 0
 Stack = List (Open × Frame)
@@ -160,9 +160,11 @@ stages_on st o p xs [] b h = absurd (let e : false ≡ true = h in cc)
 stages_on st o p xs (s ∷ []) b h = (within xs s, refl, λ r. simple_on st o p xs s r b (and_left (is_simple s) true h))
 stages_on st o p xs (s ∷ t ∷ ss) b h =
     let rest = stages_on st o (piped (xs ++ s ∷ [])) (xs ++ s ∷ []) (t ∷ ss) (begins_piped st o (xs ++ s ∷ [])) (and_right (is_simple s) (are_simple (t ∷ ss)) h) in
-    let one = and_left (is_simple s) (are_simple (t ∷ ss)) h in
-    (rest.0, subst (λ ys. Holds rest.0 (simples ys)) (append_assoc xs (s ∷ []) (t ∷ ss)) rest.1,
-      λ r. simple_on st o p xs s (bar ∷ stages_then (t ∷ ss) r) b one ∙ next _ _ bar (stages_then (t ∷ ss) r) (step_bar st o xs s) ∙ rest.2 r)
+    let one = and_left (is_simple s) (are_simple (t ∷ ss)) h in (
+      rest.0,
+      subst (λ ys. Holds rest.0 (simples ys)) (append_assoc xs (s ∷ []) (t ∷ ss)) rest.1,
+      λ r. simple_on st o p xs s (bar ∷ stages_then (t ∷ ss) r) b one ∙ next _ _ bar (stages_then (t ∷ ss) r) (step_bar st o xs s) ∙ rest.2 r,
+    )
 
 -- ---- lists that were put together
 
@@ -441,9 +443,12 @@ mutual
   command_on : (c : Command) → IsCommand c → (st : Stack) (o : Open) → Reads st o start (command_then c) c
   command_on (simples ss) h st o = stages_on st o start [] ss (begins_start st o) h
   command_on (conditional a) h st o = (closed (conditional a), refl, λ r. next _ _ (key key_if) (arms_then a r) (step_if st o) ∙ arms_on a h st o [] r)
-  command_on (loop n ws c) h st o =
-      (closed (loop n ws c), refl, λ r. for_on st o n ws (commands_then c (key key_done ∷ r)) h.0
-        ∙ inner_of ((o, body n ws) ∷ st) (commands_then c) c key_done r _ (commands_on c h.1.0 ((o, body n ws) ∷ st) []) h.1.1 (λ s p. refl))
+  command_on (loop n ws c) h st o = (
+    closed (loop n ws c),
+    refl,
+    λ r. for_on st o n ws (commands_then c (key key_done ∷ r)) h.0
+        ∙ inner_of ((o, body n ws) ∷ st) (commands_then c) c key_done r _ (commands_on c h.1.0 ((o, body n ws) ∷ st) []) h.1.1 (λ s p. refl),
+  )
 
   arms_on : (a : Arms) → IsArms a → (st : Stack) (o : Open) (xs : List (Commands × Commands)) (r : List Token)
       → run (Some (at ((o, condition xs) ∷ st) nothing start)) (arms_then a r) ≡ run (Some (at st o (closed (conditional (arms_up_to xs a))))) r

@@ -1,12 +1,10 @@
 -- A text is read as the line that it spells.
 use Rattle.std.proofs.Common.{true, false, not, nat_le, ◌&&◌, ◌≡◌, ◌≤◌, ◌<◌, Bool, ℕ, List, [], ◌∷◌, length, Option, Some, None, Result, Ok, Err, is_some, option_map, option_and_then, refl, sym, ap, subst, ◌∙◌}
-use Rattle.std.specs.Prelude.{IsSome}
 use Rattle.std.specs.Str.{chars}
 use Rattle.std.proofs.lemmas.Bool.{leb-true, le-leb, lt-leb}
 use Rattle.retro_syntax.specs.Tree.{Token, Commands}
 use Rattle.retro_syntax.specs.Reader.{commands_of}
 use Rattle.retro_syntax.specs.Quoting.{tokens_of}
-use Rattle.retro_syntax.specs.Spells.{Spells}
 use Rattle.retro_syntax.specs.Plain.{PlainItem, plain_commands}
 use Rattle.retro_syntax.specs.Lines.{SpellsLine, TextSpells, PlainSpells, SpellsPlain, Meets, Answers, line_of, line_of_tokens, line_view, has_foreign, plain_line, plain_read}
 use Rattle.retro_syntax.specs.declared.lines.Line.{Line}

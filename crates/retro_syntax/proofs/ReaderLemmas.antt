@@ -1,10 +1,10 @@
 -- How the values that the code builds are seen.
-use Rattle.std.proofs.Common.{◌≡◌, ℕ, length, arith, List, [], ◌∷◌, ◌++◌, map, reverse, Option, Some, None, Bool, true, false, refl, sym, ap, ◌∙◌, option_map}
+use Rattle.std.proofs.Common.{◌≡◌, ℕ, length, arith, List, [], ◌∷◌, ◌++◌, map, reverse, Some, None, true, refl, ap, option_map}
 use Rattle.std.proofs.lemmas.List.{reverse-append}
 use Rattle.retro_syntax.specs.Tree as T
 use Rattle.retro_syntax.specs.Reader.{all_closed, listed, Open, Frame, close_by, condition, consequence, alternative, body}
 use Rattle.retro_syntax.specs.declared.tree.Key.{Key}
-use Rattle.retro_syntax.specs.declared.tree.Key.TheVariants.{Bang as bang, If as key_if, Then as key_then, Elif as key_elif, Else as key_else, Fi as key_fi, For as key_for, In as key_in, Do as key_do, Done as key_done}
+use Rattle.retro_syntax.specs.declared.tree.Key.TheVariants.{Then as key_then, Elif as key_elif, Else as key_else, Fi as key_fi, Done as key_done}
 
 pub all_closed-listed : (ds : List T.AndOr) (a : T.AndOr) → all_closed (ds ++ a ∷ []) ≡ Some (listed ds a true)
 all_closed-listed [] a = refl

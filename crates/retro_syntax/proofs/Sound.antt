@@ -1,6 +1,6 @@
 -- What is read as a tree is what is written for it.
-use Rattle.std.proofs.Common.{◌≡◌, ℕ, Bool, true, false, ◌&&◌, List, [], ◌∷◌, ◌++◌, Option, Some, None, cond, option_map, subst, refl, sym, ap, ◌∙◌, append_assoc, append-nil}
-use Rattle.retro_syntax.specs.Tree.{Piece, plain, Word, Token, semicolon, bar, connector, redirection, word, whole, spelling, key, Item, argument, redirect, Simple, assignments, command, Commands, last, more, AndOr, end, chain, Pipeline, pipeline, Command, simples, conditional, loop, Arms, fi, otherwise, elif, items_then, words_then, simple_then, stages_then, commands_then, andor_then, pipeline_then, command_then, arms_then, bang_then, closing_then, for_then}
+use Rattle.std.proofs.Common.{◌≡◌, ℕ, Bool, true, false, ◌&&◌, List, [], ◌∷◌, ◌++◌, Option, Some, None, cond, option_map, subst, refl, sym, ap, ◌∙◌}
+use Rattle.retro_syntax.specs.Tree.{plain, Word, Token, semicolon, bar, connector, redirection, word, whole, key, Item, argument, redirect, Simple, assignments, command, Commands, last, more, AndOr, Pipeline, pipeline, Command, simples, Arms, fi, otherwise, items_then, words_then, simple_then, stages_then, commands_then, andor_then, pipeline_then, command_then, arms_then, bang_then, closing_then, for_then}
 use Rattle.retro_syntax.specs.declared.tree.Direction.{Direction}
 use Rattle.retro_syntax.specs.declared.tree.Connector.{Connector}
 use Rattle.retro_syntax.specs.declared.tree.Key.{Key}
@@ -8,9 +8,9 @@ use Rattle.retro_syntax.specs.declared.tree.Key.TheVariants.{Bang as bang, If as
 use Rattle.retro_syntax.specs.declared.words.Class.{Class}
 use Rattle.retro_syntax.specs.declared.words.Class.TheVariants.{Keyword as keyword, Forbidden as forbidden, Assignment as assignment, Ordinary as ordinary}
 use Rattle.retro_syntax.specs.Words.{class, name_of, is_ordinary, is_assignment}
-use Rattle.retro_syntax.specs.Reader.{Open, Frame, condition, consequence, alternative, body, Place, start, within, target, piped, closed, for_name, for_in, for_words, for_do, State, at, step, step_at, run, join, and_or, listed, arms_up_to, nothing, no_argument, finish, commands_of, close, close_by, close_some, begin, begin_simple, begin_key, may_end, all_closed, finish_at, go_on, add_word, add_direction, close_word, only_key, end_of}
+use Rattle.retro_syntax.specs.Reader.{Open, Frame, condition, consequence, alternative, body, Place, start, within, target, piped, closed, for_name, for_in, for_words, for_do, State, at, step, step_at, run, join, and_or, listed, arms_up_to, nothing, no_argument, finish, commands_of, close, close_by, close_some, begin, begin_simple, begin_key, may_end, all_closed, finish_at, go_on, close_word, only_key, end_of}
 use Rattle.retro_syntax.specs.Spells.{Spells, are_assignments, begins_well, is_simple, are_simple, are_stages, is_compound, ends_compound, ends_itself, EndsItself, IsCommands, IsAndOr, IsPipeline, IsCommand, IsArms}
-use Rattle.retro_syntax.proofs.WordLemmas.{key_of_class, class_key, name_of_is}
+use Rattle.retro_syntax.proofs.WordLemmas.{key_of_class, name_of_is}
 
 abbrev Stack : Type 0
 Stack = List (Open × Frame)
@@ -218,7 +218,7 @@ are_assignments-push : (ws : List Word) (w : Word) → are_assignments ws ≡ tr
 are_assignments-push [] w h k = and_both (is_assignment (class w)) true k refl
 are_assignments-push (x ∷ ws) w h k =
     and_both (is_assignment (class x)) (are_assignments (ws ++ w ∷ [])) (and_left (is_assignment (class x)) (are_assignments ws) h)
-      (are_assignments-push ws w (and_right (is_assignment (class x)) (are_assignments ws) h) k)
+    (are_assignments-push ws w (and_right (is_assignment (class x)) (are_assignments ws) h) k)
 
 is_simple-assignments : (ws : List Word) (w : Word) → is_simple (assignments ws) ≡ true → is_assignment (class w) ≡ true → is_simple (assignments (ws ++ w ∷ [])) ≡ true
 is_simple-assignments [] w h k = cc
@@ -355,12 +355,12 @@ record Stands (p : Place) (c : Command) : Type 0 where
 go_on_sound : (st : Stack) (o : Open) (p : Place) (c : Command) (t : Token) → Stands p c → IsStack st → IsOpen o → Sound (at st o p) t (go_on st o c t)
 go_on_sound st o p c semicolon b hs ho = record {
   written = λ r. ap (λ x. stack_then st (open_then o x)) (b.then_is (semicolon ∷ r))
-    ∙ ap (stack_then st) (sym (done_then-push o.done (and_or o c) r ∙ ap (done_then o.done) (and_or-written o c (semicolon ∷ r))));
+      ∙ ap (stack_then st) (sym (done_then-push o.done (and_or o c) r ∙ ap (done_then o.done) (and_or-written o c (semicolon ∷ r))));
   kept = (hs, (AreDone-push o.done (and_or o c) ho.0 (IsAndOr-join o.joined (pipeline o.negated c) ho.1 b.is_whole), tt), tt);
 }
 go_on_sound st o p c (connector op) b hs ho = record {
   written = λ r. ap (λ x. stack_then st (open_then o x)) (b.then_is (connector op ∷ r))
-    ∙ ap (λ x. stack_then st (done_then o.done x)) (sym (joined_then-push o.joined (pipeline o.negated c) op r));
+      ∙ ap (λ x. stack_then st (done_then o.done x)) (sym (joined_then-push o.joined (pipeline o.negated c) op r));
   kept = (hs, (ho.0, AreJoined-push o.joined (pipeline o.negated c) op ho.1 b.is_whole), tt);
 }
 go_on_sound st o p c bar b hs ho = tt
@@ -375,7 +375,7 @@ close_word_sound : (st : Stack) (o : Open) (d : Command) (w : Word) (c : Class) 
 close_word_sound st o d w (keyword k) e h hs ho =
     let l = listed o.done (and_or o d) false in
     let written : (r : List Token) → state_then (at st o (closed d)) r ≡ stack_then st (commands_then l r) =
-      λ r. ap (stack_then st) (sym (listed-written o.done (and_or o d) false r ∙ ap (done_then o.done) (and_or-written o d r))) in
+    λ r. ap (stack_then st) (sym (listed-written o.done (and_or o d) false r ∙ ap (done_then o.done) (and_or-written o d r))) in
     let whole_list : IsCommands l = IsCommands-listed o.done (and_or o d) false ho.0 (IsAndOr-join o.joined (pipeline o.negated d) ho.1 h.0) in
     let itself : EndsItself l = ends-listed o.done (and_or o d) ∙ ends_compound-join o.joined o.negated d ∙ h.1 in
     subst (λ v. Sound (at st o (closed d)) (word v) (close st l k)) (sym (key_of_class w k e)) (close_sound (at st o (closed d)) st l k written hs (whole_list, itself))
@@ -397,7 +397,7 @@ assign_sound st o ss ws w true e h hs ho = record {
 argument_sound : (st : Stack) (o : Open) (ss : List Simple) (is : List Item) (w : Word) (a b : Bool) → no_argument is ≡ a → is_ordinary (class w) ≡ b
     → (are_simple ss ≡ true) × (is_simple (command is) ≡ true) → IsStack st → IsOpen o
     → Sound (at st o (within ss (command is))) (word w)
-      (cond a (cond b (Some (at st o (within ss (command (is ++ argument w ∷ []))))) None) (Some (at st o (within ss (command (is ++ argument w ∷ []))))))
+    (cond a (cond b (Some (at st o (within ss (command (is ++ argument w ∷ []))))) None) (Some (at st o (within ss (command (is ++ argument w ∷ []))))))
 argument_sound st o ss is w true false e f h hs ho = tt
 argument_sound st o ss is w true true e f h hs ho = record {
   written = λ r. ap (λ x. stack_then st (open_then o (piped_then ss x))) (sym (items_then-push is (argument w) r));
@@ -507,7 +507,7 @@ listed_end : (o : Open) (c : Command) (p : Place) (l : Commands) → Stands p c 
 listed_end o c p l b ho e =
     let same = Some_inj (listed o.done (and_or o c) false) l e in
     let written : open_then o (place_then p []) ≡ commands_then (listed o.done (and_or o c) false) [] =
-      ap (open_then o) (b.then_is []) ∙ sym (listed-written o.done (and_or o c) false [] ∙ ap (done_then o.done) (and_or-written o c [])) in
+    ap (open_then o) (b.then_is []) ∙ sym (listed-written o.done (and_or o c) false [] ∙ ap (done_then o.done) (and_or-written o c [])) in
     (written ∙ ap (λ x. commands_then x []) same, subst IsCommands same (IsCommands-listed o.done (and_or o c) false ho.0 (IsAndOr-join o.joined (pipeline o.negated c) ho.1 b.is_whole)))
 
 finish_sound : (st : Stack) (o : Open) (p : Place) (l : Commands) → IsOpen o → IsPlace p → finish_at st o p ≡ Some l

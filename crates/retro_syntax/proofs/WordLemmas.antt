@@ -5,7 +5,6 @@ use Rattle.std.specs.Prelude.{cond}
 use Rattle.retro_syntax.specs.Tree.{Word, plain, quoted, parameter, quoted_parameter, spelling}
 use Rattle.retro_syntax.specs.declared.tree.Key.{Key}
 use Rattle.retro_syntax.specs.declared.tree.Key.TheVariants.{Bang as bang, If as key_if, Then as key_then, Elif as key_elif, Else as key_else, Fi as key_fi, For as key_for, In as key_in, Do as key_do, Done as key_done}
-use Rattle.retro_syntax.specs.declared.words.Class.{Class}
 use Rattle.retro_syntax.specs.declared.words.Class.TheVariants.{Keyword as keyword, Forbidden as forbidden, Assignment as assignment, Ordinary as ordinary}
 use Rattle.retro_syntax.specs.Words.{class, lookup, keys, plain_class, name_of, is_one_of, foreign, begins_assignment, is_name}
 

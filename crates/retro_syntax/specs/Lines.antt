@@ -1,7 +1,6 @@
 -- Which line a text spells.
-use Rattle.std.specs.Prelude.{Bool, true, false, not, ◌&&◌, ◌||◌, ◌==◌, nat_le, if◌then◌else◌, ◌≡◌, ◌<◌, ◌≤◌, ℕ, List, [], ◌∷◌, length, IsSome, Option, Some, None, option_map, option_and_then, Result, Ok, Err, codes}
+use Rattle.std.specs.Prelude.{Bool, true, false, not, ◌&&◌, ◌||◌, ◌==◌, nat_le, ◌≡◌, ◌<◌, ◌≤◌, ℕ, List, [], ◌∷◌, length, IsSome, Option, Some, None, option_map, option_and_then, Result, Ok, Err}
 use Rattle.std.specs.Str.{chars}
-use Rattle.retro_syntax.specs.Tree as T
 use Rattle.retro_syntax.specs.Tree.{Token, Commands}
 use Rattle.retro_syntax.specs.Reader.{commands_of}
 use Rattle.retro_syntax.specs.Quoting.{tokens_of}

@@ -1,5 +1,5 @@
 -- The simple commands of a line that is a list of plain ones.
-use Rattle.std.specs.Prelude.{ℕ, Bool, true, false, List, [], ◌∷◌, Option, Some, None, option_map, option_and_then}
+use Rattle.std.specs.Prelude.{ℕ, true, false, List, [], ◌∷◌, Option, Some, None, option_map, option_and_then}
 use Rattle.retro_syntax.specs.Tree as T
 use Rattle.retro_syntax.specs.Tree.{plain, quoted, parameter, quoted_parameter, argument, redirect, assignments, command, simples, conditional, loop, pipeline, end, chain, last, more}
 use Rattle.retro_syntax.specs.declared.tree.Direction.{Direction}

@@ -1,5 +1,5 @@
 -- Token recognition with quotes and parameters, character by character (XCU 2.2, 2.3, 2.6.2).
-use Rattle.std.specs.Prelude.{◌≡◌, ℕ, Bool, true, false, not, ◌&&◌, ◌||◌, ◌==◌, if◌then◌else◌, List, [], ◌∷◌, ◌++◌, Option, Some, None, option_map, option_and_then, codes}
+use Rattle.std.specs.Prelude.{ℕ, Bool, true, false, ◌&&◌, ◌||◌, ◌==◌, if◌then◌else◌, List, [], ◌∷◌, ◌++◌, Option, Some, None, codes}
 use Rattle.std.specs.Char.{encode_utf8, is_ascii_digit, is_ascii_alphabetic, is_ascii_alphanumeric}
 use Rattle.retro_syntax.specs.Tree.{Piece, plain, quoted, parameter, quoted_parameter, Token, semicolon, bar, connector, redirection, word}
 use Rattle.retro_syntax.specs.Words.{is_one_of}

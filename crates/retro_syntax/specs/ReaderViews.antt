@@ -1,5 +1,5 @@
 -- The state of reading that a value of the code stands for.
-use Rattle.std.specs.Prelude.{◌≡◌, ℕ, List, [], ◌∷◌, map, reverse, IfOk, Option, Some, None, option_map, Result, string_bytes, Vec}
+use Rattle.std.specs.Prelude.{◌≡◌, List, map, reverse, IfOk, Option, option_map, Result, string_bytes, Vec}
 use Rattle.std.specs.declared.alloc.AllocError.{AllocError}
 use Rattle.std.specs.declared.alloc.Global.{Global}
 use Rattle.retro_syntax.specs.Tree as T

@@ -1,8 +1,6 @@
 -- Which trees the grammar has, and what a list of tokens spells.
-use Rattle.std.specs.Prelude.{◌≡◌, ℕ, Bool, true, false, ◌&&◌, List, [], ◌∷◌, Option, Some, None}
+use Rattle.std.specs.Prelude.{◌≡◌, Bool, true, false, ◌&&◌, List, [], ◌∷◌, Some}
 use Rattle.retro_syntax.specs.Tree.{plain, Word, Token, Item, argument, redirect, Simple, assignments, command, Commands, last, more, AndOr, end, chain, Pipeline, pipeline, Command, simples, conditional, loop, Arms, fi, otherwise, elif, commands_then}
-use Rattle.retro_syntax.specs.declared.words.Class.{Class}
-use Rattle.retro_syntax.specs.declared.words.Class.TheVariants.{Ordinary as ordinary, Assignment as assignment}
 use Rattle.retro_syntax.specs.Words.{class, name_of, is_ordinary, is_assignment}
 
 abbrev pub are_assignments : List Word → Bool

@@ -1,9 +1,8 @@
 -- The tree that a value of the code stands for.
-use Rattle.std.specs.Prelude.{ℕ, List, [], ◌∷◌, map, Option, Some, None, string_bytes, Vec, String}
+use Rattle.std.specs.Prelude.{List, map, string_bytes, Vec}
 use Rattle.std.specs.declared.alloc.Global.{Global}
 use Rattle.retro_syntax.specs.Tree as T
 use Rattle.retro_syntax.specs.Reader.{join, listed, arms_up_to}
-use Rattle.retro_syntax.specs.declared.tree.Connector.{Connector}
 use Rattle.retro_syntax.specs.declared.tree.Piece.{Piece}
 use Rattle.retro_syntax.specs.declared.tree.Piece.TheVariants as p
 use Rattle.retro_syntax.specs.declared.tree.Word.{Word}
@@ -17,7 +16,6 @@ use Rattle.retro_syntax.specs.declared.tree.Pipeline.{Pipeline}
 use Rattle.retro_syntax.specs.declared.tree.AndOr.{AndOr}
 use Rattle.retro_syntax.specs.declared.tree.Commands.{Commands}
 use Rattle.retro_syntax.specs.declared.tree.Conditional.{Conditional}
-use Rattle.retro_syntax.specs.declared.tree.Loop.{Loop}
 use Rattle.retro_syntax.specs.declared.tree.Command.{Command, fold-Command}
 use Rattle.retro_syntax.specs.declared.tree.Command.TheOpen.{Command-F}
 

@@ -1,5 +1,5 @@
 -- What a word is where a command may begin (XCU 2.4, 2.10.2), and names (XBD 3.235).
-use Rattle.std.specs.Prelude.{◌≡◌, ℕ, Bool, true, false, List, [], ◌∷◌, Option, Some, None, if◌then◌else◌, codes, ◌||◌, ◌&&◌, ◌==◌}
+use Rattle.std.specs.Prelude.{ℕ, Bool, true, false, List, [], ◌∷◌, Option, Some, None, if◌then◌else◌, codes, ◌||◌, ◌&&◌, ◌==◌}
 use Rattle.std.specs.Str.{bytes_eq}
 use Rattle.std.specs.Char.{is_ascii_alphabetic, is_ascii_alphanumeric}
 use Rattle.retro_syntax.specs.Tree.{plain, quoted, parameter, quoted_parameter, Word, Token, semicolon, bar, connector, redirection, word, spelling}

@@ -125,18 +125,12 @@ pub fn parse(alloc: Global, text: &str) -> Result<Line, Refused>
 
 /// A text spells at most one line.
 pub fn one_line()
-    ensures whole {
-        (text : List ℕ) (k l : Option Tree.Commands) → TextSpells text k → TextSpells text l → k ≡ l }
-    ensures plain {
-        (text : List ℕ) (k l : Option Tree.Commands) → PlainSpells text k → PlainSpells text l → k ≡ l }
-{
-}
+    ensures whole { (text : List ℕ) (k l : Option Tree.Commands) → TextSpells text k → TextSpells text l → k ≡ l }
+    ensures plain { (text : List ℕ) (k l : Option Tree.Commands) → PlainSpells text k → PlainSpells text l → k ≡ l }
+{}
 
 /// `plain_line`, which gives the plain commands of a text as a function, gives exactly those that the text spells.
 pub fn plain_line_is_spelling()
-    ensures read {
-        (text : List ℕ) (found : List (List PlainItem)) → plain_line text ≡ Some found → SpellsPlain text found }
-    ensures spelled {
-        (text : List ℕ) (found : List (List PlainItem)) → SpellsPlain text found → plain_line text ≡ Some found }
-{
-}
+    ensures read { (text : List ℕ) (found : List (List PlainItem)) → plain_line text ≡ Some found → SpellsPlain text found }
+    ensures spelled { (text : List ℕ) (found : List (List PlainItem)) → SpellsPlain text found → plain_line text ≡ Some found }
+{}

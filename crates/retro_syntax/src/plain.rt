@@ -78,7 +78,10 @@ fn plain_items<'a>(alloc: Global, items: &'a [Item]) -> Result<Option<PlainComma
     Ok(Some(PlainCommand { items: found }))
 }
 
-fn plain_stages<'a>(alloc: Global, stages: &'a [Simple]) -> Result<Option<PlainCommand<'a>>, AllocError>
+fn plain_stages<'a>(
+    alloc: Global,
+    stages: &'a [Simple],
+) -> Result<Option<PlainCommand<'a>>, AllocError>
     ensures { IfOk result (λ found.
         option_map plain_command_view found ≡ Plain.plain_stages (map simple_view stages.now)) }
 {
@@ -94,7 +97,10 @@ fn plain_stages<'a>(alloc: Global, stages: &'a [Simple]) -> Result<Option<PlainC
     }
 }
 
-fn plain_command<'a>(alloc: Global, command: &'a Command) -> Result<Option<PlainCommand<'a>>, AllocError>
+fn plain_command<'a>(
+    alloc: Global,
+    command: &'a Command,
+) -> Result<Option<PlainCommand<'a>>, AllocError>
     ensures { IfOk result (λ found.
         option_map plain_command_view found ≡ Plain.plain_command (view command.now)) }
 {
@@ -119,7 +125,10 @@ fn plain_pipeline<'a>(
     plain_command(alloc, &pipeline.command)
 }
 
-fn plain_and_or<'a>(alloc: Global, and_or: &'a AndOr<Command>) -> Result<Option<PlainCommand<'a>>, AllocError>
+fn plain_and_or<'a>(
+    alloc: Global,
+    and_or: &'a AndOr<Command>,
+) -> Result<Option<PlainCommand<'a>>, AllocError>
     ensures { IfOk result (λ found.
         option_map plain_command_view found ≡ Plain.plain_and_or (and_or_of view and_or.now)) }
 {
@@ -160,7 +169,10 @@ fn plain_list<'a>(
 /// a file, or where a word isn't one unquoted literal. A blank line has no commands.
 ///
 /// Fails where memory is wanting.
-pub fn plain_commands<'a>(alloc: Global, line: &'a Line) -> Result<Option<Vec<PlainCommand<'a>>>, AllocError>
+pub fn plain_commands<'a>(
+    alloc: Global,
+    line: &'a Line,
+) -> Result<Option<Vec<PlainCommand<'a>>>, AllocError>
     ensures { IfOk result (λ found.
         option_map plain_commands_view found ≡ Plain.plain_commands (line_view line.now)) }
 {

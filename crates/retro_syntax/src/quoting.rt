@@ -64,8 +64,12 @@ pub struct Lexing {
     pub backslash: bool,
 }
 
-
-pub fn plain_at(alloc: Global, tokens: Vec<Token>, pending: Pending, c: char) -> Result<Option<Lexing>, AllocError>
+pub fn plain_at(
+    alloc: Global,
+    tokens: Vec<Token>,
+    pending: Pending,
+    c: char,
+) -> Result<Option<Lexing>, AllocError>
     ensures { LexesTo result (Quoting.plain_at (tokens_view tokens) (pending_view pending) c) }
 {
     match pending {
@@ -74,7 +78,11 @@ pub fn plain_at(alloc: Global, tokens: Vec<Token>, pending: Pending, c: char) ->
             if c == '\0' || c == '\n' {
                 return Ok(None);
             }
-            Ok(Some(Lexing { tokens, pending: Pending::Comment, backslash: false }))
+            Ok(Some(Lexing {
+                tokens,
+                pending: Pending::Comment,
+                backslash: false,
+            }))
         }
         Pending::Operator(operator) => operator_at(alloc, tokens, operator, c),
         Pending::Reading(reading) => reading_at(alloc, tokens, reading, c),
@@ -101,23 +109,39 @@ pub fn takes_backslash(pending: &Pending) -> bool
 pub fn lex_step(alloc: Global, lexing: Lexing, c: char) -> Result<Option<Lexing>, AllocError>
     ensures { LexesTo result (Quoting.lex_step (lexing_view lexing) c) }
 {
-    let Lexing { tokens, pending, backslash } = lexing;
+    let Lexing {
+        tokens,
+        pending,
+        backslash,
+    } = lexing;
     if backslash {
         if c == '\n' {
-            Ok(Some(Lexing { tokens, pending, backslash: false }))
+            Ok(Some(Lexing {
+                tokens,
+                pending,
+                backslash: false,
+            }))
         } else if c == '\0' {
             Ok(None)
         } else {
             escaped_at(alloc, tokens, pending, c)
         }
     } else if c == '\\' && takes_backslash(&pending) {
-        Ok(Some(Lexing { tokens, pending, backslash: true }))
+        Ok(Some(Lexing {
+            tokens,
+            pending,
+            backslash: true,
+        }))
     } else {
         plain_at(alloc, tokens, pending, c)
     }
 }
 
-pub fn reading_end(alloc: Global, mut tokens: Vec<Token>, reading: Reading) -> Result<Option<Vec<Token>>, AllocError>
+pub fn reading_end(
+    alloc: Global,
+    mut tokens: Vec<Token>,
+    reading: Reading,
+) -> Result<Option<Vec<Token>>, AllocError>
     ensures { TokenizesTo result (Quoting.reading_end (tokens_view tokens) (reading_view reading)) }
 {
     match reading {
@@ -150,7 +174,11 @@ pub fn reading_end(alloc: Global, mut tokens: Vec<Token>, reading: Reading) -> R
 pub fn lex_end(alloc: Global, lexing: Lexing) -> Result<Option<Vec<Token>>, AllocError>
     ensures { TokenizesTo result (Quoting.lex_end (Some (lexing_view lexing))) }
 {
-    let Lexing { tokens, pending, backslash } = lexing;
+    let Lexing {
+        tokens,
+        pending,
+        backslash,
+    } = lexing;
     if backslash {
         return Ok(None);
     }
@@ -165,7 +193,11 @@ pub fn lex_end(alloc: Global, lexing: Lexing) -> Result<Option<Vec<Token>>, Allo
 pub fn lex(alloc: Global, characters: &[char]) -> Result<Option<Vec<Token>>, AllocError>
     ensures { TokenizesTo result (Quoting.tokens_of characters.now) }
 {
-    let mut lexing = Lexing { tokens: Vec::new(alloc), pending: Pending::Between, backslash: false };
+    let mut lexing = Lexing {
+        tokens: Vec::new(alloc),
+        pending: Pending::Between,
+        backslash: false,
+    };
     let mut rest = characters;
     while let [c, more @ ..] = rest {
         match lex_step(alloc, lexing, *c)? {

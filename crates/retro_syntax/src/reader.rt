@@ -12,12 +12,14 @@ ghost use Rattle.retro_syntax.specs.View;
 ghost use Rattle.retro_syntax.specs.View.{token_view, tokens_view, view, commands_of, word_view, simple_view, item_view};
 ghost use Rattle.retro_syntax.specs.ReaderViews.{StepsTo, frame_view, items_view, level_view, open_view, place_view, stack_view, stages_view, state_view, words_view};
 
-use crate::tree::{AndOr, Command, Commands, Connector, Direction, Item, Pipeline, Simple, Token, Word};
+use crate::build::pipe;
+use crate::tree::{
+    AndOr, Command, Commands, Connector, Direction, Item, Pipeline, Simple, Token, Word,
+};
 use compound::{at_closed, at_start};
 use lists::{may_end, nothing, whole_list};
 use repetition::{at_for_do, at_for_in, at_for_name, at_for_words};
 use simple::{at_piped, at_target, at_within};
-use crate::build::pipe;
 use std::alloc::{AllocError, Global};
 
 /// A list that isn't at its end: whole and-or lists, pipelines with what joins them to the next, and whether `!`
@@ -62,7 +64,6 @@ pub struct State {
     pub place: Place,
 }
 
-
 #[tactic(auto, unfolding(crate::specs::Reader::step))]
 pub fn step(alloc: Global, state: State, token: Token) -> Result<Option<State>, AllocError>
     ensures { StepsTo result (Reader.step (state_view state) (token_view token)) }
@@ -71,7 +72,9 @@ pub fn step(alloc: Global, state: State, token: Token) -> Result<Option<State>, 
     match place {
         Place::Start => at_start(alloc, stack, here, token),
         Place::Within(stages, simple) => at_within(alloc, stack, here, stages, simple, token),
-        Place::Target(stages, items, direction) => at_target(stack, here, stages, items, direction, token),
+        Place::Target(stages, items, direction) => at_target(
+            stack, here, stages, items, direction, token,
+        ),
         Place::Piped(stages) => at_piped(alloc, stack, here, stages, token),
         Place::Closed(command) => at_closed(alloc, stack, here, command, token),
         Place::ForName => at_for_name(alloc, stack, here, token),
@@ -96,16 +99,28 @@ pub fn finish(state: State) -> Result<Option<Commands<Command>>, AllocError>
             Ok(Some(whole_list(here, pipe(stages))))
         }
         Place::Closed(command) => Ok(Some(whole_list(here, command))),
-        Place::Target(_, _, _) | Place::Piped(_) | Place::ForName | Place::ForIn(_) | Place::ForWords(_, _) | Place::ForDo(_, _) => Ok(None),
+        Place::Target(_, _, _)
+        | Place::Piped(_)
+        | Place::ForName
+        | Place::ForIn(_)
+        | Place::ForWords(_, _)
+        | Place::ForDo(_, _) => Ok(None),
     }
 }
 
 /// The list that the tokens are.
 #[tactic(auto, unfolding(crate::specs::Reader::commands_of))]
-pub fn read_tokens(alloc: Global, tokens: Vec<Token>) -> Result<Option<Commands<Command>>, AllocError>
+pub fn read_tokens(
+    alloc: Global,
+    tokens: Vec<Token>,
+) -> Result<Option<Commands<Command>>, AllocError>
     ensures { IfOk result (λ c. option_map (commands_of view) c ≡ Reader.commands_of (tokens_view tokens)) }
 {
-    let mut state = State { stack: Vec::new(alloc), here: nothing(alloc), place: Place::Start };
+    let mut state = State {
+        stack: Vec::new(alloc),
+        here: nothing(alloc),
+        place: Place::Start,
+    };
     for token in tokens {
         match step(alloc, state, token)? {
             None => return Ok(None),

@@ -1,4 +1,4 @@
-use crate::{parse};
+use crate::parse;
 use std::alloc::Global;
 use std::test::Fail;
 

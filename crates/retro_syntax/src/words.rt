@@ -116,7 +116,8 @@ fn begins_assignment(text: &[u8]) -> bool
 {
     match text {
         [] => false,
-        [first, more @ ..] => (first.is_ascii_alphabetic() || *first == b'_') && goes_on_assignment(more),
+        [first, more @ ..] => (first.is_ascii_alphabetic() || *first == b'_')
+            && goes_on_assignment(more),
     }
 }
 

@@ -9,12 +9,12 @@ ghost use Rattle.retro_syntax.specs.Words.{is_one_of};
 ghost use Rattle.retro_syntax.specs.View.{token_view, tokens_view, piece_view};
 ghost use Rattle.retro_syntax.specs.QuotingViews.{LexesTo, TokenizesTo, lexing_view, pending_view, pieces_view, reading_view};
 
-use crate::quoting::{Lexing, Operator, Pending, Quote, Reading};
-use crate::tree::{Connector, Direction, Piece, Token, Word};
 use crate::quoting::characters::with_reading;
 use crate::quoting::operators::settled;
 use crate::quoting::parameters::{is_unsupported_name, parameter_piece, quote_of};
 use crate::quoting::pieces::{add_dollar, add_quoted, backslash_and, text_of};
+use crate::quoting::{Lexing, Operator, Pending, Quote, Reading};
+use crate::tree::{Connector, Direction, Piece, Token, Word};
 use std::alloc::{AllocError, Global};
 
 pub fn is_special_inside(c: char) -> bool
@@ -23,7 +23,13 @@ pub fn is_special_inside(c: char) -> bool
     c == '$' || c == '`' || c == '"' || c == '\\'
 }
 
-pub fn escaped_in(alloc: Global, tokens: Vec<Token>, pieces: Vec<Piece>, quote: Quote, c: char) -> Result<Option<Lexing>, AllocError>
+pub fn escaped_in(
+    alloc: Global,
+    tokens: Vec<Token>,
+    pieces: Vec<Piece>,
+    quote: Quote,
+    c: char,
+) -> Result<Option<Lexing>, AllocError>
     ensures { LexesTo result (Quoting.escaped_in (tokens_view tokens) (pieces_view pieces) quote c) }
 {
     match quote {
@@ -46,7 +52,12 @@ pub fn escaped_in(alloc: Global, tokens: Vec<Token>, pieces: Vec<Piece>, quote: 
     }
 }
 
-pub fn escaped_reading(alloc: Global, tokens: Vec<Token>, reading: Reading, c: char) -> Result<Option<Lexing>, AllocError>
+pub fn escaped_reading(
+    alloc: Global,
+    tokens: Vec<Token>,
+    reading: Reading,
+    c: char,
+) -> Result<Option<Lexing>, AllocError>
     ensures { LexesTo result (Quoting.escaped_reading (tokens_view tokens) (reading_view reading) c) }
 {
     match reading {
@@ -66,7 +77,12 @@ pub fn escaped_reading(alloc: Global, tokens: Vec<Token>, reading: Reading, c: c
     }
 }
 
-pub fn escaped_at(alloc: Global, tokens: Vec<Token>, pending: Pending, c: char) -> Result<Option<Lexing>, AllocError>
+pub fn escaped_at(
+    alloc: Global,
+    tokens: Vec<Token>,
+    pending: Pending,
+    c: char,
+) -> Result<Option<Lexing>, AllocError>
     ensures { LexesTo result (Quoting.escaped_at (tokens_view tokens) (pending_view pending) c) }
 {
     match pending {

@@ -9,10 +9,10 @@ ghost use Rattle.retro_syntax.specs.Words.{is_one_of};
 ghost use Rattle.retro_syntax.specs.View.{token_view, tokens_view, piece_view};
 ghost use Rattle.retro_syntax.specs.QuotingViews.{LexesTo, TokenizesTo, lexing_view, pending_view, pieces_view, reading_view};
 
-use crate::quoting::{Lexing, Operator, Pending, Quote, Reading};
-use crate::tree::{Connector, Direction, Piece, Token, Word};
 use crate::quoting::characters::{with_reading, word_at};
 use crate::quoting::pieces::{add_dollar, question_mark, text_and, text_of};
+use crate::quoting::{Lexing, Operator, Pending, Quote, Reading};
+use crate::tree::{Connector, Direction, Piece, Token, Word};
 use std::alloc::{AllocError, Global};
 
 pub fn is_unsupported_name(name: &str) -> bool
@@ -24,16 +24,29 @@ pub fn is_unsupported_name(name: &str) -> bool
 pub fn parameter_piece(inside: bool, name: String) -> Piece
     ensures { piece_view result ≡ Quoting.parameter_piece inside (string_bytes name) }
 {
-    if inside { Piece::QuotedParameter(name) } else { Piece::Parameter(name) }
+    if inside {
+        Piece::QuotedParameter(name)
+    } else {
+        Piece::Parameter(name)
+    }
 }
 
 pub fn quote_of(inside: bool) -> Quote
     ensures { result ≡ Quoting.quote_of inside }
 {
-    if inside { Quote::Double } else { Quote::Unquoted }
+    if inside {
+        Quote::Double
+    } else {
+        Quote::Unquoted
+    }
 }
 
-pub fn with_parameter(tokens: Vec<Token>, mut pieces: Vec<Piece>, inside: bool, name: String) -> Result<Option<Lexing>, AllocError>
+pub fn with_parameter(
+    tokens: Vec<Token>,
+    mut pieces: Vec<Piece>,
+    inside: bool,
+    name: String,
+) -> Result<Option<Lexing>, AllocError>
     ensures { LexesTo result (Quoting.with_parameter (tokens_view tokens) (pieces_view pieces) inside (string_bytes name)) }
 {
     if is_unsupported_name(&name) {
@@ -43,7 +56,14 @@ pub fn with_parameter(tokens: Vec<Token>, mut pieces: Vec<Piece>, inside: bool, 
     Ok(with_reading(tokens, Reading::InWord(pieces, false, quote_of(inside))))
 }
 
-pub fn after_parameter(alloc: Global, tokens: Vec<Token>, mut pieces: Vec<Piece>, inside: bool, name: String, c: char) -> Result<Option<Lexing>, AllocError>
+pub fn after_parameter(
+    alloc: Global,
+    tokens: Vec<Token>,
+    mut pieces: Vec<Piece>,
+    inside: bool,
+    name: String,
+    c: char,
+) -> Result<Option<Lexing>, AllocError>
     ensures { LexesTo result (Quoting.after_parameter (tokens_view tokens) (pieces_view pieces) inside (string_bytes name) c) }
 {
     if is_unsupported_name(&name) {
@@ -68,10 +88,23 @@ pub fn continues_name(c: char) -> bool
 pub fn is_other_parameter(c: char) -> bool
     ensures { result ≡ Quoting.is_other_parameter c }
 {
-    c.is_ascii_digit() || c == '@' || c == '*' || c == '#' || c == '-' || c == '$' || c == '!' || c == '('
+    c.is_ascii_digit()
+        || c == '@'
+        || c == '*'
+        || c == '#'
+        || c == '-'
+        || c == '$'
+        || c == '!'
+        || c == '('
 }
 
-pub fn dollar_at(alloc: Global, tokens: Vec<Token>, pieces: Vec<Piece>, inside: bool, c: char) -> Result<Option<Lexing>, AllocError>
+pub fn dollar_at(
+    alloc: Global,
+    tokens: Vec<Token>,
+    pieces: Vec<Piece>,
+    inside: bool,
+    c: char,
+) -> Result<Option<Lexing>, AllocError>
     ensures { LexesTo result (Quoting.reading_at (tokens_view tokens) (Quoting.dollar (pieces_view pieces) inside) c) }
 {
     if begins_name(c) {
@@ -88,7 +121,14 @@ pub fn dollar_at(alloc: Global, tokens: Vec<Token>, pieces: Vec<Piece>, inside: 
     }
 }
 
-pub fn braced_at(alloc: Global, tokens: Vec<Token>, pieces: Vec<Piece>, inside: bool, name: String, c: char) -> Result<Option<Lexing>, AllocError>
+pub fn braced_at(
+    alloc: Global,
+    tokens: Vec<Token>,
+    pieces: Vec<Piece>,
+    inside: bool,
+    name: String,
+    c: char,
+) -> Result<Option<Lexing>, AllocError>
     ensures { LexesTo result (Quoting.reading_at (tokens_view tokens) (Quoting.braced (pieces_view pieces) inside (string_bytes name)) c) }
 {
     match name.as_bytes() {
@@ -113,7 +153,12 @@ pub fn braced_at(alloc: Global, tokens: Vec<Token>, pieces: Vec<Piece>, inside: 
     }
 }
 
-pub fn reading_at(alloc: Global, tokens: Vec<Token>, reading: Reading, c: char) -> Result<Option<Lexing>, AllocError>
+pub fn reading_at(
+    alloc: Global,
+    tokens: Vec<Token>,
+    reading: Reading,
+    c: char,
+) -> Result<Option<Lexing>, AllocError>
     ensures { LexesTo result (Quoting.reading_at (tokens_view tokens) (reading_view reading) c) }
 {
     match reading {
@@ -127,7 +172,11 @@ pub fn reading_at(alloc: Global, tokens: Vec<Token>, reading: Reading, c: char) 
         }
         Reading::Braced(pieces, inside, name) => braced_at(alloc, tokens, pieces, inside, name, c),
         Reading::Question(pieces, inside) => {
-            if c == '}' { with_parameter(tokens, pieces, inside, question_mark(alloc)?) } else { Ok(None) }
+            if c == '}' {
+                with_parameter(tokens, pieces, inside, question_mark(alloc)?)
+            } else {
+                Ok(None)
+            }
         }
     }
 }

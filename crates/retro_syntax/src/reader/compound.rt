@@ -8,18 +8,30 @@ ghost use Rattle.retro_syntax.specs.View.{token_view, view, commands_of, word_vi
 ghost use Rattle.retro_syntax.specs.ReaderViews.{StepsTo, frame_view, items_view, level_view, open_view, place_view, stack_view, stages_view, state_view, words_view};
 
 use crate::build::{conditional, conditional_else, pipe, repetition};
-use crate::reader::{Arm, Frame, Open, Place, State};
-use crate::tree::{AndOr, Command, Commands, Conditional, Connector, Direction, Item, Key, Loop, Pipeline, Simple, Token, Word};
-use crate::words::{Class, class_of, name_of};
 use crate::reader::lists::{go_on, may_end, nothing, whole_list};
 use crate::reader::simple::begin_simple;
+use crate::reader::{Arm, Frame, Open, Place, State};
+use crate::tree::{
+    AndOr, Command, Commands, Conditional, Connector, Direction, Item, Key, Loop, Pipeline, Simple,
+    Token, Word,
+};
+use crate::words::{Class, class_of, name_of};
 use std::alloc::{AllocError, Global};
 
-pub fn inner_list(alloc: Global, mut stack: Vec<(Open, Frame)>, here: Open, frame: Frame) -> Result<State, AllocError>
+pub fn inner_list(
+    alloc: Global,
+    mut stack: Vec<(Open, Frame)>,
+    here: Open,
+    frame: Frame,
+) -> Result<State, AllocError>
     ensures { IfOk result (λ n. state_view n ≡ Reader.at ((open_view here, frame_view frame) ∷ stack_view stack) Reader.nothing Reader.start) }
 {
     stack.push((here, frame))?;
-    Ok(State { stack, here: nothing(alloc), place: Place::Start })
+    Ok(State {
+        stack,
+        here: nothing(alloc),
+        place: Place::Start,
+    })
 }
 
 pub fn close_by(
@@ -33,23 +45,67 @@ pub fn close_by(
     ensures { StepsTo result (Reader.close_by (stack_view stack) (open_view here) (frame_view frame) (commands_of view list) key) }
 {
     match (frame, key) {
-        (Frame::Condition(before), Key::Then) => Ok(Some(inner_list(alloc, stack, here, Frame::Consequence(before, list))?)),
+        (Frame::Condition(before), Key::Then) => Ok(Some(inner_list(
+            alloc,
+            stack,
+            here,
+            Frame::Consequence(before, list),
+        )?)),
         (Frame::Consequence(mut before, condition), Key::Elif) => {
             before.push((condition, list))?;
             Ok(Some(inner_list(alloc, stack, here, Frame::Condition(before))?))
         }
-        (Frame::Consequence(before, condition), Key::Else) => Ok(Some(inner_list(alloc, stack, here, Frame::Alternative(before, condition, list))?)),
+        (Frame::Consequence(before, condition), Key::Else) => Ok(Some(inner_list(
+            alloc,
+            stack,
+            here,
+            Frame::Alternative(before, condition, list),
+        )?)),
         (Frame::Consequence(before, condition), Key::Fi) => {
-            let whole = conditional(alloc, Conditional { before, condition, consequence: list })?;
-            Ok(Some(State { stack, here, place: Place::Closed(whole) }))
+            let whole = conditional(
+                alloc,
+                Conditional {
+                    before,
+                    condition,
+                    consequence: list,
+                },
+            )?;
+            Ok(Some(State {
+                stack,
+                here,
+                place: Place::Closed(whole),
+            }))
         }
         (Frame::Alternative(before, condition, consequence), Key::Fi) => {
-            let whole = conditional_else(alloc, Conditional { before, condition, consequence }, list)?;
-            Ok(Some(State { stack, here, place: Place::Closed(whole) }))
+            let whole = conditional_else(
+                alloc,
+                Conditional {
+                    before,
+                    condition,
+                    consequence,
+                },
+                list,
+            )?;
+            Ok(Some(State {
+                stack,
+                here,
+                place: Place::Closed(whole),
+            }))
         }
         (Frame::Body(name, words), Key::Done) => {
-            let whole = repetition(alloc, Loop { name, words, body: list })?;
-            Ok(Some(State { stack, here, place: Place::Closed(whole) }))
+            let whole = repetition(
+                alloc,
+                Loop {
+                    name,
+                    words,
+                    body: list,
+                },
+            )?;
+            Ok(Some(State {
+                stack,
+                here,
+                place: Place::Closed(whole),
+            }))
         }
         _ => Ok(None),
     }
@@ -97,11 +153,24 @@ pub fn begin_key(
                 return Ok(None);
             }
             here.negated = true;
-            Ok(Some(State { stack, here, place: Place::Start }))
+            Ok(Some(State {
+                stack,
+                here,
+                place: Place::Start,
+            }))
         }
         Key::If => Ok(Some(inner_list(alloc, stack, here, Frame::Condition(Vec::new(alloc)))?)),
-        Key::For => Ok(Some(State { stack, here, place: Place::ForName })),
-        Key::Then | Key::Elif | Key::Else | Key::Fi | Key::In | Key::Do | Key::Done => close_some(alloc, stack, may_end(here), key),
+        Key::For => Ok(Some(State {
+            stack,
+            here,
+            place: Place::ForName,
+        })),
+        Key::Then | Key::Elif | Key::Else | Key::Fi | Key::In | Key::Do | Key::Done => close_some(
+            alloc,
+            stack,
+            may_end(here),
+            key,
+        ),
     }
 }
 
@@ -120,7 +189,12 @@ pub fn begin(
     }
 }
 
-pub fn at_start(alloc: Global, stack: Vec<(Open, Frame)>, here: Open, token: Token) -> Result<Option<State>, AllocError>
+pub fn at_start(
+    alloc: Global,
+    stack: Vec<(Open, Frame)>,
+    here: Open,
+    token: Token,
+) -> Result<Option<State>, AllocError>
     ensures { StepsTo result (Reader.step_at (stack_view stack) (open_view here) Reader.start (token_view token)) }
 {
     match token {
@@ -137,7 +211,13 @@ pub fn at_start(alloc: Global, stack: Vec<(Open, Frame)>, here: Open, token: Tok
 }
 
 /// The token behind a whole compound command.
-pub fn at_closed(alloc: Global, stack: Vec<(Open, Frame)>, here: Open, command: Command, token: Token) -> Result<Option<State>, AllocError>
+pub fn at_closed(
+    alloc: Global,
+    stack: Vec<(Open, Frame)>,
+    here: Open,
+    command: Command,
+    token: Token,
+) -> Result<Option<State>, AllocError>
     ensures { StepsTo result (Reader.step_at (stack_view stack) (open_view here) (Reader.closed (view command)) (token_view token)) }
 {
     match token {
@@ -146,7 +226,13 @@ pub fn at_closed(alloc: Global, stack: Vec<(Open, Frame)>, here: Open, command: 
             Class::Forbidden | Class::Assignment | Class::Ordinary => Ok(None),
         },
         Token::Semicolon => go_on(alloc, stack, here, command, Token::Semicolon),
-        Token::Connector(connector) => go_on(alloc, stack, here, command, Token::Connector(connector)),
+        Token::Connector(connector) => go_on(
+            alloc,
+            stack,
+            here,
+            command,
+            Token::Connector(connector),
+        ),
         Token::Bar | Token::Redirection(_) => Ok(None),
     }
 }

@@ -1,4 +1,4 @@
-use Rattle.std.proofs.Common.{◌≡◌, ◌≤◌, length, Option, Some, None, option_map, is_some, true, false, sym, ap, ◌∙◌}
+use Rattle.std.proofs.Common.{◌≡◌, Some, None, option_map, is_some, true, false, sym, ap, ◌∙◌}
 use Rattle.retro_syntax.specs.Lines.{has_foreign, line_of, line_view}
 use Rattle.retro_syntax.specs.Plain.{plain_commands}
 use Rattle.retro_syntax.proofs.LineLemmas.{plain_line_long, refused_foreign, refused_unspelled, refused_plain, found_plain}
