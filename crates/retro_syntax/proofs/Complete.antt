@@ -3,12 +3,12 @@ use Rattle.std.proofs.Common.{◌≡◌, ℕ, Bool, true, false, ◌&&◌, List,
 use Rattle.retro_syntax.specs.Tree.{plain, Word, Token, semicolon, bar, connector, redirection, word, whole, key, Item, argument, redirect, Simple, assignments, command, Commands, last, more, AndOr, end, chain, Pipeline, pipeline, Command, simples, conditional, loop, Arms, fi, otherwise, elif, items_then, words_then, simple_then, stages_then, commands_then, andor_then, pipeline_then, command_then, arms_then, for_then}
 use Rattle.retro_syntax.specs.declared.tree.Direction.{Direction}
 use Rattle.retro_syntax.specs.declared.tree.Connector.{Connector}
-use Rattle.retro_syntax.specs.declared.tree.Key.{Key}
-use Rattle.retro_syntax.specs.declared.tree.Key.TheVariants.{Bang as bang, If as key_if, Then as key_then, Elif as key_elif, Else as key_else, Fi as key_fi, For as key_for, In as key_in, Do as key_do, Done as key_done}
+use Rattle.retro_syntax.specs.declared.tree.ReservedWord.{ReservedWord}
+use Rattle.retro_syntax.specs.declared.tree.ReservedWord.TheVariants.{Bang as bang, If as key_if, Then as key_then, Elif as key_elif, Else as key_else, Fi as key_fi, For as key_for, In as key_in, Do as key_do, Done as key_done}
 use Rattle.retro_syntax.specs.declared.words.Class.{Class}
-use Rattle.retro_syntax.specs.declared.words.Class.TheVariants.{Keyword as keyword, Forbidden as forbidden, Assignment as assignment, Ordinary as ordinary}
+use Rattle.retro_syntax.specs.declared.words.Class.TheVariants.{Reserved as reserved, Forbidden as forbidden, Assignment as assignment, Ordinary as ordinary}
 use Rattle.retro_syntax.specs.Words.{class, name_of, is_ordinary, is_assignment}
-use Rattle.retro_syntax.specs.Reader.{Open, Frame, condition, consequence, alternative, body, Place, start, within, target, piped, closed, for_name, for_in, for_words, for_do, State, at, step, run, join, and_or, listed, arms_up_to, nothing, no_argument, finish, commands_of, close, close_some, begin_key, may_end, all_closed, finish_at, go_on}
+use Rattle.retro_syntax.specs.Reader.{Open, Frame, condition, consequence, alternative, body, Place, start, within, target, piped, closed, for_name, for_in, for_words, for_do, State, at, step, run, join, and_or, listed, arms_up_to, nothing, no_argument, finish, commands_of, close, close_some, begin_reserved, may_end, all_closed, finish_at, go_on}
 use Rattle.retro_syntax.specs.Spells.{are_assignments, begins_well, is_simple, are_simple, are_stages, is_compound, ends_compound, ends_itself, Spells, IsCommands, IsAndOr, IsPipeline, IsCommand, IsArms}
 use Rattle.retro_syntax.proofs.WordLemmas.{class_key}
 
@@ -94,13 +94,13 @@ record Begins (st : Stack) (o : Open) (p : Place) (ss : List Simple) : Type 0 wh
   aims : (d : Direction) (w : Word) (r : List Token) → run (Some (at st o p)) (redirection d ∷ word w ∷ r) ≡ run (Some (at st o (within ss (command (redirect d w ∷ []))))) r
 
 is_assign : (k : Class) → is_assignment k ≡ true → k ≡ assignment
-is_assign (keyword k) e = cc
+is_assign (reserved k) e = cc
 is_assign forbidden e = cc
 is_assign assignment e = refl
 is_assign ordinary e = cc
 
 is_plain : (k : Class) → is_ordinary k ≡ true → k ≡ ordinary
-is_plain (keyword k) e = cc
+is_plain (reserved k) e = cc
 is_plain forbidden e = cc
 is_plain assignment e = cc
 is_plain ordinary e = refl
@@ -227,15 +227,15 @@ record One (st : Stack) (o : Open) (ts : List Token → List Token) (ds : List A
   runs : (r : List Token) → run (Some (at st o start)) (ts r) ≡ run (Some (at st open_now place_now)) r
 
 -- the words that end a list
-abbrev IsCloser : Key → Type 0
-IsCloser k = (st : Stack) (o : Open) → begin_key st o k ≡ close_some st (may_end o) k
+abbrev IsCloser : ReservedWord → Type 0
+IsCloser k = (st : Stack) (o : Open) → begin_reserved st o k ≡ close_some st (may_end o) k
 
 record Ended (st : Stack) (o : Open) (ts : List Token → List Token) (c : Commands) (itself : Bool) : Type 0 where
   open_now : Open
   place_now : Place
   runs : (r : List Token) → run (Some (at st o start)) (ts r) ≡ run (Some (at st open_now place_now)) r
   finishes : finish_at [] open_now place_now ≡ Some c
-  closes : itself ≡ true → (k : Key) → IsCloser k → step (at st open_now place_now) (key k) ≡ close st c k
+  closes : itself ≡ true → (k : ReservedWord) → IsCloser k → step (at st open_now place_now) (key k) ≡ close st c k
 
 abbrev opened : List AndOr → List (Pipeline × Connector) → Bool → Open
 opened ds js negated = record { done = ds; joined = js; negated = negated }
@@ -275,7 +275,7 @@ finish_whole o (for_in n) c h = absurd h
 finish_whole o (for_words n ws) c h = absurd h
 finish_whole o (for_do n ws) c h = absurd h
 
-close_whole : (st : Stack) (o : Open) (p : Place) (c : Command) (k : Key) → Holds p c → is_compound c ≡ true → step (at st o p) (key k) ≡ close st (listed o.done (and_or o c) false) k
+close_whole : (st : Stack) (o : Open) (p : Place) (c : Command) (k : ReservedWord) → Holds p c → is_compound c ≡ true → step (at st o p) (key k) ≡ close st (listed o.done (and_or o c) false) k
 unfolding step
 close_whole st o start c k h y = absurd h
 close_whole st o (within ss s) c k h y = let e : is_compound (simples (ss ++ s ∷ [])) ≡ true = subst (λ d. is_compound d ≡ true) h y in absurd (let f : false ≡ true = e in cc)
@@ -287,7 +287,7 @@ close_whole st o (for_in n) c k h y = absurd h
 close_whole st o (for_words n ws) c k h y = absurd h
 close_whole st o (for_do n ws) c k h y = absurd h
 
-close_start : (st : Stack) (o : Open) (k : Key) → IsCloser k → step (at st o start) (key k) ≡ close_some st (may_end o) k
+close_start : (st : Stack) (o : Open) (k : ReservedWord) → IsCloser k → step (at st o start) (key k) ≡ close_some st (may_end o) k
 unfolding step
 close_start st o k closer = rw (class_key k) (closer st o)
 
@@ -344,7 +344,7 @@ for_on st o n ws r h =
     ∙ next _ _ semicolon (key key_do ∷ r) (step_words_end st o n ws)
     ∙ next _ _ (key key_do) r (step_do st o n ws)
 
-inner_of : (st : Stack) (ts : List Token → List Token) (c : Commands) (k : Key) (r : List Token) (b : Bool) → Ended st nothing ts c b → b ≡ true → IsCloser k
+inner_of : (st : Stack) (ts : List Token → List Token) (c : Commands) (k : ReservedWord) (r : List Token) (b : Bool) → Ended st nothing ts c b → b ≡ true → IsCloser k
     → run (Some (at st nothing start)) (ts (key k ∷ r)) ≡ run (close st c k) r
 inner_of st ts c k r b e t closer = e.runs (key k ∷ r) ∙ ap (λ x. run x r) (e.closes t k closer)
 

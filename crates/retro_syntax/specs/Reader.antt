@@ -4,10 +4,10 @@ use Rattle.retro_syntax.specs.Tree.{Word, Token, semicolon, bar, connector, redi
 use Rattle.retro_syntax.specs.Words.{class, name_of, is_ordinary, is_assignment}
 use Rattle.retro_syntax.specs.declared.tree.Direction.{Direction}
 use Rattle.retro_syntax.specs.declared.tree.Connector.{Connector}
-use Rattle.retro_syntax.specs.declared.tree.Key.{Key}
-use Rattle.retro_syntax.specs.declared.tree.Key.TheVariants.{Bang as bang, If as key_if, Then as key_then, Elif as key_elif, Else as key_else, Fi as key_fi, For as key_for, In as key_in, Do as key_do, Done as key_done}
+use Rattle.retro_syntax.specs.declared.tree.ReservedWord.{ReservedWord}
+use Rattle.retro_syntax.specs.declared.tree.ReservedWord.TheVariants.{Bang as bang, If as key_if, Then as key_then, Elif as key_elif, Else as key_else, Fi as key_fi, For as key_for, In as key_in, Do as key_do, Done as key_done}
 use Rattle.retro_syntax.specs.declared.words.Class.{Class}
-use Rattle.retro_syntax.specs.declared.words.Class.TheVariants.{Keyword as keyword, Assignment as assignment, Ordinary as ordinary}
+use Rattle.retro_syntax.specs.declared.words.Class.TheVariants.{Reserved as reserved, Assignment as assignment, Ordinary as ordinary}
 
 -- ---- what is open
 
@@ -72,7 +72,7 @@ arms_up_to (x ∷ xs) a = elif x.0 x.1 (arms_up_to xs a)
 
 -- ---- steps
 
-abbrev pub close_by : List (Open × Frame) → Open → Frame → Commands → Key → Option State
+abbrev pub close_by : List (Open × Frame) → Open → Frame → Commands → ReservedWord → Option State
 close_by st o (condition xs) l key_then = Some (at ((o, consequence xs l) ∷ st) nothing start)
 close_by st o (consequence xs c) l key_elif = Some (at ((o, condition (xs ++ (c, l) ∷ [])) ∷ st) nothing start)
 close_by st o (consequence xs c) l key_else = Some (at ((o, alternative xs c l) ∷ st) nothing start)
@@ -82,11 +82,11 @@ close_by st o (body n ws) l key_done = Some (at st o (closed (loop n ws l)))
 close_by st o f l k = None
 
 -- a word that ends the list
-abbrev pub close : List (Open × Frame) → Commands → Key → Option State
+abbrev pub close : List (Open × Frame) → Commands → ReservedWord → Option State
 close [] l k = None
 close (x ∷ st) l k = close_by st x.0 x.1 l k
 
-abbrev pub close_some : List (Open × Frame) → Option Commands → Key → Option State
+abbrev pub close_some : List (Open × Frame) → Option Commands → ReservedWord → Option State
 close_some st None k = None
 close_some st (Some l) k = close st l k
 
@@ -99,11 +99,11 @@ end_of done (j ∷ js) negated = None
 abbrev pub may_end : Open → Option Commands
 may_end o = end_of o.done o.joined o.negated
 
-abbrev pub begin_key : List (Open × Frame) → Open → Key → Option State
-begin_key st o bang = if o.negated then None else Some (at st (record o { negated = true }) start)
-begin_key st o key_if = Some (at ((o, condition []) ∷ st) nothing start)
-begin_key st o key_for = Some (at st o for_name)
-begin_key st o k = close_some st (may_end o) k
+abbrev pub begin_reserved : List (Open × Frame) → Open → ReservedWord → Option State
+begin_reserved st o bang = if o.negated then None else Some (at st (record o { negated = true }) start)
+begin_reserved st o key_if = Some (at ((o, condition []) ∷ st) nothing start)
+begin_reserved st o key_for = Some (at st o for_name)
+begin_reserved st o k = close_some st (may_end o) k
 
 abbrev pub begin_simple : List (Open × Frame) → Open → List Simple → Word → Class → Option State
 begin_simple st o ss w assignment = Some (at st o (within ss (assignments (w ∷ []))))
@@ -111,7 +111,7 @@ begin_simple st o ss w ordinary = Some (at st o (within ss (command (argument w 
 begin_simple st o ss w c = None
 
 abbrev pub begin : List (Open × Frame) → Open → Word → Class → Option State
-begin st o w (keyword k) = begin_key st o k
+begin st o w (reserved k) = begin_reserved st o k
 begin st o w c = begin_simple st o [] w c
 
 -- whether no word stands there yet, targets aside
@@ -137,12 +137,12 @@ go_on st o c (connector op) = Some (at st (record { done = o.done; joined = o.jo
 go_on st o c t = None
 
 abbrev pub close_word : List (Open × Frame) → Open → Command → Class → Option State
-close_word st o c (keyword k) = close st (listed o.done (and_or o c) false) k
+close_word st o c (reserved k) = close st (listed o.done (and_or o c) false) k
 close_word st o c _ = None
 
-abbrev pub only_key : Key → Class → Option State → Option State
-only_key key_in (keyword key_in) s = s
-only_key key_do (keyword key_do) s = s
+abbrev pub only_key : ReservedWord → Class → Option State → Option State
+only_key key_in (reserved key_in) s = s
+only_key key_do (reserved key_do) s = s
 only_key k c s = None
 
 abbrev pub step_at : List (Open × Frame) → Open → Place → Token → Option State

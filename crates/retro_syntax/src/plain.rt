@@ -11,7 +11,7 @@ use crate::tree::{AndOr, Command, Direction, Item, Piece, Pipeline, Simple, Word
 use std::alloc::{AllocError, Global};
 
 /// A part of a plain command, in the order in which it is written.
-#[derive(Clone, Copy, Debug)]
+#[derive(Clone, Copy, Debug, PartialEq, Eq)]
 pub enum PlainItem<'a> {
     /// A word: the command's name or an operand.
     Word(&'a str),

@@ -23,44 +23,88 @@ use crate::quoting::pieces::add_dollar;
 use crate::tree::{Piece, Token, Word};
 use std::alloc::{AllocError, Global};
 
+/// An operator of one character, or the first character of one of two (XCU 2.10.2).
 #[derive(Clone, Copy, Debug, PartialEq, Eq)]
 pub enum Operator {
+    /// `;`
     Semicolon,
+    /// `&`
     And,
+    /// `|`
     Bar,
+    /// `<`
     Less,
+    /// `>`
     Greater,
 }
 
+/// The quotes that a character of a word stands in (XCU 2.2).
 #[derive(Clone, Copy, Debug, PartialEq, Eq)]
 pub enum Quote {
+    /// In none.
     Unquoted,
+    /// In single quotes (XCU 2.2.2).
     Single,
+    /// In double quotes (XCU 2.2.3).
     Double,
 }
 
-/// Where in a word the next character comes.
+/// Where in a word the next character comes. `pieces` are those read so far, and `inside` says whether a parameter
+/// stands in double quotes.
 #[derive(Drop)]
 pub enum Reading {
-    InWord(Vec<Piece>, bool, Quote),
-    Dollar(Vec<Piece>, bool),
-    Named(Vec<Piece>, bool, String),
-    Braced(Vec<Piece>, bool, String),
-    Question(Vec<Piece>, bool),
+    /// Behind a character that is no part of a parameter.
+    InWord {
+        pieces: Vec<Piece>,
+        /// Whether the word has unquoted digits alone so far.
+        digits: bool,
+        quote: Quote,
+    },
+    /// Behind `$`.
+    Dollar {
+        pieces: Vec<Piece>,
+        inside: bool,
+    },
+    /// Behind `$` and the beginning of a name.
+    Named {
+        pieces: Vec<Piece>,
+        inside: bool,
+        name: String,
+    },
+    /// Behind `${` and what there is of a name.
+    Braced {
+        pieces: Vec<Piece>,
+        inside: bool,
+        name: String,
+    },
+    /// Behind `${?`.
+    Question {
+        pieces: Vec<Piece>,
+        inside: bool,
+    },
 }
 
+/// What the next character may belong to.
 #[derive(Drop)]
 pub enum Pending {
+    /// Nothing: a token may begin.
     Between,
+    /// A comment.
     Comment,
+    /// An operator.
     Operator(Operator),
+    /// A word.
     Reading(Reading),
 }
 
+/// A text read up to some character.
 #[derive(Drop)]
 pub struct Lexing {
+    /// The whole tokens.
     pub tokens: Vec<Token>,
+    /// What stands behind them.
     pub pending: Pending,
+    /// Whether the last character is a backslash that may quote the next.
     pub backslash: bool,
 }
 
@@ -93,15 +137,31 @@ pub fn takes_backslash(pending: &Pending) -> bool
     ensures { result ≡ Quoting.takes_backslash (pending_view pending.now) }
 {
     match pending {
-        Pending::Comment | Pending::Reading(Reading::InWord(_, _, Quote::Single)) => false,
+        Pending::Comment
+        | Pending::Reading(
+            Reading::InWord {
+                quote: Quote::Single,
+                ..
+            },
+        ) => false,
         Pending::Between
         | Pending::Operator(_)
-        | Pending::Reading(Reading::InWord(_, _, Quote::Unquoted))
-        | Pending::Reading(Reading::InWord(_, _, Quote::Double))
-        | Pending::Reading(Reading::Dollar(_, _))
-        | Pending::Reading(Reading::Named(_, _, _))
-        | Pending::Reading(Reading::Braced(_, _, _))
-        | Pending::Reading(Reading::Question(_, _)) => true,
+        | Pending::Reading(
+            Reading::InWord {
+                quote: Quote::Unquoted,
+                ..
+            },
+        )
+        | Pending::Reading(
+            Reading::InWord {
+                quote: Quote::Double,
+                ..
+            },
+        )
+        | Pending::Reading(Reading::Dollar { .. })
+        | Pending::Reading(Reading::Named { .. })
+        | Pending::Reading(Reading::Braced { .. })
+        | Pending::Reading(Reading::Question { .. }) => true,
     }
 }
 
@@ -145,16 +205,27 @@ pub fn reading_end(
     ensures { TokenizesTo result (Quoting.reading_end (tokens_view tokens) (reading_view reading)) }
 {
     match reading {
-        Reading::InWord(pieces, _, Quote::Unquoted) => {
+        Reading::InWord {
+            pieces,
+            quote: Quote::Unquoted,
+            ..
+        } => {
             tokens.push(Token::Word(Word { pieces }))?;
             Ok(Some(tokens))
         }
-        Reading::Dollar(pieces, false) => {
+        Reading::Dollar {
+            pieces,
+            inside: false,
+        } => {
             let pieces = add_dollar(alloc, pieces, false)?;
             tokens.push(Token::Word(Word { pieces }))?;
             Ok(Some(tokens))
         }
-        Reading::Named(mut pieces, false, name) => {
+        Reading::Named {
+            mut pieces,
+            inside: false,
+            name,
+        } => {
             if is_unsupported_name(&name) {
                 return Ok(None);
             }
@@ -162,12 +233,18 @@ pub fn reading_end(
             tokens.push(Token::Word(Word { pieces }))?;
             Ok(Some(tokens))
         }
-        Reading::InWord(_, _, Quote::Single)
-        | Reading::InWord(_, _, Quote::Double)
-        | Reading::Dollar(_, true)
-        | Reading::Named(_, true, _)
-        | Reading::Braced(_, _, _)
-        | Reading::Question(_, _) => Ok(None),
+        Reading::InWord {
+            quote: Quote::Single,
+            ..
+        }
+        | Reading::InWord {
+            quote: Quote::Double,
+            ..
+        }
+        | Reading::Dollar { inside: true, .. }
+        | Reading::Named { inside: true, .. }
+        | Reading::Braced { .. }
+        | Reading::Question { .. } => Ok(None),
     }
 }
 

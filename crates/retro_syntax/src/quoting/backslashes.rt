@@ -37,17 +37,38 @@ pub fn escaped_in(
         Quote::Unquoted => {
             let text = text_of(alloc, c)?;
             let pieces = add_quoted(alloc, pieces, &text)?;
-            Ok(with_reading(tokens, Reading::InWord(pieces, false, Quote::Unquoted)))
+            Ok(with_reading(
+                tokens,
+                Reading::InWord {
+                    pieces,
+                    digits: false,
+                    quote: Quote::Unquoted,
+                },
+            ))
         }
         Quote::Double => {
             if is_special_inside(c) {
                 let text = text_of(alloc, c)?;
                 let pieces = add_quoted(alloc, pieces, &text)?;
-                return Ok(with_reading(tokens, Reading::InWord(pieces, false, Quote::Double)));
+                return Ok(with_reading(
+                    tokens,
+                    Reading::InWord {
+                        pieces,
+                        digits: false,
+                        quote: Quote::Double,
+                    },
+                ));
             }
             let text = backslash_and(alloc, c)?;
             let pieces = add_quoted(alloc, pieces, &text)?;
-            Ok(with_reading(tokens, Reading::InWord(pieces, false, Quote::Double)))
+            Ok(with_reading(
+                tokens,
+                Reading::InWord {
+                    pieces,
+                    digits: false,
+                    quote: Quote::Double,
+                },
+            ))
         }
     }
 }
@@ -61,19 +82,23 @@ pub fn escaped_reading(
     ensures { LexesTo result (Quoting.escaped_reading (tokens_view tokens) (reading_view reading) c) }
 {
     match reading {
-        Reading::InWord(pieces, _, quote) => escaped_in(alloc, tokens, pieces, quote, c),
-        Reading::Dollar(pieces, inside) => {
+        Reading::InWord { pieces, quote, .. } => escaped_in(alloc, tokens, pieces, quote, c),
+        Reading::Dollar { pieces, inside } => {
             let pieces = add_dollar(alloc, pieces, inside)?;
             escaped_in(alloc, tokens, pieces, quote_of(inside), c)
         }
-        Reading::Named(mut pieces, inside, name) => {
+        Reading::Named {
+            mut pieces,
+            inside,
+            name,
+        } => {
             if is_unsupported_name(&name) {
                 return Ok(None);
             }
             pieces.push(parameter_piece(inside, name))?;
             escaped_in(alloc, tokens, pieces, quote_of(inside), c)
         }
-        Reading::Braced(_, _, _) | Reading::Question(_, _) => Ok(None),
+        Reading::Braced { .. } | Reading::Question { .. } => Ok(None),
     }
 }
 

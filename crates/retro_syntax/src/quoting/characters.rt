@@ -53,19 +53,43 @@ pub fn unquoted_at(
 {
     if c == '\'' {
         let pieces = add_quoted(alloc, pieces, "")?;
-        Ok(with_reading(tokens, Reading::InWord(pieces, false, Quote::Single)))
+        Ok(with_reading(
+            tokens,
+            Reading::InWord {
+                pieces,
+                digits: false,
+                quote: Quote::Single,
+            },
+        ))
     } else if c == '"' {
         let pieces = add_quoted(alloc, pieces, "")?;
-        Ok(with_reading(tokens, Reading::InWord(pieces, false, Quote::Double)))
+        Ok(with_reading(
+            tokens,
+            Reading::InWord {
+                pieces,
+                digits: false,
+                quote: Quote::Double,
+            },
+        ))
     } else if c == '$' {
-        Ok(with_reading(tokens, Reading::Dollar(pieces, false)))
+        Ok(with_reading(
+            tokens,
+            Reading::Dollar {
+                pieces,
+                inside: false,
+            },
+        ))
     } else if is_refused(c) {
         Ok(None)
     } else {
         let pieces = add_plain(alloc, pieces, c)?;
         Ok(with_reading(
             tokens,
-            Reading::InWord(pieces, digits && c.is_ascii_digit(), Quote::Unquoted),
+            Reading::InWord {
+                pieces,
+                digits: digits && c.is_ascii_digit(),
+                quote: Quote::Unquoted,
+            },
         ))
     }
 }
@@ -106,15 +130,35 @@ pub fn in_double(
     ensures { LexesTo result (Quoting.word_at (tokens_view tokens) (pieces_view pieces) false Quote.Double c) }
 {
     if c == '"' {
-        Ok(with_reading(tokens, Reading::InWord(pieces, false, Quote::Unquoted)))
+        Ok(with_reading(
+            tokens,
+            Reading::InWord {
+                pieces,
+                digits: false,
+                quote: Quote::Unquoted,
+            },
+        ))
     } else if c == '$' {
-        Ok(with_reading(tokens, Reading::Dollar(pieces, true)))
+        Ok(with_reading(
+            tokens,
+            Reading::Dollar {
+                pieces,
+                inside: true,
+            },
+        ))
     } else if c == '\0' || c == '`' {
         Ok(None)
     } else {
         let text = text_of(alloc, c)?;
         let pieces = add_quoted(alloc, pieces, &text)?;
-        Ok(with_reading(tokens, Reading::InWord(pieces, false, Quote::Double)))
+        Ok(with_reading(
+            tokens,
+            Reading::InWord {
+                pieces,
+                digits: false,
+                quote: Quote::Double,
+            },
+        ))
     }
 }
 
@@ -141,14 +185,28 @@ pub fn word_at(
         }
         Quote::Single => {
             if c == '\'' {
-                return Ok(with_reading(tokens, Reading::InWord(pieces, false, Quote::Unquoted)));
+                return Ok(with_reading(
+                    tokens,
+                    Reading::InWord {
+                        pieces,
+                        digits: false,
+                        quote: Quote::Unquoted,
+                    },
+                ));
             }
             if c == '\0' {
                 return Ok(None);
             }
             let text = text_of(alloc, c)?;
             let pieces = add_quoted(alloc, pieces, &text)?;
-            Ok(with_reading(tokens, Reading::InWord(pieces, false, Quote::Single)))
+            Ok(with_reading(
+                tokens,
+                Reading::InWord {
+                    pieces,
+                    digits: false,
+                    quote: Quote::Single,
+                },
+            ))
         }
         Quote::Double => in_double(alloc, tokens, pieces, c),
     }

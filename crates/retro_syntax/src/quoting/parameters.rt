@@ -53,7 +53,14 @@ pub fn with_parameter(
         return Ok(None);
     }
     pieces.push(parameter_piece(inside, name))?;
-    Ok(with_reading(tokens, Reading::InWord(pieces, false, quote_of(inside))))
+    Ok(with_reading(
+        tokens,
+        Reading::InWord {
+            pieces,
+            digits: false,
+            quote: quote_of(inside),
+        },
+    ))
 }
 
 pub fn after_parameter(
@@ -108,9 +115,23 @@ pub fn dollar_at(
     ensures { LexesTo result (Quoting.reading_at (tokens_view tokens) (Quoting.dollar (pieces_view pieces) inside) c) }
 {
     if begins_name(c) {
-        Ok(with_reading(tokens, Reading::Named(pieces, inside, text_of(alloc, c)?)))
+        Ok(with_reading(
+            tokens,
+            Reading::Named {
+                pieces,
+                inside,
+                name: text_of(alloc, c)?,
+            },
+        ))
     } else if c == '{' {
-        Ok(with_reading(tokens, Reading::Braced(pieces, inside, String::new(alloc))))
+        Ok(with_reading(
+            tokens,
+            Reading::Braced {
+                pieces,
+                inside,
+                name: String::new(alloc),
+            },
+        ))
     } else if c == '?' {
         with_parameter(tokens, pieces, inside, question_mark(alloc)?)
     } else if is_other_parameter(c) {
@@ -134,9 +155,16 @@ pub fn braced_at(
     match name.as_bytes() {
         [] => {
             if c == '?' {
-                Ok(with_reading(tokens, Reading::Question(pieces, inside)))
+                Ok(with_reading(tokens, Reading::Question { pieces, inside }))
             } else if begins_name(c) {
-                Ok(with_reading(tokens, Reading::Braced(pieces, inside, text_of(alloc, c)?)))
+                Ok(with_reading(
+                    tokens,
+                    Reading::Braced {
+                        pieces,
+                        inside,
+                        name: text_of(alloc, c)?,
+                    },
+                ))
             } else {
                 Ok(None)
             }
@@ -145,7 +173,14 @@ pub fn braced_at(
             if c == '}' {
                 with_parameter(tokens, pieces, inside, name)
             } else if continues_name(c) {
-                Ok(with_reading(tokens, Reading::Braced(pieces, inside, text_and(name, c)?)))
+                Ok(with_reading(
+                    tokens,
+                    Reading::Braced {
+                        pieces,
+                        inside,
+                        name: text_and(name, c)?,
+                    },
+                ))
             } else {
                 Ok(None)
             }
@@ -162,16 +197,35 @@ pub fn reading_at(
     ensures { LexesTo result (Quoting.reading_at (tokens_view tokens) (reading_view reading) c) }
 {
     match reading {
-        Reading::InWord(pieces, digits, quote) => word_at(alloc, tokens, pieces, digits, quote, c),
-        Reading::Dollar(pieces, inside) => dollar_at(alloc, tokens, pieces, inside, c),
-        Reading::Named(pieces, inside, name) => {
+        Reading::InWord {
+            pieces,
+            digits,
+            quote,
+        } => word_at(alloc, tokens, pieces, digits, quote, c),
+        Reading::Dollar { pieces, inside } => dollar_at(alloc, tokens, pieces, inside, c),
+        Reading::Named {
+            pieces,
+            inside,
+            name,
+        } => {
             if continues_name(c) {
-                return Ok(with_reading(tokens, Reading::Named(pieces, inside, text_and(name, c)?)));
+                return Ok(with_reading(
+                    tokens,
+                    Reading::Named {
+                        pieces,
+                        inside,
+                        name: text_and(name, c)?,
+                    },
+                ));
             }
             after_parameter(alloc, tokens, pieces, inside, name, c)
         }
-        Reading::Braced(pieces, inside, name) => braced_at(alloc, tokens, pieces, inside, name, c),
-        Reading::Question(pieces, inside) => {
+        Reading::Braced {
+            pieces,
+            inside,
+            name,
+        } => braced_at(alloc, tokens, pieces, inside, name, c),
+        Reading::Question { pieces, inside } => {
             if c == '}' {
                 with_parameter(tokens, pieces, inside, question_mark(alloc)?)
             } else {

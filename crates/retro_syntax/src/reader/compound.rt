@@ -12,8 +12,8 @@ use crate::reader::lists::{go_on, may_end, nothing, whole_list};
 use crate::reader::simple::begin_simple;
 use crate::reader::{Arm, Frame, Open, Place, State};
 use crate::tree::{
-    AndOr, Command, Commands, Conditional, Connector, Direction, Item, Key, Loop, Pipeline, Simple,
-    Token, Word,
+    AndOr, Command, Commands, Conditional, Connector, Direction, Item, Loop, Pipeline,
+    ReservedWord, Simple, Token, Word,
 };
 use crate::words::{Class, class_of, name_of};
 use std::alloc::{AllocError, Global};
@@ -40,28 +40,28 @@ pub fn close_by(
     here: Open,
     frame: Frame,
     list: Commands<Command>,
-    key: Key,
+    reserved: ReservedWord,
 ) -> Result<Option<State>, AllocError>
-    ensures { StepsTo result (Reader.close_by (stack_view stack) (open_view here) (frame_view frame) (commands_of view list) key) }
+    ensures { StepsTo result (Reader.close_by (stack_view stack) (open_view here) (frame_view frame) (commands_of view list) reserved) }
 {
-    match (frame, key) {
-        (Frame::Condition(before), Key::Then) => Ok(Some(inner_list(
+    match (frame, reserved) {
+        (Frame::Condition(before), ReservedWord::Then) => Ok(Some(inner_list(
             alloc,
             stack,
             here,
             Frame::Consequence(before, list),
         )?)),
-        (Frame::Consequence(mut before, condition), Key::Elif) => {
+        (Frame::Consequence(mut before, condition), ReservedWord::Elif) => {
             before.push((condition, list))?;
             Ok(Some(inner_list(alloc, stack, here, Frame::Condition(before))?))
         }
-        (Frame::Consequence(before, condition), Key::Else) => Ok(Some(inner_list(
+        (Frame::Consequence(before, condition), ReservedWord::Else) => Ok(Some(inner_list(
             alloc,
             stack,
             here,
             Frame::Alternative(before, condition, list),
         )?)),
-        (Frame::Consequence(before, condition), Key::Fi) => {
+        (Frame::Consequence(before, condition), ReservedWord::Fi) => {
             let whole = conditional(
                 alloc,
                 Conditional {
@@ -76,7 +76,7 @@ pub fn close_by(
                 place: Place::Closed(whole),
             }))
         }
-        (Frame::Alternative(before, condition, consequence), Key::Fi) => {
+        (Frame::Alternative(before, condition, consequence), ReservedWord::Fi) => {
             let whole = conditional_else(
                 alloc,
                 Conditional {
@@ -92,7 +92,7 @@ pub fn close_by(
                 place: Place::Closed(whole),
             }))
         }
-        (Frame::Body(name, words), Key::Done) => {
+        (Frame::Body(name, words), ReservedWord::Done) => {
             let whole = repetition(
                 alloc,
                 Loop {
@@ -115,13 +115,13 @@ pub fn close(
     alloc: Global,
     mut stack: Vec<(Open, Frame)>,
     list: Commands<Command>,
-    key: Key,
+    reserved: ReservedWord,
 ) -> Result<Option<State>, AllocError>
-    ensures { StepsTo result (Reader.close (stack_view stack) (commands_of view list) key) }
+    ensures { StepsTo result (Reader.close (stack_view stack) (commands_of view list) reserved) }
 {
     match stack.pop() {
         None => Ok(None),
-        Some((here, frame)) => close_by(alloc, stack, here, frame, list, key),
+        Some((here, frame)) => close_by(alloc, stack, here, frame, list, reserved),
     }
 }
 
@@ -129,26 +129,26 @@ pub fn close_some(
     alloc: Global,
     stack: Vec<(Open, Frame)>,
     list: Option<Commands<Command>>,
-    key: Key,
+    reserved: ReservedWord,
 ) -> Result<Option<State>, AllocError>
-    ensures { StepsTo result (Reader.close_some (stack_view stack) (option_map (commands_of view) list) key) }
+    ensures { StepsTo result (Reader.close_some (stack_view stack) (option_map (commands_of view) list) reserved) }
 {
     match list {
         None => Ok(None),
-        Some(list) => close(alloc, stack, list, key),
+        Some(list) => close(alloc, stack, list, reserved),
     }
 }
 
-pub fn begin_key(
+pub fn begin_reserved(
     alloc: Global,
     stack: Vec<(Open, Frame)>,
     mut here: Open,
-    key: Key,
+    reserved: ReservedWord,
 ) -> Result<Option<State>, AllocError>
-    ensures { StepsTo result (Reader.begin_key (stack_view stack) (open_view here) key) }
+    ensures { StepsTo result (Reader.begin_reserved (stack_view stack) (open_view here) reserved) }
 {
-    match key {
-        Key::Bang => {
+    match reserved {
+        ReservedWord::Bang => {
             if here.negated {
                 return Ok(None);
             }
@@ -159,18 +159,24 @@ pub fn begin_key(
                 place: Place::Start,
             }))
         }
-        Key::If => Ok(Some(inner_list(alloc, stack, here, Frame::Condition(Vec::new(alloc)))?)),
-        Key::For => Ok(Some(State {
+        ReservedWord::If => Ok(Some(inner_list(
+            alloc,
+            stack,
+            here,
+            Frame::Condition(Vec::new(alloc)),
+        )?)),
+        ReservedWord::For => Ok(Some(State {
             stack,
             here,
             place: Place::ForName,
         })),
-        Key::Then | Key::Elif | Key::Else | Key::Fi | Key::In | Key::Do | Key::Done => close_some(
-            alloc,
-            stack,
-            may_end(here),
-            key,
-        ),
+        ReservedWord::Then
+        | ReservedWord::Elif
+        | ReservedWord::Else
+        | ReservedWord::Fi
+        | ReservedWord::In
+        | ReservedWord::Do
+        | ReservedWord::Done => close_some(alloc, stack, may_end(here), reserved),
     }
 }
 
@@ -184,7 +190,7 @@ pub fn begin(
     ensures { StepsTo result (Reader.begin (stack_view stack) (open_view here) (word_view word) class) }
 {
     match class {
-        Class::Keyword(key) => begin_key(alloc, stack, here, key),
+        Class::Reserved(reserved) => begin_reserved(alloc, stack, here, reserved),
         class => begin_simple(alloc, stack, here, Vec::new(alloc), word, class),
     }
 }
@@ -222,7 +228,7 @@ pub fn at_closed(
 {
     match token {
         Token::Word(word) => match class_of(&word) {
-            Class::Keyword(key) => close(alloc, stack, whole_list(here, command), key),
+            Class::Reserved(reserved) => close(alloc, stack, whole_list(here, command), reserved),
             Class::Forbidden | Class::Assignment | Class::Ordinary => Ok(None),
         },
         Token::Semicolon => go_on(alloc, stack, here, command, Token::Semicolon),

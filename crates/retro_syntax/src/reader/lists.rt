@@ -10,8 +10,8 @@ ghost use Rattle.retro_syntax.specs.ReaderViews.{StepsTo, frame_view, items_view
 use crate::build::{conditional, conditional_else, pipe, repetition};
 use crate::reader::{Arm, Frame, Open, Place, State};
 use crate::tree::{
-    AndOr, Command, Commands, Conditional, Connector, Direction, Item, Key, Loop, Pipeline, Simple,
-    Token, Word,
+    AndOr, Command, Commands, Conditional, Connector, Direction, Item, Loop, Pipeline,
+    ReservedWord, Simple, Token, Word,
 };
 use crate::words::{Class, class_of, name_of};
 use std::alloc::{AllocError, Global};

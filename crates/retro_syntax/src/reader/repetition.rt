@@ -11,8 +11,8 @@ use crate::build::{conditional, conditional_else, pipe, repetition};
 use crate::reader::compound::inner_list;
 use crate::reader::{Arm, Frame, Open, Place, State};
 use crate::tree::{
-    AndOr, Command, Commands, Conditional, Connector, Direction, Item, Key, Loop, Pipeline, Simple,
-    Token, Word,
+    AndOr, Command, Commands, Conditional, Connector, Direction, Item, Loop, Pipeline,
+    ReservedWord, Simple, Token, Word,
 };
 use crate::words::{Class, class_of, name_of};
 use std::alloc::{AllocError, Global};
@@ -49,21 +49,21 @@ pub fn at_for_in(
 {
     match token {
         Token::Word(word) => match class_of(&word) {
-            Class::Keyword(Key::In) => Ok(Some(State {
+            Class::Reserved(ReservedWord::In) => Ok(Some(State {
                 stack,
                 here,
                 place: Place::ForWords(name, Vec::new(alloc)),
             })),
-            Class::Keyword(
-                Key::Bang
-                | Key::If
-                | Key::Then
-                | Key::Elif
-                | Key::Else
-                | Key::Fi
-                | Key::For
-                | Key::Do
-                | Key::Done,
+            Class::Reserved(
+                ReservedWord::Bang
+                | ReservedWord::If
+                | ReservedWord::Then
+                | ReservedWord::Elif
+                | ReservedWord::Else
+                | ReservedWord::Fi
+                | ReservedWord::For
+                | ReservedWord::Do
+                | ReservedWord::Done,
             )
             | Class::Forbidden
             | Class::Assignment
@@ -112,22 +112,22 @@ pub fn at_for_do(
 {
     match token {
         Token::Word(word) => match class_of(&word) {
-            Class::Keyword(Key::Do) => Ok(Some(inner_list(
+            Class::Reserved(ReservedWord::Do) => Ok(Some(inner_list(
                 alloc,
                 stack,
                 here,
                 Frame::Body(name, words),
             )?)),
-            Class::Keyword(
-                Key::Bang
-                | Key::If
-                | Key::Then
-                | Key::Elif
-                | Key::Else
-                | Key::Fi
-                | Key::For
-                | Key::In
-                | Key::Done,
+            Class::Reserved(
+                ReservedWord::Bang
+                | ReservedWord::If
+                | ReservedWord::Then
+                | ReservedWord::Elif
+                | ReservedWord::Else
+                | ReservedWord::Fi
+                | ReservedWord::For
+                | ReservedWord::In
+                | ReservedWord::Done,
             )
             | Class::Forbidden
             | Class::Assignment

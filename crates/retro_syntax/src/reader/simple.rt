@@ -11,8 +11,8 @@ use crate::build::{conditional, conditional_else, pipe, repetition};
 use crate::reader::lists::go_on;
 use crate::reader::{Arm, Frame, Open, Place, State};
 use crate::tree::{
-    AndOr, Command, Commands, Conditional, Connector, Direction, Item, Key, Loop, Pipeline, Simple,
-    Token, Word,
+    AndOr, Command, Commands, Conditional, Connector, Direction, Item, Loop, Pipeline,
+    ReservedWord, Simple, Token, Word,
 };
 use crate::words::{Class, class_of, is_assignment, is_ordinary};
 use std::alloc::{AllocError, Global};
@@ -38,7 +38,7 @@ pub fn begin_simple(
             items.push(Item::Argument(word))?;
             Simple::Command(items)
         }
-        Class::Keyword(_) | Class::Forbidden => return Ok(None),
+        Class::Reserved(_) | Class::Forbidden => return Ok(None),
     };
     Ok(Some(State {
         stack,
