@@ -57,8 +57,9 @@ abbrev pub and_ors : T.Commands → List T.AndOr
 and_ors (last a closed) = a ∷ []
 and_ors (more a c) = a ∷ and_ors c
 
--- Some where no pipeline is negated, joined, a pipe of several stages or compound, where nothing is assigned or read
--- from a file, and where each word is one unquoted literal. A blank line has no commands.
+-- Some where no pipeline is negated, joined, a pipe of several stages or compound, where nothing is
+-- assigned or read from a file, and where each word is one unquoted literal. A blank line has no
+-- commands.
 abbrev pub plain_commands : Option T.Commands → Option (List (List PlainItem))
 plain_commands None = Some []
 plain_commands (Some c) = all_of plain_and_or (and_ors c)

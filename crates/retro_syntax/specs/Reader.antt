@@ -11,7 +11,8 @@ use Rattle.retro_syntax.specs.declared.words.Class.TheVariants.{Reserved as rese
 
 -- ---- what is open
 
--- a list that isn't at its end: whole and-or lists, pipelines with what joins them to the next, and whether `!` stands here
+-- a list that isn't at its end: whole and-or lists, pipelines with what joins them to the next, and
+-- whether `!` stands here
 pub record Open : Type 0 where
   pub done : List AndOr
   pub joined : List (Pipeline × Connector)
@@ -74,10 +75,13 @@ arms_up_to (x ∷ xs) a = elif x.0 x.1 (arms_up_to xs a)
 
 abbrev pub close_by : List (Open × Frame) → Open → Frame → Commands → ReservedWord → Option State
 close_by st o (condition xs) l key_then = Some (at ((o, consequence xs l) ∷ st) nothing start)
-close_by st o (consequence xs c) l key_elif = Some (at ((o, condition (xs ++ (c, l) ∷ [])) ∷ st) nothing start)
+close_by st o (consequence xs c) l key_elif =
+    Some (at ((o, condition (xs ++ (c, l) ∷ [])) ∷ st) nothing start)
 close_by st o (consequence xs c) l key_else = Some (at ((o, alternative xs c l) ∷ st) nothing start)
-close_by st o (consequence xs c) l key_fi = Some (at st o (closed (conditional (arms_up_to xs (fi c l)))))
-close_by st o (alternative xs c t) l key_fi = Some (at st o (closed (conditional (arms_up_to xs (otherwise c t l)))))
+close_by st o (consequence xs c) l key_fi =
+    Some (at st o (closed (conditional (arms_up_to xs (fi c l)))))
+close_by st o (alternative xs c t) l key_fi =
+    Some (at st o (closed (conditional (arms_up_to xs (otherwise c t l)))))
 close_by st o (body n ws) l key_done = Some (at st o (closed (loop n ws l)))
 close_by st o f l k = None
 
@@ -100,7 +104,8 @@ abbrev pub may_end : Open → Option Commands
 may_end o = end_of o.done o.joined o.negated
 
 abbrev pub begin_reserved : List (Open × Frame) → Open → ReservedWord → Option State
-begin_reserved st o bang = if o.negated then None else Some (at st (record o { negated = true }) start)
+begin_reserved st o bang =
+    if o.negated then None else Some (at st (record o { negated = true }) start)
 begin_reserved st o key_if = Some (at ((o, condition []) ∷ st) nothing start)
 begin_reserved st o key_for = Some (at st o for_name)
 begin_reserved st o k = close_some st (may_end o) k
@@ -121,19 +126,27 @@ no_argument (argument w ∷ is) = false
 no_argument (redirect d w ∷ is) = no_argument is
 
 abbrev pub add_word : List (Open × Frame) → Open → List Simple → Simple → Word → Option State
-add_word st o ss (assignments ws) w = if is_assignment (class w) then Some (at st o (within ss (assignments (ws ++ w ∷ [])))) else None
+add_word st o ss (assignments ws) w =
+    if is_assignment (class w) then Some (at st o (within ss (assignments (ws ++ w ∷ []))))
+    else None
 add_word st o ss (command is) w =
-    if no_argument is then (if is_ordinary (class w) then Some (at st o (within ss (command (is ++ argument w ∷ [])))) else None)
+    if no_argument is then
+      (if is_ordinary (class w) then Some (at st o (within ss (command (is ++ argument w ∷ []))))
+    else None)
     else Some (at st o (within ss (command (is ++ argument w ∷ []))))
 
-abbrev pub add_direction : List (Open × Frame) → Open → List Simple → Simple → Direction → Option State
+abbrev pub add_direction : List (Open × Frame) → Open → List Simple → Simple → Direction
+    → Option State
 add_direction st o ss (assignments ws) d = None
 add_direction st o ss (command is) d = Some (at st o (target ss is d))
 
 -- an operator behind a whole command
 abbrev pub go_on : List (Open × Frame) → Open → Command → Token → Option State
-go_on st o c semicolon = Some (at st (record { done = o.done ++ and_or o c ∷ []; joined = []; negated = false }) start)
-go_on st o c (connector op) = Some (at st (record { done = o.done; joined = o.joined ++ (pipeline o.negated c, op) ∷ []; negated = false }) start)
+go_on st o c semicolon =
+    Some (at st (record { done = o.done ++ and_or o c ∷ []; joined = []; negated = false }) start)
+go_on st o c (connector op) =
+    Some (at st
+      (record o { joined = o.joined ++ (pipeline o.negated c, op) ∷ []; negated = false }) start)
 go_on st o c t = None
 
 abbrev pub close_word : List (Open × Frame) → Open → Command → Class → Option State
@@ -153,7 +166,8 @@ step_at st o (within ss s) (word w) = add_word st o ss s w
 step_at st o (within ss s) (redirection d) = add_direction st o ss s d
 step_at st o (within ss s) bar = Some (at st o (piped (ss ++ s ∷ [])))
 step_at st o (within ss s) t = go_on st o (simples (ss ++ s ∷ [])) t
-step_at st o (target ss is d) (word w) = Some (at st o (within ss (command (is ++ redirect d w ∷ []))))
+step_at st o (target ss is d) (word w) =
+    Some (at st o (within ss (command (is ++ redirect d w ∷ []))))
 step_at st o (target ss is d) t = None
 step_at st o (piped ss) (word w) = begin_simple st o ss w (class w)
 step_at st o (piped ss) (redirection d) = Some (at st o (target ss [] d))
@@ -167,7 +181,8 @@ step_at st o (for_in n) t = None
 step_at st o (for_words n ws) (word w) = Some (at st o (for_words n (ws ++ w ∷ [])))
 step_at st o (for_words n ws) semicolon = Some (at st o (for_do n ws))
 step_at st o (for_words n ws) t = None
-step_at st o (for_do n ws) (word w) = only_key key_do (class w) (Some (at ((o, body n ws) ∷ st) nothing start))
+step_at st o (for_do n ws) (word w) =
+    only_key key_do (class w) (Some (at ((o, body n ws) ∷ st) nothing start))
 step_at st o (for_do n ws) t = None
 
 unfoldable pub step : State → Token → Option State

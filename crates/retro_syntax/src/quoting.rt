@@ -49,8 +49,8 @@ pub enum Quote {
     Double,
 }
 
-/// Where in a word the next character comes. `pieces` are those read so far, and `inside` says whether a parameter
-/// stands in double quotes.
+/// Where in a word the next character comes. `pieces` are those read so far, and `inside` says
+/// whether a parameter stands in double quotes.
 #[derive(Drop)]
 pub enum Reading {
     /// Behind a character that is no part of a parameter.

@@ -22,12 +22,14 @@ use repetition::{at_for_do, at_for_in, at_for_name, at_for_words};
 use simple::{at_piped, at_target, at_within};
 use std::alloc::{AllocError, Global};
 
-/// A list that isn't at its end: whole and-or lists, pipelines with what joins them to the next, and whether `!`
-/// stands here.
+/// A list that isn't at its end.
 #[derive(Drop)]
 pub struct Open {
+    /// The and-or lists that a `;` stands behind.
     pub done: Vec<AndOr<Command>>,
+    /// The pipelines before this one, each with what joins it to the next.
     pub joined: Vec<(Pipeline<Command>, Connector)>,
+    /// Whether `!` stands before this one.
     pub negated: bool,
 }
 
@@ -37,30 +39,48 @@ pub type Arm = (Commands<Command>, Commands<Command>);
 /// What a list is read for.
 #[derive(Drop)]
 pub enum Frame {
+    /// The condition of an `if` or `elif`, behind the arms before it.
     Condition(Vec<Arm>),
+    /// What a `then` leads to, with the arms before it and its condition.
     Consequence(Vec<Arm>, Commands<Command>),
+    /// What an `else` leads to, with the arms before it, the last condition and what that leads to.
     Alternative(Vec<Arm>, Commands<Command>, Commands<Command>),
+    /// What a `for` repeats, with its variable's name and its words.
     Body(String, Vec<Word>),
 }
 
+/// Where in a list the next token comes.
 #[derive(Drop)]
 pub enum Place {
+    /// Where a command may begin.
     Start,
+    /// Behind a part of a simple command, with the stages of the pipe before it.
     Within(Vec<Simple>, Simple),
+    /// Behind a redirection's operator, with the stages and the items before it.
     Target(Vec<Simple>, Vec<Item>, Direction),
+    /// Behind a `|`, with the stages before it.
     Piped(Vec<Simple>),
+    /// Behind a whole compound command.
     Closed(Command),
+    /// Behind `for`.
     ForName,
+    /// Behind `for` and its variable's name.
     ForIn(String),
+    /// Among the words behind `in`.
     ForWords(String, Vec<Word>),
+    /// Behind the `;` after these words.
     ForDo(String, Vec<Word>),
 }
 
-/// The innermost list is `here`. The stack holds those around it, the innermost last.
+/// A list of commands, read up to some token.
 #[derive(Drop)]
 pub struct State {
+    /// The lists around the innermost, each with what the list inside it is read for; the innermost
+    /// of them last.
     pub stack: Vec<(Open, Frame)>,
+    /// The innermost list.
     pub here: Open,
+    /// Where in it the next token comes.
     pub place: Place,
 }
 
@@ -86,7 +106,8 @@ pub fn step(alloc: Global, state: State, token: Token) -> Result<Option<State>, 
 
 /// The list, where the tokens may end here.
 pub fn finish(state: State) -> Result<Option<Commands<Command>>, AllocError>
-    ensures { IfOk result (λ c. option_map (commands_of view) c ≡ Reader.finish (Some (state_view state))) }
+    ensures { IfOk result (λ c. option_map (commands_of view) c
+        ≡ Reader.finish (Some (state_view state))) }
 {
     let State { stack, here, place } = state;
     if stack.len() != 0 {
@@ -114,7 +135,8 @@ pub fn read_tokens(
     alloc: Global,
     tokens: Vec<Token>,
 ) -> Result<Option<Commands<Command>>, AllocError>
-    ensures { IfOk result (λ c. option_map (commands_of view) c ≡ Reader.commands_of (tokens_view tokens)) }
+    ensures { IfOk result (λ c. option_map (commands_of view) c
+        ≡ Reader.commands_of (tokens_view tokens)) }
 {
     let mut state = State {
         stack: Vec::new(alloc),

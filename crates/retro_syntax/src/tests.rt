@@ -28,7 +28,7 @@ fn lists_of_plain_commands_are_read(rt: HostRuntime) -> Result<(), Fail> {
     ] {
         assert_eq!(rt; refusal(alloc, text), None);
     }
-    // Reserved words are recognised where a command may begin, and digits directly before a redirection.
+    // Reserved words count where a command may begin, and digits directly before a redirection.
     for text in [
         "echo if",
         "> if",

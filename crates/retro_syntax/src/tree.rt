@@ -1,7 +1,7 @@
 //! A line as a tree (XCU 2.10.2), and the tokens that it is written with.
 
-/// A piece of a word, by how it is quoted (XCU 2.2). Two unquoted literals never stand side by side, nor two quoted
-/// ones; quotes leave a quoted piece even where they hold nothing.
+/// A piece of a word, by how it is quoted (XCU 2.2). Quotes leave a quoted piece even where they
+/// hold nothing.
 #[derive(Drop)]
 pub enum Piece {
     /// Characters that aren't quoted.

@@ -175,7 +175,8 @@ pub fn is_ordinary(class: Class) -> bool
 /// The name that the word is, for `for`.
 #[tactic(auto, unfolding(crate::specs::Words::name_of))]
 pub fn name_of(alloc: Global, word: &Word) -> Result<Option<String>, AllocError>
-    ensures { IfOk result (λ n. option_map (λ s. string_bytes s) n ≡ Words.name_of (word_view word.now)) }
+    ensures { IfOk result (λ n. option_map (λ s. string_bytes s) n
+        ≡ Words.name_of (word_view word.now)) }
 {
     match word.pieces.as_slice() {
         [Piece::Plain(text)] if is_name(text.as_bytes()) => Ok(Some(text.clone()?)),

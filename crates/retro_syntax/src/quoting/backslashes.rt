@@ -30,7 +30,8 @@ pub fn escaped_in(
     quote: Quote,
     c: char,
 ) -> Result<Option<Lexing>, AllocError>
-    ensures { LexesTo result (Quoting.escaped_in (tokens_view tokens) (pieces_view pieces) quote c) }
+    ensures { LexesTo result
+        (Quoting.escaped_in (tokens_view tokens) (pieces_view pieces) quote c) }
 {
     match quote {
         Quote::Single => Ok(None),
@@ -79,7 +80,8 @@ pub fn escaped_reading(
     reading: Reading,
     c: char,
 ) -> Result<Option<Lexing>, AllocError>
-    ensures { LexesTo result (Quoting.escaped_reading (tokens_view tokens) (reading_view reading) c) }
+    ensures { LexesTo result
+        (Quoting.escaped_reading (tokens_view tokens) (reading_view reading) c) }
 {
     match reading {
         Reading::InWord { pieces, quote, .. } => escaped_in(alloc, tokens, pieces, quote, c),

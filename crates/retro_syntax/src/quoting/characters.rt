@@ -33,7 +33,8 @@ pub fn is_refused(c: char) -> bool
 }
 
 pub fn with_reading(tokens: Vec<Token>, reading: Reading) -> Option<Lexing>
-    ensures { option_map lexing_view result ≡ Some (Quoting.with_pending (tokens_view tokens) (Quoting.reading (reading_view reading))) }
+    ensures { option_map lexing_view result
+        ≡ Quoting.word_goes_on (tokens_view tokens) (reading_view reading) }
 {
     Some(Lexing {
         tokens,
@@ -49,7 +50,8 @@ pub fn unquoted_at(
     digits: bool,
     c: char,
 ) -> Result<Option<Lexing>, AllocError>
-    ensures { LexesTo result (Quoting.unquoted_at (tokens_view tokens) (pieces_view pieces) digits c) }
+    ensures { LexesTo result
+        (Quoting.unquoted_at (tokens_view tokens) (pieces_view pieces) digits c) }
 {
     if c == '\'' {
         let pieces = add_quoted(alloc, pieces, "")?;
@@ -127,7 +129,8 @@ pub fn in_double(
     pieces: Vec<Piece>,
     c: char,
 ) -> Result<Option<Lexing>, AllocError>
-    ensures { LexesTo result (Quoting.word_at (tokens_view tokens) (pieces_view pieces) false Quote.Double c) }
+    ensures { LexesTo result
+        (Quoting.word_at (tokens_view tokens) (pieces_view pieces) false Quote.Double c) }
 {
     if c == '"' {
         Ok(with_reading(
@@ -170,7 +173,8 @@ pub fn word_at(
     quote: Quote,
     c: char,
 ) -> Result<Option<Lexing>, AllocError>
-    ensures { LexesTo result (Quoting.word_at (tokens_view tokens) (pieces_view pieces) digits quote c) }
+    ensures { LexesTo result
+        (Quoting.word_at (tokens_view tokens) (pieces_view pieces) digits quote c) }
 {
     match quote {
         Quote::Unquoted => {

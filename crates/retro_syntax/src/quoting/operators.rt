@@ -27,7 +27,9 @@ pub fn after_operator(
 }
 
 pub fn whole_operator(mut tokens: Vec<Token>, token: Token) -> Result<Option<Lexing>, AllocError>
-    ensures { LexesTo result (Some (Quoting.with_pending (tokens_view tokens ++ token_view token ∷ []) Quoting.between)) }
+    ensures { LexesTo result
+        (Some (Quoting.with_pending (tokens_view tokens ++ token_view token ∷ [])
+            Quoting.between)) }
 {
     tokens.push(token)?;
     Ok(Some(Lexing {

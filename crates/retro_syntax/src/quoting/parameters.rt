@@ -47,7 +47,9 @@ pub fn with_parameter(
     inside: bool,
     name: String,
 ) -> Result<Option<Lexing>, AllocError>
-    ensures { LexesTo result (Quoting.with_parameter (tokens_view tokens) (pieces_view pieces) inside (string_bytes name)) }
+    ensures { LexesTo result
+        (Quoting.with_parameter (tokens_view tokens) (pieces_view pieces) inside
+            (string_bytes name)) }
 {
     if is_unsupported_name(&name) {
         return Ok(None);
@@ -71,7 +73,9 @@ pub fn after_parameter(
     name: String,
     c: char,
 ) -> Result<Option<Lexing>, AllocError>
-    ensures { LexesTo result (Quoting.after_parameter (tokens_view tokens) (pieces_view pieces) inside (string_bytes name) c) }
+    ensures { LexesTo result
+        (Quoting.after_parameter (tokens_view tokens) (pieces_view pieces) inside
+            (string_bytes name) c) }
 {
     if is_unsupported_name(&name) {
         return Ok(None);
@@ -112,7 +116,8 @@ pub fn dollar_at(
     inside: bool,
     c: char,
 ) -> Result<Option<Lexing>, AllocError>
-    ensures { LexesTo result (Quoting.reading_at (tokens_view tokens) (Quoting.dollar (pieces_view pieces) inside) c) }
+    ensures { LexesTo result
+        (Quoting.reading_at (tokens_view tokens) (Quoting.dollar (pieces_view pieces) inside) c) }
 {
     if begins_name(c) {
         Ok(with_reading(
@@ -150,7 +155,9 @@ pub fn braced_at(
     name: String,
     c: char,
 ) -> Result<Option<Lexing>, AllocError>
-    ensures { LexesTo result (Quoting.reading_at (tokens_view tokens) (Quoting.braced (pieces_view pieces) inside (string_bytes name)) c) }
+    ensures { LexesTo result
+        (Quoting.reading_at (tokens_view tokens)
+            (Quoting.braced (pieces_view pieces) inside (string_bytes name)) c) }
 {
     match name.as_bytes() {
         [] => {

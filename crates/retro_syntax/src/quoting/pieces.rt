@@ -52,7 +52,8 @@ pub fn grown_plain(
     last: Piece,
     c: char,
 ) -> Result<Vec<Piece>, AllocError>
-    ensures { IfOk result (λ ps. pieces_view ps ≡ pieces_view pieces ++ Quoting.grown_plain (piece_view last) c) }
+    ensures { IfOk result (λ ps. pieces_view ps
+        ≡ pieces_view pieces ++ Quoting.grown_plain (piece_view last) c) }
 {
     match last {
         Piece::Plain(mut text) => {
@@ -90,7 +91,8 @@ pub fn grown_quoted(
     last: Piece,
     more: &str,
 ) -> Result<Vec<Piece>, AllocError>
-    ensures { IfOk result (λ ps. pieces_view ps ≡ pieces_view pieces ++ Quoting.grown_quoted (piece_view last) more.now) }
+    ensures { IfOk result (λ ps. pieces_view ps
+        ≡ pieces_view pieces ++ Quoting.grown_quoted (piece_view last) more.now) }
 {
     match last {
         Piece::Quoted(mut text) => {
@@ -113,7 +115,8 @@ pub fn add_quoted(
     mut pieces: Vec<Piece>,
     more: &str,
 ) -> Result<Vec<Piece>, AllocError>
-    ensures { IfOk result (λ ps. pieces_view ps ≡ Quoting.add_quoted (pieces_view pieces) more.now) }
+    ensures { IfOk result (λ ps. pieces_view ps
+        ≡ Quoting.add_quoted (pieces_view pieces) more.now) }
 {
     match pieces.pop() {
         Some(last) => grown_quoted(alloc, pieces, last, more),

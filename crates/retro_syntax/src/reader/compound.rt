@@ -5,7 +5,7 @@ ghost use Rattle.retro_syntax.specs.Tree;
 ghost use Rattle.retro_syntax.specs.Reader;
 ghost use Rattle.retro_syntax.specs.View;
 ghost use Rattle.retro_syntax.specs.View.{token_view, view, commands_of, word_view, simple_view, item_view};
-ghost use Rattle.retro_syntax.specs.ReaderViews.{StepsTo, frame_view, items_view, level_view, open_view, place_view, stack_view, stages_view, state_view, words_view};
+ghost use Rattle.retro_syntax.specs.ReaderViews.{StepsAt, StepsTo, frame_view, items_view, level_view, open_view, place_view, stack_view, stages_view, state_view, words_view};
 
 use crate::build::{conditional, conditional_else, pipe, repetition};
 use crate::reader::lists::{go_on, may_end, nothing, whole_list};
@@ -24,7 +24,9 @@ pub fn inner_list(
     here: Open,
     frame: Frame,
 ) -> Result<State, AllocError>
-    ensures { IfOk result (λ n. state_view n ≡ Reader.at ((open_view here, frame_view frame) ∷ stack_view stack) Reader.nothing Reader.start) }
+    ensures { IfOk result (λ n. state_view n
+        ≡ Reader.at ((open_view here, frame_view frame) ∷ stack_view stack)
+            Reader.nothing Reader.start) }
 {
     stack.push((here, frame))?;
     Ok(State {
@@ -42,7 +44,9 @@ pub fn close_by(
     list: Commands<Command>,
     reserved: ReservedWord,
 ) -> Result<Option<State>, AllocError>
-    ensures { StepsTo result (Reader.close_by (stack_view stack) (open_view here) (frame_view frame) (commands_of view list) reserved) }
+    ensures { StepsTo result
+        (Reader.close_by (stack_view stack) (open_view here) (frame_view frame)
+            (commands_of view list) reserved) }
 {
     match (frame, reserved) {
         (Frame::Condition(before), ReservedWord::Then) => Ok(Some(inner_list(
@@ -131,7 +135,8 @@ pub fn close_some(
     list: Option<Commands<Command>>,
     reserved: ReservedWord,
 ) -> Result<Option<State>, AllocError>
-    ensures { StepsTo result (Reader.close_some (stack_view stack) (option_map (commands_of view) list) reserved) }
+    ensures { StepsTo result
+        (Reader.close_some (stack_view stack) (option_map (commands_of view) list) reserved) }
 {
     match list {
         None => Ok(None),
@@ -187,7 +192,8 @@ pub fn begin(
     word: Word,
     class: Class,
 ) -> Result<Option<State>, AllocError>
-    ensures { StepsTo result (Reader.begin (stack_view stack) (open_view here) (word_view word) class) }
+    ensures { StepsTo result
+        (Reader.begin (stack_view stack) (open_view here) (word_view word) class) }
 {
     match class {
         Class::Reserved(reserved) => begin_reserved(alloc, stack, here, reserved),
@@ -201,7 +207,7 @@ pub fn at_start(
     here: Open,
     token: Token,
 ) -> Result<Option<State>, AllocError>
-    ensures { StepsTo result (Reader.step_at (stack_view stack) (open_view here) Reader.start (token_view token)) }
+    ensures { StepsAt stack here Reader.start token result }
 {
     match token {
         Token::Word(word) => {
@@ -224,7 +230,7 @@ pub fn at_closed(
     command: Command,
     token: Token,
 ) -> Result<Option<State>, AllocError>
-    ensures { StepsTo result (Reader.step_at (stack_view stack) (open_view here) (Reader.closed (view command)) (token_view token)) }
+    ensures { StepsAt stack here (Reader.closed (view command)) token result }
 {
     match token {
         Token::Word(word) => match class_of(&word) {

@@ -5,7 +5,7 @@ ghost use Rattle.retro_syntax.specs.Tree;
 ghost use Rattle.retro_syntax.specs.Reader;
 ghost use Rattle.retro_syntax.specs.View;
 ghost use Rattle.retro_syntax.specs.View.{token_view, view, commands_of, word_view, simple_view, item_view};
-ghost use Rattle.retro_syntax.specs.ReaderViews.{StepsTo, frame_view, items_view, level_view, open_view, place_view, stack_view, stages_view, state_view, words_view};
+ghost use Rattle.retro_syntax.specs.ReaderViews.{StepsAt, StepsTo, frame_view, items_view, level_view, open_view, place_view, stack_view, stages_view, state_view, words_view};
 
 use crate::build::{conditional, conditional_else, pipe, repetition};
 use crate::reader::compound::inner_list;
@@ -23,7 +23,7 @@ pub fn at_for_name(
     here: Open,
     token: Token,
 ) -> Result<Option<State>, AllocError>
-    ensures { StepsTo result (Reader.step_at (stack_view stack) (open_view here) Reader.for_name (token_view token)) }
+    ensures { StepsAt stack here Reader.for_name token result }
 {
     match token {
         Token::Word(word) => match name_of(alloc, &word)? {
@@ -45,7 +45,7 @@ pub fn at_for_in(
     name: String,
     token: Token,
 ) -> Result<Option<State>, AllocError>
-    ensures { StepsTo result (Reader.step_at (stack_view stack) (open_view here) (Reader.for_in (string_bytes name)) (token_view token)) }
+    ensures { StepsAt stack here (Reader.for_in (string_bytes name)) token result }
 {
     match token {
         Token::Word(word) => match class_of(&word) {
@@ -80,7 +80,8 @@ pub fn at_for_words(
     mut words: Vec<Word>,
     token: Token,
 ) -> Result<Option<State>, AllocError>
-    ensures { StepsTo result (Reader.step_at (stack_view stack) (open_view here) (Reader.for_words (string_bytes name) (words_view words)) (token_view token)) }
+    ensures { StepsAt stack here
+        (Reader.for_words (string_bytes name) (words_view words)) token result }
 {
     match token {
         Token::Word(word) => {
@@ -108,7 +109,8 @@ pub fn at_for_do(
     words: Vec<Word>,
     token: Token,
 ) -> Result<Option<State>, AllocError>
-    ensures { StepsTo result (Reader.step_at (stack_view stack) (open_view here) (Reader.for_do (string_bytes name) (words_view words)) (token_view token)) }
+    ensures { StepsAt stack here
+        (Reader.for_do (string_bytes name) (words_view words)) token result }
 {
     match token {
         Token::Word(word) => match class_of(&word) {

@@ -5,7 +5,7 @@ ghost use Rattle.retro_syntax.specs.Tree;
 ghost use Rattle.retro_syntax.specs.Reader;
 ghost use Rattle.retro_syntax.specs.View;
 ghost use Rattle.retro_syntax.specs.View.{token_view, view, commands_of, word_view, simple_view, item_view};
-ghost use Rattle.retro_syntax.specs.ReaderViews.{StepsTo, frame_view, items_view, level_view, open_view, place_view, stack_view, stages_view, state_view, words_view};
+ghost use Rattle.retro_syntax.specs.ReaderViews.{StepsAt, StepsTo, frame_view, items_view, level_view, open_view, place_view, stack_view, stages_view, state_view, words_view};
 
 use crate::build::{conditional, conditional_else, pipe, repetition};
 use crate::reader::lists::go_on;
@@ -25,7 +25,9 @@ pub fn begin_simple(
     word: Word,
     class: Class,
 ) -> Result<Option<State>, AllocError>
-    ensures { StepsTo result (Reader.begin_simple (stack_view stack) (open_view here) (stages_view stages) (word_view word) class) }
+    ensures { StepsTo result
+        (Reader.begin_simple (stack_view stack) (open_view here) (stages_view stages)
+            (word_view word) class) }
 {
     let simple = match class {
         Class::Assignment => {
@@ -67,7 +69,9 @@ pub fn add_word(
     simple: Simple,
     word: Word,
 ) -> Result<Option<State>, AllocError>
-    ensures { StepsTo result (Reader.add_word (stack_view stack) (open_view here) (stages_view stages) (simple_view simple) (word_view word)) }
+    ensures { StepsTo result
+        (Reader.add_word (stack_view stack) (open_view here) (stages_view stages)
+            (simple_view simple) (word_view word)) }
 {
     let class = class_of(&word);
     match simple {
@@ -104,7 +108,8 @@ pub fn at_within(
     simple: Simple,
     token: Token,
 ) -> Result<Option<State>, AllocError>
-    ensures { StepsTo result (Reader.step_at (stack_view stack) (open_view here) (Reader.within (stages_view stages) (simple_view simple)) (token_view token)) }
+    ensures { StepsAt stack here
+        (Reader.within (stages_view stages) (simple_view simple)) token result }
 {
     match token {
         Token::Word(word) => add_word(stack, here, stages, simple, word),
@@ -149,7 +154,8 @@ pub fn at_target(
     direction: Direction,
     token: Token,
 ) -> Result<Option<State>, AllocError>
-    ensures { StepsTo result (Reader.step_at (stack_view stack) (open_view here) (Reader.target (stages_view stages) (items_view items) direction) (token_view token)) }
+    ensures { StepsAt stack here
+        (Reader.target (stages_view stages) (items_view items) direction) token result }
 {
     match token {
         Token::Word(word) => {
@@ -171,7 +177,7 @@ pub fn at_piped(
     stages: Vec<Simple>,
     token: Token,
 ) -> Result<Option<State>, AllocError>
-    ensures { StepsTo result (Reader.step_at (stack_view stack) (open_view here) (Reader.piped (stages_view stages)) (token_view token)) }
+    ensures { StepsAt stack here (Reader.piped (stages_view stages)) token result }
 {
     match token {
         Token::Word(word) => {
