@@ -1,16 +1,16 @@
 -- What is written for a tree is read as that tree.
-use Rattle.std.proofs.Common.{◌≡◌, ℕ, Bool, true, false, ◌&&◌, List, [], ◌∷◌, ◌++◌, Option, Some, None, cond, option_map, subst, refl, sym, ap, ◌∙◌, append_assoc, append-nil}
-use Rattle.retro_syntax.specs.Tree.{Piece, plain, Word, Token, semicolon, bar, connector, redirection, word, whole, spelling, key, Item, argument, redirect, Simple, assignments, command, Commands, last, more, AndOr, end, chain, Pipeline, pipeline, Command, simples, conditional, loop, Arms, fi, otherwise, elif, items_then, words_then, simple_then, stages_then, commands_then, andor_then, pipeline_then, command_then, arms_then, bang_then, closing_then, for_then}
+use Rattle.std.proofs.Common.{◌≡◌, ℕ, Bool, true, false, ◌&&◌, List, [], ◌∷◌, ◌++◌, Some, None, cond, option_map, subst, refl, sym, ap, ◌∙◌, append_assoc, append-nil}
+use Rattle.retro_syntax.specs.Tree.{plain, Word, Token, semicolon, bar, connector, redirection, word, whole, key, Item, argument, redirect, Simple, assignments, command, Commands, last, more, AndOr, end, chain, Pipeline, pipeline, Command, simples, conditional, loop, Arms, fi, otherwise, elif, items_then, words_then, simple_then, stages_then, commands_then, andor_then, pipeline_then, command_then, arms_then, for_then}
 use Rattle.retro_syntax.specs.declared.tree.Direction.{Direction}
 use Rattle.retro_syntax.specs.declared.tree.Connector.{Connector}
-use Rattle.retro_syntax.specs.declared.tree.Key.{Key}
-use Rattle.retro_syntax.specs.declared.tree.Key.TheVariants.{Bang as bang, If as key_if, Then as key_then, Elif as key_elif, Else as key_else, Fi as key_fi, For as key_for, In as key_in, Do as key_do, Done as key_done}
+use Rattle.retro_syntax.specs.declared.tree.ReservedWord.{ReservedWord}
+use Rattle.retro_syntax.specs.declared.tree.ReservedWord.TheVariants.{Bang as bang, If as key_if, Then as key_then, Elif as key_elif, Else as key_else, Fi as key_fi, For as key_for, In as key_in, Do as key_do, Done as key_done}
 use Rattle.retro_syntax.specs.declared.words.Class.{Class}
-use Rattle.retro_syntax.specs.declared.words.Class.TheVariants.{Keyword as keyword, Forbidden as forbidden, Assignment as assignment, Ordinary as ordinary}
+use Rattle.retro_syntax.specs.declared.words.Class.TheVariants.{Reserved as reserved, Forbidden as forbidden, Assignment as assignment, Ordinary as ordinary}
 use Rattle.retro_syntax.specs.Words.{class, name_of, is_ordinary, is_assignment}
-use Rattle.retro_syntax.specs.Reader.{Open, Frame, condition, consequence, alternative, body, Place, start, within, target, piped, closed, for_name, for_in, for_words, for_do, State, at, step, step_at, run, join, and_or, listed, arms_up_to, nothing, no_argument, finish, commands_of, close, close_by, close_some, begin_key, may_end, all_closed, finish_at, go_on}
+use Rattle.retro_syntax.specs.Reader.{Open, Frame, condition, consequence, alternative, body, Place, start, within, target, piped, closed, for_name, for_in, for_words, for_do, State, at, step, run, join, and_or, listed, arms_up_to, nothing, no_argument, finish, commands_of, close, close_some, begin_reserved, may_end, all_closed, finish_at, go_on}
 use Rattle.retro_syntax.specs.Spells.{are_assignments, begins_well, is_simple, are_simple, are_stages, is_compound, ends_compound, ends_itself, Spells, IsCommands, IsAndOr, IsPipeline, IsCommand, IsArms}
-use Rattle.retro_syntax.proofs.WordLemmas.{key_of_class, class_key}
+use Rattle.retro_syntax.proofs.WordLemmas.{class_key}
 
 abbrev Stack : Type 0
 Stack = List (Open × Frame)
@@ -94,13 +94,13 @@ record Begins (st : Stack) (o : Open) (p : Place) (ss : List Simple) : Type 0 wh
   aims : (d : Direction) (w : Word) (r : List Token) → run (Some (at st o p)) (redirection d ∷ word w ∷ r) ≡ run (Some (at st o (within ss (command (redirect d w ∷ []))))) r
 
 is_assign : (k : Class) → is_assignment k ≡ true → k ≡ assignment
-is_assign (keyword k) e = cc
+is_assign (reserved k) e = cc
 is_assign forbidden e = cc
 is_assign assignment e = refl
 is_assign ordinary e = cc
 
 is_plain : (k : Class) → is_ordinary k ≡ true → k ≡ ordinary
-is_plain (keyword k) e = cc
+is_plain (reserved k) e = cc
 is_plain forbidden e = cc
 is_plain assignment e = cc
 is_plain ordinary e = refl
@@ -160,9 +160,11 @@ stages_on st o p xs [] b h = absurd (let e : false ≡ true = h in cc)
 stages_on st o p xs (s ∷ []) b h = (within xs s, refl, λ r. simple_on st o p xs s r b (and_left (is_simple s) true h))
 stages_on st o p xs (s ∷ t ∷ ss) b h =
     let rest = stages_on st o (piped (xs ++ s ∷ [])) (xs ++ s ∷ []) (t ∷ ss) (begins_piped st o (xs ++ s ∷ [])) (and_right (is_simple s) (are_simple (t ∷ ss)) h) in
-    let one = and_left (is_simple s) (are_simple (t ∷ ss)) h in
-    (rest.0, subst (λ ys. Holds rest.0 (simples ys)) (append_assoc xs (s ∷ []) (t ∷ ss)) rest.1,
-      λ r. simple_on st o p xs s (bar ∷ stages_then (t ∷ ss) r) b one ∙ next _ _ bar (stages_then (t ∷ ss) r) (step_bar st o xs s) ∙ rest.2 r)
+    let one = and_left (is_simple s) (are_simple (t ∷ ss)) h in (
+      rest.0,
+      subst (λ ys. Holds rest.0 (simples ys)) (append_assoc xs (s ∷ []) (t ∷ ss)) rest.1,
+      λ r. simple_on st o p xs s (bar ∷ stages_then (t ∷ ss) r) b one ∙ next _ _ bar (stages_then (t ∷ ss) r) (step_bar st o xs s) ∙ rest.2 r,
+    )
 
 -- ---- lists that were put together
 
@@ -225,15 +227,15 @@ record One (st : Stack) (o : Open) (ts : List Token → List Token) (ds : List A
   runs : (r : List Token) → run (Some (at st o start)) (ts r) ≡ run (Some (at st open_now place_now)) r
 
 -- the words that end a list
-abbrev IsCloser : Key → Type 0
-IsCloser k = (st : Stack) (o : Open) → begin_key st o k ≡ close_some st (may_end o) k
+abbrev IsCloser : ReservedWord → Type 0
+IsCloser k = (st : Stack) (o : Open) → begin_reserved st o k ≡ close_some st (may_end o) k
 
 record Ended (st : Stack) (o : Open) (ts : List Token → List Token) (c : Commands) (itself : Bool) : Type 0 where
   open_now : Open
   place_now : Place
   runs : (r : List Token) → run (Some (at st o start)) (ts r) ≡ run (Some (at st open_now place_now)) r
   finishes : finish_at [] open_now place_now ≡ Some c
-  closes : itself ≡ true → (k : Key) → IsCloser k → step (at st open_now place_now) (key k) ≡ close st c k
+  closes : itself ≡ true → (k : ReservedWord) → IsCloser k → step (at st open_now place_now) (key k) ≡ close st c k
 
 abbrev opened : List AndOr → List (Pipeline × Connector) → Bool → Open
 opened ds js negated = record { done = ds; joined = js; negated = negated }
@@ -273,7 +275,7 @@ finish_whole o (for_in n) c h = absurd h
 finish_whole o (for_words n ws) c h = absurd h
 finish_whole o (for_do n ws) c h = absurd h
 
-close_whole : (st : Stack) (o : Open) (p : Place) (c : Command) (k : Key) → Holds p c → is_compound c ≡ true → step (at st o p) (key k) ≡ close st (listed o.done (and_or o c) false) k
+close_whole : (st : Stack) (o : Open) (p : Place) (c : Command) (k : ReservedWord) → Holds p c → is_compound c ≡ true → step (at st o p) (key k) ≡ close st (listed o.done (and_or o c) false) k
 unfolding step
 close_whole st o start c k h y = absurd h
 close_whole st o (within ss s) c k h y = let e : is_compound (simples (ss ++ s ∷ [])) ≡ true = subst (λ d. is_compound d ≡ true) h y in absurd (let f : false ≡ true = e in cc)
@@ -285,7 +287,7 @@ close_whole st o (for_in n) c k h y = absurd h
 close_whole st o (for_words n ws) c k h y = absurd h
 close_whole st o (for_do n ws) c k h y = absurd h
 
-close_start : (st : Stack) (o : Open) (k : Key) → IsCloser k → step (at st o start) (key k) ≡ close_some st (may_end o) k
+close_start : (st : Stack) (o : Open) (k : ReservedWord) → IsCloser k → step (at st o start) (key k) ≡ close_some st (may_end o) k
 unfolding step
 close_start st o k closer = rw (class_key k) (closer st o)
 
@@ -342,7 +344,7 @@ for_on st o n ws r h =
     ∙ next _ _ semicolon (key key_do ∷ r) (step_words_end st o n ws)
     ∙ next _ _ (key key_do) r (step_do st o n ws)
 
-inner_of : (st : Stack) (ts : List Token → List Token) (c : Commands) (k : Key) (r : List Token) (b : Bool) → Ended st nothing ts c b → b ≡ true → IsCloser k
+inner_of : (st : Stack) (ts : List Token → List Token) (c : Commands) (k : ReservedWord) (r : List Token) (b : Bool) → Ended st nothing ts c b → b ≡ true → IsCloser k
     → run (Some (at st nothing start)) (ts (key k ∷ r)) ≡ run (close st c k) r
 inner_of st ts c k r b e t closer = e.runs (key k ∷ r) ∙ ap (λ x. run x r) (e.closes t k closer)
 
@@ -441,9 +443,12 @@ mutual
   command_on : (c : Command) → IsCommand c → (st : Stack) (o : Open) → Reads st o start (command_then c) c
   command_on (simples ss) h st o = stages_on st o start [] ss (begins_start st o) h
   command_on (conditional a) h st o = (closed (conditional a), refl, λ r. next _ _ (key key_if) (arms_then a r) (step_if st o) ∙ arms_on a h st o [] r)
-  command_on (loop n ws c) h st o =
-      (closed (loop n ws c), refl, λ r. for_on st o n ws (commands_then c (key key_done ∷ r)) h.0
-        ∙ inner_of ((o, body n ws) ∷ st) (commands_then c) c key_done r _ (commands_on c h.1.0 ((o, body n ws) ∷ st) []) h.1.1 (λ s p. refl))
+  command_on (loop n ws c) h st o = (
+    closed (loop n ws c),
+    refl,
+    λ r. for_on st o n ws (commands_then c (key key_done ∷ r)) h.0
+        ∙ inner_of ((o, body n ws) ∷ st) (commands_then c) c key_done r _ (commands_on c h.1.0 ((o, body n ws) ∷ st) []) h.1.1 (λ s p. refl),
+  )
 
   arms_on : (a : Arms) → IsArms a → (st : Stack) (o : Open) (xs : List (Commands × Commands)) (r : List Token)
       → run (Some (at ((o, condition xs) ∷ st) nothing start)) (arms_then a r) ≡ run (Some (at st o (closed (conditional (arms_up_to xs a))))) r

@@ -1,8 +1,8 @@
 -- Plain commands, found one by one.
-use Rattle.std.proofs.Common.{◌≡◌, List, [], ◌∷◌, ◌++◌, map, Option, Some, None, Bool, refl, sym, ap, ◌∙◌, option_map, option_and_then, append_assoc}
+use Rattle.std.proofs.Common.{◌≡◌, List, [], ◌∷◌, ◌++◌, Option, Some, None, Bool, refl, ap, option_map, append_assoc}
 use Rattle.retro_syntax.specs.Tree as T
 use Rattle.retro_syntax.specs.Reader.{listed}
-use Rattle.retro_syntax.specs.Plain.{all_of, and_ors}
+use Rattle.retro_syntax.specs.Plain.{and_ors}
 
 -- nothing found yet
 pub none_yet : {B : Type 0} (r : Option (List B)) → option_map (λ ys. [] ++ ys) r ≡ r

@@ -1,16 +1,16 @@
 -- What is read as a tree is what is written for it.
-use Rattle.std.proofs.Common.{◌≡◌, ℕ, Bool, true, false, ◌&&◌, List, [], ◌∷◌, ◌++◌, Option, Some, None, cond, option_map, subst, refl, sym, ap, ◌∙◌, append_assoc, append-nil}
-use Rattle.retro_syntax.specs.Tree.{Piece, plain, Word, Token, semicolon, bar, connector, redirection, word, whole, spelling, key, Item, argument, redirect, Simple, assignments, command, Commands, last, more, AndOr, end, chain, Pipeline, pipeline, Command, simples, conditional, loop, Arms, fi, otherwise, elif, items_then, words_then, simple_then, stages_then, commands_then, andor_then, pipeline_then, command_then, arms_then, bang_then, closing_then, for_then}
+use Rattle.std.proofs.Common.{◌≡◌, ℕ, Bool, true, false, ◌&&◌, List, [], ◌∷◌, ◌++◌, Option, Some, None, cond, option_map, subst, refl, sym, ap, ◌∙◌}
+use Rattle.retro_syntax.specs.Tree.{plain, Word, Token, semicolon, bar, connector, redirection, word, whole, key, Item, argument, redirect, Simple, assignments, command, Commands, last, more, AndOr, Pipeline, pipeline, Command, simples, Arms, fi, otherwise, items_then, words_then, simple_then, stages_then, commands_then, andor_then, pipeline_then, command_then, arms_then, bang_then, closing_then, for_then}
 use Rattle.retro_syntax.specs.declared.tree.Direction.{Direction}
 use Rattle.retro_syntax.specs.declared.tree.Connector.{Connector}
-use Rattle.retro_syntax.specs.declared.tree.Key.{Key}
-use Rattle.retro_syntax.specs.declared.tree.Key.TheVariants.{Bang as bang, If as key_if, Then as key_then, Elif as key_elif, Else as key_else, Fi as key_fi, For as key_for, In as key_in, Do as key_do, Done as key_done}
+use Rattle.retro_syntax.specs.declared.tree.ReservedWord.{ReservedWord}
+use Rattle.retro_syntax.specs.declared.tree.ReservedWord.TheVariants.{Bang as bang, If as key_if, Then as key_then, Elif as key_elif, Else as key_else, Fi as key_fi, For as key_for, In as key_in, Do as key_do, Done as key_done}
 use Rattle.retro_syntax.specs.declared.words.Class.{Class}
-use Rattle.retro_syntax.specs.declared.words.Class.TheVariants.{Keyword as keyword, Forbidden as forbidden, Assignment as assignment, Ordinary as ordinary}
+use Rattle.retro_syntax.specs.declared.words.Class.TheVariants.{Reserved as reserved, Forbidden as forbidden, Assignment as assignment, Ordinary as ordinary}
 use Rattle.retro_syntax.specs.Words.{class, name_of, is_ordinary, is_assignment}
-use Rattle.retro_syntax.specs.Reader.{Open, Frame, condition, consequence, alternative, body, Place, start, within, target, piped, closed, for_name, for_in, for_words, for_do, State, at, step, step_at, run, join, and_or, listed, arms_up_to, nothing, no_argument, finish, commands_of, close, close_by, close_some, begin, begin_simple, begin_key, may_end, all_closed, finish_at, go_on, add_word, add_direction, close_word, only_key, end_of}
+use Rattle.retro_syntax.specs.Reader.{Open, Frame, condition, consequence, alternative, body, Place, start, within, target, piped, closed, for_name, for_in, for_words, for_do, State, at, step, step_at, run, join, and_or, listed, arms_up_to, nothing, no_argument, finish, commands_of, close, close_by, close_some, begin, begin_simple, begin_reserved, may_end, all_closed, finish_at, go_on, close_word, only_key, end_of}
 use Rattle.retro_syntax.specs.Spells.{Spells, are_assignments, begins_well, is_simple, are_simple, are_stages, is_compound, ends_compound, ends_itself, EndsItself, IsCommands, IsAndOr, IsPipeline, IsCommand, IsArms}
-use Rattle.retro_syntax.proofs.WordLemmas.{key_of_class, class_key, name_of_is}
+use Rattle.retro_syntax.proofs.WordLemmas.{key_of_class, name_of_is}
 
 abbrev Stack : Type 0
 Stack = List (Open × Frame)
@@ -218,7 +218,7 @@ are_assignments-push : (ws : List Word) (w : Word) → are_assignments ws ≡ tr
 are_assignments-push [] w h k = and_both (is_assignment (class w)) true k refl
 are_assignments-push (x ∷ ws) w h k =
     and_both (is_assignment (class x)) (are_assignments (ws ++ w ∷ [])) (and_left (is_assignment (class x)) (are_assignments ws) h)
-      (are_assignments-push ws w (and_right (is_assignment (class x)) (are_assignments ws) h) k)
+    (are_assignments-push ws w (and_right (is_assignment (class x)) (are_assignments ws) h) k)
 
 is_simple-assignments : (ws : List Word) (w : Word) → is_simple (assignments ws) ≡ true → is_assignment (class w) ≡ true → is_simple (assignments (ws ++ w ∷ [])) ≡ true
 is_simple-assignments [] w h k = cc
@@ -244,7 +244,7 @@ well-argument (redirect e v ∷ is) w h k = well-argument is w h k
 
 -- ---- the words that end a list
 
-close_by_sound : (s : State) (st : Stack) (o : Open) (f : Frame) (l : Commands) (k : Key)
+close_by_sound : (s : State) (st : Stack) (o : Open) (f : Frame) (l : Commands) (k : ReservedWord)
     → ((r : List Token) → state_then s r ≡ stack_then st (open_then o (frame_then f (commands_then l r))))
     → IsStack st → IsOpen o → IsFrame f → IsCommands l × EndsItself l → Sound s (key k) (close_by st o f l k)
 close_by_sound s st o (condition xs) l key_then e hs ho hf hl = record { written = λ r. e (key key_then ∷ r); kept = ((ho, (hf, hl), hs), (tt, tt), tt) }
@@ -264,7 +264,7 @@ close_by_sound s st o (alternative xs c t) l key_fi e hs ho hf hl = record {
 close_by_sound s st o (body n ws) l key_done e hs ho hf hl = record { written = λ r. e (key key_done ∷ r); kept = (hs, ho, ((hf, hl), refl)) }
 close_by_sound s st o f l k e hs ho hf hl = tt
 
-close_sound : (s : State) (st : Stack) (l : Commands) (k : Key) → ((r : List Token) → state_then s r ≡ stack_then st (commands_then l r))
+close_sound : (s : State) (st : Stack) (l : Commands) (k : ReservedWord) → ((r : List Token) → state_then s r ≡ stack_then st (commands_then l r))
     → IsStack st → IsCommands l × EndsItself l → Sound s (key k) (close st l k)
 close_sound s [] l k e hs hl = tt
 close_sound s (x ∷ st) l k e hs hl = close_by_sound s st x.0 x.1 l k e hs.2 hs.0 hs.1 hl
@@ -299,7 +299,7 @@ may_end_ends ds (j ∷ js) b l e h = absurd (let f : None ≡ Some l = e in cc)
 
 -- ---- a place where a command may begin
 
-closing_sound : (st : Stack) (o : Open) (k : Key) (m : Option Commands) → may_end o ≡ m → IsStack st → IsOpen o → Sound (at st o start) (key k) (close_some st m k)
+closing_sound : (st : Stack) (o : Open) (k : ReservedWord) (m : Option Commands) → may_end o ≡ m → IsStack st → IsOpen o → Sound (at st o start) (key k) (close_some st m k)
 closing_sound st o k None e hs ho = tt
 closing_sound st o k (Some l) e hs ho =
     let x = may_end_ends o.done o.joined o.negated l e ho.0 in
@@ -309,7 +309,7 @@ bang_sound : (st : Stack) (o : Open) (b : Bool) → o.negated ≡ b → IsStack 
 bang_sound st o true e hs ho = tt
 bang_sound st o false e hs ho = record { written = λ r. ap (λ b. stack_then st (done_then o.done (joined_then o.joined (bang_then b (key bang ∷ r))))) e; kept = (hs, ho, tt) }
 
-key_sound : (st : Stack) (o : Open) (k : Key) → IsStack st → IsOpen o → Sound (at st o start) (key k) (begin_key st o k)
+key_sound : (st : Stack) (o : Open) (k : ReservedWord) → IsStack st → IsOpen o → Sound (at st o start) (key k) (begin_reserved st o k)
 key_sound st o bang hs ho = bang_sound st o o.negated refl hs ho
 key_sound st o key_if hs ho = record { written = λ r. refl; kept = ((ho, tt, hs), (tt, tt), tt) }
 key_sound st o key_for hs ho = record { written = λ r. refl; kept = (hs, ho, tt) }
@@ -328,7 +328,7 @@ record Precedes (p : Place) (ss : List Simple) : Type 0 where
 
 simple_sound : (st : Stack) (o : Open) (p : Place) (ss : List Simple) (w : Word) (c : Class) → class w ≡ c → Precedes p ss → IsStack st → IsOpen o
     → Sound (at st o p) (word w) (begin_simple st o ss w c)
-simple_sound st o p ss w (keyword k) e b hs ho = tt
+simple_sound st o p ss w (reserved k) e b hs ho = tt
 simple_sound st o p ss w forbidden e b hs ho = tt
 simple_sound st o p ss w assignment e b hs ho = record {
   written = λ r. ap (λ x. stack_then st (open_then o x)) (b.then_is (word w ∷ r));
@@ -340,7 +340,7 @@ simple_sound st o p ss w ordinary e b hs ho = record {
 }
 
 begin_sound : (st : Stack) (o : Open) (w : Word) (c : Class) → class w ≡ c → IsStack st → IsOpen o → Sound (at st o start) (word w) (begin st o w c)
-begin_sound st o w (keyword k) e hs ho = subst (λ v. Sound (at st o start) (word v) (begin_key st o k)) (sym (key_of_class w k e)) (key_sound st o k hs ho)
+begin_sound st o w (reserved k) e hs ho = subst (λ v. Sound (at st o start) (word v) (begin_reserved st o k)) (sym (key_of_class w k e)) (key_sound st o k hs ho)
 begin_sound st o w forbidden e hs ho = tt
 begin_sound st o w assignment e hs ho = simple_sound st o start [] w assignment e (record { stages = refl; then_is = λ r. refl }) hs ho
 begin_sound st o w ordinary e hs ho = simple_sound st o start [] w ordinary e (record { stages = refl; then_is = λ r. refl }) hs ho
@@ -355,12 +355,12 @@ record Stands (p : Place) (c : Command) : Type 0 where
 go_on_sound : (st : Stack) (o : Open) (p : Place) (c : Command) (t : Token) → Stands p c → IsStack st → IsOpen o → Sound (at st o p) t (go_on st o c t)
 go_on_sound st o p c semicolon b hs ho = record {
   written = λ r. ap (λ x. stack_then st (open_then o x)) (b.then_is (semicolon ∷ r))
-    ∙ ap (stack_then st) (sym (done_then-push o.done (and_or o c) r ∙ ap (done_then o.done) (and_or-written o c (semicolon ∷ r))));
+      ∙ ap (stack_then st) (sym (done_then-push o.done (and_or o c) r ∙ ap (done_then o.done) (and_or-written o c (semicolon ∷ r))));
   kept = (hs, (AreDone-push o.done (and_or o c) ho.0 (IsAndOr-join o.joined (pipeline o.negated c) ho.1 b.is_whole), tt), tt);
 }
 go_on_sound st o p c (connector op) b hs ho = record {
   written = λ r. ap (λ x. stack_then st (open_then o x)) (b.then_is (connector op ∷ r))
-    ∙ ap (λ x. stack_then st (done_then o.done x)) (sym (joined_then-push o.joined (pipeline o.negated c) op r));
+      ∙ ap (λ x. stack_then st (done_then o.done x)) (sym (joined_then-push o.joined (pipeline o.negated c) op r));
   kept = (hs, (ho.0, AreJoined-push o.joined (pipeline o.negated c) op ho.1 b.is_whole), tt);
 }
 go_on_sound st o p c bar b hs ho = tt
@@ -372,10 +372,10 @@ stands_simple ss s h k = record { is_whole = are_stages-push ss s (are_simple-pu
 
 close_word_sound : (st : Stack) (o : Open) (d : Command) (w : Word) (c : Class) → class w ≡ c → IsCommand d × (is_compound d ≡ true) → IsStack st → IsOpen o
     → Sound (at st o (closed d)) (word w) (close_word st o d c)
-close_word_sound st o d w (keyword k) e h hs ho =
+close_word_sound st o d w (reserved k) e h hs ho =
     let l = listed o.done (and_or o d) false in
     let written : (r : List Token) → state_then (at st o (closed d)) r ≡ stack_then st (commands_then l r) =
-      λ r. ap (stack_then st) (sym (listed-written o.done (and_or o d) false r ∙ ap (done_then o.done) (and_or-written o d r))) in
+    λ r. ap (stack_then st) (sym (listed-written o.done (and_or o d) false r ∙ ap (done_then o.done) (and_or-written o d r))) in
     let whole_list : IsCommands l = IsCommands-listed o.done (and_or o d) false ho.0 (IsAndOr-join o.joined (pipeline o.negated d) ho.1 h.0) in
     let itself : EndsItself l = ends-listed o.done (and_or o d) ∙ ends_compound-join o.joined o.negated d ∙ h.1 in
     subst (λ v. Sound (at st o (closed d)) (word v) (close st l k)) (sym (key_of_class w k e)) (close_sound (at st o (closed d)) st l k written hs (whole_list, itself))
@@ -397,7 +397,7 @@ assign_sound st o ss ws w true e h hs ho = record {
 argument_sound : (st : Stack) (o : Open) (ss : List Simple) (is : List Item) (w : Word) (a b : Bool) → no_argument is ≡ a → is_ordinary (class w) ≡ b
     → (are_simple ss ≡ true) × (is_simple (command is) ≡ true) → IsStack st → IsOpen o
     → Sound (at st o (within ss (command is))) (word w)
-      (cond a (cond b (Some (at st o (within ss (command (is ++ argument w ∷ []))))) None) (Some (at st o (within ss (command (is ++ argument w ∷ []))))))
+    (cond a (cond b (Some (at st o (within ss (command (is ++ argument w ∷ []))))) None) (Some (at st o (within ss (command (is ++ argument w ∷ []))))))
 argument_sound st o ss is w true false e f h hs ho = tt
 argument_sound st o ss is w true true e f h hs ho = record {
   written = λ r. ap (λ x. stack_then st (open_then o (piped_then ss x))) (sym (items_then-push is (argument w) r));
@@ -415,28 +415,28 @@ name_sound st o w (Some n) e hs ho =
     let same = name_of_is w n e in
     record { written = λ r. ap (λ v. stack_then st (open_then o (key key_for ∷ word v ∷ r))) same; kept = (hs, ho, ap name_of (sym same) ∙ e) }
 
-in_key : (st : Stack) (o : Open) (n : List ℕ) (k : Key) → IsStack st → IsOpen o → name_of (plain n ∷ []) ≡ Some n
-    → Sound (at st o (for_in n)) (key k) (only_key key_in (keyword k) (Some (at st o (for_words n []))))
+in_key : (st : Stack) (o : Open) (n : List ℕ) (k : ReservedWord) → IsStack st → IsOpen o → name_of (plain n ∷ []) ≡ Some n
+    → Sound (at st o (for_in n)) (key k) (only_key key_in (reserved k) (Some (at st o (for_words n []))))
 in_key st o n key_in hs ho h = record { written = λ r. refl; kept = (hs, ho, h) }
 in_key st o n k hs ho h = tt
 
-do_key : (st : Stack) (o : Open) (n : List ℕ) (ws : List Word) (k : Key) → IsStack st → IsOpen o → name_of (plain n ∷ []) ≡ Some n
-    → Sound (at st o (for_do n ws)) (key k) (only_key key_do (keyword k) (Some (at ((o, body n ws) ∷ st) nothing start)))
+do_key : (st : Stack) (o : Open) (n : List ℕ) (ws : List Word) (k : ReservedWord) → IsStack st → IsOpen o → name_of (plain n ∷ []) ≡ Some n
+    → Sound (at st o (for_do n ws)) (key k) (only_key key_do (reserved k) (Some (at ((o, body n ws) ∷ st) nothing start)))
 do_key st o n ws key_do hs ho h = record { written = λ r. refl; kept = ((ho, h, hs), (tt, tt), tt) }
 do_key st o n ws k hs ho h = tt
 
 in_sound : (st : Stack) (o : Open) (n : List ℕ) (w : Word) (c : Class) → class w ≡ c → IsStack st → IsOpen o → name_of (plain n ∷ []) ≡ Some n
     → Sound (at st o (for_in n)) (word w) (only_key key_in c (Some (at st o (for_words n []))))
-in_sound st o n w (keyword k) e hs ho h =
-    subst (λ v. Sound (at st o (for_in n)) (word v) (only_key key_in (keyword k) (Some (at st o (for_words n []))))) (sym (key_of_class w k e)) (in_key st o n k hs ho h)
+in_sound st o n w (reserved k) e hs ho h =
+    subst (λ v. Sound (at st o (for_in n)) (word v) (only_key key_in (reserved k) (Some (at st o (for_words n []))))) (sym (key_of_class w k e)) (in_key st o n k hs ho h)
 in_sound st o n w forbidden e hs ho h = tt
 in_sound st o n w assignment e hs ho h = tt
 in_sound st o n w ordinary e hs ho h = tt
 
 do_sound : (st : Stack) (o : Open) (n : List ℕ) (ws : List Word) (w : Word) (c : Class) → class w ≡ c → IsStack st → IsOpen o → name_of (plain n ∷ []) ≡ Some n
     → Sound (at st o (for_do n ws)) (word w) (only_key key_do c (Some (at ((o, body n ws) ∷ st) nothing start)))
-do_sound st o n ws w (keyword k) e hs ho h =
-    subst (λ v. Sound (at st o (for_do n ws)) (word v) (only_key key_do (keyword k) (Some (at ((o, body n ws) ∷ st) nothing start)))) (sym (key_of_class w k e)) (do_key st o n ws k hs ho h)
+do_sound st o n ws w (reserved k) e hs ho h =
+    subst (λ v. Sound (at st o (for_do n ws)) (word v) (only_key key_do (reserved k) (Some (at ((o, body n ws) ∷ st) nothing start)))) (sym (key_of_class w k e)) (do_key st o n ws k hs ho h)
 do_sound st o n ws w forbidden e hs ho h = tt
 do_sound st o n ws w assignment e hs ho h = tt
 do_sound st o n ws w ordinary e hs ho h = tt
@@ -507,7 +507,7 @@ listed_end : (o : Open) (c : Command) (p : Place) (l : Commands) → Stands p c 
 listed_end o c p l b ho e =
     let same = Some_inj (listed o.done (and_or o c) false) l e in
     let written : open_then o (place_then p []) ≡ commands_then (listed o.done (and_or o c) false) [] =
-      ap (open_then o) (b.then_is []) ∙ sym (listed-written o.done (and_or o c) false [] ∙ ap (done_then o.done) (and_or-written o c [])) in
+    ap (open_then o) (b.then_is []) ∙ sym (listed-written o.done (and_or o c) false [] ∙ ap (done_then o.done) (and_or-written o c [])) in
     (written ∙ ap (λ x. commands_then x []) same, subst IsCommands same (IsCommands-listed o.done (and_or o c) false ho.0 (IsAndOr-join o.joined (pipeline o.negated c) ho.1 b.is_whole)))
 
 finish_sound : (st : Stack) (o : Open) (p : Place) (l : Commands) → IsOpen o → IsPlace p → finish_at st o p ≡ Some l

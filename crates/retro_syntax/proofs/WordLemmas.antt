@@ -3,13 +3,12 @@ use Rattle.std.proofs.Common.{◌≡◌, ℕ, Bool, true, false, List, [], ◌�
 use Rattle.std.proofs.lemmas.Slice.Eq.{bytes_eq-Decides}
 use Rattle.std.specs.Prelude.{cond}
 use Rattle.retro_syntax.specs.Tree.{Word, plain, quoted, parameter, quoted_parameter, spelling}
-use Rattle.retro_syntax.specs.declared.tree.Key.{Key}
-use Rattle.retro_syntax.specs.declared.tree.Key.TheVariants.{Bang as bang, If as key_if, Then as key_then, Elif as key_elif, Else as key_else, Fi as key_fi, For as key_for, In as key_in, Do as key_do, Done as key_done}
-use Rattle.retro_syntax.specs.declared.words.Class.{Class}
-use Rattle.retro_syntax.specs.declared.words.Class.TheVariants.{Keyword as keyword, Forbidden as forbidden, Assignment as assignment, Ordinary as ordinary}
-use Rattle.retro_syntax.specs.Words.{class, lookup, keys, plain_class, name_of, is_one_of, foreign, begins_assignment, is_name}
+use Rattle.retro_syntax.specs.declared.tree.ReservedWord.{ReservedWord}
+use Rattle.retro_syntax.specs.declared.tree.ReservedWord.TheVariants.{Bang as bang, If as key_if, Then as key_then, Elif as key_elif, Else as key_else, Fi as key_fi, For as key_for, In as key_in, Do as key_do, Done as key_done}
+use Rattle.retro_syntax.specs.declared.words.Class.TheVariants.{Reserved as reserved, Forbidden as forbidden, Assignment as assignment, Ordinary as ordinary}
+use Rattle.retro_syntax.specs.Words.{class, lookup, reserved_words, plain_class, name_of, is_one_of, other_reserved, begins_assignment, is_name}
 
-pub class_key : (k : Key) → class (plain (spelling k) ∷ []) ≡ keyword k
+pub class_key : (k : ReservedWord) → class (plain (spelling k) ∷ []) ≡ reserved k
 unfolding class
 class_key bang = refl
 class_key key_if = refl
@@ -22,35 +21,35 @@ class_key key_in = refl
 class_key key_do = refl
 class_key key_done = refl
 
-lookup_step : (t : Bool) (k j : Key) (ks : List Key) (text : List ℕ) → bytes_eq (spelling k) text ≡ t → cond t (Some k) (lookup ks text) ≡ Some j
+lookup_step : (t : Bool) (k j : ReservedWord) (ks : List ReservedWord) (text : List ℕ) → bytes_eq (spelling k) text ≡ t → cond t (Some k) (lookup ks text) ≡ Some j
     → (lookup ks text ≡ Some j → text ≡ spelling j) → text ≡ spelling j
 lookup_step true k j ks text e found rest = let same = (bytes_eq-Decides (spelling k) text).0 e in let one : k ≡ j = cc in sym same ∙ ap spelling one
 lookup_step false k j ks text e found rest = rest found
 
-lookup_key : (ks : List Key) (text : List ℕ) (j : Key) → lookup ks text ≡ Some j → text ≡ spelling j
+lookup_key : (ks : List ReservedWord) (text : List ℕ) (j : ReservedWord) → lookup ks text ≡ Some j → text ≡ spelling j
 lookup_key [] text j e = cc
 lookup_key (k ∷ ks) text j e = lookup_step _ k j ks text refl e (lookup_key ks text j)
 
-not_key : (a b : Bool) (k : Key) → cond a forbidden (cond b assignment ordinary) ≡ keyword k → ⊥
+not_key : (a b : Bool) (k : ReservedWord) → cond a forbidden (cond b assignment ordinary) ≡ reserved k → ⊥
 not_key true b k e = cc
 not_key false true k e = cc
 not_key false false k e = cc
 
-not_key_2 : (b : Bool) (k : Key) → cond b assignment ordinary ≡ keyword k → ⊥
+not_key_2 : (b : Bool) (k : ReservedWord) → cond b assignment ordinary ≡ reserved k → ⊥
 not_key_2 true k e = cc
 not_key_2 false k e = cc
 
-no_key : (text : List ℕ) (k : Key) → plain_class text None ≡ keyword k → text ≡ spelling k
-no_key text k e = absurd (not_key (is_one_of foreign text) (begins_assignment text) k e)
+no_key : (text : List ℕ) (k : ReservedWord) → plain_class text None ≡ reserved k → text ≡ spelling k
+no_key text k e = absurd (not_key (is_one_of other_reserved text) (begins_assignment text) k e)
 
-plain_key : (text : List ℕ) (o : Option Key) (k : Key) → plain_class text o ≡ keyword k → lookup keys text ≡ o → text ≡ spelling k
-plain_key text (Some j) k e found = let one : j ≡ k = cc in lookup_key keys text j found ∙ ap spelling one
+plain_key : (text : List ℕ) (o : Option ReservedWord) (k : ReservedWord) → plain_class text o ≡ reserved k → lookup reserved_words text ≡ o → text ≡ spelling k
+plain_key text (Some j) k e found = let one : j ≡ k = cc in lookup_key reserved_words text j found ∙ ap spelling one
 plain_key text None k e found = no_key text k e
 
-pub key_of_class : (w : Word) (k : Key) → class w ≡ keyword k → w ≡ plain (spelling k) ∷ []
+pub key_of_class : (w : Word) (k : ReservedWord) → class w ≡ reserved k → w ≡ plain (spelling k) ∷ []
 unfolding class
 key_of_class [] k e = cc
-key_of_class (plain text ∷ []) k e = ap (λ t. plain t ∷ []) (plain_key text (lookup keys text) k e refl)
+key_of_class (plain text ∷ []) k e = ap (λ t. plain t ∷ []) (plain_key text (lookup reserved_words text) k e refl)
 key_of_class (plain text ∷ p ∷ ps) k e = absurd (not_key_2 (begins_assignment text) k e)
 key_of_class (quoted text ∷ ps) k e = cc
 key_of_class (parameter n ∷ ps) k e = cc

@@ -1,3 +1,4 @@
+pub mod Ascii
 pub mod Tree
 pub mod Words
 pub mod Reader

@@ -1,7 +1,7 @@
 -- Which line a text spells.
-use Rattle.std.specs.Prelude.{Bool, true, false, not, ◌&&◌, ◌||◌, ◌==◌, nat_le, if◌then◌else◌, ◌≡◌, ◌<◌, ◌≤◌, ℕ, List, [], ◌∷◌, length, IsSome, Option, Some, None, option_map, option_and_then, Result, Ok, Err, codes}
+use Rattle.std.specs.Prelude.{Bool, true, false, not, ◌&&◌, ◌||◌, ◌==◌, nat_le, ◌≡◌, ◌<◌, ◌≤◌, ℕ, List, [], ◌∷◌, length, IsSome, Option, Some, None, option_map, option_and_then, Result, Ok, Err, codes}
 use Rattle.std.specs.Str.{chars}
-use Rattle.retro_syntax.specs.Tree as T
+use Rattle.retro_syntax.specs.Ascii as ascii
 use Rattle.retro_syntax.specs.Tree.{Token, Commands}
 use Rattle.retro_syntax.specs.Reader.{commands_of}
 use Rattle.retro_syntax.specs.Quoting.{tokens_of}
@@ -39,11 +39,13 @@ line_of text = option_and_then line_of_tokens (tokens_of (chars text))
 
 -- ---- lists of plain commands
 
--- NUL, newline, and the characters of quotes, parameters, comments, tildes, assignments and other operators
+-- what stands in no list of plain commands: NUL, newline, and what quotes, expands, comments,
+-- assigns, negates, or is another operator
+abbrev pub foreign_characters : List ℕ
+foreign_characters = ascii.nul ∷ ascii.newline ∷ codes "&|<(){}\\'\"$`#~=!"
+
 abbrev pub is_foreign : ℕ → Bool
-is_foreign c =
-    c == 0 || c == 10 || c == 38 || c == 124 || c == 60 || c == 40 || c == 41 || c == 123 || c == 125
-    || c == 92 || c == 39 || c == 34 || c == 36 || c == 96 || c == 35 || c == 126 || c == 61 || c == 33
+is_foreign c = ascii.is_among foreign_characters c
 
 abbrev pub has_foreign : List ℕ → Bool
 has_foreign [] = false
@@ -63,11 +65,19 @@ plain_read false text = None
 unfoldable pub plain_line : List ℕ → Option (List (List PlainItem))
 plain_line text = plain_read (nat_le (length text) 4096 && not (has_foreign text)) text
 
+-- The text spells a line of these plain commands.
+pub record SpellsPlain (text : List ℕ) (found : List (List PlainItem)) : Type 0 where
+  pub line : Option Commands
+  pub short : length text ≤ 4096
+  pub spelled : PlainSpells text line
+  pub commands : plain_commands line ≡ Some found
+
 -- ---- what `parse` answers
 
 abbrev pub Meets : List ℕ → Result Line Refused → Type 0
 Meets text (Ok line) = (length text ≤ 4096) × PlainSpells text (line_view line)
-Meets text (Err Unsupported) = (length text ≤ 4096) × ((line : Option Commands) → PlainSpells text line → ⊥)
+Meets text (Err Unsupported) =
+    (length text ≤ 4096) × ((line : Option Commands) → PlainSpells text line → ⊥)
 Meets text (Err TooLong) = 4096 < length text
 Meets text (Err NoMem) = Unit {0}
 

@@ -1,5 +1,5 @@
 -- The simple commands of a line that is a list of plain ones.
-use Rattle.std.specs.Prelude.{ℕ, Bool, true, false, List, [], ◌∷◌, Option, Some, None, option_map, option_and_then}
+use Rattle.std.specs.Prelude.{ℕ, true, false, List, [], ◌∷◌, Option, Some, None, option_map, option_and_then}
 use Rattle.retro_syntax.specs.Tree as T
 use Rattle.retro_syntax.specs.Tree.{plain, quoted, parameter, quoted_parameter, argument, redirect, assignments, command, simples, conditional, loop, pipeline, end, chain, last, more}
 use Rattle.retro_syntax.specs.declared.tree.Direction.{Direction}
@@ -57,8 +57,9 @@ abbrev pub and_ors : T.Commands → List T.AndOr
 and_ors (last a closed) = a ∷ []
 and_ors (more a c) = a ∷ and_ors c
 
--- Some where no pipeline is negated, joined, a pipe of several stages or compound, where nothing is assigned or read
--- from a file, and where each word is one unquoted literal. A blank line has no commands.
+-- Some where no pipeline is negated, joined, a pipe of several stages or compound, where nothing is
+-- assigned or read from a file, and where each word is one unquoted literal. A blank line has no
+-- commands.
 abbrev pub plain_commands : Option T.Commands → Option (List (List PlainItem))
 plain_commands None = Some []
 plain_commands (Some c) = all_of plain_and_or (and_ors c)

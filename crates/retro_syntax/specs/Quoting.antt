@@ -1,6 +1,7 @@
 -- Token recognition with quotes and parameters, character by character (XCU 2.2, 2.3, 2.6.2).
-use Rattle.std.specs.Prelude.{◌≡◌, ℕ, Bool, true, false, not, ◌&&◌, ◌||◌, ◌==◌, if◌then◌else◌, List, [], ◌∷◌, ◌++◌, Option, Some, None, option_map, option_and_then, codes}
+use Rattle.std.specs.Prelude.{ℕ, Bool, true, false, ◌&&◌, ◌||◌, ◌==◌, if◌then◌else◌, List, [], ◌∷◌, ◌++◌, Option, Some, None, codes}
 use Rattle.std.specs.Char.{encode_utf8, is_ascii_digit, is_ascii_alphabetic, is_ascii_alphanumeric}
+use Rattle.retro_syntax.specs.Ascii as ascii
 use Rattle.retro_syntax.specs.Tree.{Piece, plain, quoted, parameter, quoted_parameter, Token, semicolon, bar, connector, redirection, word}
 use Rattle.retro_syntax.specs.Words.{is_one_of}
 use Rattle.retro_syntax.specs.declared.tree.Direction.TheVariants.{From, Onto, Append}
@@ -34,6 +35,9 @@ pub record Lexing : Type 0 where
 
 abbrev pub with_pending : List Token → Pending → Lexing
 with_pending ts p = record { tokens = ts; pending = p; backslash = false }
+
+abbrev pub word_goes_on : List Token → Reading → Option Lexing
+word_goes_on ts r = Some (with_pending ts (reading r))
 
 -- ---- pieces
 
@@ -71,7 +75,8 @@ quote_of inside = if inside then Double else Unquoted
 
 abbrev pub with_parameter : List Token → List Piece → Bool → List ℕ → Option Lexing
 with_parameter ts ps inside n =
-    if is_one_of unsupported_names n then None else Some (with_pending ts (reading (in_word (ps ++ parameter_piece inside n ∷ []) false (quote_of inside))))
+    if is_one_of unsupported_names n then None
+    else word_goes_on ts (in_word (ps ++ parameter_piece inside n ∷ []) false (quote_of inside))
 
 abbrev pub add : List Piece → Bool → ℕ → List Piece
 add ps inside c = if inside then add_quoted ps (encode_utf8 c) else add_plain ps c
@@ -79,31 +84,31 @@ add ps inside c = if inside then add_quoted ps (encode_utf8 c) else add_plain ps
 -- ---- where a token may begin
 
 abbrev pub is_blank : ℕ → Bool
-is_blank c = c == 32 || c == 9
+is_blank c = c == ascii.space || c == ascii.tab
 
 abbrev pub is_operator : ℕ → Bool
-is_operator c = c == 59 || c == 38 || c == 124 || c == 60 || c == 62
+is_operator c = ascii.is_among (codes ";&|<>") c
 
 abbrev pub is_refused : ℕ → Bool
-is_refused c = c == 0 || c == 10 || c == 40 || c == 41 || c == 96
+is_refused c = c == ascii.nul || c == ascii.newline || ascii.is_among (codes "()`") c
 
 abbrev pub unquoted_at : List Token → List Piece → Bool → ℕ → Option Lexing
 unquoted_at ts ps digits c =
-    if c == 39 then Some (with_pending ts (reading (in_word (add_quoted ps []) false Single)))
-    else (if c == 34 then Some (with_pending ts (reading (in_word (add_quoted ps []) false Double)))
-    else (if c == 36 then Some (with_pending ts (reading (dollar ps false)))
+    if c == ascii.single_quote then word_goes_on ts (in_word (add_quoted ps []) false Single)
+    else (if c == ascii.double_quote then word_goes_on ts (in_word (add_quoted ps []) false Double)
+    else (if c == ascii.dollar then word_goes_on ts (dollar ps false)
     else (if is_refused c then None
-    else Some (with_pending ts (reading (in_word (add_plain ps c) (digits && is_ascii_digit c) Unquoted))))))
+    else word_goes_on ts (in_word (add_plain ps c) (digits && is_ascii_digit c) Unquoted))))
 
 abbrev pub fresh : List Token → ℕ → Option Lexing
 fresh ts c =
     if is_blank c then Some (with_pending ts between)
-    else (if c == 59 then Some (with_pending ts (operator o.Semicolon))
-    else (if c == 38 then Some (with_pending ts (operator o.And))
-    else (if c == 124 then Some (with_pending ts (operator o.Bar))
-    else (if c == 60 then Some (with_pending ts (operator o.Less))
-    else (if c == 62 then Some (with_pending ts (operator o.Greater))
-    else (if c == 35 then Some (with_pending ts comment)
+    else (if c == ascii.semicolon then Some (with_pending ts (operator o.Semicolon))
+    else (if c == ascii.ampersand then Some (with_pending ts (operator o.And))
+    else (if c == ascii.bar then Some (with_pending ts (operator o.Bar))
+    else (if c == ascii.less then Some (with_pending ts (operator o.Less))
+    else (if c == ascii.greater then Some (with_pending ts (operator o.Greater))
+    else (if c == ascii.hash then Some (with_pending ts comment)
     else unquoted_at ts [] true c))))))
 
 -- an operator that doesn't go on
@@ -118,62 +123,77 @@ settled ts o.Greater = Some (ts ++ redirection Onto ∷ [])
 
 abbrev pub word_at : List Token → List Piece → Bool → Quote → ℕ → Option Lexing
 word_at ts ps digits Unquoted c =
-    if is_blank c || is_operator c then (if digits && (c == 60 || c == 62) then None else fresh (ts ++ word ps ∷ []) c)
+    if is_blank c || is_operator c then
+      (if digits && (c == ascii.less || c == ascii.greater) then None
+    else fresh (ts ++ word ps ∷ []) c)
     else unquoted_at ts ps digits c
 word_at ts ps digits Single c =
-    if c == 39 then Some (with_pending ts (reading (in_word ps false Unquoted)))
-    else (if c == 0 then None else Some (with_pending ts (reading (in_word (add_quoted ps (encode_utf8 c)) false Single))))
+    if c == ascii.single_quote then word_goes_on ts (in_word ps false Unquoted)
+    else (if c == ascii.nul then None
+    else word_goes_on ts (in_word (add_quoted ps (encode_utf8 c)) false Single))
 word_at ts ps digits Double c =
-    if c == 34 then Some (with_pending ts (reading (in_word ps false Unquoted)))
-    else (if c == 36 then Some (with_pending ts (reading (dollar ps true)))
-    else (if c == 0 || c == 96 then None else Some (with_pending ts (reading (in_word (add_quoted ps (encode_utf8 c)) false Double)))))
+    if c == ascii.double_quote then word_goes_on ts (in_word ps false Unquoted)
+    else (if c == ascii.dollar then word_goes_on ts (dollar ps true)
+    else (if c == ascii.nul || c == ascii.backquote then None
+    else word_goes_on ts (in_word (add_quoted ps (encode_utf8 c)) false Double)))
 
 abbrev pub begins_name : ℕ → Bool
-begins_name c = is_ascii_alphabetic c || c == 95
+begins_name c = is_ascii_alphabetic c || c == ascii.underscore
 
 abbrev pub continues_name : ℕ → Bool
-continues_name c = is_ascii_alphanumeric c || c == 95
+continues_name c = is_ascii_alphanumeric c || c == ascii.underscore
 
 -- one of @*#-$!(
 abbrev pub is_other_parameter : ℕ → Bool
-is_other_parameter c = is_ascii_digit c || c == 64 || c == 42 || c == 35 || c == 45 || c == 36 || c == 33 || c == 40
+is_other_parameter c = is_ascii_digit c || ascii.is_among (codes "@*#-$!(") c
 
 -- the character behind a parameter
 abbrev pub after_parameter : List Token → List Piece → Bool → List ℕ → ℕ → Option Lexing
 after_parameter ts ps inside n c =
-    if is_one_of unsupported_names n then None else word_at ts (ps ++ parameter_piece inside n ∷ []) false (quote_of inside) c
+    if is_one_of unsupported_names n then None
+    else word_at ts (ps ++ parameter_piece inside n ∷ []) false (quote_of inside) c
 
 abbrev pub reading_at : List Token → Reading → ℕ → Option Lexing
 reading_at ts (in_word ps digits q) c = word_at ts ps digits q c
 reading_at ts (dollar ps inside) c =
-    if begins_name c then Some (with_pending ts (reading (named ps inside (encode_utf8 c))))
-    else (if c == 123 then Some (with_pending ts (reading (braced ps inside [])))
-    else (if c == 63 then with_parameter ts ps inside (codes "?")
+    if begins_name c then word_goes_on ts (named ps inside (encode_utf8 c))
+    else (if c == ascii.left_brace then word_goes_on ts (braced ps inside [])
+    else (if c == ascii.question then with_parameter ts ps inside (codes "?")
     else (if is_other_parameter c then None
-    else word_at ts (add ps inside 36) false (quote_of inside) c)))
+    else word_at ts (add ps inside ascii.dollar) false (quote_of inside) c)))
 reading_at ts (named ps inside n) c =
-    if continues_name c then Some (with_pending ts (reading (named ps inside (n ++ encode_utf8 c)))) else after_parameter ts ps inside n c
+    if continues_name c then word_goes_on ts (named ps inside (n ++ encode_utf8 c))
+    else after_parameter ts ps inside n c
 reading_at ts (braced ps inside []) c =
-    if c == 63 then Some (with_pending ts (reading (question ps inside)))
-    else (if begins_name c then Some (with_pending ts (reading (braced ps inside (encode_utf8 c)))) else None)
+    if c == ascii.question then word_goes_on ts (question ps inside)
+    else (if begins_name c then word_goes_on ts (braced ps inside (encode_utf8 c)) else None)
 reading_at ts (braced ps inside (b ∷ n)) c =
-    if c == 125 then with_parameter ts ps inside (b ∷ n)
-    else (if continues_name c then Some (with_pending ts (reading (braced ps inside ((b ∷ n) ++ encode_utf8 c)))) else None)
-reading_at ts (question ps inside) c = if c == 125 then with_parameter ts ps inside (codes "?") else None
+    if c == ascii.right_brace then with_parameter ts ps inside (b ∷ n)
+    else (if continues_name c then word_goes_on ts (braced ps inside ((b ∷ n) ++ encode_utf8 c))
+    else None)
+reading_at ts (question ps inside) c =
+    if c == ascii.right_brace then with_parameter ts ps inside (codes "?") else None
 
 -- an operator that the character goes on
 abbrev pub operator_at : List Token → Operator → ℕ → Option Lexing
-operator_at ts o.Semicolon c = if c == 59 then None else fresh (ts ++ semicolon ∷ []) c
-operator_at ts o.And c = if c == 38 then Some (with_pending (ts ++ connector AndIf ∷ []) between) else None
-operator_at ts o.Bar c = if c == 124 then Some (with_pending (ts ++ connector OrIf ∷ []) between) else fresh (ts ++ bar ∷ []) c
-operator_at ts o.Less c = if c == 60 || c == 38 || c == 62 then None else fresh (ts ++ redirection From ∷ []) c
+operator_at ts o.Semicolon c = if c == ascii.semicolon then None else fresh (ts ++ semicolon ∷ []) c
+operator_at ts o.And c =
+    if c == ascii.ampersand then Some (with_pending (ts ++ connector AndIf ∷ []) between) else None
+operator_at ts o.Bar c =
+    if c == ascii.bar then Some (with_pending (ts ++ connector OrIf ∷ []) between)
+    else fresh (ts ++ bar ∷ []) c
+operator_at ts o.Less c =
+    if c == ascii.less || c == ascii.ampersand || c == ascii.greater then None
+    else fresh (ts ++ redirection From ∷ []) c
 operator_at ts o.Greater c =
-    if c == 62 then Some (with_pending (ts ++ redirection Append ∷ []) between)
-    else (if c == 38 || c == 124 then None else fresh (ts ++ redirection Onto ∷ []) c)
+    if c == ascii.greater then Some (with_pending (ts ++ redirection Append ∷ []) between)
+    else (if c == ascii.ampersand || c == ascii.bar then None
+    else fresh (ts ++ redirection Onto ∷ []) c)
 
 abbrev pub plain_at : List Token → Pending → ℕ → Option Lexing
 plain_at ts between c = fresh ts c
-plain_at ts comment c = if c == 0 || c == 10 then None else Some (with_pending ts comment)
+plain_at ts comment c =
+    if c == ascii.nul || c == ascii.newline then None else Some (with_pending ts comment)
 plain_at ts (operator op) c = operator_at ts op c
 plain_at ts (reading r) c = reading_at ts r c
 
@@ -181,19 +201,24 @@ plain_at ts (reading r) c = reading_at ts r c
 
 -- what a backslash quotes in double quotes
 abbrev pub is_special_inside : ℕ → Bool
-is_special_inside c = c == 36 || c == 96 || c == 34 || c == 92
+is_special_inside c = ascii.is_among (codes "$`\"\\") c
 
 abbrev pub escaped_in : List Token → List Piece → Quote → ℕ → Option Lexing
 escaped_in ts ps Double c =
-    if is_special_inside c then Some (with_pending ts (reading (in_word (add_quoted ps (encode_utf8 c)) false Double)))
-    else Some (with_pending ts (reading (in_word (add_quoted ps (92 ∷ encode_utf8 c)) false Double)))
-escaped_in ts ps Unquoted c = Some (with_pending ts (reading (in_word (add_quoted ps (encode_utf8 c)) false Unquoted)))
+    if is_special_inside c
+    then word_goes_on ts (in_word (add_quoted ps (encode_utf8 c)) false Double)
+    else word_goes_on ts (in_word (add_quoted ps (ascii.backslash ∷ encode_utf8 c)) false Double)
+escaped_in ts ps Unquoted c =
+    word_goes_on ts (in_word (add_quoted ps (encode_utf8 c)) false Unquoted)
 escaped_in ts ps Single c = None
 
 abbrev pub escaped_reading : List Token → Reading → ℕ → Option Lexing
 escaped_reading ts (in_word ps digits q) c = escaped_in ts ps q c
-escaped_reading ts (dollar ps inside) c = escaped_in ts (add ps inside 36) (quote_of inside) c
-escaped_reading ts (named ps inside n) c = if is_one_of unsupported_names n then None else escaped_in ts (ps ++ parameter_piece inside n ∷ []) (quote_of inside) c
+escaped_reading ts (dollar ps inside) c =
+    escaped_in ts (add ps inside ascii.dollar) (quote_of inside) c
+escaped_reading ts (named ps inside n) c =
+    if is_one_of unsupported_names n then None
+    else escaped_in ts (ps ++ parameter_piece inside n ∷ []) (quote_of inside) c
 escaped_reading ts (braced ps inside n) c = None
 escaped_reading ts (question ps inside) c = None
 
@@ -223,8 +248,13 @@ takes_backslash (reading (question ps inside)) = true
 -- A backslash and newline are removed.
 unfoldable pub lex_step : Lexing → ℕ → Option Lexing
 lex_step l c =
-    if l.backslash then (if c == 10 then Some (with_pending l.tokens l.pending) else (if c == 0 then None else escaped_at l.tokens l.pending c))
-    else (if c == 92 && takes_backslash l.pending then Some (record l { backslash = true }) else plain_at l.tokens l.pending c)
+    if l.backslash then
+      (if c == ascii.newline then Some (with_pending l.tokens l.pending)
+      else (if c == ascii.nul then None
+    else escaped_at l.tokens l.pending c))
+    else (if c == ascii.backslash && takes_backslash l.pending
+    then Some (record l { backslash = true })
+    else plain_at l.tokens l.pending c)
 
 abbrev pub lex_run : Option Lexing → List ℕ → Option Lexing
 lex_run None cs = None
@@ -236,9 +266,10 @@ reading_end ts (in_word ps digits Unquoted) = Some (ts ++ word ps ∷ [])
 reading_end ts (in_word ps digits Single) = None
 reading_end ts (in_word ps digits Double) = None
 reading_end ts (dollar ps true) = None
-reading_end ts (dollar ps false) = Some (ts ++ word (add ps false 36) ∷ [])
+reading_end ts (dollar ps false) = Some (ts ++ word (add ps false ascii.dollar) ∷ [])
 reading_end ts (named ps true n) = None
-reading_end ts (named ps false n) = if is_one_of unsupported_names n then None else Some (ts ++ word (ps ++ parameter n ∷ []) ∷ [])
+reading_end ts (named ps false n) =
+    if is_one_of unsupported_names n then None else Some (ts ++ word (ps ++ parameter n ∷ []) ∷ [])
 reading_end ts (braced ps inside n) = None
 reading_end ts (question ps inside) = None
 

@@ -30,12 +30,18 @@ pending_view (p.Operator op) = Q.operator op
 pending_view (p.Reading r) = Q.reading (reading_view r)
 
 abbrev pub lexing_view : Lexing → Q.Lexing
-lexing_view l = record { tokens = tokens_view l.tokens; pending = pending_view l.pending; backslash = l.backslash }
+lexing_view l =
+    record {
+      tokens = tokens_view l.tokens;
+      pending = pending_view l.pending;
+      backslash = l.backslash
+    }
 
 -- the answer is this state, or none where there is none
 abbrev pub LexesTo : Result (Option Lexing) AllocError → Option Q.Lexing → Type 0
 LexesTo result next = IfOk result (λ l. option_map lexing_view l ≡ next)
 
 -- the answer is these tokens, or none where there are none
-abbrev pub TokenizesTo : Result (Option (Vec Token Global)) AllocError → Option (List T.Token) → Type 0
+abbrev pub TokenizesTo : Result (Option (Vec Token Global)) AllocError → Option (List T.Token)
+    → Type 0
 TokenizesTo result tokens = IfOk result (λ ts. option_map tokens_view ts ≡ tokens)

@@ -1,18 +1,18 @@
 -- A line read token by token: what stands open, and where in it the next token comes.
-use Rattle.std.specs.Prelude.{◌≡◌, ℕ, Bool, true, false, List, [], ◌∷◌, ◌++◌, Option, Some, None, if◌then◌else◌, option_and_then, option_map, codes}
-use Rattle.std.specs.Prelude.{◌||◌, ◌&&◌, ◌==◌}
-use Rattle.retro_syntax.specs.Tree.{Piece, plain, quoted, parameter, quoted_parameter, Word, Token, semicolon, bar, connector, redirection, word, spelling, Item, argument, redirect, Simple, assignments, command, Commands, last, more, AndOr, end, chain, Pipeline, pipeline, Command, simples, conditional, loop, Arms, fi, otherwise, elif}
+use Rattle.std.specs.Prelude.{ℕ, Bool, true, false, List, [], ◌∷◌, ◌++◌, Option, Some, None, if◌then◌else◌, option_map}
+use Rattle.retro_syntax.specs.Tree.{Word, Token, semicolon, bar, connector, redirection, word, Item, argument, redirect, Simple, assignments, command, Commands, last, more, AndOr, end, chain, Pipeline, pipeline, Command, simples, conditional, loop, Arms, fi, otherwise, elif}
 use Rattle.retro_syntax.specs.Words.{class, name_of, is_ordinary, is_assignment}
 use Rattle.retro_syntax.specs.declared.tree.Direction.{Direction}
 use Rattle.retro_syntax.specs.declared.tree.Connector.{Connector}
-use Rattle.retro_syntax.specs.declared.tree.Key.{Key}
-use Rattle.retro_syntax.specs.declared.tree.Key.TheVariants.{Bang as bang, If as key_if, Then as key_then, Elif as key_elif, Else as key_else, Fi as key_fi, For as key_for, In as key_in, Do as key_do, Done as key_done}
+use Rattle.retro_syntax.specs.declared.tree.ReservedWord.{ReservedWord}
+use Rattle.retro_syntax.specs.declared.tree.ReservedWord.TheVariants.{Bang as bang, If as key_if, Then as key_then, Elif as key_elif, Else as key_else, Fi as key_fi, For as key_for, In as key_in, Do as key_do, Done as key_done}
 use Rattle.retro_syntax.specs.declared.words.Class.{Class}
-use Rattle.retro_syntax.specs.declared.words.Class.TheVariants.{Keyword as keyword, Forbidden as forbidden, Assignment as assignment, Ordinary as ordinary}
+use Rattle.retro_syntax.specs.declared.words.Class.TheVariants.{Reserved as reserved, Assignment as assignment, Ordinary as ordinary}
 
 -- ---- what is open
 
--- a list that isn't at its end: whole and-or lists, pipelines with what joins them to the next, and whether `!` stands here
+-- a list that isn't at its end: whole and-or lists, pipelines with what joins them to the next, and
+-- whether `!` stands here
 pub record Open : Type 0 where
   pub done : List AndOr
   pub joined : List (Pipeline × Connector)
@@ -73,21 +73,24 @@ arms_up_to (x ∷ xs) a = elif x.0 x.1 (arms_up_to xs a)
 
 -- ---- steps
 
-abbrev pub close_by : List (Open × Frame) → Open → Frame → Commands → Key → Option State
+abbrev pub close_by : List (Open × Frame) → Open → Frame → Commands → ReservedWord → Option State
 close_by st o (condition xs) l key_then = Some (at ((o, consequence xs l) ∷ st) nothing start)
-close_by st o (consequence xs c) l key_elif = Some (at ((o, condition (xs ++ (c, l) ∷ [])) ∷ st) nothing start)
+close_by st o (consequence xs c) l key_elif =
+    Some (at ((o, condition (xs ++ (c, l) ∷ [])) ∷ st) nothing start)
 close_by st o (consequence xs c) l key_else = Some (at ((o, alternative xs c l) ∷ st) nothing start)
-close_by st o (consequence xs c) l key_fi = Some (at st o (closed (conditional (arms_up_to xs (fi c l)))))
-close_by st o (alternative xs c t) l key_fi = Some (at st o (closed (conditional (arms_up_to xs (otherwise c t l)))))
+close_by st o (consequence xs c) l key_fi =
+    Some (at st o (closed (conditional (arms_up_to xs (fi c l)))))
+close_by st o (alternative xs c t) l key_fi =
+    Some (at st o (closed (conditional (arms_up_to xs (otherwise c t l)))))
 close_by st o (body n ws) l key_done = Some (at st o (closed (loop n ws l)))
 close_by st o f l k = None
 
 -- a word that ends the list
-abbrev pub close : List (Open × Frame) → Commands → Key → Option State
+abbrev pub close : List (Open × Frame) → Commands → ReservedWord → Option State
 close [] l k = None
 close (x ∷ st) l k = close_by st x.0 x.1 l k
 
-abbrev pub close_some : List (Open × Frame) → Option Commands → Key → Option State
+abbrev pub close_some : List (Open × Frame) → Option Commands → ReservedWord → Option State
 close_some st None k = None
 close_some st (Some l) k = close st l k
 
@@ -100,11 +103,12 @@ end_of done (j ∷ js) negated = None
 abbrev pub may_end : Open → Option Commands
 may_end o = end_of o.done o.joined o.negated
 
-abbrev pub begin_key : List (Open × Frame) → Open → Key → Option State
-begin_key st o bang = if o.negated then None else Some (at st (record o { negated = true }) start)
-begin_key st o key_if = Some (at ((o, condition []) ∷ st) nothing start)
-begin_key st o key_for = Some (at st o for_name)
-begin_key st o k = close_some st (may_end o) k
+abbrev pub begin_reserved : List (Open × Frame) → Open → ReservedWord → Option State
+begin_reserved st o bang =
+    if o.negated then None else Some (at st (record o { negated = true }) start)
+begin_reserved st o key_if = Some (at ((o, condition []) ∷ st) nothing start)
+begin_reserved st o key_for = Some (at st o for_name)
+begin_reserved st o k = close_some st (may_end o) k
 
 abbrev pub begin_simple : List (Open × Frame) → Open → List Simple → Word → Class → Option State
 begin_simple st o ss w assignment = Some (at st o (within ss (assignments (w ∷ []))))
@@ -112,7 +116,7 @@ begin_simple st o ss w ordinary = Some (at st o (within ss (command (argument w 
 begin_simple st o ss w c = None
 
 abbrev pub begin : List (Open × Frame) → Open → Word → Class → Option State
-begin st o w (keyword k) = begin_key st o k
+begin st o w (reserved k) = begin_reserved st o k
 begin st o w c = begin_simple st o [] w c
 
 -- whether no word stands there yet, targets aside
@@ -122,28 +126,36 @@ no_argument (argument w ∷ is) = false
 no_argument (redirect d w ∷ is) = no_argument is
 
 abbrev pub add_word : List (Open × Frame) → Open → List Simple → Simple → Word → Option State
-add_word st o ss (assignments ws) w = if is_assignment (class w) then Some (at st o (within ss (assignments (ws ++ w ∷ [])))) else None
+add_word st o ss (assignments ws) w =
+    if is_assignment (class w) then Some (at st o (within ss (assignments (ws ++ w ∷ []))))
+    else None
 add_word st o ss (command is) w =
-    if no_argument is then (if is_ordinary (class w) then Some (at st o (within ss (command (is ++ argument w ∷ [])))) else None)
+    if no_argument is then
+      (if is_ordinary (class w) then Some (at st o (within ss (command (is ++ argument w ∷ []))))
+    else None)
     else Some (at st o (within ss (command (is ++ argument w ∷ []))))
 
-abbrev pub add_direction : List (Open × Frame) → Open → List Simple → Simple → Direction → Option State
+abbrev pub add_direction : List (Open × Frame) → Open → List Simple → Simple → Direction
+    → Option State
 add_direction st o ss (assignments ws) d = None
 add_direction st o ss (command is) d = Some (at st o (target ss is d))
 
 -- an operator behind a whole command
 abbrev pub go_on : List (Open × Frame) → Open → Command → Token → Option State
-go_on st o c semicolon = Some (at st (record { done = o.done ++ and_or o c ∷ []; joined = []; negated = false }) start)
-go_on st o c (connector op) = Some (at st (record { done = o.done; joined = o.joined ++ (pipeline o.negated c, op) ∷ []; negated = false }) start)
+go_on st o c semicolon =
+    Some (at st (record { done = o.done ++ and_or o c ∷ []; joined = []; negated = false }) start)
+go_on st o c (connector op) =
+    Some (at st
+      (record o { joined = o.joined ++ (pipeline o.negated c, op) ∷ []; negated = false }) start)
 go_on st o c t = None
 
 abbrev pub close_word : List (Open × Frame) → Open → Command → Class → Option State
-close_word st o c (keyword k) = close st (listed o.done (and_or o c) false) k
+close_word st o c (reserved k) = close st (listed o.done (and_or o c) false) k
 close_word st o c _ = None
 
-abbrev pub only_key : Key → Class → Option State → Option State
-only_key key_in (keyword key_in) s = s
-only_key key_do (keyword key_do) s = s
+abbrev pub only_key : ReservedWord → Class → Option State → Option State
+only_key key_in (reserved key_in) s = s
+only_key key_do (reserved key_do) s = s
 only_key k c s = None
 
 abbrev pub step_at : List (Open × Frame) → Open → Place → Token → Option State
@@ -154,7 +166,8 @@ step_at st o (within ss s) (word w) = add_word st o ss s w
 step_at st o (within ss s) (redirection d) = add_direction st o ss s d
 step_at st o (within ss s) bar = Some (at st o (piped (ss ++ s ∷ [])))
 step_at st o (within ss s) t = go_on st o (simples (ss ++ s ∷ [])) t
-step_at st o (target ss is d) (word w) = Some (at st o (within ss (command (is ++ redirect d w ∷ []))))
+step_at st o (target ss is d) (word w) =
+    Some (at st o (within ss (command (is ++ redirect d w ∷ []))))
 step_at st o (target ss is d) t = None
 step_at st o (piped ss) (word w) = begin_simple st o ss w (class w)
 step_at st o (piped ss) (redirection d) = Some (at st o (target ss [] d))
@@ -168,7 +181,8 @@ step_at st o (for_in n) t = None
 step_at st o (for_words n ws) (word w) = Some (at st o (for_words n (ws ++ w ∷ [])))
 step_at st o (for_words n ws) semicolon = Some (at st o (for_do n ws))
 step_at st o (for_words n ws) t = None
-step_at st o (for_do n ws) (word w) = only_key key_do (class w) (Some (at ((o, body n ws) ∷ st) nothing start))
+step_at st o (for_do n ws) (word w) =
+    only_key key_do (class w) (Some (at ((o, body n ws) ∷ st) nothing start))
 step_at st o (for_do n ws) t = None
 
 unfoldable pub step : State → Token → Option State

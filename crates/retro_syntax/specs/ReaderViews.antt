@@ -1,10 +1,11 @@
 -- The state of reading that a value of the code stands for.
-use Rattle.std.specs.Prelude.{◌≡◌, ℕ, List, [], ◌∷◌, map, reverse, IfOk, Option, Some, None, option_map, Result, string_bytes, Vec}
+use Rattle.std.specs.Prelude.{◌≡◌, List, map, reverse, IfOk, Option, option_map, Result, string_bytes, Vec}
 use Rattle.std.specs.declared.alloc.AllocError.{AllocError}
 use Rattle.std.specs.declared.alloc.Global.{Global}
 use Rattle.retro_syntax.specs.Tree as T
 use Rattle.retro_syntax.specs.Reader as M
-use Rattle.retro_syntax.specs.View.{view, commands_of, and_or_of, pipeline_of, word_view, simple_view, item_view}
+use Rattle.retro_syntax.specs.View.{token_view, view, commands_of, and_or_of, pipeline_of, word_view, simple_view, item_view}
+use Rattle.retro_syntax.specs.declared.tree.Token.{Token}
 use Rattle.retro_syntax.specs.declared.tree.Word.{Word}
 use Rattle.retro_syntax.specs.declared.tree.Item.{Item}
 use Rattle.retro_syntax.specs.declared.tree.Simple.{Simple}
@@ -18,7 +19,12 @@ use Rattle.retro_syntax.specs.declared.reader.Place.TheVariants as p
 use Rattle.retro_syntax.specs.declared.reader.State.{State}
 
 abbrev pub open_view : Open → M.Open
-open_view o = record { done = map (and_or_of view) o.done.items; joined = map (λ j. (pipeline_of view j.0, j.1)) o.joined.items; negated = o.negated }
+open_view o =
+    record {
+      done = map (and_or_of view) o.done.items;
+      joined = map (λ j. (pipeline_of view j.0, j.1)) o.joined.items;
+      negated = o.negated
+    }
 
 abbrev pub arm_view : Commands Command × Commands Command → T.Commands × T.Commands
 arm_view a = (commands_of view a.0, commands_of view a.1)
@@ -26,7 +32,8 @@ arm_view a = (commands_of view a.0, commands_of view a.1)
 abbrev pub frame_view : Frame → M.Frame
 frame_view (f.Condition xs) = M.condition (map arm_view xs.items)
 frame_view (f.Consequence xs c) = M.consequence (map arm_view xs.items) (commands_of view c)
-frame_view (f.Alternative xs c t) = M.alternative (map arm_view xs.items) (commands_of view c) (commands_of view t)
+frame_view (f.Alternative xs c t) =
+    M.alternative (map arm_view xs.items) (commands_of view c) (commands_of view t)
 frame_view (f.Body n ws) = M.body (string_bytes n) (map word_view ws.items)
 
 abbrev pub stages_view : Vec Simple Global → List T.Simple
@@ -62,3 +69,9 @@ state_view s = M.at (stack_view s.stack) (open_view s.here) (place_view s.place)
 -- the answer is this state, or none where there is none
 abbrev pub StepsTo : Result (Option State) AllocError → Option M.State → Type 0
 StepsTo result next = IfOk result (λ n. option_map state_view n ≡ next)
+
+-- the answer is the state behind the token at this place, or none where the token can't stand there
+abbrev pub StepsAt : Vec (Open × Frame) Global → Open → M.Place → Token
+    → Result (Option State) AllocError → Type 0
+StepsAt stack here place token result =
+    StepsTo result (M.step_at (stack_view stack) (open_view here) place (token_view token))

@@ -1,8 +1,6 @@
 -- Which trees the grammar has, and what a list of tokens spells.
-use Rattle.std.specs.Prelude.{◌≡◌, ℕ, Bool, true, false, ◌&&◌, List, [], ◌∷◌, Option, Some, None}
+use Rattle.std.specs.Prelude.{◌≡◌, Bool, true, false, ◌&&◌, List, [], ◌∷◌, Some}
 use Rattle.retro_syntax.specs.Tree.{plain, Word, Token, Item, argument, redirect, Simple, assignments, command, Commands, last, more, AndOr, end, chain, Pipeline, pipeline, Command, simples, conditional, loop, Arms, fi, otherwise, elif, commands_then}
-use Rattle.retro_syntax.specs.declared.words.Class.{Class}
-use Rattle.retro_syntax.specs.declared.words.Class.TheVariants.{Ordinary as ordinary, Assignment as assignment}
 use Rattle.retro_syntax.specs.Words.{class, name_of, is_ordinary, is_assignment}
 
 abbrev pub are_assignments : List Word → Bool
@@ -34,7 +32,8 @@ is_compound (simples ss) = false
 is_compound (conditional a) = true
 is_compound (loop n ws c) = true
 
--- A simple command ends only at an operator, so in `if` and `for` a list is closed by `;` or ends in `fi` or `done`.
+-- A simple command ends only at an operator, so in `if` and `for` a list is closed by `;` or ends
+-- in `fi` or `done`.
 abbrev pub ends_compound : AndOr → Bool
 ends_compound (end (pipeline negated c)) = is_compound c
 ends_compound (chain p op a) = ends_compound a
@@ -62,11 +61,13 @@ abbrev mutual
   pub IsCommand : Command → Type 0
   IsCommand (simples ss) = are_stages ss ≡ true
   IsCommand (conditional a) = IsArms a
-  IsCommand (loop name ws c) = (name_of (plain name ∷ []) ≡ Some name) × (IsCommands c × EndsItself c)
+  IsCommand (loop name ws c) =
+      (name_of (plain name ∷ []) ≡ Some name) × (IsCommands c × EndsItself c)
 
   pub IsArms : Arms → Type 0
   IsArms (fi c t) = (IsCommands c × EndsItself c) × (IsCommands t × EndsItself t)
-  IsArms (otherwise c t e) = (IsCommands c × EndsItself c) × (IsCommands t × EndsItself t) × (IsCommands e × EndsItself e)
+  IsArms (otherwise c t e) =
+      (IsCommands c × EndsItself c) × (IsCommands t × EndsItself t) × (IsCommands e × EndsItself e)
   IsArms (elif c t a) = (IsCommands c × EndsItself c) × (IsCommands t × EndsItself t) × IsArms a
 
 -- the tokens are the list written out

@@ -1,9 +1,8 @@
 -- The tree that a value of the code stands for.
-use Rattle.std.specs.Prelude.{ℕ, List, [], ◌∷◌, map, Option, Some, None, string_bytes, Vec, String}
+use Rattle.std.specs.Prelude.{List, map, string_bytes, Vec}
 use Rattle.std.specs.declared.alloc.Global.{Global}
 use Rattle.retro_syntax.specs.Tree as T
 use Rattle.retro_syntax.specs.Reader.{join, listed, arms_up_to}
-use Rattle.retro_syntax.specs.declared.tree.Connector.{Connector}
 use Rattle.retro_syntax.specs.declared.tree.Piece.{Piece}
 use Rattle.retro_syntax.specs.declared.tree.Piece.TheVariants as p
 use Rattle.retro_syntax.specs.declared.tree.Word.{Word}
@@ -17,7 +16,6 @@ use Rattle.retro_syntax.specs.declared.tree.Pipeline.{Pipeline}
 use Rattle.retro_syntax.specs.declared.tree.AndOr.{AndOr}
 use Rattle.retro_syntax.specs.declared.tree.Commands.{Commands}
 use Rattle.retro_syntax.specs.declared.tree.Conditional.{Conditional}
-use Rattle.retro_syntax.specs.declared.tree.Loop.{Loop}
 use Rattle.retro_syntax.specs.declared.tree.Command.{Command, fold-Command}
 use Rattle.retro_syntax.specs.declared.tree.Command.TheOpen.{Command-F}
 
@@ -59,17 +57,23 @@ module _ {C : Type 0} (of : C → T.Command) where
   commands_of c = listed (map and_or_of c.before.items) (and_or_of c.last) c.closed
 
   abbrev pub arms_of : Conditional C → T.Arms
-  arms_of x = arms_up_to (map (λ a. (commands_of a.0, commands_of a.1)) x.before.items) (T.fi (commands_of x.condition) (commands_of x.consequence))
+  arms_of x =
+      arms_up_to (map (λ a. (commands_of a.0, commands_of a.1)) x.before.items)
+        (T.fi (commands_of x.condition) (commands_of x.consequence))
 
   abbrev pub arms_else_of : Conditional C → Commands C → T.Arms
-  arms_else_of x e = arms_up_to (map (λ a. (commands_of a.0, commands_of a.1)) x.before.items) (T.otherwise (commands_of x.condition) (commands_of x.consequence) (commands_of e))
+  arms_else_of x e =
+      arms_up_to (map (λ a. (commands_of a.0, commands_of a.1)) x.before.items)
+        (T.otherwise (commands_of x.condition) (commands_of x.consequence) (commands_of e))
 
 -- one level, with each command inside already seen as its tree
 abbrev pub view_step : Command-F T.Command → T.Command
 view_step (Command-F.Pipe ss) = T.simples (map simple_view ss.items)
 view_step (Command-F.If x) = T.conditional (arms_of (λ c. c) x.value)
 view_step (Command-F.IfElse x e) = T.conditional (arms_else_of (λ c. c) x.value e.value)
-view_step (Command-F.For x) = T.loop (string_bytes x.value.name) (map word_view x.value.words.items) (commands_of (λ c. c) x.value.body)
+view_step (Command-F.For x) =
+    T.loop (string_bytes x.value.name) (map word_view x.value.words.items)
+      (commands_of (λ c. c) x.value.body)
 
 unfoldable pub view : Command → T.Command
 view = fold-Command T.Command view_step

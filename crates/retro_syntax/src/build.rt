@@ -33,7 +33,9 @@ pub fn conditional_else(
 }
 
 pub fn repetition(alloc: Global, parts: Loop<Command>) -> Result<Command, AllocError>
-    ensures { IfOk result (λ c. view c ≡ Tree.loop (string_bytes parts.name) (map word_view parts.words.items) (commands_of view parts.body)) }
+    ensures { IfOk result (λ c. view c
+        ≡ Tree.loop (string_bytes parts.name) (map word_view parts.words.items)
+            (commands_of view parts.body)) }
 {
     Ok(Command::For(Box::new(alloc, parts)?))
 }

@@ -14,7 +14,7 @@ ghost use Rattle.retro_syntax.specs.Tree.{Commands, Token};
 ghost use Rattle.retro_syntax.specs.Reader.{commands_of};
 ghost use Rattle.retro_syntax.specs.Spells.{Spells};
 
-pub use lines::{Line, Refused, one_line, parse};
+pub use lines::{Line, Refused, one_line, parse, plain_line_is_spelling};
 pub use plain::{PlainCommand, PlainItem, plain_commands};
 
 /// Reading answers exactly the tree that is spelled, and no two trees are spelled alike.
@@ -22,8 +22,7 @@ pub fn reading_is_spelling()
     ensures read { (ts : List Token) (c : Commands) → commands_of ts ≡ Some c → Spells ts c }
     ensures spelled { (ts : List Token) (c : Commands) → Spells ts c → commands_of ts ≡ Some c }
     ensures one { (ts : List Token) (c d : Commands) → Spells ts c → Spells ts d → c ≡ d }
-{
-}
+{}
 
 #[cfg(test)]
 mod tests;

@@ -3,8 +3,9 @@
 ghost use Rattle.std.specs.Prelude.{◌≡◌, ◌≤◌, ◌<◌, [], ◌∷◌, length, map, IfOk, IsSome, Option, Some, None, List, ℕ, option_map, is_some};
 ghost use Rattle.std.specs.Str.{chars};
 ghost use Rattle.retro_syntax.specs.Lines as Lines;
-ghost use Rattle.retro_syntax.specs.Lines.{Answers, Meets, PlainSpells, TextSpells, line_view, plain_line};
+ghost use Rattle.retro_syntax.specs.Lines.{Answers, Meets, PlainSpells, SpellsPlain, TextSpells, line_view, plain_line};
 ghost use Rattle.retro_syntax.specs.Plain as Plain;
+ghost use Rattle.retro_syntax.specs.Plain.{PlainItem};
 ghost use Rattle.retro_syntax.specs.Tree as Tree;
 ghost use Rattle.retro_syntax.specs.View.{view, commands_of, token_view};
 
@@ -73,10 +74,10 @@ fn is_foreign(character: u8) -> bool
     }
 }
 
-fn has_foreign(text: &[u8]) -> bool
+fn has_foreign(text: &str) -> bool
     ensures { result ≡ Lines.has_foreign text.now }
 {
-    let mut rest = text;
+    let mut rest = text.as_bytes();
     while let [first, more @ ..] = rest {
         if is_foreign(*first) {
             return true;
@@ -93,13 +94,13 @@ fn is_plain(alloc: Global, line: &Line) -> Result<bool, AllocError>
     Ok(plain_commands(alloc, line)?.is_some())
 }
 
-/// The line that the text spells, where it has at most 4,096 bytes and is a list of plain commands: words and output
-/// redirections, parted by `;`.
+/// The line that the text spells, where it has at most 4,096 bytes and is a list of plain commands:
+/// words and output redirections, parted by `;` (XCU 2.3, 2.10).
 ///
 /// # Errors
 ///
-/// `TooLong` for a text of over 4,096 bytes; else `Unsupported` where it spells no such line; `NoMem` where memory is
-/// wanting.
+/// `TooLong` for a text of over 4,096 bytes; else `Unsupported` where it spells no such line;
+/// `NoMem` where memory is wanting.
 pub fn parse(alloc: Global, text: &str) -> Result<Line, Refused>
     ensures meets { Meets text.now result }
     ensures function { Answers text.now result }
@@ -107,7 +108,7 @@ pub fn parse(alloc: Global, text: &str) -> Result<Line, Refused>
     if text.len() > 4096 {
         return Err(Refused::TooLong);
     }
-    if has_foreign(text.as_bytes()) {
+    if has_foreign(text) {
         return Err(Refused::Unsupported);
     }
     match line_of(alloc, text)? {
@@ -124,9 +125,17 @@ pub fn parse(alloc: Global, text: &str) -> Result<Line, Refused>
 
 /// A text spells at most one line.
 pub fn one_line()
-    ensures whole {
-        (text : List ℕ) (k l : Option Tree.Commands) → TextSpells text k → TextSpells text l → k ≡ l }
-    ensures plain {
-        (text : List ℕ) (k l : Option Tree.Commands) → PlainSpells text k → PlainSpells text l → k ≡ l }
-{
-}
+    ensures whole { (text : List ℕ) (k l : Option Tree.Commands) → TextSpells text k
+        → TextSpells text l → k ≡ l }
+    ensures plain { (text : List ℕ) (k l : Option Tree.Commands) → PlainSpells text k
+        → PlainSpells text l → k ≡ l }
+{}
+
+/// `plain_line`, which gives the plain commands of a text as a function, gives exactly those that
+/// the text spells.
+pub fn plain_line_is_spelling()
+    ensures read { (text : List ℕ) (found : List (List PlainItem)) → plain_line text
+        ≡ Some found → SpellsPlain text found }
+    ensures spelled { (text : List ℕ) (found : List (List PlainItem))
+        → SpellsPlain text found → plain_line text ≡ Some found }
+{}

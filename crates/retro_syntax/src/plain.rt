@@ -11,7 +11,7 @@ use crate::tree::{AndOr, Command, Direction, Item, Piece, Pipeline, Simple, Word
 use std::alloc::{AllocError, Global};
 
 /// A part of a plain command, in the order in which it is written.
-#[derive(Clone, Copy, Debug)]
+#[derive(Clone, Copy, Debug, PartialEq, Eq)]
 pub enum PlainItem<'a> {
     /// A word: the command's name or an operand.
     Word(&'a str),
@@ -63,8 +63,8 @@ fn plain_item<'a>(item: &'a Item) -> Option<PlainItem<'a>>
 }
 
 fn plain_items<'a>(alloc: Global, items: &'a [Item]) -> Result<Option<PlainCommand<'a>>, AllocError>
-    ensures { IfOk result (λ found.
-        option_map plain_command_view found ≡ Plain.all_of Plain.plain_item (map item_view items.now)) }
+    ensures { IfOk result (λ found. option_map plain_command_view found
+        ≡ Plain.all_of Plain.plain_item (map item_view items.now)) }
 {
     let mut found = Vec::new(alloc);
     let mut rest = items;
@@ -78,7 +78,10 @@ fn plain_items<'a>(alloc: Global, items: &'a [Item]) -> Result<Option<PlainComma
     Ok(Some(PlainCommand { items: found }))
 }
 
-fn plain_stages<'a>(alloc: Global, stages: &'a [Simple]) -> Result<Option<PlainCommand<'a>>, AllocError>
+fn plain_stages<'a>(
+    alloc: Global,
+    stages: &'a [Simple],
+) -> Result<Option<PlainCommand<'a>>, AllocError>
     ensures { IfOk result (λ found.
         option_map plain_command_view found ≡ Plain.plain_stages (map simple_view stages.now)) }
 {
@@ -94,7 +97,10 @@ fn plain_stages<'a>(alloc: Global, stages: &'a [Simple]) -> Result<Option<PlainC
     }
 }
 
-fn plain_command<'a>(alloc: Global, command: &'a Command) -> Result<Option<PlainCommand<'a>>, AllocError>
+fn plain_command<'a>(
+    alloc: Global,
+    command: &'a Command,
+) -> Result<Option<PlainCommand<'a>>, AllocError>
     ensures { IfOk result (λ found.
         option_map plain_command_view found ≡ Plain.plain_command (view command.now)) }
 {
@@ -110,8 +116,8 @@ fn plain_pipeline<'a>(
     alloc: Global,
     pipeline: &'a Pipeline<Command>,
 ) -> Result<Option<PlainCommand<'a>>, AllocError>
-    ensures { IfOk result (λ found.
-        option_map plain_command_view found ≡ Plain.plain_pipeline (pipeline_of view pipeline.now)) }
+    ensures { IfOk result (λ found. option_map plain_command_view found
+        ≡ Plain.plain_pipeline (pipeline_of view pipeline.now)) }
 {
     if pipeline.negated {
         return Ok(None);
@@ -119,7 +125,10 @@ fn plain_pipeline<'a>(
     plain_command(alloc, &pipeline.command)
 }
 
-fn plain_and_or<'a>(alloc: Global, and_or: &'a AndOr<Command>) -> Result<Option<PlainCommand<'a>>, AllocError>
+fn plain_and_or<'a>(
+    alloc: Global,
+    and_or: &'a AndOr<Command>,
+) -> Result<Option<PlainCommand<'a>>, AllocError>
     ensures { IfOk result (λ found.
         option_map plain_command_view found ≡ Plain.plain_and_or (and_or_of view and_or.now)) }
 {
@@ -135,7 +144,8 @@ fn plain_list<'a>(
     last: &'a AndOr<Command>,
 ) -> Result<Option<Vec<PlainCommand<'a>>>, AllocError>
     ensures { IfOk result (λ found. option_map plain_commands_view found
-        ≡ Plain.all_of Plain.plain_and_or (map (and_or_of view) before.now ++ and_or_of view last.now ∷ [])) }
+        ≡ Plain.all_of Plain.plain_and_or
+            (map (and_or_of view) before.now ++ and_or_of view last.now ∷ [])) }
 {
     let mut found = Vec::new(alloc);
     let mut rest = before;
@@ -155,12 +165,19 @@ fn plain_list<'a>(
     }
 }
 
-/// The simple commands of a line that is a list of plain ones, in the order in which they are written; none where a
-/// pipeline is negated, joined by `&&` or `||`, of several stages or compound, where something is assigned or read from
-/// a file, or where a word isn't one unquoted literal. A blank line has no commands.
+/// The simple commands of a line that is a list of plain ones, in the order in which they are
+/// written. A blank line has none.
 ///
-/// Fails where memory is wanting.
-pub fn plain_commands<'a>(alloc: Global, line: &'a Line) -> Result<Option<Vec<PlainCommand<'a>>>, AllocError>
+/// `None` where a pipeline is negated, joined by `&&` or `||`, of several stages or compound, where
+/// something is assigned or read from a file, or where a word isn't one unquoted literal.
+///
+/// # Errors
+///
+/// `AllocError` where memory is wanting.
+pub fn plain_commands<'a>(
+    alloc: Global,
+    line: &'a Line,
+) -> Result<Option<Vec<PlainCommand<'a>>>, AllocError>
     ensures { IfOk result (λ found.
         option_map plain_commands_view found ≡ Plain.plain_commands (line_view line.now)) }
 {

@@ -23,49 +23,97 @@ use crate::quoting::pieces::add_dollar;
 use crate::tree::{Piece, Token, Word};
 use std::alloc::{AllocError, Global};
 
+/// An operator of one character, or the first character of one of two (XCU 2.10.2).
 #[derive(Clone, Copy, Debug, PartialEq, Eq)]
 pub enum Operator {
+    /// `;`
     Semicolon,
+    /// `&`
     And,
+    /// `|`
     Bar,
+    /// `<`
     Less,
+    /// `>`
     Greater,
 }
 
+/// The quotes that a character of a word stands in (XCU 2.2).
 #[derive(Clone, Copy, Debug, PartialEq, Eq)]
 pub enum Quote {
+    /// In none.
     Unquoted,
+    /// In single quotes (XCU 2.2.2).
     Single,
+    /// In double quotes (XCU 2.2.3).
     Double,
 }
 
-/// Where in a word the next character comes.
+/// Where in a word the next character comes. `pieces` are those read so far, and `inside` says
+/// whether a parameter stands in double quotes.
 #[derive(Drop)]
 pub enum Reading {
-    InWord(Vec<Piece>, bool, Quote),
-    Dollar(Vec<Piece>, bool),
-    Named(Vec<Piece>, bool, String),
-    Braced(Vec<Piece>, bool, String),
-    Question(Vec<Piece>, bool),
+    /// Behind a character that is no part of a parameter.
+    InWord {
+        pieces: Vec<Piece>,
+        /// Whether the word has unquoted digits alone so far.
+        digits: bool,
+        quote: Quote,
+    },
+    /// Behind `$`.
+    Dollar {
+        pieces: Vec<Piece>,
+        inside: bool,
+    },
+    /// Behind `$` and the beginning of a name.
+    Named {
+        pieces: Vec<Piece>,
+        inside: bool,
+        name: String,
+    },
+    /// Behind `${` and what there is of a name.
+    Braced {
+        pieces: Vec<Piece>,
+        inside: bool,
+        name: String,
+    },
+    /// Behind `${?`.
+    Question {
+        pieces: Vec<Piece>,
+        inside: bool,
+    },
 }
 
+/// What the next character may belong to.
 #[derive(Drop)]
 pub enum Pending {
+    /// Nothing: a token may begin.
     Between,
+    /// A comment.
     Comment,
+    /// An operator.
     Operator(Operator),
+    /// A word.
     Reading(Reading),
 }
 
+/// A text read up to some character.
 #[derive(Drop)]
 pub struct Lexing {
+    /// The whole tokens.
     pub tokens: Vec<Token>,
+    /// What stands behind them.
     pub pending: Pending,
+    /// Whether the last character is a backslash that may quote the next.
     pub backslash: bool,
 }
 
-
-pub fn plain_at(alloc: Global, tokens: Vec<Token>, pending: Pending, c: char) -> Result<Option<Lexing>, AllocError>
+pub fn plain_at(
+    alloc: Global,
+    tokens: Vec<Token>,
+    pending: Pending,
+    c: char,
+) -> Result<Option<Lexing>, AllocError>
     ensures { LexesTo result (Quoting.plain_at (tokens_view tokens) (pending_view pending) c) }
 {
     match pending {
@@ -74,7 +122,11 @@ pub fn plain_at(alloc: Global, tokens: Vec<Token>, pending: Pending, c: char) ->
             if c == '\0' || c == '\n' {
                 return Ok(None);
             }
-            Ok(Some(Lexing { tokens, pending: Pending::Comment, backslash: false }))
+            Ok(Some(Lexing {
+                tokens,
+                pending: Pending::Comment,
+                backslash: false,
+            }))
         }
         Pending::Operator(operator) => operator_at(alloc, tokens, operator, c),
         Pending::Reading(reading) => reading_at(alloc, tokens, reading, c),
@@ -85,15 +137,31 @@ pub fn takes_backslash(pending: &Pending) -> bool
     ensures { result ≡ Quoting.takes_backslash (pending_view pending.now) }
 {
     match pending {
-        Pending::Comment | Pending::Reading(Reading::InWord(_, _, Quote::Single)) => false,
+        Pending::Comment
+        | Pending::Reading(
+            Reading::InWord {
+                quote: Quote::Single,
+                ..
+            },
+        ) => false,
         Pending::Between
         | Pending::Operator(_)
-        | Pending::Reading(Reading::InWord(_, _, Quote::Unquoted))
-        | Pending::Reading(Reading::InWord(_, _, Quote::Double))
-        | Pending::Reading(Reading::Dollar(_, _))
-        | Pending::Reading(Reading::Named(_, _, _))
-        | Pending::Reading(Reading::Braced(_, _, _))
-        | Pending::Reading(Reading::Question(_, _)) => true,
+        | Pending::Reading(
+            Reading::InWord {
+                quote: Quote::Unquoted,
+                ..
+            },
+        )
+        | Pending::Reading(
+            Reading::InWord {
+                quote: Quote::Double,
+                ..
+            },
+        )
+        | Pending::Reading(Reading::Dollar { .. })
+        | Pending::Reading(Reading::Named { .. })
+        | Pending::Reading(Reading::Braced { .. })
+        | Pending::Reading(Reading::Question { .. }) => true,
     }
 }
 
@@ -101,36 +169,63 @@ pub fn takes_backslash(pending: &Pending) -> bool
 pub fn lex_step(alloc: Global, lexing: Lexing, c: char) -> Result<Option<Lexing>, AllocError>
     ensures { LexesTo result (Quoting.lex_step (lexing_view lexing) c) }
 {
-    let Lexing { tokens, pending, backslash } = lexing;
+    let Lexing {
+        tokens,
+        pending,
+        backslash,
+    } = lexing;
     if backslash {
         if c == '\n' {
-            Ok(Some(Lexing { tokens, pending, backslash: false }))
+            Ok(Some(Lexing {
+                tokens,
+                pending,
+                backslash: false,
+            }))
         } else if c == '\0' {
             Ok(None)
         } else {
             escaped_at(alloc, tokens, pending, c)
         }
     } else if c == '\\' && takes_backslash(&pending) {
-        Ok(Some(Lexing { tokens, pending, backslash: true }))
+        Ok(Some(Lexing {
+            tokens,
+            pending,
+            backslash: true,
+        }))
     } else {
         plain_at(alloc, tokens, pending, c)
     }
 }
 
-pub fn reading_end(alloc: Global, mut tokens: Vec<Token>, reading: Reading) -> Result<Option<Vec<Token>>, AllocError>
+pub fn reading_end(
+    alloc: Global,
+    mut tokens: Vec<Token>,
+    reading: Reading,
+) -> Result<Option<Vec<Token>>, AllocError>
     ensures { TokenizesTo result (Quoting.reading_end (tokens_view tokens) (reading_view reading)) }
 {
     match reading {
-        Reading::InWord(pieces, _, Quote::Unquoted) => {
+        Reading::InWord {
+            pieces,
+            quote: Quote::Unquoted,
+            ..
+        } => {
             tokens.push(Token::Word(Word { pieces }))?;
             Ok(Some(tokens))
         }
-        Reading::Dollar(pieces, false) => {
+        Reading::Dollar {
+            pieces,
+            inside: false,
+        } => {
             let pieces = add_dollar(alloc, pieces, false)?;
             tokens.push(Token::Word(Word { pieces }))?;
             Ok(Some(tokens))
         }
-        Reading::Named(mut pieces, false, name) => {
+        Reading::Named {
+            mut pieces,
+            inside: false,
+            name,
+        } => {
             if is_unsupported_name(&name) {
                 return Ok(None);
             }
@@ -138,19 +233,29 @@ pub fn reading_end(alloc: Global, mut tokens: Vec<Token>, reading: Reading) -> R
             tokens.push(Token::Word(Word { pieces }))?;
             Ok(Some(tokens))
         }
-        Reading::InWord(_, _, Quote::Single)
-        | Reading::InWord(_, _, Quote::Double)
-        | Reading::Dollar(_, true)
-        | Reading::Named(_, true, _)
-        | Reading::Braced(_, _, _)
-        | Reading::Question(_, _) => Ok(None),
+        Reading::InWord {
+            quote: Quote::Single,
+            ..
+        }
+        | Reading::InWord {
+            quote: Quote::Double,
+            ..
+        }
+        | Reading::Dollar { inside: true, .. }
+        | Reading::Named { inside: true, .. }
+        | Reading::Braced { .. }
+        | Reading::Question { .. } => Ok(None),
     }
 }
 
 pub fn lex_end(alloc: Global, lexing: Lexing) -> Result<Option<Vec<Token>>, AllocError>
     ensures { TokenizesTo result (Quoting.lex_end (Some (lexing_view lexing))) }
 {
-    let Lexing { tokens, pending, backslash } = lexing;
+    let Lexing {
+        tokens,
+        pending,
+        backslash,
+    } = lexing;
     if backslash {
         return Ok(None);
     }
@@ -165,7 +270,11 @@ pub fn lex_end(alloc: Global, lexing: Lexing) -> Result<Option<Vec<Token>>, Allo
 pub fn lex(alloc: Global, characters: &[char]) -> Result<Option<Vec<Token>>, AllocError>
     ensures { TokenizesTo result (Quoting.tokens_of characters.now) }
 {
-    let mut lexing = Lexing { tokens: Vec::new(alloc), pending: Pending::Between, backslash: false };
+    let mut lexing = Lexing {
+        tokens: Vec::new(alloc),
+        pending: Pending::Between,
+        backslash: false,
+    };
     let mut rest = characters;
     while let [c, more @ ..] = rest {
         match lex_step(alloc, lexing, *c)? {

@@ -1,108 +1,164 @@
-//! A line as a tree.
+//! A line as a tree (XCU 2.10.2), and the tokens that it is written with.
 
-/// A piece of a word, by how it is quoted.
+/// A piece of a word, by how it is quoted (XCU 2.2). Quotes leave a quoted piece even where they
+/// hold nothing.
 #[derive(Drop)]
 pub enum Piece {
+    /// Characters that aren't quoted.
     Plain(String),
+    /// Quoted characters.
     Quoted(String),
+    /// The name of a parameter outside double quotes, or `?` (XCU 2.5).
     Parameter(String),
+    /// The name of a parameter in double quotes, or `?`.
     QuotedParameter(String),
 }
 
+/// A word: one piece or more.
 #[derive(Drop)]
 pub struct Word {
+    /// Its pieces, in order.
     pub pieces: Vec<Piece>,
 }
 
+/// What a redirection does (XCU 2.7).
 #[derive(Clone, Copy, Debug, PartialEq, Eq)]
 pub enum Direction {
+    /// `<`: read from the file.
     From,
+    /// `>`: empty the file and write to it.
     Onto,
+    /// `>>`: write behind the file's end.
     Append,
 }
 
+/// What joins a pipeline to the next (XCU 2.9.3).
 #[derive(Clone, Copy, Debug, PartialEq, Eq)]
 pub enum Connector {
+    /// `&&`
     AndIf,
+    /// `||`
     OrIf,
 }
 
+/// A token (XCU 2.3).
 #[derive(Drop)]
 pub enum Token {
+    /// `;`
     Semicolon,
+    /// `|`
     Bar,
+    /// `&&` or `||`
     Connector(Connector),
+    /// `<`, `>` or `>>`
     Redirection(Direction),
+    /// A word.
     Word(Word),
 }
 
+/// A reserved word that the grammar has a rule for (XCU 2.4).
 #[derive(Clone, Copy, Debug, PartialEq, Eq)]
-pub enum Key {
+pub enum ReservedWord {
+    /// `!`
     Bang,
+    /// `if`
     If,
+    /// `then`
     Then,
+    /// `elif`
     Elif,
+    /// `else`
     Else,
+    /// `fi`
     Fi,
+    /// `for`
     For,
+    /// `in`
     In,
+    /// `do`
     Do,
+    /// `done`
     Done,
 }
 
+/// A part of a simple command.
 #[derive(Drop)]
 pub enum Item {
+    /// The command's name or an operand.
     Argument(Word),
+    /// A redirection and its word.
     Redirect(Direction, Word),
 }
 
+/// A simple command (XCU 2.9.1): assignments alone, or words and redirections.
 #[derive(Drop)]
 pub enum Simple {
+    /// Words that begin with a name and `=`.
     Assignments(Vec<Word>),
+    /// Words and redirections, as written.
     Command(Vec<Item>),
 }
 
+/// A pipeline (XCU 2.9.2).
 #[derive(Drop)]
 pub struct Pipeline<C> {
+    /// Whether `!` stands before it.
     pub negated: bool,
+    /// What is run.
     pub command: C,
 }
 
-/// Pipelines, each with what joins it to the next, and the last.
+/// Pipelines, each with what joins it to the next, and the last (XCU 2.9.3).
 #[derive(Drop)]
 pub struct AndOr<C> {
+    /// Those before the last, in order.
     pub joined: Vec<(Pipeline<C>, Connector)>,
+    /// The last one.
     pub last: Pipeline<C>,
 }
 
-/// One or more, with `;` between, and whether a `;` closes the last.
+/// A list of one and-or list or more, with `;` between them (XCU 2.9.3).
 #[derive(Drop)]
 pub struct Commands<C> {
+    /// Those before the last, in order.
     pub before: Vec<AndOr<C>>,
+    /// The last one.
     pub last: AndOr<C>,
+    /// Whether a `;` stands behind the last.
     pub closed: bool,
 }
 
-/// The conditions that an `elif` follows with what they lead to, and the last one.
+/// The conditions of an `if`, each with the list that it leads to (XCU 2.9.4.4).
 #[derive(Drop)]
 pub struct Conditional<C> {
+    /// Those that an `elif` follows, in order.
     pub before: Vec<(Commands<C>, Commands<C>)>,
+    /// The last condition.
     pub condition: Commands<C>,
+    /// What the last condition leads to.
     pub consequence: Commands<C>,
 }
 
+/// A `for` (XCU 2.9.4.2).
 #[derive(Drop)]
 pub struct Loop<C> {
+    /// The variable's name.
     pub name: String,
+    /// The words behind `in`.
     pub words: Vec<Word>,
+    /// What is run for each.
     pub body: Commands<C>,
 }
 
+/// What a pipeline runs: a pipe of simple commands, or a compound command (XCU 2.9.4).
 #[derive(Drop)]
 pub enum Command {
+    /// Simple commands, with `|` between them; one at least.
     Pipe(Vec<Simple>),
+    /// An `if` without `else`.
     If(Box<Conditional<Command>>),
-    /// With what `else` leads to.
+    /// An `if` with what its `else` leads to.
     IfElse(Box<Conditional<Command>>, Box<Commands<Command>>),
+    /// A `for`.
     For(Box<Loop<Command>>),
 }

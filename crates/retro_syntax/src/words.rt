@@ -5,65 +5,65 @@ ghost use Rattle.retro_syntax.specs.Words;
 ghost use Rattle.retro_syntax.specs.Tree;
 ghost use Rattle.retro_syntax.specs.View.{piece_view, word_view};
 
-use crate::tree::{Key, Piece, Word};
+use crate::tree::{Piece, ReservedWord, Word};
 use std::alloc::{AllocError, Global};
 
 /// What a word can be where a command may begin.
 #[derive(Clone, Copy, Debug, PartialEq, Eq)]
 pub enum Class {
-    Keyword(Key),
+    Reserved(ReservedWord),
     Forbidden,
     Assignment,
     Ordinary,
 }
 
-fn spelling(key: Key) -> &'static [u8]
-    ensures { result.now ≡ Tree.spelling key }
+fn spelling(reserved: ReservedWord) -> &'static [u8]
+    ensures { result.now ≡ Tree.spelling reserved }
 {
-    match key {
-        Key::Bang => b"!",
-        Key::If => b"if",
-        Key::Then => b"then",
-        Key::Elif => b"elif",
-        Key::Else => b"else",
-        Key::Fi => b"fi",
-        Key::For => b"for",
-        Key::In => b"in",
-        Key::Do => b"do",
-        Key::Done => b"done",
+    match reserved {
+        ReservedWord::Bang => b"!",
+        ReservedWord::If => b"if",
+        ReservedWord::Then => b"then",
+        ReservedWord::Elif => b"elif",
+        ReservedWord::Else => b"else",
+        ReservedWord::Fi => b"fi",
+        ReservedWord::For => b"for",
+        ReservedWord::In => b"in",
+        ReservedWord::Do => b"do",
+        ReservedWord::Done => b"done",
     }
 }
 
-fn key_of(text: &[u8]) -> Option<Key>
-    ensures { result ≡ Words.lookup Words.keys text.now }
+fn reserved_word_of(text: &[u8]) -> Option<ReservedWord>
+    ensures { result ≡ Words.lookup Words.reserved_words text.now }
 {
-    if spelling(Key::Bang) == text {
-        Some(Key::Bang)
-    } else if spelling(Key::If) == text {
-        Some(Key::If)
-    } else if spelling(Key::Then) == text {
-        Some(Key::Then)
-    } else if spelling(Key::Elif) == text {
-        Some(Key::Elif)
-    } else if spelling(Key::Else) == text {
-        Some(Key::Else)
-    } else if spelling(Key::Fi) == text {
-        Some(Key::Fi)
-    } else if spelling(Key::For) == text {
-        Some(Key::For)
-    } else if spelling(Key::In) == text {
-        Some(Key::In)
-    } else if spelling(Key::Do) == text {
-        Some(Key::Do)
-    } else if spelling(Key::Done) == text {
-        Some(Key::Done)
+    if spelling(ReservedWord::Bang) == text {
+        Some(ReservedWord::Bang)
+    } else if spelling(ReservedWord::If) == text {
+        Some(ReservedWord::If)
+    } else if spelling(ReservedWord::Then) == text {
+        Some(ReservedWord::Then)
+    } else if spelling(ReservedWord::Elif) == text {
+        Some(ReservedWord::Elif)
+    } else if spelling(ReservedWord::Else) == text {
+        Some(ReservedWord::Else)
+    } else if spelling(ReservedWord::Fi) == text {
+        Some(ReservedWord::Fi)
+    } else if spelling(ReservedWord::For) == text {
+        Some(ReservedWord::For)
+    } else if spelling(ReservedWord::In) == text {
+        Some(ReservedWord::In)
+    } else if spelling(ReservedWord::Do) == text {
+        Some(ReservedWord::Do)
+    } else if spelling(ReservedWord::Done) == text {
+        Some(ReservedWord::Done)
     } else {
         None
     }
 }
 
-fn is_foreign(text: &[u8]) -> bool
-    ensures { result ≡ Words.is_one_of Words.foreign text.now }
+fn is_other_reserved(text: &[u8]) -> bool
+    ensures { result ≡ Words.is_one_of Words.other_reserved text.now }
 {
     b"{".as_slice() == text
         || b"}".as_slice() == text
@@ -116,16 +116,17 @@ fn begins_assignment(text: &[u8]) -> bool
 {
     match text {
         [] => false,
-        [first, more @ ..] => (first.is_ascii_alphabetic() || *first == b'_') && goes_on_assignment(more),
+        [first, more @ ..] => (first.is_ascii_alphabetic() || *first == b'_')
+            && goes_on_assignment(more),
     }
 }
 
 fn plain_class(text: &[u8]) -> Class
-    ensures { result ≡ Words.plain_class text.now (Words.lookup Words.keys text.now) }
+    ensures { result ≡ Words.plain_class text.now (Words.lookup Words.reserved_words text.now) }
 {
-    match key_of(text) {
-        Some(key) => Class::Keyword(key),
-        None if is_foreign(text) => Class::Forbidden,
+    match reserved_word_of(text) {
+        Some(reserved) => Class::Reserved(reserved),
+        None if is_other_reserved(text) => Class::Forbidden,
         None if begins_assignment(text) => Class::Assignment,
         None => Class::Ordinary,
     }
@@ -158,7 +159,7 @@ pub fn is_assignment(class: Class) -> bool
 {
     match class {
         Class::Assignment => true,
-        Class::Keyword(_) | Class::Forbidden | Class::Ordinary => false,
+        Class::Reserved(_) | Class::Forbidden | Class::Ordinary => false,
     }
 }
 
@@ -167,14 +168,15 @@ pub fn is_ordinary(class: Class) -> bool
 {
     match class {
         Class::Ordinary => true,
-        Class::Keyword(_) | Class::Forbidden | Class::Assignment => false,
+        Class::Reserved(_) | Class::Forbidden | Class::Assignment => false,
     }
 }
 
 /// The name that the word is, for `for`.
 #[tactic(auto, unfolding(crate::specs::Words::name_of))]
 pub fn name_of(alloc: Global, word: &Word) -> Result<Option<String>, AllocError>
-    ensures { IfOk result (λ n. option_map (λ s. string_bytes s) n ≡ Words.name_of (word_view word.now)) }
+    ensures { IfOk result (λ n. option_map (λ s. string_bytes s) n
+        ≡ Words.name_of (word_view word.now)) }
 {
     match word.pieces.as_slice() {
         [Piece::Plain(text)] if is_name(text.as_bytes()) => Ok(Some(text.clone()?)),

@@ -9,12 +9,12 @@ ghost use Rattle.retro_syntax.specs.Words.{is_one_of};
 ghost use Rattle.retro_syntax.specs.View.{token_view, tokens_view, piece_view};
 ghost use Rattle.retro_syntax.specs.QuotingViews.{LexesTo, TokenizesTo, lexing_view, pending_view, pieces_view, reading_view};
 
-use crate::quoting::{Lexing, Operator, Pending, Quote, Reading};
-use crate::tree::{Connector, Direction, Piece, Token, Word};
 use crate::quoting::characters::with_reading;
 use crate::quoting::operators::settled;
 use crate::quoting::parameters::{is_unsupported_name, parameter_piece, quote_of};
 use crate::quoting::pieces::{add_dollar, add_quoted, backslash_and, text_of};
+use crate::quoting::{Lexing, Operator, Pending, Quote, Reading};
+use crate::tree::{Connector, Direction, Piece, Token, Word};
 use std::alloc::{AllocError, Global};
 
 pub fn is_special_inside(c: char) -> bool
@@ -23,50 +23,93 @@ pub fn is_special_inside(c: char) -> bool
     c == '$' || c == '`' || c == '"' || c == '\\'
 }
 
-pub fn escaped_in(alloc: Global, tokens: Vec<Token>, pieces: Vec<Piece>, quote: Quote, c: char) -> Result<Option<Lexing>, AllocError>
-    ensures { LexesTo result (Quoting.escaped_in (tokens_view tokens) (pieces_view pieces) quote c) }
+pub fn escaped_in(
+    alloc: Global,
+    tokens: Vec<Token>,
+    pieces: Vec<Piece>,
+    quote: Quote,
+    c: char,
+) -> Result<Option<Lexing>, AllocError>
+    ensures { LexesTo result
+        (Quoting.escaped_in (tokens_view tokens) (pieces_view pieces) quote c) }
 {
     match quote {
         Quote::Single => Ok(None),
         Quote::Unquoted => {
             let text = text_of(alloc, c)?;
             let pieces = add_quoted(alloc, pieces, &text)?;
-            Ok(with_reading(tokens, Reading::InWord(pieces, false, Quote::Unquoted)))
+            Ok(with_reading(
+                tokens,
+                Reading::InWord {
+                    pieces,
+                    digits: false,
+                    quote: Quote::Unquoted,
+                },
+            ))
         }
         Quote::Double => {
             if is_special_inside(c) {
                 let text = text_of(alloc, c)?;
                 let pieces = add_quoted(alloc, pieces, &text)?;
-                return Ok(with_reading(tokens, Reading::InWord(pieces, false, Quote::Double)));
+                return Ok(with_reading(
+                    tokens,
+                    Reading::InWord {
+                        pieces,
+                        digits: false,
+                        quote: Quote::Double,
+                    },
+                ));
             }
             let text = backslash_and(alloc, c)?;
             let pieces = add_quoted(alloc, pieces, &text)?;
-            Ok(with_reading(tokens, Reading::InWord(pieces, false, Quote::Double)))
+            Ok(with_reading(
+                tokens,
+                Reading::InWord {
+                    pieces,
+                    digits: false,
+                    quote: Quote::Double,
+                },
+            ))
         }
     }
 }
 
-pub fn escaped_reading(alloc: Global, tokens: Vec<Token>, reading: Reading, c: char) -> Result<Option<Lexing>, AllocError>
-    ensures { LexesTo result (Quoting.escaped_reading (tokens_view tokens) (reading_view reading) c) }
+pub fn escaped_reading(
+    alloc: Global,
+    tokens: Vec<Token>,
+    reading: Reading,
+    c: char,
+) -> Result<Option<Lexing>, AllocError>
+    ensures { LexesTo result
+        (Quoting.escaped_reading (tokens_view tokens) (reading_view reading) c) }
 {
     match reading {
-        Reading::InWord(pieces, _, quote) => escaped_in(alloc, tokens, pieces, quote, c),
-        Reading::Dollar(pieces, inside) => {
+        Reading::InWord { pieces, quote, .. } => escaped_in(alloc, tokens, pieces, quote, c),
+        Reading::Dollar { pieces, inside } => {
             let pieces = add_dollar(alloc, pieces, inside)?;
             escaped_in(alloc, tokens, pieces, quote_of(inside), c)
         }
-        Reading::Named(mut pieces, inside, name) => {
+        Reading::Named {
+            mut pieces,
+            inside,
+            name,
+        } => {
             if is_unsupported_name(&name) {
                 return Ok(None);
             }
             pieces.push(parameter_piece(inside, name))?;
             escaped_in(alloc, tokens, pieces, quote_of(inside), c)
         }
-        Reading::Braced(_, _, _) | Reading::Question(_, _) => Ok(None),
+        Reading::Braced { .. } | Reading::Question { .. } => Ok(None),
     }
 }
 
-pub fn escaped_at(alloc: Global, tokens: Vec<Token>, pending: Pending, c: char) -> Result<Option<Lexing>, AllocError>
+pub fn escaped_at(
+    alloc: Global,
+    tokens: Vec<Token>,
+    pending: Pending,
+    c: char,
+) -> Result<Option<Lexing>, AllocError>
     ensures { LexesTo result (Quoting.escaped_at (tokens_view tokens) (pending_view pending) c) }
 {
     match pending {

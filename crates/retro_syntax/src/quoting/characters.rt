@@ -9,9 +9,9 @@ ghost use Rattle.retro_syntax.specs.Words.{is_one_of};
 ghost use Rattle.retro_syntax.specs.View.{token_view, tokens_view, piece_view};
 ghost use Rattle.retro_syntax.specs.QuotingViews.{LexesTo, TokenizesTo, lexing_view, pending_view, pieces_view, reading_view};
 
+use crate::quoting::pieces::{add_plain, add_quoted, text_of};
 use crate::quoting::{Lexing, Operator, Pending, Quote, Reading};
 use crate::tree::{Connector, Direction, Piece, Token, Word};
-use crate::quoting::pieces::{add_plain, add_quoted, text_of};
 use std::alloc::{AllocError, Global};
 
 pub fn is_blank(c: char) -> bool
@@ -33,27 +33,66 @@ pub fn is_refused(c: char) -> bool
 }
 
 pub fn with_reading(tokens: Vec<Token>, reading: Reading) -> Option<Lexing>
-    ensures { option_map lexing_view result ≡ Some (Quoting.with_pending (tokens_view tokens) (Quoting.reading (reading_view reading))) }
+    ensures { option_map lexing_view result
+        ≡ Quoting.word_goes_on (tokens_view tokens) (reading_view reading) }
 {
-    Some(Lexing { tokens, pending: Pending::Reading(reading), backslash: false })
+    Some(Lexing {
+        tokens,
+        pending: Pending::Reading(reading),
+        backslash: false,
+    })
 }
 
-pub fn unquoted_at(alloc: Global, tokens: Vec<Token>, pieces: Vec<Piece>, digits: bool, c: char) -> Result<Option<Lexing>, AllocError>
-    ensures { LexesTo result (Quoting.unquoted_at (tokens_view tokens) (pieces_view pieces) digits c) }
+pub fn unquoted_at(
+    alloc: Global,
+    tokens: Vec<Token>,
+    pieces: Vec<Piece>,
+    digits: bool,
+    c: char,
+) -> Result<Option<Lexing>, AllocError>
+    ensures { LexesTo result
+        (Quoting.unquoted_at (tokens_view tokens) (pieces_view pieces) digits c) }
 {
     if c == '\'' {
         let pieces = add_quoted(alloc, pieces, "")?;
-        Ok(with_reading(tokens, Reading::InWord(pieces, false, Quote::Single)))
+        Ok(with_reading(
+            tokens,
+            Reading::InWord {
+                pieces,
+                digits: false,
+                quote: Quote::Single,
+            },
+        ))
     } else if c == '"' {
         let pieces = add_quoted(alloc, pieces, "")?;
-        Ok(with_reading(tokens, Reading::InWord(pieces, false, Quote::Double)))
+        Ok(with_reading(
+            tokens,
+            Reading::InWord {
+                pieces,
+                digits: false,
+                quote: Quote::Double,
+            },
+        ))
     } else if c == '$' {
-        Ok(with_reading(tokens, Reading::Dollar(pieces, false)))
+        Ok(with_reading(
+            tokens,
+            Reading::Dollar {
+                pieces,
+                inside: false,
+            },
+        ))
     } else if is_refused(c) {
         Ok(None)
     } else {
         let pieces = add_plain(alloc, pieces, c)?;
-        Ok(with_reading(tokens, Reading::InWord(pieces, digits && c.is_ascii_digit(), Quote::Unquoted)))
+        Ok(with_reading(
+            tokens,
+            Reading::InWord {
+                pieces,
+                digits: digits && c.is_ascii_digit(),
+                quote: Quote::Unquoted,
+            },
+        ))
     }
 }
 
@@ -77,27 +116,65 @@ pub fn fresh(alloc: Global, tokens: Vec<Token>, c: char) -> Result<Option<Lexing
     } else {
         return unquoted_at(alloc, tokens, Vec::new(alloc), true, c);
     };
-    Ok(Some(Lexing { tokens, pending, backslash: false }))
+    Ok(Some(Lexing {
+        tokens,
+        pending,
+        backslash: false,
+    }))
 }
 
-pub fn in_double(alloc: Global, tokens: Vec<Token>, pieces: Vec<Piece>, c: char) -> Result<Option<Lexing>, AllocError>
-    ensures { LexesTo result (Quoting.word_at (tokens_view tokens) (pieces_view pieces) false Quote.Double c) }
+pub fn in_double(
+    alloc: Global,
+    tokens: Vec<Token>,
+    pieces: Vec<Piece>,
+    c: char,
+) -> Result<Option<Lexing>, AllocError>
+    ensures { LexesTo result
+        (Quoting.word_at (tokens_view tokens) (pieces_view pieces) false Quote.Double c) }
 {
     if c == '"' {
-        Ok(with_reading(tokens, Reading::InWord(pieces, false, Quote::Unquoted)))
+        Ok(with_reading(
+            tokens,
+            Reading::InWord {
+                pieces,
+                digits: false,
+                quote: Quote::Unquoted,
+            },
+        ))
     } else if c == '$' {
-        Ok(with_reading(tokens, Reading::Dollar(pieces, true)))
+        Ok(with_reading(
+            tokens,
+            Reading::Dollar {
+                pieces,
+                inside: true,
+            },
+        ))
     } else if c == '\0' || c == '`' {
         Ok(None)
     } else {
         let text = text_of(alloc, c)?;
         let pieces = add_quoted(alloc, pieces, &text)?;
-        Ok(with_reading(tokens, Reading::InWord(pieces, false, Quote::Double)))
+        Ok(with_reading(
+            tokens,
+            Reading::InWord {
+                pieces,
+                digits: false,
+                quote: Quote::Double,
+            },
+        ))
     }
 }
 
-pub fn word_at(alloc: Global, mut tokens: Vec<Token>, pieces: Vec<Piece>, digits: bool, quote: Quote, c: char) -> Result<Option<Lexing>, AllocError>
-    ensures { LexesTo result (Quoting.word_at (tokens_view tokens) (pieces_view pieces) digits quote c) }
+pub fn word_at(
+    alloc: Global,
+    mut tokens: Vec<Token>,
+    pieces: Vec<Piece>,
+    digits: bool,
+    quote: Quote,
+    c: char,
+) -> Result<Option<Lexing>, AllocError>
+    ensures { LexesTo result
+        (Quoting.word_at (tokens_view tokens) (pieces_view pieces) digits quote c) }
 {
     match quote {
         Quote::Unquoted => {
@@ -112,14 +189,28 @@ pub fn word_at(alloc: Global, mut tokens: Vec<Token>, pieces: Vec<Piece>, digits
         }
         Quote::Single => {
             if c == '\'' {
-                return Ok(with_reading(tokens, Reading::InWord(pieces, false, Quote::Unquoted)));
+                return Ok(with_reading(
+                    tokens,
+                    Reading::InWord {
+                        pieces,
+                        digits: false,
+                        quote: Quote::Unquoted,
+                    },
+                ));
             }
             if c == '\0' {
                 return Ok(None);
             }
             let text = text_of(alloc, c)?;
             let pieces = add_quoted(alloc, pieces, &text)?;
-            Ok(with_reading(tokens, Reading::InWord(pieces, false, Quote::Single)))
+            Ok(with_reading(
+                tokens,
+                Reading::InWord {
+                    pieces,
+                    digits: false,
+                    quote: Quote::Single,
+                },
+            ))
         }
         Quote::Double => in_double(alloc, tokens, pieces, c),
     }

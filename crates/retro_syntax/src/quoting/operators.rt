@@ -9,12 +9,17 @@ ghost use Rattle.retro_syntax.specs.Words.{is_one_of};
 ghost use Rattle.retro_syntax.specs.View.{token_view, tokens_view, piece_view};
 ghost use Rattle.retro_syntax.specs.QuotingViews.{LexesTo, TokenizesTo, lexing_view, pending_view, pieces_view, reading_view};
 
+use crate::quoting::characters::fresh;
 use crate::quoting::{Lexing, Operator, Pending, Quote, Reading};
 use crate::tree::{Connector, Direction, Piece, Token, Word};
-use crate::quoting::characters::fresh;
 use std::alloc::{AllocError, Global};
 
-pub fn after_operator(alloc: Global, mut tokens: Vec<Token>, token: Token, c: char) -> Result<Option<Lexing>, AllocError>
+pub fn after_operator(
+    alloc: Global,
+    mut tokens: Vec<Token>,
+    token: Token,
+    c: char,
+) -> Result<Option<Lexing>, AllocError>
     ensures { LexesTo result (Quoting.fresh (tokens_view tokens ++ token_view token ∷ []) c) }
 {
     tokens.push(token)?;
@@ -22,24 +27,47 @@ pub fn after_operator(alloc: Global, mut tokens: Vec<Token>, token: Token, c: ch
 }
 
 pub fn whole_operator(mut tokens: Vec<Token>, token: Token) -> Result<Option<Lexing>, AllocError>
-    ensures { LexesTo result (Some (Quoting.with_pending (tokens_view tokens ++ token_view token ∷ []) Quoting.between)) }
+    ensures { LexesTo result
+        (Some (Quoting.with_pending (tokens_view tokens ++ token_view token ∷ [])
+            Quoting.between)) }
 {
     tokens.push(token)?;
-    Ok(Some(Lexing { tokens, pending: Pending::Between, backslash: false }))
+    Ok(Some(Lexing {
+        tokens,
+        pending: Pending::Between,
+        backslash: false,
+    }))
 }
 
-pub fn operator_at(alloc: Global, tokens: Vec<Token>, operator: Operator, c: char) -> Result<Option<Lexing>, AllocError>
+pub fn operator_at(
+    alloc: Global,
+    tokens: Vec<Token>,
+    operator: Operator,
+    c: char,
+) -> Result<Option<Lexing>, AllocError>
     ensures { LexesTo result (Quoting.operator_at (tokens_view tokens) operator c) }
 {
     match operator {
         Operator::Semicolon => {
-            if c == ';' { Ok(None) } else { after_operator(alloc, tokens, Token::Semicolon, c) }
+            if c == ';' {
+                Ok(None)
+            } else {
+                after_operator(alloc, tokens, Token::Semicolon, c)
+            }
         }
         Operator::And => {
-            if c == '&' { whole_operator(tokens, Token::Connector(Connector::AndIf)) } else { Ok(None) }
+            if c == '&' {
+                whole_operator(tokens, Token::Connector(Connector::AndIf))
+            } else {
+                Ok(None)
+            }
         }
         Operator::Bar => {
-            if c == '|' { whole_operator(tokens, Token::Connector(Connector::OrIf)) } else { after_operator(alloc, tokens, Token::Bar, c) }
+            if c == '|' {
+                whole_operator(tokens, Token::Connector(Connector::OrIf))
+            } else {
+                after_operator(alloc, tokens, Token::Bar, c)
+            }
         }
         Operator::Less => {
             if c == '<' || c == '&' || c == '>' {

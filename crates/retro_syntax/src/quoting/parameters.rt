@@ -9,10 +9,10 @@ ghost use Rattle.retro_syntax.specs.Words.{is_one_of};
 ghost use Rattle.retro_syntax.specs.View.{token_view, tokens_view, piece_view};
 ghost use Rattle.retro_syntax.specs.QuotingViews.{LexesTo, TokenizesTo, lexing_view, pending_view, pieces_view, reading_view};
 
-use crate::quoting::{Lexing, Operator, Pending, Quote, Reading};
-use crate::tree::{Connector, Direction, Piece, Token, Word};
 use crate::quoting::characters::{with_reading, word_at};
 use crate::quoting::pieces::{add_dollar, question_mark, text_and, text_of};
+use crate::quoting::{Lexing, Operator, Pending, Quote, Reading};
+use crate::tree::{Connector, Direction, Piece, Token, Word};
 use std::alloc::{AllocError, Global};
 
 pub fn is_unsupported_name(name: &str) -> bool
@@ -24,27 +24,58 @@ pub fn is_unsupported_name(name: &str) -> bool
 pub fn parameter_piece(inside: bool, name: String) -> Piece
     ensures { piece_view result ≡ Quoting.parameter_piece inside (string_bytes name) }
 {
-    if inside { Piece::QuotedParameter(name) } else { Piece::Parameter(name) }
+    if inside {
+        Piece::QuotedParameter(name)
+    } else {
+        Piece::Parameter(name)
+    }
 }
 
 pub fn quote_of(inside: bool) -> Quote
     ensures { result ≡ Quoting.quote_of inside }
 {
-    if inside { Quote::Double } else { Quote::Unquoted }
+    if inside {
+        Quote::Double
+    } else {
+        Quote::Unquoted
+    }
 }
 
-pub fn with_parameter(tokens: Vec<Token>, mut pieces: Vec<Piece>, inside: bool, name: String) -> Result<Option<Lexing>, AllocError>
-    ensures { LexesTo result (Quoting.with_parameter (tokens_view tokens) (pieces_view pieces) inside (string_bytes name)) }
+pub fn with_parameter(
+    tokens: Vec<Token>,
+    mut pieces: Vec<Piece>,
+    inside: bool,
+    name: String,
+) -> Result<Option<Lexing>, AllocError>
+    ensures { LexesTo result
+        (Quoting.with_parameter (tokens_view tokens) (pieces_view pieces) inside
+            (string_bytes name)) }
 {
     if is_unsupported_name(&name) {
         return Ok(None);
     }
     pieces.push(parameter_piece(inside, name))?;
-    Ok(with_reading(tokens, Reading::InWord(pieces, false, quote_of(inside))))
+    Ok(with_reading(
+        tokens,
+        Reading::InWord {
+            pieces,
+            digits: false,
+            quote: quote_of(inside),
+        },
+    ))
 }
 
-pub fn after_parameter(alloc: Global, tokens: Vec<Token>, mut pieces: Vec<Piece>, inside: bool, name: String, c: char) -> Result<Option<Lexing>, AllocError>
-    ensures { LexesTo result (Quoting.after_parameter (tokens_view tokens) (pieces_view pieces) inside (string_bytes name) c) }
+pub fn after_parameter(
+    alloc: Global,
+    tokens: Vec<Token>,
+    mut pieces: Vec<Piece>,
+    inside: bool,
+    name: String,
+    c: char,
+) -> Result<Option<Lexing>, AllocError>
+    ensures { LexesTo result
+        (Quoting.after_parameter (tokens_view tokens) (pieces_view pieces) inside
+            (string_bytes name) c) }
 {
     if is_unsupported_name(&name) {
         return Ok(None);
@@ -68,16 +99,44 @@ pub fn continues_name(c: char) -> bool
 pub fn is_other_parameter(c: char) -> bool
     ensures { result ≡ Quoting.is_other_parameter c }
 {
-    c.is_ascii_digit() || c == '@' || c == '*' || c == '#' || c == '-' || c == '$' || c == '!' || c == '('
+    c.is_ascii_digit()
+        || c == '@'
+        || c == '*'
+        || c == '#'
+        || c == '-'
+        || c == '$'
+        || c == '!'
+        || c == '('
 }
 
-pub fn dollar_at(alloc: Global, tokens: Vec<Token>, pieces: Vec<Piece>, inside: bool, c: char) -> Result<Option<Lexing>, AllocError>
-    ensures { LexesTo result (Quoting.reading_at (tokens_view tokens) (Quoting.dollar (pieces_view pieces) inside) c) }
+pub fn dollar_at(
+    alloc: Global,
+    tokens: Vec<Token>,
+    pieces: Vec<Piece>,
+    inside: bool,
+    c: char,
+) -> Result<Option<Lexing>, AllocError>
+    ensures { LexesTo result
+        (Quoting.reading_at (tokens_view tokens) (Quoting.dollar (pieces_view pieces) inside) c) }
 {
     if begins_name(c) {
-        Ok(with_reading(tokens, Reading::Named(pieces, inside, text_of(alloc, c)?)))
+        Ok(with_reading(
+            tokens,
+            Reading::Named {
+                pieces,
+                inside,
+                name: text_of(alloc, c)?,
+            },
+        ))
     } else if c == '{' {
-        Ok(with_reading(tokens, Reading::Braced(pieces, inside, String::new(alloc))))
+        Ok(with_reading(
+            tokens,
+            Reading::Braced {
+                pieces,
+                inside,
+                name: String::new(alloc),
+            },
+        ))
     } else if c == '?' {
         with_parameter(tokens, pieces, inside, question_mark(alloc)?)
     } else if is_other_parameter(c) {
@@ -88,15 +147,31 @@ pub fn dollar_at(alloc: Global, tokens: Vec<Token>, pieces: Vec<Piece>, inside: 
     }
 }
 
-pub fn braced_at(alloc: Global, tokens: Vec<Token>, pieces: Vec<Piece>, inside: bool, name: String, c: char) -> Result<Option<Lexing>, AllocError>
-    ensures { LexesTo result (Quoting.reading_at (tokens_view tokens) (Quoting.braced (pieces_view pieces) inside (string_bytes name)) c) }
+pub fn braced_at(
+    alloc: Global,
+    tokens: Vec<Token>,
+    pieces: Vec<Piece>,
+    inside: bool,
+    name: String,
+    c: char,
+) -> Result<Option<Lexing>, AllocError>
+    ensures { LexesTo result
+        (Quoting.reading_at (tokens_view tokens)
+            (Quoting.braced (pieces_view pieces) inside (string_bytes name)) c) }
 {
     match name.as_bytes() {
         [] => {
             if c == '?' {
-                Ok(with_reading(tokens, Reading::Question(pieces, inside)))
+                Ok(with_reading(tokens, Reading::Question { pieces, inside }))
             } else if begins_name(c) {
-                Ok(with_reading(tokens, Reading::Braced(pieces, inside, text_of(alloc, c)?)))
+                Ok(with_reading(
+                    tokens,
+                    Reading::Braced {
+                        pieces,
+                        inside,
+                        name: text_of(alloc, c)?,
+                    },
+                ))
             } else {
                 Ok(None)
             }
@@ -105,7 +180,14 @@ pub fn braced_at(alloc: Global, tokens: Vec<Token>, pieces: Vec<Piece>, inside: 
             if c == '}' {
                 with_parameter(tokens, pieces, inside, name)
             } else if continues_name(c) {
-                Ok(with_reading(tokens, Reading::Braced(pieces, inside, text_and(name, c)?)))
+                Ok(with_reading(
+                    tokens,
+                    Reading::Braced {
+                        pieces,
+                        inside,
+                        name: text_and(name, c)?,
+                    },
+                ))
             } else {
                 Ok(None)
             }
@@ -113,21 +195,49 @@ pub fn braced_at(alloc: Global, tokens: Vec<Token>, pieces: Vec<Piece>, inside: 
     }
 }
 
-pub fn reading_at(alloc: Global, tokens: Vec<Token>, reading: Reading, c: char) -> Result<Option<Lexing>, AllocError>
+pub fn reading_at(
+    alloc: Global,
+    tokens: Vec<Token>,
+    reading: Reading,
+    c: char,
+) -> Result<Option<Lexing>, AllocError>
     ensures { LexesTo result (Quoting.reading_at (tokens_view tokens) (reading_view reading) c) }
 {
     match reading {
-        Reading::InWord(pieces, digits, quote) => word_at(alloc, tokens, pieces, digits, quote, c),
-        Reading::Dollar(pieces, inside) => dollar_at(alloc, tokens, pieces, inside, c),
-        Reading::Named(pieces, inside, name) => {
+        Reading::InWord {
+            pieces,
+            digits,
+            quote,
+        } => word_at(alloc, tokens, pieces, digits, quote, c),
+        Reading::Dollar { pieces, inside } => dollar_at(alloc, tokens, pieces, inside, c),
+        Reading::Named {
+            pieces,
+            inside,
+            name,
+        } => {
             if continues_name(c) {
-                return Ok(with_reading(tokens, Reading::Named(pieces, inside, text_and(name, c)?)));
+                return Ok(with_reading(
+                    tokens,
+                    Reading::Named {
+                        pieces,
+                        inside,
+                        name: text_and(name, c)?,
+                    },
+                ));
             }
             after_parameter(alloc, tokens, pieces, inside, name, c)
         }
-        Reading::Braced(pieces, inside, name) => braced_at(alloc, tokens, pieces, inside, name, c),
-        Reading::Question(pieces, inside) => {
-            if c == '}' { with_parameter(tokens, pieces, inside, question_mark(alloc)?) } else { Ok(None) }
+        Reading::Braced {
+            pieces,
+            inside,
+            name,
+        } => braced_at(alloc, tokens, pieces, inside, name, c),
+        Reading::Question { pieces, inside } => {
+            if c == '}' {
+                with_parameter(tokens, pieces, inside, question_mark(alloc)?)
+            } else {
+                Ok(None)
+            }
         }
     }
 }

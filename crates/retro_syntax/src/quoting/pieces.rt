@@ -11,7 +11,6 @@ ghost use Rattle.retro_syntax.specs.QuotingViews.{LexesTo, TokenizesTo, lexing_v
 
 use crate::quoting::{Lexing, Operator, Pending, Quote, Reading};
 use crate::tree::{Connector, Direction, Piece, Token, Word};
-
 use std::alloc::{AllocError, Global};
 
 pub fn text_of(alloc: Global, c: char) -> Result<String, AllocError>
@@ -47,8 +46,14 @@ pub fn question_mark(alloc: Global) -> Result<String, AllocError>
     Ok(text)
 }
 
-pub fn grown_plain(alloc: Global, mut pieces: Vec<Piece>, last: Piece, c: char) -> Result<Vec<Piece>, AllocError>
-    ensures { IfOk result (λ ps. pieces_view ps ≡ pieces_view pieces ++ Quoting.grown_plain (piece_view last) c) }
+pub fn grown_plain(
+    alloc: Global,
+    mut pieces: Vec<Piece>,
+    last: Piece,
+    c: char,
+) -> Result<Vec<Piece>, AllocError>
+    ensures { IfOk result (λ ps. pieces_view ps
+        ≡ pieces_view pieces ++ Quoting.grown_plain (piece_view last) c) }
 {
     match last {
         Piece::Plain(mut text) => {
@@ -80,8 +85,14 @@ pub fn add_plain(alloc: Global, mut pieces: Vec<Piece>, c: char) -> Result<Vec<P
     }
 }
 
-pub fn grown_quoted(alloc: Global, mut pieces: Vec<Piece>, last: Piece, more: &str) -> Result<Vec<Piece>, AllocError>
-    ensures { IfOk result (λ ps. pieces_view ps ≡ pieces_view pieces ++ Quoting.grown_quoted (piece_view last) more.now) }
+pub fn grown_quoted(
+    alloc: Global,
+    mut pieces: Vec<Piece>,
+    last: Piece,
+    more: &str,
+) -> Result<Vec<Piece>, AllocError>
+    ensures { IfOk result (λ ps. pieces_view ps
+        ≡ pieces_view pieces ++ Quoting.grown_quoted (piece_view last) more.now) }
 {
     match last {
         Piece::Quoted(mut text) => {
@@ -99,8 +110,13 @@ pub fn grown_quoted(alloc: Global, mut pieces: Vec<Piece>, last: Piece, more: &s
     }
 }
 
-pub fn add_quoted(alloc: Global, mut pieces: Vec<Piece>, more: &str) -> Result<Vec<Piece>, AllocError>
-    ensures { IfOk result (λ ps. pieces_view ps ≡ Quoting.add_quoted (pieces_view pieces) more.now) }
+pub fn add_quoted(
+    alloc: Global,
+    mut pieces: Vec<Piece>,
+    more: &str,
+) -> Result<Vec<Piece>, AllocError>
+    ensures { IfOk result (λ ps. pieces_view ps
+        ≡ Quoting.add_quoted (pieces_view pieces) more.now) }
 {
     match pieces.pop() {
         Some(last) => grown_quoted(alloc, pieces, last, more),
@@ -116,5 +132,9 @@ pub fn add_quoted(alloc: Global, mut pieces: Vec<Piece>, more: &str) -> Result<V
 pub fn add_dollar(alloc: Global, pieces: Vec<Piece>, inside: bool) -> Result<Vec<Piece>, AllocError>
     ensures { IfOk result (λ ps. pieces_view ps ≡ Quoting.add (pieces_view pieces) inside 36) }
 {
-    if inside { add_quoted(alloc, pieces, "$") } else { add_plain(alloc, pieces, '$') }
+    if inside {
+        add_quoted(alloc, pieces, "$")
+    } else {
+        add_plain(alloc, pieces, '$')
+    }
 }

@@ -5,21 +5,35 @@ ghost use Rattle.retro_syntax.specs.Tree;
 ghost use Rattle.retro_syntax.specs.Reader;
 ghost use Rattle.retro_syntax.specs.View;
 ghost use Rattle.retro_syntax.specs.View.{token_view, view, commands_of, word_view, simple_view, item_view};
-ghost use Rattle.retro_syntax.specs.ReaderViews.{StepsTo, frame_view, items_view, level_view, open_view, place_view, stack_view, stages_view, state_view, words_view};
+ghost use Rattle.retro_syntax.specs.ReaderViews.{StepsAt, StepsTo, frame_view, items_view, level_view, open_view, place_view, stack_view, stages_view, state_view, words_view};
 
 use crate::build::{conditional, conditional_else, pipe, repetition};
-use crate::reader::{Arm, Frame, Open, Place, State};
-use crate::tree::{AndOr, Command, Commands, Conditional, Connector, Direction, Item, Key, Loop, Pipeline, Simple, Token, Word};
-use crate::words::{Class, class_of, name_of};
 use crate::reader::lists::{go_on, may_end, nothing, whole_list};
 use crate::reader::simple::begin_simple;
+use crate::reader::{Arm, Frame, Open, Place, State};
+use crate::tree::{
+    AndOr, Command, Commands, Conditional, Connector, Direction, Item, Loop, Pipeline,
+    ReservedWord, Simple, Token, Word,
+};
+use crate::words::{Class, class_of, name_of};
 use std::alloc::{AllocError, Global};
 
-pub fn inner_list(alloc: Global, mut stack: Vec<(Open, Frame)>, here: Open, frame: Frame) -> Result<State, AllocError>
-    ensures { IfOk result (λ n. state_view n ≡ Reader.at ((open_view here, frame_view frame) ∷ stack_view stack) Reader.nothing Reader.start) }
+pub fn inner_list(
+    alloc: Global,
+    mut stack: Vec<(Open, Frame)>,
+    here: Open,
+    frame: Frame,
+) -> Result<State, AllocError>
+    ensures { IfOk result (λ n. state_view n
+        ≡ Reader.at ((open_view here, frame_view frame) ∷ stack_view stack)
+            Reader.nothing Reader.start) }
 {
     stack.push((here, frame))?;
-    Ok(State { stack, here: nothing(alloc), place: Place::Start })
+    Ok(State {
+        stack,
+        here: nothing(alloc),
+        place: Place::Start,
+    })
 }
 
 pub fn close_by(
@@ -28,28 +42,74 @@ pub fn close_by(
     here: Open,
     frame: Frame,
     list: Commands<Command>,
-    key: Key,
+    reserved: ReservedWord,
 ) -> Result<Option<State>, AllocError>
-    ensures { StepsTo result (Reader.close_by (stack_view stack) (open_view here) (frame_view frame) (commands_of view list) key) }
+    ensures { StepsTo result
+        (Reader.close_by (stack_view stack) (open_view here) (frame_view frame)
+            (commands_of view list) reserved) }
 {
-    match (frame, key) {
-        (Frame::Condition(before), Key::Then) => Ok(Some(inner_list(alloc, stack, here, Frame::Consequence(before, list))?)),
-        (Frame::Consequence(mut before, condition), Key::Elif) => {
+    match (frame, reserved) {
+        (Frame::Condition(before), ReservedWord::Then) => Ok(Some(inner_list(
+            alloc,
+            stack,
+            here,
+            Frame::Consequence(before, list),
+        )?)),
+        (Frame::Consequence(mut before, condition), ReservedWord::Elif) => {
             before.push((condition, list))?;
             Ok(Some(inner_list(alloc, stack, here, Frame::Condition(before))?))
         }
-        (Frame::Consequence(before, condition), Key::Else) => Ok(Some(inner_list(alloc, stack, here, Frame::Alternative(before, condition, list))?)),
-        (Frame::Consequence(before, condition), Key::Fi) => {
-            let whole = conditional(alloc, Conditional { before, condition, consequence: list })?;
-            Ok(Some(State { stack, here, place: Place::Closed(whole) }))
+        (Frame::Consequence(before, condition), ReservedWord::Else) => Ok(Some(inner_list(
+            alloc,
+            stack,
+            here,
+            Frame::Alternative(before, condition, list),
+        )?)),
+        (Frame::Consequence(before, condition), ReservedWord::Fi) => {
+            let whole = conditional(
+                alloc,
+                Conditional {
+                    before,
+                    condition,
+                    consequence: list,
+                },
+            )?;
+            Ok(Some(State {
+                stack,
+                here,
+                place: Place::Closed(whole),
+            }))
         }
-        (Frame::Alternative(before, condition, consequence), Key::Fi) => {
-            let whole = conditional_else(alloc, Conditional { before, condition, consequence }, list)?;
-            Ok(Some(State { stack, here, place: Place::Closed(whole) }))
+        (Frame::Alternative(before, condition, consequence), ReservedWord::Fi) => {
+            let whole = conditional_else(
+                alloc,
+                Conditional {
+                    before,
+                    condition,
+                    consequence,
+                },
+                list,
+            )?;
+            Ok(Some(State {
+                stack,
+                here,
+                place: Place::Closed(whole),
+            }))
         }
-        (Frame::Body(name, words), Key::Done) => {
-            let whole = repetition(alloc, Loop { name, words, body: list })?;
-            Ok(Some(State { stack, here, place: Place::Closed(whole) }))
+        (Frame::Body(name, words), ReservedWord::Done) => {
+            let whole = repetition(
+                alloc,
+                Loop {
+                    name,
+                    words,
+                    body: list,
+                },
+            )?;
+            Ok(Some(State {
+                stack,
+                here,
+                place: Place::Closed(whole),
+            }))
         }
         _ => Ok(None),
     }
@@ -59,13 +119,13 @@ pub fn close(
     alloc: Global,
     mut stack: Vec<(Open, Frame)>,
     list: Commands<Command>,
-    key: Key,
+    reserved: ReservedWord,
 ) -> Result<Option<State>, AllocError>
-    ensures { StepsTo result (Reader.close (stack_view stack) (commands_of view list) key) }
+    ensures { StepsTo result (Reader.close (stack_view stack) (commands_of view list) reserved) }
 {
     match stack.pop() {
         None => Ok(None),
-        Some((here, frame)) => close_by(alloc, stack, here, frame, list, key),
+        Some((here, frame)) => close_by(alloc, stack, here, frame, list, reserved),
     }
 }
 
@@ -73,35 +133,55 @@ pub fn close_some(
     alloc: Global,
     stack: Vec<(Open, Frame)>,
     list: Option<Commands<Command>>,
-    key: Key,
+    reserved: ReservedWord,
 ) -> Result<Option<State>, AllocError>
-    ensures { StepsTo result (Reader.close_some (stack_view stack) (option_map (commands_of view) list) key) }
+    ensures { StepsTo result
+        (Reader.close_some (stack_view stack) (option_map (commands_of view) list) reserved) }
 {
     match list {
         None => Ok(None),
-        Some(list) => close(alloc, stack, list, key),
+        Some(list) => close(alloc, stack, list, reserved),
     }
 }
 
-pub fn begin_key(
+pub fn begin_reserved(
     alloc: Global,
     stack: Vec<(Open, Frame)>,
     mut here: Open,
-    key: Key,
+    reserved: ReservedWord,
 ) -> Result<Option<State>, AllocError>
-    ensures { StepsTo result (Reader.begin_key (stack_view stack) (open_view here) key) }
+    ensures { StepsTo result (Reader.begin_reserved (stack_view stack) (open_view here) reserved) }
 {
-    match key {
-        Key::Bang => {
+    match reserved {
+        ReservedWord::Bang => {
             if here.negated {
                 return Ok(None);
             }
             here.negated = true;
-            Ok(Some(State { stack, here, place: Place::Start }))
+            Ok(Some(State {
+                stack,
+                here,
+                place: Place::Start,
+            }))
         }
-        Key::If => Ok(Some(inner_list(alloc, stack, here, Frame::Condition(Vec::new(alloc)))?)),
-        Key::For => Ok(Some(State { stack, here, place: Place::ForName })),
-        Key::Then | Key::Elif | Key::Else | Key::Fi | Key::In | Key::Do | Key::Done => close_some(alloc, stack, may_end(here), key),
+        ReservedWord::If => Ok(Some(inner_list(
+            alloc,
+            stack,
+            here,
+            Frame::Condition(Vec::new(alloc)),
+        )?)),
+        ReservedWord::For => Ok(Some(State {
+            stack,
+            here,
+            place: Place::ForName,
+        })),
+        ReservedWord::Then
+        | ReservedWord::Elif
+        | ReservedWord::Else
+        | ReservedWord::Fi
+        | ReservedWord::In
+        | ReservedWord::Do
+        | ReservedWord::Done => close_some(alloc, stack, may_end(here), reserved),
     }
 }
 
@@ -112,16 +192,22 @@ pub fn begin(
     word: Word,
     class: Class,
 ) -> Result<Option<State>, AllocError>
-    ensures { StepsTo result (Reader.begin (stack_view stack) (open_view here) (word_view word) class) }
+    ensures { StepsTo result
+        (Reader.begin (stack_view stack) (open_view here) (word_view word) class) }
 {
     match class {
-        Class::Keyword(key) => begin_key(alloc, stack, here, key),
+        Class::Reserved(reserved) => begin_reserved(alloc, stack, here, reserved),
         class => begin_simple(alloc, stack, here, Vec::new(alloc), word, class),
     }
 }
 
-pub fn at_start(alloc: Global, stack: Vec<(Open, Frame)>, here: Open, token: Token) -> Result<Option<State>, AllocError>
-    ensures { StepsTo result (Reader.step_at (stack_view stack) (open_view here) Reader.start (token_view token)) }
+pub fn at_start(
+    alloc: Global,
+    stack: Vec<(Open, Frame)>,
+    here: Open,
+    token: Token,
+) -> Result<Option<State>, AllocError>
+    ensures { StepsAt stack here Reader.start token result }
 {
     match token {
         Token::Word(word) => {
@@ -137,16 +223,28 @@ pub fn at_start(alloc: Global, stack: Vec<(Open, Frame)>, here: Open, token: Tok
 }
 
 /// The token behind a whole compound command.
-pub fn at_closed(alloc: Global, stack: Vec<(Open, Frame)>, here: Open, command: Command, token: Token) -> Result<Option<State>, AllocError>
-    ensures { StepsTo result (Reader.step_at (stack_view stack) (open_view here) (Reader.closed (view command)) (token_view token)) }
+pub fn at_closed(
+    alloc: Global,
+    stack: Vec<(Open, Frame)>,
+    here: Open,
+    command: Command,
+    token: Token,
+) -> Result<Option<State>, AllocError>
+    ensures { StepsAt stack here (Reader.closed (view command)) token result }
 {
     match token {
         Token::Word(word) => match class_of(&word) {
-            Class::Keyword(key) => close(alloc, stack, whole_list(here, command), key),
+            Class::Reserved(reserved) => close(alloc, stack, whole_list(here, command), reserved),
             Class::Forbidden | Class::Assignment | Class::Ordinary => Ok(None),
         },
         Token::Semicolon => go_on(alloc, stack, here, command, Token::Semicolon),
-        Token::Connector(connector) => go_on(alloc, stack, here, command, Token::Connector(connector)),
+        Token::Connector(connector) => go_on(
+            alloc,
+            stack,
+            here,
+            command,
+            Token::Connector(connector),
+        ),
         Token::Bar | Token::Redirection(_) => Ok(None),
     }
 }

@@ -9,7 +9,10 @@ ghost use Rattle.retro_syntax.specs.ReaderViews.{StepsTo, frame_view, items_view
 
 use crate::build::{conditional, conditional_else, pipe, repetition};
 use crate::reader::{Arm, Frame, Open, Place, State};
-use crate::tree::{AndOr, Command, Commands, Conditional, Connector, Direction, Item, Key, Loop, Pipeline, Simple, Token, Word};
+use crate::tree::{
+    AndOr, Command, Commands, Conditional, Connector, Direction, Item, Loop, Pipeline,
+    ReservedWord, Simple, Token, Word,
+};
 use crate::words::{Class, class_of, name_of};
 use std::alloc::{AllocError, Global};
 
@@ -46,7 +49,8 @@ pub fn after_semicolon(
     here: Open,
     command: Command,
 ) -> Result<State, AllocError>
-    ensures { IfOk result (λ n. Some (state_view n) ≡ Reader.go_on (stack_view stack) (open_view here) (view command) Tree.semicolon) }
+    ensures { IfOk result (λ n. Some (state_view n)
+        ≡ Reader.go_on (stack_view stack) (open_view here) (view command) Tree.semicolon) }
 {
     let (mut done, last) = and_or(here, command);
     done.push(last)?;
@@ -67,7 +71,9 @@ pub fn after_connector(
     command: Command,
     connector: Connector,
 ) -> Result<State, AllocError>
-    ensures { IfOk result (λ n. Some (state_view n) ≡ Reader.go_on (stack_view stack) (open_view here) (view command) (Tree.connector connector)) }
+    ensures { IfOk result (λ n. Some (state_view n)
+        ≡ Reader.go_on (stack_view stack) (open_view here) (view command)
+            (Tree.connector connector)) }
 {
     let Open {
         done,
@@ -103,7 +109,9 @@ pub fn may_end(here: Open) -> Option<Commands<Command>>
 }
 
 pub fn whole_list(here: Open, command: Command) -> Commands<Command>
-    ensures { commands_of view result ≡ Reader.listed (open_view here).done (Reader.and_or (open_view here) (view command)) false }
+    ensures { commands_of view result
+        ≡ Reader.listed (open_view here).done (Reader.and_or (open_view here) (view command))
+            false }
 {
     let (before, last) = and_or(here, command);
     Commands {
@@ -121,7 +129,8 @@ pub fn go_on(
     command: Command,
     token: Token,
 ) -> Result<Option<State>, AllocError>
-    ensures { StepsTo result (Reader.go_on (stack_view stack) (open_view here) (view command) (token_view token)) }
+    ensures { StepsTo result
+        (Reader.go_on (stack_view stack) (open_view here) (view command) (token_view token)) }
 {
     match token {
         Token::Semicolon => Ok(Some(after_semicolon(alloc, stack, here, command)?)),

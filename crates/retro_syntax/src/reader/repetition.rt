@@ -5,34 +5,66 @@ ghost use Rattle.retro_syntax.specs.Tree;
 ghost use Rattle.retro_syntax.specs.Reader;
 ghost use Rattle.retro_syntax.specs.View;
 ghost use Rattle.retro_syntax.specs.View.{token_view, view, commands_of, word_view, simple_view, item_view};
-ghost use Rattle.retro_syntax.specs.ReaderViews.{StepsTo, frame_view, items_view, level_view, open_view, place_view, stack_view, stages_view, state_view, words_view};
+ghost use Rattle.retro_syntax.specs.ReaderViews.{StepsAt, StepsTo, frame_view, items_view, level_view, open_view, place_view, stack_view, stages_view, state_view, words_view};
 
 use crate::build::{conditional, conditional_else, pipe, repetition};
-use crate::reader::{Arm, Frame, Open, Place, State};
-use crate::tree::{AndOr, Command, Commands, Conditional, Connector, Direction, Item, Key, Loop, Pipeline, Simple, Token, Word};
-use crate::words::{Class, class_of, name_of};
 use crate::reader::compound::inner_list;
+use crate::reader::{Arm, Frame, Open, Place, State};
+use crate::tree::{
+    AndOr, Command, Commands, Conditional, Connector, Direction, Item, Loop, Pipeline,
+    ReservedWord, Simple, Token, Word,
+};
+use crate::words::{Class, class_of, name_of};
 use std::alloc::{AllocError, Global};
 
-pub fn at_for_name(alloc: Global, stack: Vec<(Open, Frame)>, here: Open, token: Token) -> Result<Option<State>, AllocError>
-    ensures { StepsTo result (Reader.step_at (stack_view stack) (open_view here) Reader.for_name (token_view token)) }
+pub fn at_for_name(
+    alloc: Global,
+    stack: Vec<(Open, Frame)>,
+    here: Open,
+    token: Token,
+) -> Result<Option<State>, AllocError>
+    ensures { StepsAt stack here Reader.for_name token result }
 {
     match token {
         Token::Word(word) => match name_of(alloc, &word)? {
             None => Ok(None),
-            Some(name) => Ok(Some(State { stack, here, place: Place::ForIn(name) })),
+            Some(name) => Ok(Some(State {
+                stack,
+                here,
+                place: Place::ForIn(name),
+            })),
         },
         Token::Semicolon | Token::Bar | Token::Connector(_) | Token::Redirection(_) => Ok(None),
     }
 }
 
-pub fn at_for_in(alloc: Global, stack: Vec<(Open, Frame)>, here: Open, name: String, token: Token) -> Result<Option<State>, AllocError>
-    ensures { StepsTo result (Reader.step_at (stack_view stack) (open_view here) (Reader.for_in (string_bytes name)) (token_view token)) }
+pub fn at_for_in(
+    alloc: Global,
+    stack: Vec<(Open, Frame)>,
+    here: Open,
+    name: String,
+    token: Token,
+) -> Result<Option<State>, AllocError>
+    ensures { StepsAt stack here (Reader.for_in (string_bytes name)) token result }
 {
     match token {
         Token::Word(word) => match class_of(&word) {
-            Class::Keyword(Key::In) => Ok(Some(State { stack, here, place: Place::ForWords(name, Vec::new(alloc)) })),
-            Class::Keyword(Key::Bang | Key::If | Key::Then | Key::Elif | Key::Else | Key::Fi | Key::For | Key::Do | Key::Done)
+            Class::Reserved(ReservedWord::In) => Ok(Some(State {
+                stack,
+                here,
+                place: Place::ForWords(name, Vec::new(alloc)),
+            })),
+            Class::Reserved(
+                ReservedWord::Bang
+                | ReservedWord::If
+                | ReservedWord::Then
+                | ReservedWord::Elif
+                | ReservedWord::Else
+                | ReservedWord::Fi
+                | ReservedWord::For
+                | ReservedWord::Do
+                | ReservedWord::Done,
+            )
             | Class::Forbidden
             | Class::Assignment
             | Class::Ordinary => Ok(None),
@@ -41,26 +73,64 @@ pub fn at_for_in(alloc: Global, stack: Vec<(Open, Frame)>, here: Open, name: Str
     }
 }
 
-pub fn at_for_words(stack: Vec<(Open, Frame)>, here: Open, name: String, mut words: Vec<Word>, token: Token) -> Result<Option<State>, AllocError>
-    ensures { StepsTo result (Reader.step_at (stack_view stack) (open_view here) (Reader.for_words (string_bytes name) (words_view words)) (token_view token)) }
+pub fn at_for_words(
+    stack: Vec<(Open, Frame)>,
+    here: Open,
+    name: String,
+    mut words: Vec<Word>,
+    token: Token,
+) -> Result<Option<State>, AllocError>
+    ensures { StepsAt stack here
+        (Reader.for_words (string_bytes name) (words_view words)) token result }
 {
     match token {
         Token::Word(word) => {
             words.push(word)?;
-            Ok(Some(State { stack, here, place: Place::ForWords(name, words) }))
+            Ok(Some(State {
+                stack,
+                here,
+                place: Place::ForWords(name, words),
+            }))
         }
-        Token::Semicolon => Ok(Some(State { stack, here, place: Place::ForDo(name, words) })),
+        Token::Semicolon => Ok(Some(State {
+            stack,
+            here,
+            place: Place::ForDo(name, words),
+        })),
         Token::Bar | Token::Connector(_) | Token::Redirection(_) => Ok(None),
     }
 }
 
-pub fn at_for_do(alloc: Global, stack: Vec<(Open, Frame)>, here: Open, name: String, words: Vec<Word>, token: Token) -> Result<Option<State>, AllocError>
-    ensures { StepsTo result (Reader.step_at (stack_view stack) (open_view here) (Reader.for_do (string_bytes name) (words_view words)) (token_view token)) }
+pub fn at_for_do(
+    alloc: Global,
+    stack: Vec<(Open, Frame)>,
+    here: Open,
+    name: String,
+    words: Vec<Word>,
+    token: Token,
+) -> Result<Option<State>, AllocError>
+    ensures { StepsAt stack here
+        (Reader.for_do (string_bytes name) (words_view words)) token result }
 {
     match token {
         Token::Word(word) => match class_of(&word) {
-            Class::Keyword(Key::Do) => Ok(Some(inner_list(alloc, stack, here, Frame::Body(name, words))?)),
-            Class::Keyword(Key::Bang | Key::If | Key::Then | Key::Elif | Key::Else | Key::Fi | Key::For | Key::In | Key::Done)
+            Class::Reserved(ReservedWord::Do) => Ok(Some(inner_list(
+                alloc,
+                stack,
+                here,
+                Frame::Body(name, words),
+            )?)),
+            Class::Reserved(
+                ReservedWord::Bang
+                | ReservedWord::If
+                | ReservedWord::Then
+                | ReservedWord::Elif
+                | ReservedWord::Else
+                | ReservedWord::Fi
+                | ReservedWord::For
+                | ReservedWord::In
+                | ReservedWord::Done,
+            )
             | Class::Forbidden
             | Class::Assignment
             | Class::Ordinary => Ok(None),

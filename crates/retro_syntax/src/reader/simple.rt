@@ -5,13 +5,16 @@ ghost use Rattle.retro_syntax.specs.Tree;
 ghost use Rattle.retro_syntax.specs.Reader;
 ghost use Rattle.retro_syntax.specs.View;
 ghost use Rattle.retro_syntax.specs.View.{token_view, view, commands_of, word_view, simple_view, item_view};
-ghost use Rattle.retro_syntax.specs.ReaderViews.{StepsTo, frame_view, items_view, level_view, open_view, place_view, stack_view, stages_view, state_view, words_view};
+ghost use Rattle.retro_syntax.specs.ReaderViews.{StepsAt, StepsTo, frame_view, items_view, level_view, open_view, place_view, stack_view, stages_view, state_view, words_view};
 
 use crate::build::{conditional, conditional_else, pipe, repetition};
-use crate::reader::{Arm, Frame, Open, Place, State};
-use crate::tree::{AndOr, Command, Commands, Conditional, Connector, Direction, Item, Key, Loop, Pipeline, Simple, Token, Word};
-use crate::words::{Class, class_of, is_assignment, is_ordinary};
 use crate::reader::lists::go_on;
+use crate::reader::{Arm, Frame, Open, Place, State};
+use crate::tree::{
+    AndOr, Command, Commands, Conditional, Connector, Direction, Item, Loop, Pipeline,
+    ReservedWord, Simple, Token, Word,
+};
+use crate::words::{Class, class_of, is_assignment, is_ordinary};
 use std::alloc::{AllocError, Global};
 
 pub fn begin_simple(
@@ -22,7 +25,9 @@ pub fn begin_simple(
     word: Word,
     class: Class,
 ) -> Result<Option<State>, AllocError>
-    ensures { StepsTo result (Reader.begin_simple (stack_view stack) (open_view here) (stages_view stages) (word_view word) class) }
+    ensures { StepsTo result
+        (Reader.begin_simple (stack_view stack) (open_view here) (stages_view stages)
+            (word_view word) class) }
 {
     let simple = match class {
         Class::Assignment => {
@@ -35,9 +40,13 @@ pub fn begin_simple(
             items.push(Item::Argument(word))?;
             Simple::Command(items)
         }
-        Class::Keyword(_) | Class::Forbidden => return Ok(None),
+        Class::Reserved(_) | Class::Forbidden => return Ok(None),
     };
-    Ok(Some(State { stack, here, place: Place::Within(stages, simple) }))
+    Ok(Some(State {
+        stack,
+        here,
+        place: Place::Within(stages, simple),
+    }))
 }
 
 pub fn no_argument(items: &[Item]) -> bool
@@ -53,8 +62,16 @@ pub fn no_argument(items: &[Item]) -> bool
     true
 }
 
-pub fn add_word(stack: Vec<(Open, Frame)>, here: Open, stages: Vec<Simple>, simple: Simple, word: Word) -> Result<Option<State>, AllocError>
-    ensures { StepsTo result (Reader.add_word (stack_view stack) (open_view here) (stages_view stages) (simple_view simple) (word_view word)) }
+pub fn add_word(
+    stack: Vec<(Open, Frame)>,
+    here: Open,
+    stages: Vec<Simple>,
+    simple: Simple,
+    word: Word,
+) -> Result<Option<State>, AllocError>
+    ensures { StepsTo result
+        (Reader.add_word (stack_view stack) (open_view here) (stages_view stages)
+            (simple_view simple) (word_view word)) }
 {
     let class = class_of(&word);
     match simple {
@@ -63,30 +80,54 @@ pub fn add_word(stack: Vec<(Open, Frame)>, here: Open, stages: Vec<Simple>, simp
                 return Ok(None);
             }
             words.push(word)?;
-            Ok(Some(State { stack, here, place: Place::Within(stages, Simple::Assignments(words)) }))
+            Ok(Some(State {
+                stack,
+                here,
+                place: Place::Within(stages, Simple::Assignments(words)),
+            }))
         }
         Simple::Command(mut items) => {
             if no_argument(&items) && !is_ordinary(class) {
                 return Ok(None);
             }
             items.push(Item::Argument(word))?;
-            Ok(Some(State { stack, here, place: Place::Within(stages, Simple::Command(items)) }))
+            Ok(Some(State {
+                stack,
+                here,
+                place: Place::Within(stages, Simple::Command(items)),
+            }))
         }
     }
 }
 
-pub fn at_within(alloc: Global, stack: Vec<(Open, Frame)>, here: Open, mut stages: Vec<Simple>, simple: Simple, token: Token) -> Result<Option<State>, AllocError>
-    ensures { StepsTo result (Reader.step_at (stack_view stack) (open_view here) (Reader.within (stages_view stages) (simple_view simple)) (token_view token)) }
+pub fn at_within(
+    alloc: Global,
+    stack: Vec<(Open, Frame)>,
+    here: Open,
+    mut stages: Vec<Simple>,
+    simple: Simple,
+    token: Token,
+) -> Result<Option<State>, AllocError>
+    ensures { StepsAt stack here
+        (Reader.within (stages_view stages) (simple_view simple)) token result }
 {
     match token {
         Token::Word(word) => add_word(stack, here, stages, simple, word),
         Token::Redirection(direction) => match simple {
             Simple::Assignments(_) => Ok(None),
-            Simple::Command(items) => Ok(Some(State { stack, here, place: Place::Target(stages, items, direction) })),
+            Simple::Command(items) => Ok(Some(State {
+                stack,
+                here,
+                place: Place::Target(stages, items, direction),
+            })),
         },
         Token::Bar => {
             stages.push(simple)?;
-            Ok(Some(State { stack, here, place: Place::Piped(stages) }))
+            Ok(Some(State {
+                stack,
+                here,
+                place: Place::Piped(stages),
+            }))
         }
         Token::Semicolon => {
             stages.push(simple)?;
@@ -94,25 +135,49 @@ pub fn at_within(alloc: Global, stack: Vec<(Open, Frame)>, here: Open, mut stage
         }
         Token::Connector(connector) => {
             stages.push(simple)?;
-            go_on(alloc, stack, here, pipe(stages), Token::Connector(connector))
+            go_on(
+                alloc,
+                stack,
+                here,
+                pipe(stages),
+                Token::Connector(connector),
+            )
         }
     }
 }
 
-pub fn at_target(stack: Vec<(Open, Frame)>, here: Open, stages: Vec<Simple>, mut items: Vec<Item>, direction: Direction, token: Token) -> Result<Option<State>, AllocError>
-    ensures { StepsTo result (Reader.step_at (stack_view stack) (open_view here) (Reader.target (stages_view stages) (items_view items) direction) (token_view token)) }
+pub fn at_target(
+    stack: Vec<(Open, Frame)>,
+    here: Open,
+    stages: Vec<Simple>,
+    mut items: Vec<Item>,
+    direction: Direction,
+    token: Token,
+) -> Result<Option<State>, AllocError>
+    ensures { StepsAt stack here
+        (Reader.target (stages_view stages) (items_view items) direction) token result }
 {
     match token {
         Token::Word(word) => {
             items.push(Item::Redirect(direction, word))?;
-            Ok(Some(State { stack, here, place: Place::Within(stages, Simple::Command(items)) }))
+            Ok(Some(State {
+                stack,
+                here,
+                place: Place::Within(stages, Simple::Command(items)),
+            }))
         }
         Token::Semicolon | Token::Bar | Token::Connector(_) | Token::Redirection(_) => Ok(None),
     }
 }
 
-pub fn at_piped(alloc: Global, stack: Vec<(Open, Frame)>, here: Open, stages: Vec<Simple>, token: Token) -> Result<Option<State>, AllocError>
-    ensures { StepsTo result (Reader.step_at (stack_view stack) (open_view here) (Reader.piped (stages_view stages)) (token_view token)) }
+pub fn at_piped(
+    alloc: Global,
+    stack: Vec<(Open, Frame)>,
+    here: Open,
+    stages: Vec<Simple>,
+    token: Token,
+) -> Result<Option<State>, AllocError>
+    ensures { StepsAt stack here (Reader.piped (stages_view stages)) token result }
 {
     match token {
         Token::Word(word) => {

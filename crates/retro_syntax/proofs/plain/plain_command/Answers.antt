@@ -1,6 +1,4 @@
-use Rattle.std.proofs.Common.{◌≡◌, None, Some, option_map, map, sym, ap, ◌∙◌, refl}
-use Rattle.retro_syntax.specs.Plain as Plain
-use Rattle.retro_syntax.specs.View.{view}
+use Rattle.std.proofs.Common.{sym, refl}
 use Rattle.retro_syntax.proofs.ViewLemmas.{view_pipe, view_if, view_if_else, view_for}
 use Rattle.retro_syntax.proofs.plain.plain_command.Goals as goal
 

@@ -1,4 +1,4 @@
-use Rattle.std.proofs.Common.{◌≡◌, map, length, Some, []}
+use Rattle.std.proofs.Common.{◌≡◌, length, Some, []}
 use Rattle.retro_syntax.specs.Quoting as L
 use Rattle.retro_syntax.specs.QuotingViews.{lexing_view}
 use Rattle.retro_syntax.proofs.quoting.lex.Given as goal

@@ -1,4 +1,4 @@
-use Rattle.std.proofs.Common.{◌≡◌, map, length}
+use Rattle.std.proofs.Common.{◌≡◌, length}
 use Rattle.retro_syntax.specs.Words as M
 use Rattle.retro_syntax.proofs.words.goes_on_assignment.Given as goal
 

@@ -1,8 +1,5 @@
-use Rattle.std.proofs.Common.{rules, ◌≡◌, ◌∷◌, ◌++◌, [], map, Some, None, sym, ap, ◌∙◌, refl, false, arith}
-use Rattle.retro_syntax.specs.Tree as T
-use Rattle.retro_syntax.specs.Reader as M
-use Rattle.retro_syntax.specs.View.{view, commands_of, and_or_of}
-use Rattle.retro_syntax.specs.ReaderViews.{open_view}
+use Rattle.std.proofs.Common.{◌≡◌, [], map, sym, false, arith}
+use Rattle.retro_syntax.specs.View.{view, and_or_of}
 use Rattle.retro_syntax.proofs.ReaderLemmas.{all_closed-listed, map-push, nil_from_length}
 use Rattle.retro_syntax.proofs.reader.lists.may_end.Goals as goal
 
