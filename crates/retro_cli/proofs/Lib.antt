@@ -1,2 +1,3 @@
 pub mod GivenLemmas
 pub mod NumberLemmas
+pub mod ReplayLemmas

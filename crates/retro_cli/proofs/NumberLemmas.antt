@@ -64,7 +64,7 @@ regroup : (front : List ℕ) (n : ℕ) (o : Option (List ℕ)) → with_front fr
 regroup front n (Some ns) = ap (λ (zs : List ℕ). Some zs) (simp append_assoc)
 regroup front n None = refl
 
-at_item : {A D : Type 0} (va : A → D) (items : List A) (i : ℕ) (d : A) → i < length items
+pub at_item : {A D : Type 0} (va : A → D) (items : List A) (i : ℕ) (d : A) → i < length items
     → map va (drop i items) ≡ va (get_or items i d) ∷ map va (drop (i + 1) items)
 at_item va items i d lt =
     let here : drop i items ≡ get_or items i d ∷ drop (i + 1) items = drop-cons items i d lt ∙ rw (add-one i) refl in
