@@ -1,5 +1,6 @@
 -- The whole tests of trees, sessions and states.
-use Rattle.std.proofs.Common.{◌≡◌, ◌≤◌, ℕ, true, nat_le, length, List, [], ◌∷◌, Option, Some, None, refl, sym, ap, ◌∙◌, arith}
+use Rattle.std.proofs.Common.{◌≡◌, ◌≤◌, ℕ, Bool, true, nat_le, length, List, [], ◌∷◌, Option, Some, None, refl, sym, ap, ◌∙◌, arith}
+use Rattle.std.specs.Prelude.{IsTrue, ◌↔◌}
 use Rattle.std.proofs.lemmas.Bool.{leb-true, le-leb}
 use Rattle.std.specs.Ordering.{nat_cmp}
 use Rattle.std.specs.Cmp.{nat_cmp_total}
@@ -115,3 +116,13 @@ pub ruleset whole_tree = (tree_from_test, test_from_tree)
 pub ruleset whole_state = (state_from_test, test_from_state)
 
 pub ruleset whole_limits = (limits_from_test, test_from_limits, limits_of_lawful)
+
+-- ---- each test and what it tells, as the code's clauses say it
+pub tree_exact : (b : Bool) (tree : Tree) → b ≡ is_lawful_tree tree → IsTrue b ↔ IsLawfulTree tree
+tree_exact b tree e = (λ t. tree_from_test tree (sym e ∙ t), λ l. e ∙ test_from_tree tree l)
+
+pub limits_exact : (b : Bool) (s : State) → b ≡ within_limits s → IsTrue b ↔ IsWithinLimits s
+limits_exact b s e = (λ t. limits_from_test s (sym e ∙ t), λ l. e ∙ test_from_limits s l)
+
+pub state_exact : (b : Bool) (s : State) → b ≡ is_lawful s → IsTrue b ↔ IsLawful s
+state_exact b s e = (λ t. state_from_test s (sym e ∙ t), λ l. e ∙ test_from_state s l)

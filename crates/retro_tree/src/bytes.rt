@@ -19,6 +19,7 @@ impl Model for Bytes {
 }
 
 impl Bytes {
+    /// Adds bytes at the end, in place. After want of memory the bytes are as before.
     pub fn extend(&mut self, more: &Bytes) -> Result<(), AllocError>
         ensures ok { OnOk result (self.new ≡ self.old ++ more.now) }
         ensures err { OnErr result (self.new ≡ self.old) }
@@ -26,24 +27,28 @@ impl Bytes {
         self.items.extend_from_slice(more.items.as_slice())
     }
 
+    /// How many bytes there are.
     pub fn len(&self) -> usize
         ensures { result ≡ length self.now }
     {
         self.items.len()
     }
 
+    /// The same bytes once more.
     pub fn copy(&self) -> Result<Bytes, AllocError>
         ensures { IfOk result (λ copy. copy ≡ self.now) }
     {
         self.clone()
     }
 
+    /// The bytes of a vector. Takes no memory.
     pub fn of(items: Vec<u8>) -> Bytes
         ensures { result ≡ items.items }
     {
         Bytes { items }
     }
 
+    /// The vector of the bytes. Takes no memory.
     pub fn into_vec(self) -> Vec<u8>
         ensures { result.items ≡ self }
     {
@@ -51,6 +56,7 @@ impl Bytes {
         items
     }
 
+    /// The bytes as a slice.
     pub fn as_slice(&self) -> &[u8]
         ensures { result.now ≡ self.now }
     {

@@ -1,8 +1,9 @@
 //! Paths: the names from the root down to a file or directory.
-ghost use Rattle.std.specs.Prelude.{◌≡◌, ◌++◌, ◌∷◌, [], IfOk, OnOk, MatchOption, string_bytes, false, length, ◌-◌, take, map};
+ghost use Rattle.std.specs.Prelude.{◌≡◌, ◌++◌, ◌∷◌, [], IfOk, OnOk, OnErr, MatchOption, string_bytes, false, length, ◌-◌, take, map};
 ghost use Rattle.std.specs.List.{list_all};
+ghost use Rattle.std.specs.Option.{option_copied};
 ghost use Rattle.retro_tree.specs.Name.{is_name, AllNames};
-ghost use Rattle.retro_tree.specs.Path.{parent_of, may_stand, is_null, is_root};
+ghost use Rattle.retro_tree.specs.Path.{parent_of, last_of, may_stand, is_null, is_root};
 ghost use Rattle.retro_tree.specs.Resolving.{step};
 
 use crate::name::Name;
@@ -29,6 +30,7 @@ impl Model for Path {
 }
 
 impl Path {
+    /// The path of the root, which has no names.
     pub fn root(alloc: Global) -> Path
         ensures { result ≡ [] }
     {
@@ -37,7 +39,8 @@ impl Path {
         }
     }
 
-    /// The path of these names, where each may be one.
+    /// The path of these names, from the root down, where each may be one: 1 to 255 bytes,
+    /// without slash, not `.` or `..`. Takes the time of their length.
     pub fn of(alloc: Global, texts: Vec<String>) -> Result<Option<Path>, AllocError>
         ensures { IfOk result (λ found. MatchOption found
             (list_all is_name (map string_bytes texts.items) ≡ false)
@@ -59,6 +62,14 @@ impl Path {
         ensures names { AllNames self.now }
     {
         self.names.as_slice()
+    }
+
+    /// The last name, which the root alone hasn't.
+    #[tactic(auto, using(crate::proofs::Parents::get_last))]
+    pub fn last(&self) -> Option<&Name>
+        ensures { option_copied result ≡ last_of self.now }
+    {
+        self.names.last()
     }
 
     /// The directory of this path. The root is its own.
@@ -91,10 +102,12 @@ impl Path {
         Ok(Path { names })
     }
 
-    /// Goes down to a name, or up at two dots.
+    /// Goes down to a name, or up at two dots. An empty part and a dot stay. After want of memory
+    /// the path is as before.
     #[tactic(auto, unfolding(crate::specs::Resolving::step), using(crate::proofs::Parents::take_is_parent))]
-    pub fn enter(&mut self, alloc: Global, part: &str) -> Result<(), AllocError>
-        ensures { OnOk result (self.new ≡ step self.old part.now) }
+    pub(crate) fn enter(&mut self, alloc: Global, part: &str) -> Result<(), AllocError>
+        ensures ok { OnOk result (self.new ≡ step self.old part.now) }
+        ensures err { OnErr result (self.new ≡ self.old) }
     {
         if part == ".." {
             self.names.pop();
@@ -107,6 +120,7 @@ impl Path {
         Ok(())
     }
 
+    /// Whether this is the root.
     pub fn is_root(&self) -> bool
         ensures { result ≡ is_root self.now }
     {
@@ -136,6 +150,7 @@ impl Path {
         }
     }
 
+    /// The same path once more.
     pub fn copy(&self) -> Result<Path, AllocError>
         ensures { IfOk result (λ copy. copy ≡ self.now) }
     {

@@ -1,12 +1,12 @@
 //! A tree and its sessions.
-ghost use Rattle.std.specs.Prelude.{◌≡◌, IfOk, OnOk, OnErr};
+ghost use Rattle.std.specs.Prelude.{◌≡◌, ◌↔◌, IfOk, IsTrue, OnOk, OnErr};
 ghost use Rattle.std.specs.Option.{option_copied};
 ghost use Rattle.std.specs.FinMap as map;
 ghost use Rattle.retro_tree.specs.Node.{bytes_in, kind_of};
 ghost use Rattle.retro_tree.specs.Tree.{node_in};
 ghost use Rattle.retro_tree.specs.Session.{session_in};
-ghost use Rattle.retro_tree.specs.Limits.{within_limits};
-ghost use Rattle.retro_tree.specs.Lawful.{is_lawful};
+ghost use Rattle.retro_tree.specs.Limits.{IsWithinLimits, within_limits};
+ghost use Rattle.retro_tree.specs.Lawful.{IsLawful, is_lawful};
 ghost use Rattle.retro_tree.specs.State.{empty_state, put_node, grow_file, put_session, put_status, permit_of};
 
 use crate::bytes::Bytes;
@@ -40,6 +40,7 @@ impl State {
         })
     }
 
+    /// The same state once more.
     pub fn copy(&self) -> Result<State, AllocError>
         ensures { IfOk result (λ copy. copy ≡ self.now) }
     {
@@ -84,7 +85,8 @@ impl State {
         self.tree.grow(path, bytes)
     }
 
-    /// Adds a session, or puts another in its place.
+    /// Adds a session, or puts it in the place of the one with its number. After want of memory
+    /// the state is as before.
     pub fn add_session(
         &mut self,
         sid: u32,
@@ -106,7 +108,7 @@ impl State {
     }
 
     /// Sets the status of a session. One that isn't there is made first: at the root, without
-    /// variables.
+    /// variables. After want of memory the state is as before.
     pub fn set_status(&mut self, alloc: Global, sid: u32, status: u8) -> Result<(), AllocError>
         ensures ok { OnOk result (self.new ≡ put_status sid status self.old) }
         ensures err { OnErr result (self.new ≡ self.old) }
@@ -162,16 +164,31 @@ impl State {
     }
 
     /// Whether the state is within the limits: each file, the values of variables, statuses.
-    #[tactic(auto, unfolding(crate::specs::Limits::within_limits))]
     pub fn is_within_limits(&self) -> bool
+        ensures value { result ≡ within_limits self.now }
+        ensures exact { IsTrue result ↔ IsWithinLimits self.now }
+    {
+        self.passes_limits()
+    }
+
+    #[tactic(auto, unfolding(crate::specs::Limits::within_limits))]
+    fn passes_limits(&self) -> bool
         ensures { result ≡ within_limits self.now }
     {
         self.tree.fits() && self.sessions.are_lawful()
     }
 
-    /// Whether the state is lawful.
-    #[tactic(auto, unfolding(crate::specs::Lawful::is_lawful))]
+    /// Whether the state is lawful: the root is a directory, as is the parent of each other path,
+    /// nothing stands at `/dev/null` or below it, and the state is within the limits.
     pub fn is_lawful(&self, alloc: Global) -> Result<bool, AllocError>
+        ensures value { IfOk result (λ lawful. lawful ≡ is_lawful self.now) }
+        ensures exact { IfOk result (λ lawful. IsTrue lawful ↔ IsLawful self.now) }
+    {
+        Ok(self.passes_law(alloc)?)
+    }
+
+    #[tactic(auto, unfolding(crate::specs::Lawful::is_lawful))]
+    fn passes_law(&self, alloc: Global) -> Result<bool, AllocError>
         ensures { IfOk result (λ lawful. lawful ≡ is_lawful self.now) }
     {
         Ok(self.tree.is_lawful(alloc)? && self.sessions.are_lawful())
