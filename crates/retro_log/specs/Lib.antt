@@ -9,3 +9,4 @@ pub mod SessionsPart
 pub mod LinesPart
 pub mod Document
 pub mod Views
+pub mod Values

@@ -3,6 +3,8 @@
 
 mod fault;
 mod reading;
+mod values;
 
 pub use fault::{LogFault, Part, Refusal};
 pub use reading::read_script;
+pub use values::{hex_value, sessions_value, tree_value};
