@@ -1,6 +1,7 @@
 //! Scripts.
-ghost use Rattle.std.specs.Prelude.{◌≡◌, ◌≢◌, IfOk, IfErr, Ok, Err};
+ghost use Rattle.std.specs.Prelude.{◌≡◌, ◌≢◌, IsTrue, IfOk, IfErr, Ok, Err};
 ghost use Rattle.std.specs.List.{list_all};
+ghost use Rattle.retro_tree.specs.Lawful.{is_lawful};
 ghost use Rattle.retro_keep.specs.Script.{rises_from, has_session, script_of, IsScript};
 ghost use Rattle.retro_keep.specs.declared.script.ScriptFault.TheVariants.{NoMem};
 
@@ -69,11 +70,7 @@ impl Script {
     /// The script of these parts. The refusals are judged in the order limits, law of the tree,
     /// numbers, sessions; want of memory may come in place of any answer.
     #[tactic(auto, unfolding(crate::specs::Script::script_of))]
-    pub fn new(
-        alloc: Global,
-        first: State,
-        lines: Vec<ScriptLine>,
-    ) -> Result<Script, ScriptFault>
+    pub fn new(alloc: Global, first: State, lines: Vec<ScriptLine>) -> Result<Script, ScriptFault>
         ensures ok { IfOk result (λ script. script_of first lines.items ≡ Ok script) }
         ensures err { IfErr result (λ e. e ≢ NoMem → script_of first lines.items ≡ Err e) }
     {
@@ -94,8 +91,9 @@ impl Script {
 
     /// The script of parts that are known to make one.
     pub fn of_parts(first: State, lines: Vec<ScriptLine>) -> Script
-        requires { script_of first lines.items
-            ≡ Ok (record { first = first; lines = lines.items }) }
+        requires lawful { IsTrue (is_lawful first) }
+        requires rising { IsTrue (rises_from 0 lines.items) }
+        requires known { IsTrue (list_all (has_session first) lines.items) }
         ensures { result ≡ record { first = first; lines = lines.items } }
     {
         Script { first, lines }

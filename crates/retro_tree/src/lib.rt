@@ -1,4 +1,15 @@
-//! The state that a recording speaks of: a tree of files and the sessions that work in it.
+//! The state of a machine: a tree of files, and the sessions that work in it.
+//!
+//! A state is made by `State::empty`, `State::place` and `State::add_session`, lawful or not, and
+//! read and changed by its methods. Each of them says exactly what it answers or leaves, in terms
+//! of two finite maps: from paths to directories and files, and from numbers to sessions. After
+//! want of memory, which is `NoMem`, a state is as before.
+//!
+//! `State::is_lawful` is true exactly where the root is a directory, the parent of each other path
+//! is one, nothing stands at `/dev/null` or below it, and the state is within the limits. A write
+//! that `State::permit` allows, anywhere but at `/dev/null`, keeps a lawful state lawful.
+//!
+//! `resolve` gives the path that a text names from a directory, by the text alone.
 #![tactic(auto)]
 
 mod bytes;
@@ -9,6 +20,8 @@ mod path;
 mod resolving;
 mod session;
 mod state;
+#[cfg(test)]
+mod tests;
 mod text;
 mod tree;
 mod var_name;
@@ -24,7 +37,9 @@ pub use path::Path;
 pub use resolving::{Resolved, resolve};
 pub use session::{Session, Sessions, VALUE_LIMIT, Vars};
 pub use state::State;
-pub use std::alloc::AllocError as NoMem;
 pub use text::Text;
 pub use tree::Tree;
 pub use var_name::VarName;
+
+/// Memory was wanted and refused.
+pub use std::alloc::AllocError as NoMem;

@@ -18,7 +18,7 @@ fn is_name(text: &str) -> bool
         && !(text == "." || text == "..")
 }
 
-/// The name of a file.
+/// The name of a file: 1 to 255 bytes, without slash, not `.` or `..`. It may have a NUL.
 #[derive(Drop, Clone, PartialEq, Eq, PartialOrd, Ord)]
 pub struct Name {
     text: Text,
@@ -54,6 +54,7 @@ impl Name {
         }
     }
 
+    /// The name as a text.
     pub fn as_str(&self) -> &str
         ensures value { result.now ≡ self.now }
         ensures name { IsTrue (is_name self.now) }
@@ -61,6 +62,7 @@ impl Name {
         self.text.as_str()
     }
 
+    /// The same name once more.
     pub fn copy(&self) -> Result<Name, AllocError>
         ensures { IfOk result (λ copy. copy ≡ self.now) }
     {

@@ -11,21 +11,27 @@ pub const FILE_LIMIT: u64 = 1_048_576;
 /// What is at a path.
 #[derive(Drop, Clone)]
 pub enum Node {
+    /// Nothing is there.
     Missing,
+    /// A directory.
     Dir,
+    /// A file with its bytes.
     File(Bytes),
 }
 
 /// Which kind of node is at a path.
-#[derive(Drop, Clone, Copy, PartialEq, Eq)]
+#[derive(Drop, Clone, Copy, PartialEq, Eq, Debug)]
 pub enum Kind {
+    /// Nothing is there.
     Missing,
+    /// A directory.
     Dir,
+    /// A file.
     File,
 }
 
 /// Whether bytes may be written to a file, or what stands against it.
-#[derive(Drop, Clone, Copy, PartialEq, Eq)]
+#[derive(Drop, Clone, Copy, PartialEq, Eq, Debug)]
 pub enum Permit {
     /// They may be written.
     Yes,
@@ -39,16 +45,19 @@ pub enum Permit {
     TooLarge,
 }
 
-/// What a tree holds at a path.
+/// What a tree holds at a path: it holds nothing at one that is missing.
 #[derive(Drop, Clone)]
 pub enum Entry {
+    /// A directory.
     Dir,
+    /// A file with its bytes.
     File(Bytes),
 }
 
 impl Entry {
-    /// Adds bytes at the end of a file. A directory stays.
-    pub fn grow(&mut self, bytes: &Bytes) -> Result<(), AllocError>
+    /// Adds bytes at the end of a file. A directory stays. After want of memory the entry is as
+    /// before.
+    pub(crate) fn grow(&mut self, bytes: &Bytes) -> Result<(), AllocError>
         ensures ok { OnOk result (self.new ≡ entry_grown bytes.now self.old) }
         ensures err { OnErr result (self.new ≡ self.old) }
     {
@@ -59,7 +68,7 @@ impl Entry {
     }
 
     /// Whether a file is within the limit, as a directory always is.
-    pub fn fits(&self) -> bool
+    pub(crate) fn fits(&self) -> bool
         ensures { result ≡ nat_le (size_of (node_of (Some self.now))) file_limit }
     {
         match self {

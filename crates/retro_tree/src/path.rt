@@ -105,7 +105,7 @@ impl Path {
     /// Goes down to a name, or up at two dots. An empty part and a dot stay. After want of memory
     /// the path is as before.
     #[tactic(auto, unfolding(crate::specs::Resolving::step), using(crate::proofs::Parents::take_is_parent))]
-    pub fn enter(&mut self, alloc: Global, part: &str) -> Result<(), AllocError>
+    pub(crate) fn enter(&mut self, alloc: Global, part: &str) -> Result<(), AllocError>
         ensures ok { OnOk result (self.new ≡ step self.old part.now) }
         ensures err { OnErr result (self.new ≡ self.old) }
     {

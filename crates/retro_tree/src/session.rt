@@ -37,7 +37,8 @@ impl Model for Vars {
 }
 
 impl Vars {
-    pub fn new(alloc: Global) -> Vars
+    /// No variables.
+    pub(crate) fn new(alloc: Global) -> Vars
         ensures { result ≡ map.empty }
     {
         Vars {
@@ -45,12 +46,14 @@ impl Vars {
         }
     }
 
-    pub fn of(values: BTreeMap<VarName, Text>) -> Vars
+    /// The variables of a map.
+    pub(crate) fn of(values: BTreeMap<VarName, Text>) -> Vars
         ensures { result ≡ map.from_entries values.entries }
     {
         Vars { values }
     }
 
+    /// The value of a variable, where it is set.
     pub fn get(&self, name: &VarName) -> Option<&Text>
         ensures { option_copied result ≡ map.get self.now name.now }
     {
@@ -81,8 +84,11 @@ impl Vars {
 /// A session: its directory, its variables and the status of its last line.
 #[derive(Drop, Clone)]
 pub struct Session {
+    /// The directory that relative paths are resolved from. It needn't be there.
     pub cwd: Path,
+    /// The variables that are set.
     pub vars: Vars,
+    /// The status of the last line.
     pub status: u8,
 }
 
@@ -107,7 +113,8 @@ impl Model for Sessions {
 }
 
 impl Sessions {
-    pub fn new(alloc: Global) -> Sessions
+    /// No sessions.
+    pub(crate) fn new(alloc: Global) -> Sessions
         ensures { result ≡ map.empty }
     {
         Sessions {
@@ -115,6 +122,7 @@ impl Sessions {
         }
     }
 
+    /// The session with a number, where it is there.
     pub fn get(&self, sid: u32) -> Option<&Session>
         ensures { option_copied result ≡ map.get self.now sid }
     {
@@ -173,7 +181,7 @@ impl Sessions {
 impl Session {
     /// At the root, without variables, with status 0.
     #[tactic(auto, unfolding(crate::specs::Session::fresh_session))]
-    pub fn fresh(alloc: Global) -> Session
+    pub(crate) fn fresh(alloc: Global) -> Session
         ensures { result ≡ fresh_session }
     {
         Session {
@@ -183,7 +191,8 @@ impl Session {
         }
     }
 
-    /// Whether the values of the variables are within the limit, as the status always is.
+    /// Whether the status and the values of the variables are within the limits. A status is a
+    /// byte, so it always is.
     fn fits(&self) -> bool
         ensures { result ≡ nat_le self.now.status 255 && values_fit self.now.vars }
     {

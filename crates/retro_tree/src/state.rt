@@ -40,6 +40,7 @@ impl State {
         })
     }
 
+    /// The same state once more.
     pub fn copy(&self) -> Result<State, AllocError>
         ensures { IfOk result (λ copy. copy ≡ self.now) }
     {
@@ -84,7 +85,8 @@ impl State {
         self.tree.grow(path, bytes)
     }
 
-    /// Adds a session, or puts another in its place.
+    /// Adds a session, or puts it in the place of the one with its number. After want of memory
+    /// the state is as before.
     pub fn add_session(
         &mut self,
         sid: u32,
@@ -106,7 +108,7 @@ impl State {
     }
 
     /// Sets the status of a session. One that isn't there is made first: at the root, without
-    /// variables.
+    /// variables. After want of memory the state is as before.
     pub fn set_status(&mut self, alloc: Global, sid: u32, status: u8) -> Result<(), AllocError>
         ensures ok { OnOk result (self.new ≡ put_status sid status self.old) }
         ensures err { OnErr result (self.new ≡ self.old) }

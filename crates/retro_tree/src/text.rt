@@ -20,25 +20,28 @@ impl Model for Text {
 }
 
 impl Text {
+    /// The same text once more.
     pub fn copy(&self) -> Result<Text, AllocError>
         ensures { IfOk result (λ copy. copy ≡ self.now) }
     {
         self.clone()
     }
 
+    /// The text of a string. Takes no memory.
     pub fn of(text: String) -> Text
         ensures { result ≡ string_bytes text }
     {
         Text { text }
     }
 
+    /// The bytes of the text, in UTF-8.
     pub fn bytes(&self) -> &[u8]
         ensures { result.now ≡ self.now }
     {
         self.text.as_bytes()
     }
 
-    /// The text as std's own string. Takes no memory.
+    /// The string of the text. Takes no memory.
     pub fn into_string(self) -> String
         ensures { string_bytes result ≡ self }
     {
@@ -46,6 +49,7 @@ impl Text {
         text
     }
 
+    /// The text as std's own.
     pub fn as_str(&self) -> &str
         ensures { result.now ≡ self.now }
     {

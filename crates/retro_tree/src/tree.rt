@@ -36,7 +36,8 @@ impl Model for Tree {
 }
 
 impl Tree {
-    pub fn new(alloc: Global) -> Tree
+    /// The tree in which nothing is, not even a root.
+    pub(crate) fn new(alloc: Global) -> Tree
         ensures { result ≡ map.empty }
     {
         Tree {
@@ -44,13 +45,15 @@ impl Tree {
         }
     }
 
+    /// What the tree holds at a path, where something is.
     pub fn get(&self, path: &Path) -> Option<&Entry>
         ensures { option_copied result ≡ map.get self.now path.now }
     {
         self.entries.get(path)
     }
 
-    pub fn insert(&mut self, path: Path, entry: Entry) -> Result<(), AllocError>
+    /// Puts an entry at a path, in the place of one that is there.
+    pub(crate) fn insert(&mut self, path: Path, entry: Entry) -> Result<(), AllocError>
         ensures ok { OnOk result (self.new ≡ map.insert self.old path entry) }
         ensures err { OnErr result (self.new ≡ self.old) }
     {
@@ -58,26 +61,28 @@ impl Tree {
         Ok(())
     }
 
-    pub fn remove(&mut self, path: &Path)
+    /// Takes away what is at a path, where something is.
+    pub(crate) fn remove(&mut self, path: &Path)
         ensures { self.new ≡ map.remove self.old path.now }
     {
         self.entries.remove(path);
     }
 
-    /// What the tree holds, in order of paths.
+    /// What the tree holds, in order of paths: by their names, and those by their bytes.
     pub fn iter(&self) -> Iter<'_, Path, Entry>
         ensures { result ≡ map.entries self.now }
     {
         self.entries.iter()
     }
 
+    /// The same tree once more.
     pub fn copy(&self) -> Result<Tree, AllocError>
         ensures { IfOk result (λ copy. copy ≡ self.now) }
     {
         self.clone()
     }
 
-    /// What is at a path.
+    /// What is at a path, copied.
     #[tactic(auto, unfolding(crate::specs::Tree::node_in))]
     pub fn node(&self, path: &Path) -> Result<Node, AllocError>
         ensures { IfOk result (λ node. node ≡ node_in path.now self.now) }
@@ -89,6 +94,7 @@ impl Tree {
         }
     }
 
+    /// Which kind of node is at a path.
     #[tactic(auto, unfolding(crate::specs::Tree::node_in))]
     pub fn kind(&self, path: &Path) -> Kind
         ensures { result ≡ kind_of (node_in path.now self.now) }
@@ -113,7 +119,7 @@ impl Tree {
 
     /// How many bytes the file at a path has, or 0 where none is.
     #[tactic(auto, unfolding(crate::specs::Tree::node_in))]
-    pub fn size(&self, path: &Path) -> usize
+    fn size(&self, path: &Path) -> usize
         ensures { result ≡ size_of (node_in path.now self.now) }
     {
         match self.get(path) {
@@ -122,8 +128,9 @@ impl Tree {
         }
     }
 
-    /// Whether so many bytes more may be written to a file.
-    pub fn permit(&self, path: &Path, parent: &Path, more: u64) -> Permit
+    /// Whether so many bytes more may be written to the file at a path, by what is there and at
+    /// its parent.
+    pub(crate) fn permit(&self, path: &Path, parent: &Path, more: u64) -> Permit
         ensures { result ≡ permit_at (node_in path.now self.now) (node_in parent.now self.now) more }
     {
         if self.kind(path) == Kind::Dir {
@@ -142,8 +149,8 @@ impl Tree {
         }
     }
 
-    /// Adds bytes at the end of a file. A missing file is made, and a directory stays.
-    pub fn grow(&mut self, path: &Path, bytes: &Bytes) -> Result<(), AllocError>
+    /// Adds bytes at the end of a file, in place. A missing file is made, and a directory stays.
+    pub(crate) fn grow(&mut self, path: &Path, bytes: &Bytes) -> Result<(), AllocError>
         ensures ok { OnOk result (self.new ≡ put path.now (grown bytes.now (node_in path.now self.old)) self.old) }
         ensures err { OnErr result (self.new ≡ self.old) }
     {
@@ -168,7 +175,8 @@ impl Tree {
         true
     }
 
-    /// Whether the root is a directory and all that stands in the tree may stand there.
+    /// Whether the tree is lawful: the root is a directory, as is the parent of each other path,
+    /// nothing stands at `/dev/null` or below it, and each file is within the limit.
     #[tactic(auto, unfolding(crate::specs::Lawful::is_lawful_tree))]
     pub fn is_lawful(&self, alloc: Global) -> Result<bool, AllocError>
         ensures { IfOk result (λ lawful. lawful ≡ is_lawful_tree self.now) }
@@ -185,6 +193,7 @@ impl Tree {
         Ok(true)
     }
 
+    /// Whether what stands at a path may stand there.
     #[tactic(auto, unfolding(crate::specs::Lawful::entry_passes))]
     fn entry_passes(&self, alloc: Global, path: &Path, entry: &Entry) -> Result<bool, AllocError>
         ensures { IfOk result (λ passes. passes ≡ entry_passes self.now (path.now, entry.now)) }

@@ -84,6 +84,7 @@ impl VarName {
         }))
     }
 
+    /// The name as a text.
     pub fn as_str(&self) -> &str
         ensures value { result.now ≡ self.now }
         ensures name { IsTrue (is_var_name self.now) }
@@ -91,6 +92,7 @@ impl VarName {
         self.text.as_str()
     }
 
+    /// The same name once more.
     pub fn copy(&self) -> Result<VarName, AllocError>
         ensures { IfOk result (λ copy. copy ≡ self.now) }
     {

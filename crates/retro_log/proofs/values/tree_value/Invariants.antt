@@ -1,0 +1,9 @@
+use Rattle.std.proofs.Common.{◌≡◌, ◌++◌, map, filter}
+use Rattle.std.specs.FinMap.{entries}
+use Rattle.serde_json.specs.View.{view}
+use Rattle.retro_log.specs.Values.{row_data, is_listed}
+use Rattle.retro_log.proofs.values.tree_value.Given as goal
+
+abbrev pub invariant-loop-path : goal.invariant-loop-path
+invariant-loop-path l =
+    map view l.rows.items ++ map row_data (filter is_listed l.path-iterator) ≡ map row_data (filter is_listed (entries l.state.tree))

@@ -1,0 +1,12 @@
+pub mod Numbers
+pub mod ReadsAs
+pub mod Steps
+pub mod Keyed
+pub mod Shape
+pub mod PathText
+pub mod TreePart
+pub mod SessionsPart
+pub mod LinesPart
+pub mod Document
+pub mod Views
+pub mod Values

@@ -1,0 +1,44 @@
+-- Paths as documents write them: `/a/b`, and `/` for the root.
+use Rattle.std.specs.Prelude.{ℕ, ◌==◌, List, [], ◌∷◌, length, Bool, not, ◌&&◌, ◌||◌, Option, Some, None, Result, Ok, nat_le, bytes_eq, codes, if◌then◌else◌, ok_or, option_map}
+use Rattle.std.specs.List.{list_all, list_any, slice_split}
+use Rattle.serde_json.specs.Data.{Data}
+use Rattle.retro_tree.specs.Path.{PathValue}
+use Rattle.retro_log.specs.declared.fault.Part.{Part}
+use Rattle.retro_log.specs.declared.fault.Refusal.{Refusal}
+use Rattle.retro_log.specs.declared.fault.Refusal.TheVariants.{WrongShape}
+use Rattle.retro_log.specs.Steps.{◌>>=◌}
+use Rattle.retro_log.specs.Shape.{Text, text_in}
+
+-- a name as it may be written: not empty, neither `.` nor `..`, without slash and NUL
+unfoldable pub is_written_name : Text → Bool
+is_written_name name =
+    not (length name == 0) && not (bytes_eq name (codes ".") || bytes_eq name (codes "..")) && not (list_any (λ b. b == 47) name) && not (list_any (λ b. b == 0) name)
+
+-- the names after the first slash, by what stands between the slashes: an empty part alone is the root's
+abbrev pub names_after : Text → List Text → Option (List Text)
+names_after part parts =
+    if length part == 0 && length parts == 0 then Some [] else if list_all is_written_name (part ∷ parts) then Some (part ∷ parts) else None
+
+-- the names, by what stands before, between and after the slashes: nothing before the first
+abbrev pub names_of_parts : List Text → Option (List Text)
+names_of_parts [] = None
+names_of_parts (front ∷ []) = None
+names_of_parts (front ∷ part ∷ parts) = if length front == 0 then names_after part parts else None
+
+unfoldable pub names_in : Text → Option (List Text)
+names_in text = names_of_parts (slice_split (λ b. b == 47) text)
+
+-- a name is at most 255 bytes long
+abbrev pub is_short_name : Text → Bool
+is_short_name name = nat_le (length name) 255
+
+-- the path of written names, or none where one is too long
+abbrev pub path_of : List Text → Option PathValue
+path_of names = if list_all is_short_name names then Some names else None
+
+-- what a path's text names: a path, or none where a name is too long
+unfoldable pub path_in : Part → Data → Result (Option PathValue) Refusal
+path_in part d = do
+  text ← text_in part d
+  names ← ok_or (names_in text) (WrongShape part)
+  Ok (path_of names)

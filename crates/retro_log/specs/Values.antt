@@ -1,0 +1,67 @@
+-- The JSON values that trees, sessions and bytes are written as.
+use Rattle.std.specs.Prelude.{ℕ, List, [], ◌∷◌, ◌++◌, map, filter, Bool, not}
+use Rattle.std.specs.List.{flat_map}
+use Rattle.std.specs.Ordering.{nat_cmp}
+use Rattle.std.specs.FinMap as map
+use Rattle.hex.specs.Hex.{encode_lower}
+use Rattle.serde_json.specs.Data.{Data, number, unsigned, string, array}
+use Rattle.serde_json.specs.View.{items_of}
+use Rattle.retro_tree.specs.Order.{text_cmp}
+use Rattle.retro_tree.specs.Path.{PathValue, is_root}
+use Rattle.retro_tree.specs.Tree.{Tree}
+use Rattle.retro_tree.specs.declared.node.Entry.{Entry}
+use Rattle.retro_tree.specs.declared.node.Entry.TheVariants.{Dir, File}
+use Rattle.retro_tree.specs.declared.session.Session.{Session}
+use Rattle.retro_log.specs.Shape.{Text}
+
+abbrev pub listing : List Data → Data
+listing ds = array (items_of ds)
+
+abbrev pub whole_number : ℕ → Data
+whole_number n = number (unsigned n)
+
+-- bytes, in lower case
+abbrev pub hex_data : List ℕ → Data
+hex_data bytes = string (encode_lower bytes)
+
+-- a slash before each name
+abbrev pub slashed : PathValue → Text
+slashed names = flat_map (λ name. 47 ∷ name) names
+
+-- and the root's is a slash alone
+abbrev pub path_text : PathValue → Text
+path_text [] = 47 ∷ []
+path_text (name ∷ names) = slashed (name ∷ names)
+
+-- `["/d"]` for a directory, `["/f","hex"]` for a file
+abbrev pub entry_data : Text → Entry → Data
+entry_data path Dir = listing (string path ∷ [])
+entry_data path (File bytes) = listing (string path ∷ hex_data bytes ∷ [])
+
+unfoldable pub row_data : PathValue × Entry → Data
+row_data e = entry_data (path_text e.0) e.1
+
+-- the root isn't listed
+abbrev pub is_listed : PathValue × Entry → Bool
+is_listed e = not (is_root e.0)
+
+-- in the order of paths as lists of names
+unfoldable pub tree_data : Tree → Data
+tree_data tree = listing (map row_data (filter is_listed (map.entries tree)))
+
+-- `[name,value]`
+abbrev pub var_data : Text × Text → Data
+var_data e = listing (string e.0 ∷ string e.1 ∷ [])
+
+-- in the order of names
+unfoldable pub vars_data : map.FinMap text_cmp Text → Data
+vars_data vars = listing (map var_data (map.entries vars))
+
+-- `[sid,cwd,status,[[name,value],..]]`
+unfoldable pub session_data : ℕ × Session → Data
+session_data e =
+    listing (whole_number e.0 ∷ string (path_text e.1.cwd) ∷ whole_number e.1.status ∷ vars_data e.1.vars ∷ [])
+
+-- in the order of numbers
+unfoldable pub sessions_data : map.FinMap nat_cmp Session → Data
+sessions_data sessions = listing (map session_data (map.entries sessions))

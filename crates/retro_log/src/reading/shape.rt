@@ -1,0 +1,38 @@
+//! JSON values of one shape.
+ghost use Rattle.std.specs.Prelude.{◌≡◌, map};
+ghost use Rattle.serde_json.specs.View.{view};
+ghost use Rattle.retro_log.specs.ReadsAs.{ReadsAs};
+ghost use Rattle.retro_log.specs.Shape.{cells, text_in, number_in};
+
+use crate::fault::{LogFault, Part, Refusal};
+use serde_json::Value;
+
+/// The items of an array.
+pub fn cells(part: Part, value: &Value) -> Result<&[Value], LogFault>
+    ensures { ReadsAs (λ items. map view items.now) result (cells part (view value.now)) }
+{
+    match value.as_array() {
+        Some(items) => Ok(items.as_slice()),
+        None => Err(LogFault::Refused(Refusal::WrongShape(part))),
+    }
+}
+
+/// A text.
+pub fn text(part: Part, value: &Value) -> Result<&str, LogFault>
+    ensures { ReadsAs (λ text. text.now) result (text_in part (view value.now)) }
+{
+    match value.as_str() {
+        Some(text) => Ok(text),
+        None => Err(LogFault::Refused(Refusal::WrongShape(part))),
+    }
+}
+
+/// A whole number below a limit.
+pub fn number(part: Part, limit: u64, value: &Value) -> Result<u64, LogFault>
+    ensures { ReadsAs (λ n. n) result (number_in part limit (view value.now)) }
+{
+    match value.as_u64() {
+        Some(n) if n < limit => Ok(n),
+        _ => Err(LogFault::Refused(Refusal::WrongShape(part))),
+    }
+}
