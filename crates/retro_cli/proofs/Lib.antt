@@ -1,3 +1,4 @@
+pub mod Floats
 pub mod GivenLemmas
 pub mod NumberLemmas
 pub mod ReplayLemmas

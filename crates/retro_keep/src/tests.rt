@@ -1,1 +1,0 @@
-//! Scripts of given parts.
