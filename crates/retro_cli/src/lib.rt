@@ -12,3 +12,6 @@ mod report;
 mod words;
 
 pub use program::{Exit, run_with};
+
+#[cfg(test)]
+mod tests;

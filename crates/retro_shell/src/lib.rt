@@ -13,9 +13,8 @@ mod utilities;
 
 pub use diagnostics::Reason;
 pub use line::{play, step};
+pub use std::alloc::AllocError as NoMem;
 pub use utilities::Done;
 
-pub use std::alloc::AllocError as NoMem;
-
-//cfg
-//mod tests;
+#[cfg(test)]
+mod tests;

@@ -150,7 +150,10 @@ pub(crate) fn deliver(
         Target::Terminal => {
             let mut whole = out;
             whole.extend(text.as_slice())?;
-            Ok(Printed { text: whole, status })
+            Ok(Printed {
+                text: whole,
+                status,
+            })
         }
         Target::Null => Ok(Printed { text, status }),
         Target::File(word, path) => {

@@ -9,7 +9,7 @@ step-requires-clause-session c = session_there c.loop-line.state c.args.lines.no
 pub loop-line-preserved : goal.loop-line-preserved
 loop-line-preserved c = record {
   runs = runs_on c.loop-line.state c.in_ok-next.next c.in_ok-next.text c.loop-line.outputs.items c.push.new.self.items c.args.lines.now c.loop-line.line-index c.line-item.result _
-    c.loop-line-test.true c.line-item.is (c.in_ok-next.ensures.means ∙ ap (λ t. line c.line-item.result.now.sid t c.loop-line.state) c.as_str.ensures) c.in_ok-push.ensures.items c.loop-line.invariant.runs;
+      c.loop-line-test.true c.line-item.is (c.in_ok-next.ensures.means ∙ ap (λ t. line c.line-item.result.now.sid t c.loop-line.state) c.as_str.ensures) c.in_ok-push.ensures.items c.loop-line.invariant.runs;
   lawful = c.in_ok-next.ensures.lawful;
   known = rest_there c.loop-line.state c.in_ok-next.next c.args.lines.now c.loop-line.line-index c.line-item.result c.loop-line-test.true c.line-item.is c.in_ok-next.ensures.sessions c.loop-line.invariant.known;
 }

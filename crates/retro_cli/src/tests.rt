@@ -1,0 +1,195 @@
+use crate::{Exit, run_with};
+use std::alloc::{AllocError, Global};
+use std::io;
+use std::io::{Read, Write};
+use std::test::Fail;
+
+const EMPTY: &str = r#"{"script":1,"tree":[],"sessions":[],"lines":[]}"#;
+
+const EMPTY_REPORT: &str = "{\"outputs\":[],\"sessions\":[],\"tree\":[]}\n";
+
+/// A file is written and read; the second line fails where the first is left out.
+const PAIR: &str =
+    r#"{"script":1,"tree":[],"sessions":[[1,"/",0,[]]],"lines":[[1,1,"echo a > f"],[2,1,"cat f"]]}"#;
+
+const WITHOUT_FIRST: &str = concat!(
+    r#"{"outputs":[[2,"6361743a20663a204e6f20737563682066696c65206f72206469726563746f72790a"]],"#,
+    "\"sessions\":[[1,\"/\",1,[]]],\"tree\":[]}\n"
+);
+
+const WHOLE: &str = concat!(
+    r#"{"outputs":[[1,""],[2,"610a"]],"sessions":[[1,"/",0,[]]],"tree":[["/f","610a"]]}"#,
+    "\n"
+);
+
+/// Gives one byte a call, and fails at the call `fails`.
+#[derive(Drop)]
+struct Drip<'a> {
+    left: &'a [u8],
+    calls: u32,
+    fails: u32,
+}
+
+impl Read for Drip<'_> {
+    fn read(&mut self, buf: &mut [u8]) -> io::Result<usize> {
+        if self.calls == self.fails {
+            return Err(io::Error::from(io::ErrorKind::Other));
+        }
+        self.calls = self.calls.saturating_add(1);
+        match self.left {
+            [first, rest @ ..] if !buf.is_empty() => {
+                buf[0] = *first;
+                self.left = rest;
+                Ok(1)
+            }
+            _ => Ok(0),
+        }
+    }
+}
+
+/// Takes one byte a call, and fails at the call `fails`: with an error, or by taking no byte.
+#[derive(Drop)]
+struct Sip {
+    held: Vec<u8>,
+    calls: u32,
+    fails: u32,
+    silently: bool,
+}
+
+impl Write for Sip {
+    fn write(&mut self, buf: &[u8]) -> io::Result<usize> {
+        if self.calls == self.fails {
+            if self.silently {
+                return Ok(0);
+            }
+            return Err(io::Error::from(io::ErrorKind::Other));
+        }
+        self.calls = self.calls.saturating_add(1);
+        match buf {
+            [first, ..] => {
+                self.held.push(*first)?;
+                Ok(1)
+            }
+            [] => Ok(0),
+        }
+    }
+
+    fn flush(&mut self) -> io::Result<()> {
+        Ok(())
+    }
+}
+
+fn words(alloc: Global, texts: &[&str]) -> Result<Vec<String>, AllocError> {
+    let mut words = Vec::new(alloc);
+    words.push(String::from_str(alloc, "retro")?)?;
+    for text in texts {
+        words.push(String::from_str(alloc, text)?)?;
+    }
+    Ok(words)
+}
+
+/// The exit and the output of the program on words and an input.
+fn run(rt: &HostRuntime, texts: &[&str], input: &str) -> Result<(Exit, Vec<u8>), AllocError> {
+    let words = words(rt.alloc(), texts)?;
+    let mut reader = input.as_bytes();
+    let mut out = Vec::new(rt.alloc());
+    let exit = run_with(rt, &words, &mut reader, &mut out);
+    Ok((exit, out))
+}
+
+#[test]
+fn reports_are_written(rt: HostRuntime) -> Result<(), Fail> {
+    let cases: [(&[&str], &str, &str); 8] = [
+        (&["replay"], EMPTY, EMPTY_REPORT),
+        (&["replay", "--cancel", "1"], PAIR, WITHOUT_FIRST),
+        (&["replay"], PAIR, WHOLE),
+        (&["replay", "--cancel="], PAIR, WHOLE),
+        (&["replay", "--cancel", ""], PAIR, WHOLE),
+        (&["replay", "--cancel=0000000001"], PAIR, WITHOUT_FIRST),
+        (&["replay", "--cancel=1,1"], PAIR, WITHOUT_FIRST),
+        (
+            &["replay", "--cancel=1,2"],
+            PAIR,
+            "{\"outputs\":[],\"sessions\":[[1,\"/\",0,[]]],\"tree\":[]}\n",
+        ),
+    ];
+    for (texts, input, want) in cases {
+        let (exit, out) = run(&rt, texts, input)?;
+        assert!(rt; exit == Exit::Done, "{texts:?}");
+        assert!(rt; out.as_slice() == want.as_bytes(), "{texts:?}");
+    }
+    Ok(())
+}
+
+#[test]
+fn refusals_write_nothing(rt: HostRuntime) -> Result<(), Fail> {
+    let cases: [(&[&str], &str, u8); 21] = [
+        (&[], PAIR, 31),
+        (&["--help"], PAIR, 31),
+        (&["-h"], PAIR, 31),
+        (&["help"], PAIR, 31),
+        (&["--version"], PAIR, 31),
+        (&["record"], PAIR, 31),
+        (&["repl"], PAIR, 31),
+        (&["replay", "--help"], PAIR, 31),
+        (&["replay", "more"], PAIR, 31),
+        (&["replay", "--canc", "1"], PAIR, 31),
+        (&["replay", "--cancel"], PAIR, 31),
+        (&["replay", "--cancel", "1", "--cancel", "1"], PAIR, 31),
+        (&["replay", "--cancel", "1,,2"], PAIR, 31),
+        (&["replay", "--cancel", "1,"], PAIR, 31),
+        (&["replay", "--cancel", " 1"], PAIR, 31),
+        (&["replay", "--cancel", "+1"], PAIR, 31),
+        (&["replay", "--cancel", "4294967296"], PAIR, 31),
+        (&["replay", "--cancel", "00000000001"], PAIR, 31),
+        (&["replay", "--cancel", "9,"], "[", 31),
+        (&["replay", "--cancel", "9"], PAIR, 21),
+        (&["replay", "--cancel", "9"], "[", 12),
+    ];
+    for (texts, input, number) in cases {
+        let (exit, out) = run(&rt, texts, input)?;
+        assert!(rt; exit == Exit::Refused(number), "{texts:?}");
+        assert!(rt; out.is_empty(), "{texts:?}");
+    }
+    let words: [String; 0] = [];
+    let mut reader: &[u8] = PAIR.as_bytes();
+    let mut out = Vec::new(rt.alloc());
+    assert!(rt; run_with(&rt, &words, &mut reader, &mut out) == Exit::Refused(31));
+    Ok(())
+}
+
+#[test]
+fn readers_and_writers_fail(rt: HostRuntime) -> Result<(), Fail> {
+    let words = words(rt.alloc(), &["replay"])?;
+    let text = EMPTY_REPORT.as_bytes();
+    for k in 0..EMPTY.len() as u32 + 1 {
+        let mut reader = Drip {
+            left: EMPTY.as_bytes(),
+            calls: 0,
+            fails: k,
+        };
+        let mut out = Vec::new(rt.alloc());
+        assert!(rt; run_with(&rt, &words, &mut reader, &mut out) == Exit::ReadFailed);
+        assert!(rt; out.is_empty());
+    }
+    for silently in [false, true] {
+        for k in 0..text.len() + 1 {
+            let mut reader = Drip {
+                left: EMPTY.as_bytes(),
+                calls: 0,
+                fails: u32::MAX,
+            };
+            let mut writer = Sip {
+                held: Vec::new(rt.alloc()),
+                calls: 0,
+                fails: k as u32,
+                silently,
+            };
+            let exit = run_with(&rt, &words, &mut reader, &mut writer);
+            let whole = k == text.len();
+            assert!(rt; exit == if whole { Exit::Done } else { Exit::WriteFailed });
+            assert!(rt; writer.held.as_slice() == &text[..k]);
+        }
+    }
+    Ok(())
+}
