@@ -1,13 +1,11 @@
 //! Lines, and the texts that spell them.
 
-ghost use Rattle.std.specs.Prelude.{◌≡◌, ◌≤◌, ◌<◌, [], ◌∷◌, length, map, IfOk, IsSome, Option, Some, None, List, ℕ, option_map, is_some};
-ghost use Rattle.std.specs.Str.{chars};
+ghost use Rattle.std.specs.Prelude.{◌≡◌, ◌<◌, IfOk, Option, Some, None, List, ℕ, option_map, is_some};
 ghost use Rattle.retro_syntax.specs.Lines as Lines;
 ghost use Rattle.retro_syntax.specs.Lines.{Answers, Meets, PlainSpells, SpellsPlain, TextSpells, line_view, plain_line};
 ghost use Rattle.retro_syntax.specs.Plain as Plain;
 ghost use Rattle.retro_syntax.specs.Plain.{PlainItem};
 ghost use Rattle.retro_syntax.specs.Tree as Tree;
-ghost use Rattle.retro_syntax.specs.View.{view, commands_of, token_view};
 
 use crate::plain::plain_commands;
 use crate::quoting::tokens_of;

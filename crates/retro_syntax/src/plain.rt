@@ -145,7 +145,7 @@ fn plain_list<'a>(
 ) -> Result<Option<Vec<PlainCommand<'a>>>, AllocError>
     ensures { IfOk result (λ found. option_map plain_commands_view found
         ≡ Plain.all_of Plain.plain_and_or
-            (map (and_or_of view) before.now ++ and_or_of view last.now ∷ [])) }
+        (map (and_or_of view) before.now ++ and_or_of view last.now ∷ [])) }
 {
     let mut found = Vec::new(alloc);
     let mut rest = before;

@@ -6,14 +6,11 @@ mod operators;
 mod parameters;
 mod pieces;
 
-ghost use Rattle.std.specs.Prelude.{◌≡◌, ◌∷◌, [], ◌++◌, Bool, IfOk, Option, Some, None, map, option_map, string_bytes, true, false};
-ghost use Rattle.std.specs.Char.{encode_utf8};
+ghost use Rattle.std.specs.Prelude.{◌≡◌, IfOk, Option, Some, None, true, false};
 ghost use Rattle.std.specs.Str.{chars};
 ghost use Rattle.retro_syntax.specs.Quoting;
-ghost use Rattle.retro_syntax.specs.Tree;
-ghost use Rattle.retro_syntax.specs.Words.{is_one_of};
-ghost use Rattle.retro_syntax.specs.View.{token_view, tokens_view, piece_view};
-ghost use Rattle.retro_syntax.specs.QuotingViews.{LexesTo, TokenizesTo, lexing_view, pending_view, pieces_view, reading_view};
+ghost use Rattle.retro_syntax.specs.View.{tokens_view};
+ghost use Rattle.retro_syntax.specs.QuotingViews.{LexesTo, TokenizesTo, lexing_view, pending_view, reading_view};
 
 use crate::quoting::backslashes::escaped_at;
 use crate::quoting::characters::fresh;

@@ -1,17 +1,13 @@
 //! Characters between tokens and in words (XCU 2.2.2, 2.2.3, 2.3).
 
-ghost use Rattle.std.specs.Prelude.{◌≡◌, ◌∷◌, [], ◌++◌, Bool, IfOk, Option, Some, None, map, option_map, string_bytes, true, false};
-ghost use Rattle.std.specs.Char.{encode_utf8};
-ghost use Rattle.std.specs.Str.{chars};
+ghost use Rattle.std.specs.Prelude.{◌≡◌, Option, Some, None, option_map, true, false};
 ghost use Rattle.retro_syntax.specs.Quoting;
-ghost use Rattle.retro_syntax.specs.Tree;
-ghost use Rattle.retro_syntax.specs.Words.{is_one_of};
-ghost use Rattle.retro_syntax.specs.View.{token_view, tokens_view, piece_view};
-ghost use Rattle.retro_syntax.specs.QuotingViews.{LexesTo, TokenizesTo, lexing_view, pending_view, pieces_view, reading_view};
+ghost use Rattle.retro_syntax.specs.View.{tokens_view};
+ghost use Rattle.retro_syntax.specs.QuotingViews.{LexesTo, lexing_view, pieces_view, reading_view};
 
 use crate::quoting::pieces::{add_plain, add_quoted, text_of};
 use crate::quoting::{Lexing, Operator, Pending, Quote, Reading};
-use crate::tree::{Connector, Direction, Piece, Token, Word};
+use crate::tree::{Piece, Token, Word};
 use std::alloc::{AllocError, Global};
 
 pub fn is_blank(c: char) -> bool

@@ -1,17 +1,13 @@
 //! Operators (XCU 2.3, 2.10.2).
 
-ghost use Rattle.std.specs.Prelude.{◌≡◌, ◌∷◌, [], ◌++◌, Bool, IfOk, Option, Some, None, map, option_map, string_bytes, true, false};
-ghost use Rattle.std.specs.Char.{encode_utf8};
-ghost use Rattle.std.specs.Str.{chars};
+ghost use Rattle.std.specs.Prelude.{◌∷◌, [], ◌++◌, Option, Some, None, false};
 ghost use Rattle.retro_syntax.specs.Quoting;
-ghost use Rattle.retro_syntax.specs.Tree;
-ghost use Rattle.retro_syntax.specs.Words.{is_one_of};
-ghost use Rattle.retro_syntax.specs.View.{token_view, tokens_view, piece_view};
-ghost use Rattle.retro_syntax.specs.QuotingViews.{LexesTo, TokenizesTo, lexing_view, pending_view, pieces_view, reading_view};
+ghost use Rattle.retro_syntax.specs.View.{token_view, tokens_view};
+ghost use Rattle.retro_syntax.specs.QuotingViews.{LexesTo, TokenizesTo};
 
 use crate::quoting::characters::fresh;
-use crate::quoting::{Lexing, Operator, Pending, Quote, Reading};
-use crate::tree::{Connector, Direction, Piece, Token, Word};
+use crate::quoting::{Lexing, Operator, Pending};
+use crate::tree::{Connector, Direction, Token};
 use std::alloc::{AllocError, Global};
 
 pub fn after_operator(
@@ -29,7 +25,7 @@ pub fn after_operator(
 pub fn whole_operator(mut tokens: Vec<Token>, token: Token) -> Result<Option<Lexing>, AllocError>
     ensures { LexesTo result
         (Some (Quoting.with_pending (tokens_view tokens ++ token_view token ∷ [])
-            Quoting.between)) }
+        Quoting.between)) }
 {
     tokens.push(token)?;
     Ok(Some(Lexing {

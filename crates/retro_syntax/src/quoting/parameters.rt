@@ -1,18 +1,15 @@
 //! Parameters (XCU 2.6.2).
 
-ghost use Rattle.std.specs.Prelude.{◌≡◌, ◌∷◌, [], ◌++◌, Bool, IfOk, Option, Some, None, map, option_map, string_bytes, true, false};
-ghost use Rattle.std.specs.Char.{encode_utf8};
-ghost use Rattle.std.specs.Str.{chars};
+ghost use Rattle.std.specs.Prelude.{◌≡◌, [], Option, None, string_bytes, false};
 ghost use Rattle.retro_syntax.specs.Quoting;
-ghost use Rattle.retro_syntax.specs.Tree;
 ghost use Rattle.retro_syntax.specs.Words.{is_one_of};
-ghost use Rattle.retro_syntax.specs.View.{token_view, tokens_view, piece_view};
-ghost use Rattle.retro_syntax.specs.QuotingViews.{LexesTo, TokenizesTo, lexing_view, pending_view, pieces_view, reading_view};
+ghost use Rattle.retro_syntax.specs.View.{tokens_view, piece_view};
+ghost use Rattle.retro_syntax.specs.QuotingViews.{LexesTo, pieces_view, reading_view};
 
 use crate::quoting::characters::{with_reading, word_at};
 use crate::quoting::pieces::{add_dollar, question_mark, text_and, text_of};
-use crate::quoting::{Lexing, Operator, Pending, Quote, Reading};
-use crate::tree::{Connector, Direction, Piece, Token, Word};
+use crate::quoting::{Lexing, Quote, Reading};
+use crate::tree::{Piece, Token};
 use std::alloc::{AllocError, Global};
 
 pub fn is_unsupported_name(name: &str) -> bool
@@ -49,7 +46,7 @@ pub fn with_parameter(
 ) -> Result<Option<Lexing>, AllocError>
     ensures { LexesTo result
         (Quoting.with_parameter (tokens_view tokens) (pieces_view pieces) inside
-            (string_bytes name)) }
+        (string_bytes name)) }
 {
     if is_unsupported_name(&name) {
         return Ok(None);
@@ -75,7 +72,7 @@ pub fn after_parameter(
 ) -> Result<Option<Lexing>, AllocError>
     ensures { LexesTo result
         (Quoting.after_parameter (tokens_view tokens) (pieces_view pieces) inside
-            (string_bytes name) c) }
+        (string_bytes name) c) }
 {
     if is_unsupported_name(&name) {
         return Ok(None);
@@ -157,7 +154,7 @@ pub fn braced_at(
 ) -> Result<Option<Lexing>, AllocError>
     ensures { LexesTo result
         (Quoting.reading_at (tokens_view tokens)
-            (Quoting.braced (pieces_view pieces) inside (string_bytes name)) c) }
+        (Quoting.braced (pieces_view pieces) inside (string_bytes name)) c) }
 {
     match name.as_bytes() {
         [] => {

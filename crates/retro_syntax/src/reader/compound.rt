@@ -1,21 +1,16 @@
 //! `if`, and where commands begin and end (XCU 2.9.4).
 
-ghost use Rattle.std.specs.Prelude.{◌≡◌, ◌∷◌, ◌++◌, IfOk, List, Option, Some, None, map, option_map, reverse, string_bytes, true, false};
-ghost use Rattle.retro_syntax.specs.Tree;
+ghost use Rattle.std.specs.Prelude.{◌≡◌, ◌∷◌, IfOk, Option, Some, None, option_map, true};
 ghost use Rattle.retro_syntax.specs.Reader;
-ghost use Rattle.retro_syntax.specs.View;
-ghost use Rattle.retro_syntax.specs.View.{token_view, view, commands_of, word_view, simple_view, item_view};
-ghost use Rattle.retro_syntax.specs.ReaderViews.{StepsAt, StepsTo, frame_view, items_view, level_view, open_view, place_view, stack_view, stages_view, state_view, words_view};
+ghost use Rattle.retro_syntax.specs.View.{view, commands_of, word_view};
+ghost use Rattle.retro_syntax.specs.ReaderViews.{StepsAt, StepsTo, frame_view, open_view, stack_view, state_view};
 
-use crate::build::{conditional, conditional_else, pipe, repetition};
+use crate::build::{conditional, conditional_else, repetition};
 use crate::reader::lists::{go_on, may_end, nothing, whole_list};
 use crate::reader::simple::begin_simple;
-use crate::reader::{Arm, Frame, Open, Place, State};
-use crate::tree::{
-    AndOr, Command, Commands, Conditional, Connector, Direction, Item, Loop, Pipeline,
-    ReservedWord, Simple, Token, Word,
-};
-use crate::words::{Class, class_of, name_of};
+use crate::reader::{Frame, Open, Place, State};
+use crate::tree::{Command, Commands, Conditional, Connector, Loop, ReservedWord, Token, Word};
+use crate::words::{Class, class_of};
 use std::alloc::{AllocError, Global};
 
 pub fn inner_list(
@@ -26,7 +21,7 @@ pub fn inner_list(
 ) -> Result<State, AllocError>
     ensures { IfOk result (λ n. state_view n
         ≡ Reader.at ((open_view here, frame_view frame) ∷ stack_view stack)
-            Reader.nothing Reader.start) }
+        Reader.nothing Reader.start) }
 {
     stack.push((here, frame))?;
     Ok(State {
@@ -46,7 +41,7 @@ pub fn close_by(
 ) -> Result<Option<State>, AllocError>
     ensures { StepsTo result
         (Reader.close_by (stack_view stack) (open_view here) (frame_view frame)
-            (commands_of view list) reserved) }
+        (commands_of view list) reserved) }
 {
     match (frame, reserved) {
         (Frame::Condition(before), ReservedWord::Then) => Ok(Some(inner_list(

@@ -1,19 +1,12 @@
 //! `for` up to its `do` (XCU 2.9.4.2).
 
-ghost use Rattle.std.specs.Prelude.{◌≡◌, ◌∷◌, ◌++◌, IfOk, List, Option, Some, None, map, option_map, reverse, string_bytes, true, false};
-ghost use Rattle.retro_syntax.specs.Tree;
+ghost use Rattle.std.specs.Prelude.{Option, Some, None, string_bytes};
 ghost use Rattle.retro_syntax.specs.Reader;
-ghost use Rattle.retro_syntax.specs.View;
-ghost use Rattle.retro_syntax.specs.View.{token_view, view, commands_of, word_view, simple_view, item_view};
-ghost use Rattle.retro_syntax.specs.ReaderViews.{StepsAt, StepsTo, frame_view, items_view, level_view, open_view, place_view, stack_view, stages_view, state_view, words_view};
+ghost use Rattle.retro_syntax.specs.ReaderViews.{StepsAt, words_view};
 
-use crate::build::{conditional, conditional_else, pipe, repetition};
 use crate::reader::compound::inner_list;
-use crate::reader::{Arm, Frame, Open, Place, State};
-use crate::tree::{
-    AndOr, Command, Commands, Conditional, Connector, Direction, Item, Loop, Pipeline,
-    ReservedWord, Simple, Token, Word,
-};
+use crate::reader::{Frame, Open, Place, State};
+use crate::tree::{Connector, ReservedWord, Token, Word};
 use crate::words::{Class, class_of, name_of};
 use std::alloc::{AllocError, Global};
 

@@ -1,19 +1,14 @@
 //! Simple commands and pipes of them (XCU 2.9.1, 2.9.2).
 
-ghost use Rattle.std.specs.Prelude.{◌≡◌, ◌∷◌, ◌++◌, IfOk, List, Option, Some, None, map, option_map, reverse, string_bytes, true, false};
-ghost use Rattle.retro_syntax.specs.Tree;
+ghost use Rattle.std.specs.Prelude.{◌≡◌, Option, Some, None, map, true, false};
 ghost use Rattle.retro_syntax.specs.Reader;
-ghost use Rattle.retro_syntax.specs.View;
-ghost use Rattle.retro_syntax.specs.View.{token_view, view, commands_of, word_view, simple_view, item_view};
-ghost use Rattle.retro_syntax.specs.ReaderViews.{StepsAt, StepsTo, frame_view, items_view, level_view, open_view, place_view, stack_view, stages_view, state_view, words_view};
+ghost use Rattle.retro_syntax.specs.View.{word_view, simple_view, item_view};
+ghost use Rattle.retro_syntax.specs.ReaderViews.{StepsAt, StepsTo, items_view, open_view, stack_view, stages_view};
 
-use crate::build::{conditional, conditional_else, pipe, repetition};
+use crate::build::pipe;
 use crate::reader::lists::go_on;
-use crate::reader::{Arm, Frame, Open, Place, State};
-use crate::tree::{
-    AndOr, Command, Commands, Conditional, Connector, Direction, Item, Loop, Pipeline,
-    ReservedWord, Simple, Token, Word,
-};
+use crate::reader::{Frame, Open, Place, State};
+use crate::tree::{Command, Connector, Direction, Item, Simple, Token, Word};
 use crate::words::{Class, class_of, is_assignment, is_ordinary};
 use std::alloc::{AllocError, Global};
 
@@ -27,7 +22,7 @@ pub fn begin_simple(
 ) -> Result<Option<State>, AllocError>
     ensures { StepsTo result
         (Reader.begin_simple (stack_view stack) (open_view here) (stages_view stages)
-            (word_view word) class) }
+        (word_view word) class) }
 {
     let simple = match class {
         Class::Assignment => {
@@ -71,7 +66,7 @@ pub fn add_word(
 ) -> Result<Option<State>, AllocError>
     ensures { StepsTo result
         (Reader.add_word (stack_view stack) (open_view here) (stages_view stages)
-            (simple_view simple) (word_view word)) }
+        (simple_view simple) (word_view word)) }
 {
     let class = class_of(&word);
     match simple {
