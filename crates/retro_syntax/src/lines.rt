@@ -2,7 +2,15 @@
 
 ghost use Rattle.std.specs.Prelude.{◌≡◌, ◌<◌, IfOk, Option, Some, None, List, ℕ, option_map, is_some};
 ghost use Rattle.retro_syntax.specs.Lines as Lines;
-ghost use Rattle.retro_syntax.specs.Lines.{Answers, Meets, PlainSpells, SpellsPlain, TextSpells, line_view, plain_line};
+ghost use Rattle.retro_syntax.specs.Lines.{
+  Answers,
+  Meets,
+  PlainSpells,
+  SpellsPlain,
+  TextSpells,
+  line_view,
+  plain_line,
+};
 ghost use Rattle.retro_syntax.specs.Plain as Plain;
 ghost use Rattle.retro_syntax.specs.Plain.{PlainItem};
 ghost use Rattle.retro_syntax.specs.Tree as Tree;
@@ -12,6 +20,9 @@ use crate::quoting::tokens_of;
 use crate::reader::read_tokens;
 use crate::tree::{Command, Commands};
 use std::alloc::{AllocError, Global};
+
+/// How many bytes a line may have.
+pub const LONGEST_LINE: usize = 4096;
 
 /// Why a text is no line.
 #[derive(Clone, Copy, Debug, PartialEq, Eq)]
@@ -49,7 +60,7 @@ fn line_of(alloc: Global, text: &str) -> Result<Option<Line>, AllocError>
     match tokens_of(alloc, text)? {
         None => Ok(None),
         Some(tokens) => {
-            if tokens.len() == 0 {
+            if tokens.is_empty() {
                 return Ok(Some(Line { commands: None }));
             }
             match read_tokens(alloc, tokens)? {
@@ -103,7 +114,7 @@ pub fn parse(alloc: Global, text: &str) -> Result<Line, Refused>
     ensures meets { Meets text.now result }
     ensures function { Answers text.now result }
 {
-    if text.len() > 4096 {
+    if text.len() > LONGEST_LINE {
         return Err(Refused::TooLong);
     }
     if has_foreign(text) {

@@ -47,18 +47,15 @@ fn plain_item<'a>(item: &'a Item) -> Option<PlainItem<'a>>
     ensures { option_map plain_item_view result ≡ Plain.plain_item (item_view item.now) }
 {
     match item {
-        Item::Argument(word) => match plain_word(word) {
-            None => None,
-            Some(text) => Some(PlainItem::Word(text)),
-        },
-        Item::Redirect(direction, word) => match plain_word(word) {
-            None => None,
-            Some(text) => match direction {
+        Item::Argument(word) => Some(PlainItem::Word(plain_word(word)?)),
+        Item::Redirect(direction, word) => {
+            let text = plain_word(word)?;
+            match direction {
                 Direction::From => None,
                 Direction::Onto => Some(PlainItem::Truncate(text)),
                 Direction::Append => Some(PlainItem::Append(text)),
-            },
-        },
+            }
+        }
     }
 }
 
