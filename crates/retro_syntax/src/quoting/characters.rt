@@ -39,6 +39,21 @@ pub fn with_reading(tokens: Vec<Token>, reading: Reading) -> Option<Lexing>
     })
 }
 
+pub fn in_word(tokens: Vec<Token>, pieces: Vec<Piece>, quote: Quote) -> Option<Lexing>
+    ensures { option_map lexing_view result
+        ≡ Quoting.word_goes_on (tokens_view tokens)
+        (Quoting.in_word (pieces_view pieces) false quote) }
+{
+    with_reading(
+        tokens,
+        Reading::InWord {
+            pieces,
+            digits: false,
+            quote,
+        },
+    )
+}
+
 pub fn unquoted_at(
     alloc: Global,
     tokens: Vec<Token>,
@@ -51,24 +66,10 @@ pub fn unquoted_at(
 {
     if c == '\'' {
         let pieces = add_quoted(alloc, pieces, "")?;
-        Ok(with_reading(
-            tokens,
-            Reading::InWord {
-                pieces,
-                digits: false,
-                quote: Quote::Single,
-            },
-        ))
+        Ok(in_word(tokens, pieces, Quote::Single))
     } else if c == '"' {
         let pieces = add_quoted(alloc, pieces, "")?;
-        Ok(with_reading(
-            tokens,
-            Reading::InWord {
-                pieces,
-                digits: false,
-                quote: Quote::Double,
-            },
-        ))
+        Ok(in_word(tokens, pieces, Quote::Double))
     } else if c == '$' {
         Ok(with_reading(
             tokens,
@@ -129,14 +130,7 @@ pub fn in_double(
         (Quoting.word_at (tokens_view tokens) (pieces_view pieces) false Quote.Double c) }
 {
     if c == '"' {
-        Ok(with_reading(
-            tokens,
-            Reading::InWord {
-                pieces,
-                digits: false,
-                quote: Quote::Unquoted,
-            },
-        ))
+        Ok(in_word(tokens, pieces, Quote::Unquoted))
     } else if c == '$' {
         Ok(with_reading(
             tokens,
@@ -150,14 +144,7 @@ pub fn in_double(
     } else {
         let text = text_of(alloc, c)?;
         let pieces = add_quoted(alloc, pieces, &text)?;
-        Ok(with_reading(
-            tokens,
-            Reading::InWord {
-                pieces,
-                digits: false,
-                quote: Quote::Double,
-            },
-        ))
+        Ok(in_word(tokens, pieces, Quote::Double))
     }
 }
 
@@ -185,28 +172,14 @@ pub fn word_at(
         }
         Quote::Single => {
             if c == '\'' {
-                return Ok(with_reading(
-                    tokens,
-                    Reading::InWord {
-                        pieces,
-                        digits: false,
-                        quote: Quote::Unquoted,
-                    },
-                ));
+                return Ok(in_word(tokens, pieces, Quote::Unquoted));
             }
             if c == '\0' {
                 return Ok(None);
             }
             let text = text_of(alloc, c)?;
             let pieces = add_quoted(alloc, pieces, &text)?;
-            Ok(with_reading(
-                tokens,
-                Reading::InWord {
-                    pieces,
-                    digits: false,
-                    quote: Quote::Single,
-                },
-            ))
+            Ok(in_word(tokens, pieces, Quote::Single))
         }
         Quote::Double => in_double(alloc, tokens, pieces, c),
     }

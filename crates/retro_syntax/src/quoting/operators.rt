@@ -35,6 +35,27 @@ pub fn whole_operator(mut tokens: Vec<Token>, token: Token) -> Result<Option<Lex
     }))
 }
 
+fn less_at(alloc: Global, tokens: Vec<Token>, c: char) -> Result<Option<Lexing>, AllocError>
+    ensures { LexesTo result (Quoting.operator_at (tokens_view tokens) Operator.Less c) }
+{
+    if c == '<' || c == '&' || c == '>' {
+        return Ok(None);
+    }
+    after_operator(alloc, tokens, Token::Redirection(Direction::From), c)
+}
+
+fn greater_at(alloc: Global, tokens: Vec<Token>, c: char) -> Result<Option<Lexing>, AllocError>
+    ensures { LexesTo result (Quoting.operator_at (tokens_view tokens) Operator.Greater c) }
+{
+    if c == '>' {
+        return whole_operator(tokens, Token::Redirection(Direction::Append));
+    }
+    if c == '&' || c == '|' {
+        return Ok(None);
+    }
+    after_operator(alloc, tokens, Token::Redirection(Direction::Onto), c)
+}
+
 pub fn operator_at(
     alloc: Global,
     tokens: Vec<Token>,
@@ -44,42 +65,14 @@ pub fn operator_at(
     ensures { LexesTo result (Quoting.operator_at (tokens_view tokens) operator c) }
 {
     match operator {
-        Operator::Semicolon => {
-            if c == ';' {
-                Ok(None)
-            } else {
-                after_operator(alloc, tokens, Token::Semicolon, c)
-            }
-        }
-        Operator::And => {
-            if c == '&' {
-                whole_operator(tokens, Token::Connector(Connector::AndIf))
-            } else {
-                Ok(None)
-            }
-        }
-        Operator::Bar => {
-            if c == '|' {
-                whole_operator(tokens, Token::Connector(Connector::OrIf))
-            } else {
-                after_operator(alloc, tokens, Token::Bar, c)
-            }
-        }
-        Operator::Less => {
-            if c == '<' || c == '&' || c == '>' {
-                return Ok(None);
-            }
-            after_operator(alloc, tokens, Token::Redirection(Direction::From), c)
-        }
-        Operator::Greater => {
-            if c == '>' {
-                return whole_operator(tokens, Token::Redirection(Direction::Append));
-            }
-            if c == '&' || c == '|' {
-                return Ok(None);
-            }
-            after_operator(alloc, tokens, Token::Redirection(Direction::Onto), c)
-        }
+        Operator::Semicolon if c == ';' => Ok(None),
+        Operator::Semicolon => after_operator(alloc, tokens, Token::Semicolon, c),
+        Operator::And if c == '&' => whole_operator(tokens, Token::Connector(Connector::AndIf)),
+        Operator::And => Ok(None),
+        Operator::Bar if c == '|' => whole_operator(tokens, Token::Connector(Connector::OrIf)),
+        Operator::Bar => after_operator(alloc, tokens, Token::Bar, c),
+        Operator::Less => less_at(alloc, tokens, c),
+        Operator::Greater => greater_at(alloc, tokens, c),
     }
 }
 

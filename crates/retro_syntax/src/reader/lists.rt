@@ -5,7 +5,7 @@ ghost use Rattle.retro_syntax.specs.Tree;
 ghost use Rattle.retro_syntax.specs.Reader;
 ghost use Rattle.retro_syntax.specs.View;
 ghost use Rattle.retro_syntax.specs.View.{token_view, view, commands_of};
-ghost use Rattle.retro_syntax.specs.ReaderViews.{StepsTo, open_view, stack_view, state_view};
+ghost use Rattle.retro_syntax.specs.ReaderViews.{StepsTo, open_view, place_view, stack_view, state_view};
 
 use crate::reader::{Frame, Open, Place, State};
 use crate::tree::{AndOr, Command, Commands, Connector, Pipeline, Token, Word};
@@ -19,6 +19,17 @@ pub fn nothing(alloc: Global) -> Open
         joined: Vec::new(alloc),
         negated: false,
     }
+}
+
+pub fn step_to(
+    stack: Vec<(Open, Frame)>,
+    here: Open,
+    place: Place,
+) -> Result<Option<State>, AllocError>
+    ensures { StepsTo result
+        (Some (Reader.at (stack_view stack) (open_view here) (place_view place))) }
+{
+    Ok(Some(State { stack, here, place }))
 }
 
 pub fn and_or(here: Open, command: Command) -> (Vec<AndOr<Command>>, AndOr<Command>)

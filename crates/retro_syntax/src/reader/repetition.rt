@@ -5,6 +5,7 @@ ghost use Rattle.retro_syntax.specs.Reader;
 ghost use Rattle.retro_syntax.specs.ReaderViews.{StepsAt, words_view};
 
 use crate::reader::compound::inner_list;
+use crate::reader::lists::step_to;
 use crate::reader::{Frame, Open, Place, State};
 use crate::tree::{Connector, ReservedWord, Token, Word};
 use crate::words::{Class, class_of, name_of};
@@ -21,11 +22,7 @@ pub fn at_for_name(
     match token {
         Token::Word(word) => match name_of(alloc, &word)? {
             None => Ok(None),
-            Some(name) => Ok(Some(State {
-                stack,
-                here,
-                place: Place::ForIn(name),
-            })),
+            Some(name) => step_to(stack, here, Place::ForIn(name)),
         },
         Token::Semicolon | Token::Bar | Token::Connector(_) | Token::Redirection(_) => Ok(None),
     }
@@ -42,11 +39,11 @@ pub fn at_for_in(
 {
     match token {
         Token::Word(word) => match class_of(&word) {
-            Class::Reserved(ReservedWord::In) => Ok(Some(State {
+            Class::Reserved(ReservedWord::In) => step_to(
                 stack,
                 here,
-                place: Place::ForWords(name, Vec::new(alloc)),
-            })),
+                Place::ForWords(name, Vec::new(alloc)),
+            ),
             Class::Reserved(
                 ReservedWord::Bang
                 | ReservedWord::If
@@ -79,17 +76,9 @@ pub fn at_for_words(
     match token {
         Token::Word(word) => {
             words.push(word)?;
-            Ok(Some(State {
-                stack,
-                here,
-                place: Place::ForWords(name, words),
-            }))
+            step_to(stack, here, Place::ForWords(name, words))
         }
-        Token::Semicolon => Ok(Some(State {
-            stack,
-            here,
-            place: Place::ForDo(name, words),
-        })),
+        Token::Semicolon => step_to(stack, here, Place::ForDo(name, words)),
         Token::Bar | Token::Connector(_) | Token::Redirection(_) => Ok(None),
     }
 }
