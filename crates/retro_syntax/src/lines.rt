@@ -1,6 +1,6 @@
 //! Lines, and the texts that spell them.
 
-ghost use Rattle.std.specs.Prelude.{◌≡◌, ◌<◌, IfOk, Option, Some, None, List, ℕ, option_map, is_some};
+ghost use Rattle.std.specs.Prelude.{◌≡◌, ◌<◌, IfOk, Option, Some, None, List, ℕ, map, true, option_map, is_some};
 ghost use Rattle.retro_syntax.specs.Lines as Lines;
 ghost use Rattle.retro_syntax.specs.Lines.{
   Answers,
@@ -13,7 +13,9 @@ ghost use Rattle.retro_syntax.specs.Lines.{
 };
 ghost use Rattle.retro_syntax.specs.Plain as Plain;
 ghost use Rattle.retro_syntax.specs.Plain.{PlainItem};
+ghost use Rattle.retro_syntax.specs.Quoting.{tokens_of};
 ghost use Rattle.retro_syntax.specs.Tree as Tree;
+ghost use Rattle.retro_syntax.specs.Writing.{Written, are_writable, token_of, written};
 
 use crate::plain::plain_commands;
 use crate::quoting::tokens_of;
@@ -147,4 +149,10 @@ pub fn plain_line_is_spelling()
         ≡ Some found → SpellsPlain text found }
     ensures spelled { (text : List ℕ) (found : List (List PlainItem))
         → SpellsPlain text found → plain_line text ≡ Some found }
+{}
+
+/// `;`, `>`, `>>` and words without quotes are read as they were written, with a blank behind each.
+pub fn writing_is_read()
+    ensures { (ws : List Written) → are_writable ws ≡ true
+        → tokens_of (written ws) ≡ Some (map token_of ws) }
 {}

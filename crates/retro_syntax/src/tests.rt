@@ -128,4 +128,5 @@ fn laws_are_called() {
     one_line();
     plain_line_is_spelling();
     reading_is_spelling();
+    writing_is_read();
 }
