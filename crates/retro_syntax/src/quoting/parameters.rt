@@ -179,7 +179,8 @@ pub fn brace_at(
     c: char,
 ) -> Result<Option<Lexing>, AllocError>
     ensures { LexesTo result
-        (Quoting.reading_at (tokens_view tokens) (Quoting.braced (pieces_view pieces) inside []) c) }
+        (Quoting.reading_at (tokens_view tokens)
+        (Quoting.braced (pieces_view pieces) inside []) c) }
 {
     if c == '?' {
         Ok(with_reading(tokens, Reading::Question { pieces, inside }))
