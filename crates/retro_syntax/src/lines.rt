@@ -15,7 +15,15 @@ ghost use Rattle.retro_syntax.specs.Plain as Plain;
 ghost use Rattle.retro_syntax.specs.Plain.{PlainItem};
 ghost use Rattle.retro_syntax.specs.Quoting.{tokens_of};
 ghost use Rattle.retro_syntax.specs.Tree as Tree;
-ghost use Rattle.retro_syntax.specs.Writing.{Written, are_writable, token_of, written};
+ghost use Rattle.retro_syntax.specs.Writing.{
+  IsWriting,
+  Written,
+  WrittenItem,
+  are_writable,
+  plain_of,
+  token_of,
+  written,
+};
 
 use crate::plain::plain_commands;
 use crate::quoting::tokens_of;
@@ -151,8 +159,11 @@ pub fn plain_line_is_spelling()
         → SpellsPlain text found → plain_line text ≡ Some found }
 {}
 
-/// `;`, `>`, `>>` and words without quotes are read as they were written, with a blank behind each.
+/// What is written with a blank behind each token is read as it was written: `;`, `>`, `>>` and words
+/// without quotes as these tokens, and plain commands with a `;` behind each as these commands.
 pub fn writing_is_read()
-    ensures { (ws : List Written) → are_writable ws ≡ true
+    ensures tokens { (ws : List Written) → are_writable ws ≡ true
         → tokens_of (written ws) ≡ Some (map token_of ws) }
+    ensures commands { (text : List ℕ) (cs : List (List WrittenItem)) → IsWriting text cs
+        → plain_line text ≡ Some (map (map plain_of) cs) }
 {}

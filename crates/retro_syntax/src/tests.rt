@@ -1,6 +1,6 @@
 use crate::{
     PlainItem, Refused, one_line, parse, plain_commands, plain_line_is_spelling,
-    reading_is_spelling,
+    reading_is_spelling, writing_is_read,
 };
 use std::alloc::Global;
 use std::test::Fail;
