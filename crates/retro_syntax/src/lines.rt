@@ -159,8 +159,8 @@ pub fn plain_line_is_spelling()
         → SpellsPlain text found → plain_line text ≡ Some found }
 {}
 
-/// What is written with a blank behind each token is read as it was written: `;`, `>`, `>>` and words
-/// without quotes as these tokens, and plain commands with a `;` behind each as these commands.
+/// What is written with a blank behind each token is read as it was written: `;`, `>`, `>>` and
+/// words without quotes as these tokens, and plain commands with a `;` behind each as these.
 pub fn writing_is_read()
     ensures tokens { (ws : List Written) → are_writable ws ≡ true
         → tokens_of (written ws) ≡ Some (map token_of ws) }
