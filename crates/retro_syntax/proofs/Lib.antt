@@ -5,4 +5,6 @@ pub mod ViewLemmas
 pub mod ReaderLemmas
 pub mod LineLemmas
 pub mod PlainLemmas
+pub mod WritingLemmas
 pub mod QuotingLemmas
+pub mod PlainWriting

@@ -10,3 +10,4 @@ pub mod QuotingViews
 pub mod Plain
 pub mod PlainViews
 pub mod Lines
+pub mod Writing

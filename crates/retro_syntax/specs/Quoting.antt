@@ -124,7 +124,7 @@ settled ts o.Greater = Some (ts ++ redirection Onto ∷ [])
 abbrev pub word_at : List Token → List Piece → Bool → Quote → ℕ → Option Lexing
 word_at ts ps digits Unquoted c =
     if is_blank c || is_operator c then
-      (if digits && (c == ascii.less || c == ascii.greater) then None
+    (if digits && (c == ascii.less || c == ascii.greater) then None
     else fresh (ts ++ word ps ∷ []) c)
     else unquoted_at ts ps digits c
 word_at ts ps digits Single c =
@@ -249,8 +249,8 @@ takes_backslash (reading (question ps inside)) = true
 unfoldable pub lex_step : Lexing → ℕ → Option Lexing
 lex_step l c =
     if l.backslash then
-      (if c == ascii.newline then Some (with_pending l.tokens l.pending)
-      else (if c == ascii.nul then None
+    (if c == ascii.newline then Some (with_pending l.tokens l.pending)
+    else (if c == ascii.nul then None
     else escaped_at l.tokens l.pending c))
     else (if c == ascii.backslash && takes_backslash l.pending
     then Some (record l { backslash = true })

@@ -34,7 +34,7 @@ lexing_view l =
     record {
       tokens = tokens_view l.tokens;
       pending = pending_view l.pending;
-      backslash = l.backslash
+      backslash = l.backslash;
     }
 
 -- the answer is this state, or none where there is none

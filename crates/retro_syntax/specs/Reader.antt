@@ -131,7 +131,7 @@ add_word st o ss (assignments ws) w =
     else None
 add_word st o ss (command is) w =
     if no_argument is then
-      (if is_ordinary (class w) then Some (at st o (within ss (command (is ++ argument w ∷ []))))
+    (if is_ordinary (class w) then Some (at st o (within ss (command (is ++ argument w ∷ []))))
     else None)
     else Some (at st o (within ss (command (is ++ argument w ∷ []))))
 
@@ -146,7 +146,7 @@ go_on st o c semicolon =
     Some (at st (record { done = o.done ++ and_or o c ∷ []; joined = []; negated = false }) start)
 go_on st o c (connector op) =
     Some (at st
-      (record o { joined = o.joined ++ (pipeline o.negated c, op) ∷ []; negated = false }) start)
+    (record o { joined = o.joined ++ (pipeline o.negated c, op) ∷ []; negated = false }) start)
 go_on st o c t = None
 
 abbrev pub close_word : List (Open × Frame) → Open → Command → Class → Option State

@@ -23,7 +23,7 @@ open_view o =
     record {
       done = map (and_or_of view) o.done.items;
       joined = map (λ j. (pipeline_of view j.0, j.1)) o.joined.items;
-      negated = o.negated
+      negated = o.negated;
     }
 
 abbrev pub arm_view : Commands Command × Commands Command → T.Commands × T.Commands

@@ -59,12 +59,12 @@ module _ {C : Type 0} (of : C → T.Command) where
   abbrev pub arms_of : Conditional C → T.Arms
   arms_of x =
       arms_up_to (map (λ a. (commands_of a.0, commands_of a.1)) x.before.items)
-        (T.fi (commands_of x.condition) (commands_of x.consequence))
+      (T.fi (commands_of x.condition) (commands_of x.consequence))
 
   abbrev pub arms_else_of : Conditional C → Commands C → T.Arms
   arms_else_of x e =
       arms_up_to (map (λ a. (commands_of a.0, commands_of a.1)) x.before.items)
-        (T.otherwise (commands_of x.condition) (commands_of x.consequence) (commands_of e))
+      (T.otherwise (commands_of x.condition) (commands_of x.consequence) (commands_of e))
 
 -- one level, with each command inside already seen as its tree
 abbrev pub view_step : Command-F T.Command → T.Command
@@ -73,7 +73,7 @@ view_step (Command-F.If x) = T.conditional (arms_of (λ c. c) x.value)
 view_step (Command-F.IfElse x e) = T.conditional (arms_else_of (λ c. c) x.value e.value)
 view_step (Command-F.For x) =
     T.loop (string_bytes x.value.name) (map word_view x.value.words.items)
-      (commands_of (λ c. c) x.value.body)
+    (commands_of (λ c. c) x.value.body)
 
 unfoldable pub view : Command → T.Command
 view = fold-Command T.Command view_step

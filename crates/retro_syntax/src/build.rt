@@ -1,11 +1,10 @@
 //! Commands that are put together.
 
-ghost use Rattle.std.specs.Prelude.{◌≡◌, IfOk, ◌∷◌, map, string_bytes};
+ghost use Rattle.std.specs.Prelude.{◌≡◌, IfOk, map, string_bytes};
 ghost use Rattle.retro_syntax.specs.Tree;
-ghost use Rattle.retro_syntax.specs.Reader.{arms_up_to};
 ghost use Rattle.retro_syntax.specs.View.{view, arms_of, arms_else_of, commands_of, word_view, simple_view};
 
-use crate::tree::{Command, Commands, Conditional, Loop, Simple, Word};
+use crate::tree::{Command, Commands, Conditional, Loop, Simple};
 use std::alloc::{AllocError, Global};
 
 pub fn conditional(alloc: Global, parts: Conditional<Command>) -> Result<Command, AllocError>
@@ -35,7 +34,7 @@ pub fn conditional_else(
 pub fn repetition(alloc: Global, parts: Loop<Command>) -> Result<Command, AllocError>
     ensures { IfOk result (λ c. view c
         ≡ Tree.loop (string_bytes parts.name) (map word_view parts.words.items)
-            (commands_of view parts.body)) }
+        (commands_of view parts.body)) }
 {
     Ok(Command::For(Box::new(alloc, parts)?))
 }

@@ -14,7 +14,9 @@ ghost use Rattle.retro_syntax.specs.Tree.{Commands, Token};
 ghost use Rattle.retro_syntax.specs.Reader.{commands_of};
 ghost use Rattle.retro_syntax.specs.Spells.{Spells};
 
-pub use lines::{Line, Refused, one_line, parse, plain_line_is_spelling};
+pub use lines::{
+    LONGEST_LINE, Line, Refused, one_line, parse, plain_line_is_spelling, writing_is_read,
+};
 pub use plain::{PlainCommand, PlainItem, plain_commands};
 
 /// Reading answers exactly the tree that is spelled, and no two trees are spelled alike.

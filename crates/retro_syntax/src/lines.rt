@@ -1,19 +1,38 @@
 //! Lines, and the texts that spell them.
 
-ghost use Rattle.std.specs.Prelude.{◌≡◌, ◌≤◌, ◌<◌, [], ◌∷◌, length, map, IfOk, IsSome, Option, Some, None, List, ℕ, option_map, is_some};
-ghost use Rattle.std.specs.Str.{chars};
+ghost use Rattle.std.specs.Prelude.{◌≡◌, ◌<◌, IfOk, Option, Some, None, List, ℕ, map, true, option_map, is_some};
 ghost use Rattle.retro_syntax.specs.Lines as Lines;
-ghost use Rattle.retro_syntax.specs.Lines.{Answers, Meets, PlainSpells, SpellsPlain, TextSpells, line_view, plain_line};
+ghost use Rattle.retro_syntax.specs.Lines.{
+  Answers,
+  Meets,
+  PlainSpells,
+  SpellsPlain,
+  TextSpells,
+  line_view,
+  plain_line,
+};
 ghost use Rattle.retro_syntax.specs.Plain as Plain;
 ghost use Rattle.retro_syntax.specs.Plain.{PlainItem};
+ghost use Rattle.retro_syntax.specs.Quoting.{tokens_of};
 ghost use Rattle.retro_syntax.specs.Tree as Tree;
-ghost use Rattle.retro_syntax.specs.View.{view, commands_of, token_view};
+ghost use Rattle.retro_syntax.specs.Writing.{
+  IsWriting,
+  Written,
+  WrittenItem,
+  are_writable,
+  plain_of,
+  token_of,
+  written,
+};
 
 use crate::plain::plain_commands;
 use crate::quoting::tokens_of;
 use crate::reader::read_tokens;
 use crate::tree::{Command, Commands};
 use std::alloc::{AllocError, Global};
+
+/// How many bytes a line may have.
+pub const LONGEST_LINE: usize = 4096;
 
 /// Why a text is no line.
 #[derive(Clone, Copy, Debug, PartialEq, Eq)]
@@ -51,7 +70,7 @@ fn line_of(alloc: Global, text: &str) -> Result<Option<Line>, AllocError>
     match tokens_of(alloc, text)? {
         None => Ok(None),
         Some(tokens) => {
-            if tokens.len() == 0 {
+            if tokens.is_empty() {
                 return Ok(Some(Line { commands: None }));
             }
             match read_tokens(alloc, tokens)? {
@@ -105,7 +124,7 @@ pub fn parse(alloc: Global, text: &str) -> Result<Line, Refused>
     ensures meets { Meets text.now result }
     ensures function { Answers text.now result }
 {
-    if text.len() > 4096 {
+    if text.len() > LONGEST_LINE {
         return Err(Refused::TooLong);
     }
     if has_foreign(text) {
@@ -138,4 +157,13 @@ pub fn plain_line_is_spelling()
         ≡ Some found → SpellsPlain text found }
     ensures spelled { (text : List ℕ) (found : List (List PlainItem))
         → SpellsPlain text found → plain_line text ≡ Some found }
+{}
+
+/// What is written with a blank behind each token is read as it was written: `;`, `>`, `>>` and
+/// words without quotes as these tokens, and plain commands with a `;` behind each as these.
+pub fn writing_is_read()
+    ensures tokens { (ws : List Written) → are_writable ws ≡ true
+        → tokens_of (written ws) ≡ Some (map token_of ws) }
+    ensures commands { (text : List ℕ) (cs : List (List WrittenItem)) → IsWriting text cs
+        → plain_line text ≡ Some (map (map plain_of) cs) }
 {}

@@ -47,18 +47,15 @@ fn plain_item<'a>(item: &'a Item) -> Option<PlainItem<'a>>
     ensures { option_map plain_item_view result ≡ Plain.plain_item (item_view item.now) }
 {
     match item {
-        Item::Argument(word) => match plain_word(word) {
-            None => None,
-            Some(text) => Some(PlainItem::Word(text)),
-        },
-        Item::Redirect(direction, word) => match plain_word(word) {
-            None => None,
-            Some(text) => match direction {
+        Item::Argument(word) => Some(PlainItem::Word(plain_word(word)?)),
+        Item::Redirect(direction, word) => {
+            let text = plain_word(word)?;
+            match direction {
                 Direction::From => None,
                 Direction::Onto => Some(PlainItem::Truncate(text)),
                 Direction::Append => Some(PlainItem::Append(text)),
-            },
-        },
+            }
+        }
     }
 }
 
@@ -145,7 +142,7 @@ fn plain_list<'a>(
 ) -> Result<Option<Vec<PlainCommand<'a>>>, AllocError>
     ensures { IfOk result (λ found. option_map plain_commands_view found
         ≡ Plain.all_of Plain.plain_and_or
-            (map (and_or_of view) before.now ++ and_or_of view last.now ∷ [])) }
+        (map (and_or_of view) before.now ++ and_or_of view last.now ∷ [])) }
 {
     let mut found = Vec::new(alloc);
     let mut rest = before;

@@ -6,13 +6,11 @@ mod operators;
 mod parameters;
 mod pieces;
 
-ghost use Rattle.std.specs.Prelude.{◌≡◌, ◌∷◌, [], ◌++◌, Bool, IfOk, Option, Some, None, map, option_map, string_bytes, true, false};
-ghost use Rattle.std.specs.Char.{encode_utf8};
+ghost use Rattle.std.specs.Prelude.{◌≡◌, ◌∷◌, [], ◌++◌, IfOk, Option, Some, None, true, false};
 ghost use Rattle.std.specs.Str.{chars};
 ghost use Rattle.retro_syntax.specs.Quoting;
 ghost use Rattle.retro_syntax.specs.Tree;
-ghost use Rattle.retro_syntax.specs.Words.{is_one_of};
-ghost use Rattle.retro_syntax.specs.View.{token_view, tokens_view, piece_view};
+ghost use Rattle.retro_syntax.specs.View.{tokens_view};
 ghost use Rattle.retro_syntax.specs.QuotingViews.{LexesTo, TokenizesTo, lexing_view, pending_view, pieces_view, reading_view};
 
 use crate::quoting::backslashes::escaped_at;
@@ -197,9 +195,20 @@ pub fn lex_step(alloc: Global, lexing: Lexing, c: char) -> Result<Option<Lexing>
     }
 }
 
+pub fn push_word(
+    mut tokens: Vec<Token>,
+    pieces: Vec<Piece>,
+) -> Result<Option<Vec<Token>>, AllocError>
+    ensures { TokenizesTo result
+        (Some (tokens_view tokens ++ Tree.word (pieces_view pieces) ∷ [])) }
+{
+    tokens.push(Token::Word(Word { pieces }))?;
+    Ok(Some(tokens))
+}
+
 pub fn reading_end(
     alloc: Global,
-    mut tokens: Vec<Token>,
+    tokens: Vec<Token>,
     reading: Reading,
 ) -> Result<Option<Vec<Token>>, AllocError>
     ensures { TokenizesTo result (Quoting.reading_end (tokens_view tokens) (reading_view reading)) }
@@ -209,18 +218,11 @@ pub fn reading_end(
             pieces,
             quote: Quote::Unquoted,
             ..
-        } => {
-            tokens.push(Token::Word(Word { pieces }))?;
-            Ok(Some(tokens))
-        }
+        } => push_word(tokens, pieces),
         Reading::Dollar {
             pieces,
             inside: false,
-        } => {
-            let pieces = add_dollar(alloc, pieces, false)?;
-            tokens.push(Token::Word(Word { pieces }))?;
-            Ok(Some(tokens))
-        }
+        } => { push_word(tokens, add_dollar(alloc, pieces, false)?) }
         Reading::Named {
             mut pieces,
             inside: false,
@@ -230,8 +232,7 @@ pub fn reading_end(
                 return Ok(None);
             }
             pieces.push(Piece::Parameter(name))?;
-            tokens.push(Token::Word(Word { pieces }))?;
-            Ok(Some(tokens))
+            push_word(tokens, pieces)
         }
         Reading::InWord {
             quote: Quote::Single,

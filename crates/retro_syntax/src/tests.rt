@@ -1,6 +1,6 @@
 use crate::{
     PlainItem, Refused, one_line, parse, plain_commands, plain_line_is_spelling,
-    reading_is_spelling,
+    reading_is_spelling, writing_is_read,
 };
 use std::alloc::Global;
 use std::test::Fail;
@@ -128,4 +128,5 @@ fn laws_are_called() {
     one_line();
     plain_line_is_spelling();
     reading_is_spelling();
+    writing_is_read();
 }

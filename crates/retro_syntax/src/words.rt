@@ -1,9 +1,9 @@
 //! What a word is where a command may begin.
 
-ghost use Rattle.std.specs.Prelude.{◌≡◌, map, Option, option_map, string_bytes, IfOk};
+ghost use Rattle.std.specs.Prelude.{◌≡◌, Option, option_map, string_bytes, IfOk};
 ghost use Rattle.retro_syntax.specs.Words;
 ghost use Rattle.retro_syntax.specs.Tree;
-ghost use Rattle.retro_syntax.specs.View.{piece_view, word_view};
+ghost use Rattle.retro_syntax.specs.View.{word_view};
 
 use crate::tree::{Piece, ReservedWord, Word};
 use std::alloc::{AllocError, Global};

@@ -1,20 +1,16 @@
 //! The character behind a backslash (XCU 2.2.1, 2.2.3).
 
-ghost use Rattle.std.specs.Prelude.{◌≡◌, ◌∷◌, [], ◌++◌, Bool, IfOk, Option, Some, None, map, option_map, string_bytes, true, false};
-ghost use Rattle.std.specs.Char.{encode_utf8};
-ghost use Rattle.std.specs.Str.{chars};
+ghost use Rattle.std.specs.Prelude.{◌≡◌, Option, Some, None};
 ghost use Rattle.retro_syntax.specs.Quoting;
-ghost use Rattle.retro_syntax.specs.Tree;
-ghost use Rattle.retro_syntax.specs.Words.{is_one_of};
-ghost use Rattle.retro_syntax.specs.View.{token_view, tokens_view, piece_view};
-ghost use Rattle.retro_syntax.specs.QuotingViews.{LexesTo, TokenizesTo, lexing_view, pending_view, pieces_view, reading_view};
+ghost use Rattle.retro_syntax.specs.View.{tokens_view};
+ghost use Rattle.retro_syntax.specs.QuotingViews.{LexesTo, pending_view, pieces_view, reading_view};
 
-use crate::quoting::characters::with_reading;
+use crate::quoting::characters::in_word;
 use crate::quoting::operators::settled;
 use crate::quoting::parameters::{is_unsupported_name, parameter_piece, quote_of};
 use crate::quoting::pieces::{add_dollar, add_quoted, backslash_and, text_of};
 use crate::quoting::{Lexing, Operator, Pending, Quote, Reading};
-use crate::tree::{Connector, Direction, Piece, Token, Word};
+use crate::tree::{Piece, Token};
 use std::alloc::{AllocError, Global};
 
 pub fn is_special_inside(c: char) -> bool
@@ -38,38 +34,17 @@ pub fn escaped_in(
         Quote::Unquoted => {
             let text = text_of(alloc, c)?;
             let pieces = add_quoted(alloc, pieces, &text)?;
-            Ok(with_reading(
-                tokens,
-                Reading::InWord {
-                    pieces,
-                    digits: false,
-                    quote: Quote::Unquoted,
-                },
-            ))
+            Ok(in_word(tokens, pieces, Quote::Unquoted))
         }
         Quote::Double => {
             if is_special_inside(c) {
                 let text = text_of(alloc, c)?;
                 let pieces = add_quoted(alloc, pieces, &text)?;
-                return Ok(with_reading(
-                    tokens,
-                    Reading::InWord {
-                        pieces,
-                        digits: false,
-                        quote: Quote::Double,
-                    },
-                ));
+                return Ok(in_word(tokens, pieces, Quote::Double));
             }
             let text = backslash_and(alloc, c)?;
             let pieces = add_quoted(alloc, pieces, &text)?;
-            Ok(with_reading(
-                tokens,
-                Reading::InWord {
-                    pieces,
-                    digits: false,
-                    quote: Quote::Double,
-                },
-            ))
+            Ok(in_word(tokens, pieces, Quote::Double))
         }
     }
 }

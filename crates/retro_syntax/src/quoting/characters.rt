@@ -1,17 +1,13 @@
 //! Characters between tokens and in words (XCU 2.2.2, 2.2.3, 2.3).
 
-ghost use Rattle.std.specs.Prelude.{◌≡◌, ◌∷◌, [], ◌++◌, Bool, IfOk, Option, Some, None, map, option_map, string_bytes, true, false};
-ghost use Rattle.std.specs.Char.{encode_utf8};
-ghost use Rattle.std.specs.Str.{chars};
+ghost use Rattle.std.specs.Prelude.{◌≡◌, Option, Some, None, option_map, true, false};
 ghost use Rattle.retro_syntax.specs.Quoting;
-ghost use Rattle.retro_syntax.specs.Tree;
-ghost use Rattle.retro_syntax.specs.Words.{is_one_of};
-ghost use Rattle.retro_syntax.specs.View.{token_view, tokens_view, piece_view};
-ghost use Rattle.retro_syntax.specs.QuotingViews.{LexesTo, TokenizesTo, lexing_view, pending_view, pieces_view, reading_view};
+ghost use Rattle.retro_syntax.specs.View.{tokens_view};
+ghost use Rattle.retro_syntax.specs.QuotingViews.{LexesTo, lexing_view, pieces_view, reading_view};
 
 use crate::quoting::pieces::{add_plain, add_quoted, text_of};
 use crate::quoting::{Lexing, Operator, Pending, Quote, Reading};
-use crate::tree::{Connector, Direction, Piece, Token, Word};
+use crate::tree::{Piece, Token, Word};
 use std::alloc::{AllocError, Global};
 
 pub fn is_blank(c: char) -> bool
@@ -43,6 +39,21 @@ pub fn with_reading(tokens: Vec<Token>, reading: Reading) -> Option<Lexing>
     })
 }
 
+pub fn in_word(tokens: Vec<Token>, pieces: Vec<Piece>, quote: Quote) -> Option<Lexing>
+    ensures { option_map lexing_view result
+        ≡ Quoting.word_goes_on (tokens_view tokens)
+        (Quoting.in_word (pieces_view pieces) false quote) }
+{
+    with_reading(
+        tokens,
+        Reading::InWord {
+            pieces,
+            digits: false,
+            quote,
+        },
+    )
+}
+
 pub fn unquoted_at(
     alloc: Global,
     tokens: Vec<Token>,
@@ -55,24 +66,10 @@ pub fn unquoted_at(
 {
     if c == '\'' {
         let pieces = add_quoted(alloc, pieces, "")?;
-        Ok(with_reading(
-            tokens,
-            Reading::InWord {
-                pieces,
-                digits: false,
-                quote: Quote::Single,
-            },
-        ))
+        Ok(in_word(tokens, pieces, Quote::Single))
     } else if c == '"' {
         let pieces = add_quoted(alloc, pieces, "")?;
-        Ok(with_reading(
-            tokens,
-            Reading::InWord {
-                pieces,
-                digits: false,
-                quote: Quote::Double,
-            },
-        ))
+        Ok(in_word(tokens, pieces, Quote::Double))
     } else if c == '$' {
         Ok(with_reading(
             tokens,
@@ -133,14 +130,7 @@ pub fn in_double(
         (Quoting.word_at (tokens_view tokens) (pieces_view pieces) false Quote.Double c) }
 {
     if c == '"' {
-        Ok(with_reading(
-            tokens,
-            Reading::InWord {
-                pieces,
-                digits: false,
-                quote: Quote::Unquoted,
-            },
-        ))
+        Ok(in_word(tokens, pieces, Quote::Unquoted))
     } else if c == '$' {
         Ok(with_reading(
             tokens,
@@ -154,14 +144,7 @@ pub fn in_double(
     } else {
         let text = text_of(alloc, c)?;
         let pieces = add_quoted(alloc, pieces, &text)?;
-        Ok(with_reading(
-            tokens,
-            Reading::InWord {
-                pieces,
-                digits: false,
-                quote: Quote::Double,
-            },
-        ))
+        Ok(in_word(tokens, pieces, Quote::Double))
     }
 }
 
@@ -189,28 +172,14 @@ pub fn word_at(
         }
         Quote::Single => {
             if c == '\'' {
-                return Ok(with_reading(
-                    tokens,
-                    Reading::InWord {
-                        pieces,
-                        digits: false,
-                        quote: Quote::Unquoted,
-                    },
-                ));
+                return Ok(in_word(tokens, pieces, Quote::Unquoted));
             }
             if c == '\0' {
                 return Ok(None);
             }
             let text = text_of(alloc, c)?;
             let pieces = add_quoted(alloc, pieces, &text)?;
-            Ok(with_reading(
-                tokens,
-                Reading::InWord {
-                    pieces,
-                    digits: false,
-                    quote: Quote::Single,
-                },
-            ))
+            Ok(in_word(tokens, pieces, Quote::Single))
         }
         Quote::Double => in_double(alloc, tokens, pieces, c),
     }

@@ -1,17 +1,13 @@
 //! Operators (XCU 2.3, 2.10.2).
 
-ghost use Rattle.std.specs.Prelude.{◌≡◌, ◌∷◌, [], ◌++◌, Bool, IfOk, Option, Some, None, map, option_map, string_bytes, true, false};
-ghost use Rattle.std.specs.Char.{encode_utf8};
-ghost use Rattle.std.specs.Str.{chars};
+ghost use Rattle.std.specs.Prelude.{◌∷◌, [], ◌++◌, Option, Some, None, false};
 ghost use Rattle.retro_syntax.specs.Quoting;
-ghost use Rattle.retro_syntax.specs.Tree;
-ghost use Rattle.retro_syntax.specs.Words.{is_one_of};
-ghost use Rattle.retro_syntax.specs.View.{token_view, tokens_view, piece_view};
-ghost use Rattle.retro_syntax.specs.QuotingViews.{LexesTo, TokenizesTo, lexing_view, pending_view, pieces_view, reading_view};
+ghost use Rattle.retro_syntax.specs.View.{token_view, tokens_view};
+ghost use Rattle.retro_syntax.specs.QuotingViews.{LexesTo, TokenizesTo};
 
 use crate::quoting::characters::fresh;
-use crate::quoting::{Lexing, Operator, Pending, Quote, Reading};
-use crate::tree::{Connector, Direction, Piece, Token, Word};
+use crate::quoting::{Lexing, Operator, Pending};
+use crate::tree::{Connector, Direction, Token};
 use std::alloc::{AllocError, Global};
 
 pub fn after_operator(
@@ -29,7 +25,7 @@ pub fn after_operator(
 pub fn whole_operator(mut tokens: Vec<Token>, token: Token) -> Result<Option<Lexing>, AllocError>
     ensures { LexesTo result
         (Some (Quoting.with_pending (tokens_view tokens ++ token_view token ∷ [])
-            Quoting.between)) }
+        Quoting.between)) }
 {
     tokens.push(token)?;
     Ok(Some(Lexing {
@@ -37,6 +33,27 @@ pub fn whole_operator(mut tokens: Vec<Token>, token: Token) -> Result<Option<Lex
         pending: Pending::Between,
         backslash: false,
     }))
+}
+
+fn less_at(alloc: Global, tokens: Vec<Token>, c: char) -> Result<Option<Lexing>, AllocError>
+    ensures { LexesTo result (Quoting.operator_at (tokens_view tokens) Operator.Less c) }
+{
+    if c == '<' || c == '&' || c == '>' {
+        return Ok(None);
+    }
+    after_operator(alloc, tokens, Token::Redirection(Direction::From), c)
+}
+
+fn greater_at(alloc: Global, tokens: Vec<Token>, c: char) -> Result<Option<Lexing>, AllocError>
+    ensures { LexesTo result (Quoting.operator_at (tokens_view tokens) Operator.Greater c) }
+{
+    if c == '>' {
+        return whole_operator(tokens, Token::Redirection(Direction::Append));
+    }
+    if c == '&' || c == '|' {
+        return Ok(None);
+    }
+    after_operator(alloc, tokens, Token::Redirection(Direction::Onto), c)
 }
 
 pub fn operator_at(
@@ -48,42 +65,14 @@ pub fn operator_at(
     ensures { LexesTo result (Quoting.operator_at (tokens_view tokens) operator c) }
 {
     match operator {
-        Operator::Semicolon => {
-            if c == ';' {
-                Ok(None)
-            } else {
-                after_operator(alloc, tokens, Token::Semicolon, c)
-            }
-        }
-        Operator::And => {
-            if c == '&' {
-                whole_operator(tokens, Token::Connector(Connector::AndIf))
-            } else {
-                Ok(None)
-            }
-        }
-        Operator::Bar => {
-            if c == '|' {
-                whole_operator(tokens, Token::Connector(Connector::OrIf))
-            } else {
-                after_operator(alloc, tokens, Token::Bar, c)
-            }
-        }
-        Operator::Less => {
-            if c == '<' || c == '&' || c == '>' {
-                return Ok(None);
-            }
-            after_operator(alloc, tokens, Token::Redirection(Direction::From), c)
-        }
-        Operator::Greater => {
-            if c == '>' {
-                return whole_operator(tokens, Token::Redirection(Direction::Append));
-            }
-            if c == '&' || c == '|' {
-                return Ok(None);
-            }
-            after_operator(alloc, tokens, Token::Redirection(Direction::Onto), c)
-        }
+        Operator::Semicolon if c == ';' => Ok(None),
+        Operator::Semicolon => after_operator(alloc, tokens, Token::Semicolon, c),
+        Operator::And if c == '&' => whole_operator(tokens, Token::Connector(Connector::AndIf)),
+        Operator::And => Ok(None),
+        Operator::Bar if c == '|' => whole_operator(tokens, Token::Connector(Connector::OrIf)),
+        Operator::Bar => after_operator(alloc, tokens, Token::Bar, c),
+        Operator::Less => less_at(alloc, tokens, c),
+        Operator::Greater => greater_at(alloc, tokens, c),
     }
 }
 

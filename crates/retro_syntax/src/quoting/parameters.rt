@@ -1,18 +1,15 @@
 //! Parameters (XCU 2.6.2).
 
-ghost use Rattle.std.specs.Prelude.{◌≡◌, ◌∷◌, [], ◌++◌, Bool, IfOk, Option, Some, None, map, option_map, string_bytes, true, false};
-ghost use Rattle.std.specs.Char.{encode_utf8};
-ghost use Rattle.std.specs.Str.{chars};
+ghost use Rattle.std.specs.Prelude.{option_map, ◌≡◌, [], Option, None, string_bytes, false};
 ghost use Rattle.retro_syntax.specs.Quoting;
-ghost use Rattle.retro_syntax.specs.Tree;
 ghost use Rattle.retro_syntax.specs.Words.{is_one_of};
-ghost use Rattle.retro_syntax.specs.View.{token_view, tokens_view, piece_view};
-ghost use Rattle.retro_syntax.specs.QuotingViews.{LexesTo, TokenizesTo, lexing_view, pending_view, pieces_view, reading_view};
+ghost use Rattle.retro_syntax.specs.View.{tokens_view, piece_view};
+ghost use Rattle.retro_syntax.specs.QuotingViews.{LexesTo, lexing_view, pieces_view, reading_view};
 
-use crate::quoting::characters::{with_reading, word_at};
+use crate::quoting::characters::{in_word, with_reading, word_at};
 use crate::quoting::pieces::{add_dollar, question_mark, text_and, text_of};
-use crate::quoting::{Lexing, Operator, Pending, Quote, Reading};
-use crate::tree::{Connector, Direction, Piece, Token, Word};
+use crate::quoting::{Lexing, Quote, Reading};
+use crate::tree::{Piece, Token};
 use std::alloc::{AllocError, Global};
 
 pub fn is_unsupported_name(name: &str) -> bool
@@ -49,20 +46,13 @@ pub fn with_parameter(
 ) -> Result<Option<Lexing>, AllocError>
     ensures { LexesTo result
         (Quoting.with_parameter (tokens_view tokens) (pieces_view pieces) inside
-            (string_bytes name)) }
+        (string_bytes name)) }
 {
     if is_unsupported_name(&name) {
         return Ok(None);
     }
     pieces.push(parameter_piece(inside, name))?;
-    Ok(with_reading(
-        tokens,
-        Reading::InWord {
-            pieces,
-            digits: false,
-            quote: quote_of(inside),
-        },
-    ))
+    Ok(in_word(tokens, pieces, quote_of(inside)))
 }
 
 pub fn after_parameter(
@@ -75,7 +65,7 @@ pub fn after_parameter(
 ) -> Result<Option<Lexing>, AllocError>
     ensures { LexesTo result
         (Quoting.after_parameter (tokens_view tokens) (pieces_view pieces) inside
-            (string_bytes name) c) }
+        (string_bytes name) c) }
 {
     if is_unsupported_name(&name) {
         return Ok(None);
@@ -109,6 +99,36 @@ pub fn is_other_parameter(c: char) -> bool
         || c == '('
 }
 
+pub fn named(tokens: Vec<Token>, pieces: Vec<Piece>, inside: bool, name: String) -> Option<Lexing>
+    ensures { option_map lexing_view result
+        ≡ Quoting.word_goes_on (tokens_view tokens)
+        (Quoting.named (pieces_view pieces) inside (string_bytes name)) }
+{
+    with_reading(
+        tokens,
+        Reading::Named {
+            pieces,
+            inside,
+            name,
+        },
+    )
+}
+
+pub fn braced(tokens: Vec<Token>, pieces: Vec<Piece>, inside: bool, name: String) -> Option<Lexing>
+    ensures { option_map lexing_view result
+        ≡ Quoting.word_goes_on (tokens_view tokens)
+        (Quoting.braced (pieces_view pieces) inside (string_bytes name)) }
+{
+    with_reading(
+        tokens,
+        Reading::Braced {
+            pieces,
+            inside,
+            name,
+        },
+    )
+}
+
 pub fn dollar_at(
     alloc: Global,
     tokens: Vec<Token>,
@@ -120,23 +140,9 @@ pub fn dollar_at(
         (Quoting.reading_at (tokens_view tokens) (Quoting.dollar (pieces_view pieces) inside) c) }
 {
     if begins_name(c) {
-        Ok(with_reading(
-            tokens,
-            Reading::Named {
-                pieces,
-                inside,
-                name: text_of(alloc, c)?,
-            },
-        ))
+        Ok(named(tokens, pieces, inside, text_of(alloc, c)?))
     } else if c == '{' {
-        Ok(with_reading(
-            tokens,
-            Reading::Braced {
-                pieces,
-                inside,
-                name: String::new(alloc),
-            },
-        ))
+        Ok(braced(tokens, pieces, inside, String::new(alloc)))
     } else if c == '?' {
         with_parameter(tokens, pieces, inside, question_mark(alloc)?)
     } else if is_other_parameter(c) {
@@ -144,6 +150,44 @@ pub fn dollar_at(
     } else {
         let pieces = add_dollar(alloc, pieces, inside)?;
         word_at(alloc, tokens, pieces, false, quote_of(inside), c)
+    }
+}
+
+pub fn named_at(
+    alloc: Global,
+    tokens: Vec<Token>,
+    pieces: Vec<Piece>,
+    inside: bool,
+    name: String,
+    c: char,
+) -> Result<Option<Lexing>, AllocError>
+    ensures { LexesTo result
+        (Quoting.reading_at (tokens_view tokens)
+        (Quoting.named (pieces_view pieces) inside (string_bytes name)) c) }
+{
+    if continues_name(c) {
+        return Ok(named(tokens, pieces, inside, text_and(name, c)?));
+    }
+    after_parameter(alloc, tokens, pieces, inside, name, c)
+}
+
+pub fn brace_at(
+    alloc: Global,
+    tokens: Vec<Token>,
+    pieces: Vec<Piece>,
+    inside: bool,
+    c: char,
+) -> Result<Option<Lexing>, AllocError>
+    ensures { LexesTo result
+        (Quoting.reading_at (tokens_view tokens)
+        (Quoting.braced (pieces_view pieces) inside []) c) }
+{
+    if c == '?' {
+        Ok(with_reading(tokens, Reading::Question { pieces, inside }))
+    } else if begins_name(c) {
+        Ok(braced(tokens, pieces, inside, text_of(alloc, c)?))
+    } else {
+        Ok(None)
     }
 }
 
@@ -157,37 +201,15 @@ pub fn braced_at(
 ) -> Result<Option<Lexing>, AllocError>
     ensures { LexesTo result
         (Quoting.reading_at (tokens_view tokens)
-            (Quoting.braced (pieces_view pieces) inside (string_bytes name)) c) }
+        (Quoting.braced (pieces_view pieces) inside (string_bytes name)) c) }
 {
     match name.as_bytes() {
-        [] => {
-            if c == '?' {
-                Ok(with_reading(tokens, Reading::Question { pieces, inside }))
-            } else if begins_name(c) {
-                Ok(with_reading(
-                    tokens,
-                    Reading::Braced {
-                        pieces,
-                        inside,
-                        name: text_of(alloc, c)?,
-                    },
-                ))
-            } else {
-                Ok(None)
-            }
-        }
+        [] => brace_at(alloc, tokens, pieces, inside, c),
         [_first, _more @ ..] => {
             if c == '}' {
                 with_parameter(tokens, pieces, inside, name)
             } else if continues_name(c) {
-                Ok(with_reading(
-                    tokens,
-                    Reading::Braced {
-                        pieces,
-                        inside,
-                        name: text_and(name, c)?,
-                    },
-                ))
+                Ok(braced(tokens, pieces, inside, text_and(name, c)?))
             } else {
                 Ok(None)
             }
@@ -214,19 +236,7 @@ pub fn reading_at(
             pieces,
             inside,
             name,
-        } => {
-            if continues_name(c) {
-                return Ok(with_reading(
-                    tokens,
-                    Reading::Named {
-                        pieces,
-                        inside,
-                        name: text_and(name, c)?,
-                    },
-                ));
-            }
-            after_parameter(alloc, tokens, pieces, inside, name, c)
-        }
+        } => named_at(alloc, tokens, pieces, inside, name, c),
         Reading::Braced {
             pieces,
             inside,

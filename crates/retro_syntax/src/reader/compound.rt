@@ -1,21 +1,16 @@
 //! `if`, and where commands begin and end (XCU 2.9.4).
 
-ghost use Rattle.std.specs.Prelude.{◌≡◌, ◌∷◌, ◌++◌, IfOk, List, Option, Some, None, map, option_map, reverse, string_bytes, true, false};
-ghost use Rattle.retro_syntax.specs.Tree;
+ghost use Rattle.std.specs.Prelude.{◌≡◌, ◌∷◌, IfOk, Option, Some, None, map, option_map, string_bytes};
 ghost use Rattle.retro_syntax.specs.Reader;
-ghost use Rattle.retro_syntax.specs.View;
-ghost use Rattle.retro_syntax.specs.View.{token_view, view, commands_of, word_view, simple_view, item_view};
-ghost use Rattle.retro_syntax.specs.ReaderViews.{StepsAt, StepsTo, frame_view, items_view, level_view, open_view, place_view, stack_view, stages_view, state_view, words_view};
+ghost use Rattle.retro_syntax.specs.View.{view, commands_of, word_view};
+ghost use Rattle.retro_syntax.specs.ReaderViews.{StepsAt, StepsTo, arm_view, frame_view, open_view, stack_view, state_view, words_view};
 
-use crate::build::{conditional, conditional_else, pipe, repetition};
-use crate::reader::lists::{go_on, may_end, nothing, whole_list};
+use crate::build::{conditional, conditional_else, repetition};
+use crate::reader::lists::{go_on, may_end, nothing, step_to, whole_list};
 use crate::reader::simple::begin_simple;
 use crate::reader::{Arm, Frame, Open, Place, State};
-use crate::tree::{
-    AndOr, Command, Commands, Conditional, Connector, Direction, Item, Loop, Pipeline,
-    ReservedWord, Simple, Token, Word,
-};
-use crate::words::{Class, class_of, name_of};
+use crate::tree::{Command, Commands, Conditional, Connector, Loop, ReservedWord, Token, Word};
+use crate::words::{Class, class_of};
 use std::alloc::{AllocError, Global};
 
 pub fn inner_list(
@@ -26,7 +21,7 @@ pub fn inner_list(
 ) -> Result<State, AllocError>
     ensures { IfOk result (λ n. state_view n
         ≡ Reader.at ((open_view here, frame_view frame) ∷ stack_view stack)
-            Reader.nothing Reader.start) }
+        Reader.nothing Reader.start) }
 {
     stack.push((here, frame))?;
     Ok(State {
@@ -34,6 +29,105 @@ pub fn inner_list(
         here: nothing(alloc),
         place: Place::Start,
     })
+}
+
+fn end_condition(
+    alloc: Global,
+    stack: Vec<(Open, Frame)>,
+    here: Open,
+    before: Vec<Arm>,
+    condition: Commands<Command>,
+    reserved: ReservedWord,
+) -> Result<Option<State>, AllocError>
+    ensures { StepsTo result
+        (Reader.close_by (stack_view stack) (open_view here)
+        (Reader.condition (map arm_view before.items)) (commands_of view condition) reserved) }
+{
+    match reserved {
+        ReservedWord::Then => {
+            let frame = Frame::Consequence(before, condition);
+            Ok(Some(inner_list(alloc, stack, here, frame)?))
+        }
+        _ => Ok(None),
+    }
+}
+
+fn end_consequence(
+    alloc: Global,
+    stack: Vec<(Open, Frame)>,
+    here: Open,
+    mut before: Vec<Arm>,
+    condition: Commands<Command>,
+    consequence: Commands<Command>,
+    reserved: ReservedWord,
+) -> Result<Option<State>, AllocError>
+    ensures { StepsTo result
+        (Reader.close_by (stack_view stack) (open_view here)
+        (Reader.consequence (map arm_view before.items) (commands_of view condition))
+        (commands_of view consequence) reserved) }
+{
+    match reserved {
+        ReservedWord::Elif => {
+            before.push((condition, consequence))?;
+            Ok(Some(inner_list(alloc, stack, here, Frame::Condition(before))?))
+        }
+        ReservedWord::Else => {
+            let frame = Frame::Alternative(before, condition, consequence);
+            Ok(Some(inner_list(alloc, stack, here, frame)?))
+        }
+        ReservedWord::Fi => {
+            let whole = conditional(
+                alloc,
+                Conditional {
+                    before,
+                    condition,
+                    consequence,
+                },
+            )?;
+            step_to(stack, here, Place::Closed(whole))
+        }
+        _ => Ok(None),
+    }
+}
+
+fn end_alternative(
+    alloc: Global,
+    stack: Vec<(Open, Frame)>,
+    here: Open,
+    arms: Conditional<Command>,
+    alternative: Commands<Command>,
+    reserved: ReservedWord,
+) -> Result<Option<State>, AllocError>
+    ensures { StepsTo result
+        (Reader.close_by (stack_view stack) (open_view here)
+        (Reader.alternative (map arm_view arms.before.items) (commands_of view arms.condition)
+        (commands_of view arms.consequence)) (commands_of view alternative) reserved) }
+{
+    match reserved {
+        ReservedWord::Fi => {
+            let whole = conditional_else(alloc, arms, alternative)?;
+            step_to(stack, here, Place::Closed(whole))
+        }
+        _ => Ok(None),
+    }
+}
+
+fn end_body(
+    alloc: Global,
+    stack: Vec<(Open, Frame)>,
+    here: Open,
+    parts: Loop<Command>,
+    reserved: ReservedWord,
+) -> Result<Option<State>, AllocError>
+    ensures { StepsTo result
+        (Reader.close_by (stack_view stack) (open_view here)
+        (Reader.body (string_bytes parts.name) (words_view parts.words))
+        (commands_of view parts.body) reserved) }
+{
+    match reserved {
+        ReservedWord::Done => step_to(stack, here, Place::Closed(repetition(alloc, parts)?)),
+        _ => Ok(None),
+    }
 }
 
 pub fn close_by(
@@ -46,72 +140,34 @@ pub fn close_by(
 ) -> Result<Option<State>, AllocError>
     ensures { StepsTo result
         (Reader.close_by (stack_view stack) (open_view here) (frame_view frame)
-            (commands_of view list) reserved) }
+        (commands_of view list) reserved) }
 {
-    match (frame, reserved) {
-        (Frame::Condition(before), ReservedWord::Then) => Ok(Some(inner_list(
-            alloc,
-            stack,
-            here,
-            Frame::Consequence(before, list),
-        )?)),
-        (Frame::Consequence(mut before, condition), ReservedWord::Elif) => {
-            before.push((condition, list))?;
-            Ok(Some(inner_list(alloc, stack, here, Frame::Condition(before))?))
+    match frame {
+        Frame::Condition(before) => end_condition(alloc, stack, here, before, list, reserved),
+        Frame::Consequence(before, condition) => {
+            end_consequence(alloc, stack, here, before, condition, list, reserved)
         }
-        (Frame::Consequence(before, condition), ReservedWord::Else) => Ok(Some(inner_list(
-            alloc,
-            stack,
-            here,
-            Frame::Alternative(before, condition, list),
-        )?)),
-        (Frame::Consequence(before, condition), ReservedWord::Fi) => {
-            let whole = conditional(
+        Frame::Alternative(before, condition, consequence) => {
+            let arms = Conditional {
+                before,
+                condition,
+                consequence,
+            };
+            end_alternative(alloc, stack, here, arms, list, reserved)
+        }
+        Frame::Body(name, words) => {
+            end_body(
                 alloc,
-                Conditional {
-                    before,
-                    condition,
-                    consequence: list,
-                },
-            )?;
-            Ok(Some(State {
                 stack,
                 here,
-                place: Place::Closed(whole),
-            }))
-        }
-        (Frame::Alternative(before, condition, consequence), ReservedWord::Fi) => {
-            let whole = conditional_else(
-                alloc,
-                Conditional {
-                    before,
-                    condition,
-                    consequence,
-                },
-                list,
-            )?;
-            Ok(Some(State {
-                stack,
-                here,
-                place: Place::Closed(whole),
-            }))
-        }
-        (Frame::Body(name, words), ReservedWord::Done) => {
-            let whole = repetition(
-                alloc,
                 Loop {
                     name,
                     words,
                     body: list,
                 },
-            )?;
-            Ok(Some(State {
-                stack,
-                here,
-                place: Place::Closed(whole),
-            }))
+                reserved,
+            )
         }
-        _ => Ok(None),
     }
 }
 
@@ -158,11 +214,7 @@ pub fn begin_reserved(
                 return Ok(None);
             }
             here.negated = true;
-            Ok(Some(State {
-                stack,
-                here,
-                place: Place::Start,
-            }))
+            step_to(stack, here, Place::Start)
         }
         ReservedWord::If => Ok(Some(inner_list(
             alloc,
@@ -170,11 +222,7 @@ pub fn begin_reserved(
             here,
             Frame::Condition(Vec::new(alloc)),
         )?)),
-        ReservedWord::For => Ok(Some(State {
-            stack,
-            here,
-            place: Place::ForName,
-        })),
+        ReservedWord::For => step_to(stack, here, Place::ForName),
         ReservedWord::Then
         | ReservedWord::Elif
         | ReservedWord::Else
@@ -216,7 +264,7 @@ pub fn at_start(
         }
         Token::Redirection(direction) => {
             let place = Place::Target(Vec::new(alloc), Vec::new(alloc), direction);
-            Ok(Some(State { stack, here, place }))
+            step_to(stack, here, place)
         }
         Token::Semicolon | Token::Bar | Token::Connector(_) => Ok(None),
     }

@@ -1,19 +1,14 @@
 //! Lists and and-or lists that stand open (XCU 2.9.3).
 
-ghost use Rattle.std.specs.Prelude.{◌≡◌, ◌∷◌, ◌++◌, IfOk, List, Option, Some, None, map, option_map, reverse, string_bytes, true, false};
+ghost use Rattle.std.specs.Prelude.{◌≡◌, IfOk, Option, Some, None, map, option_map, true, false};
 ghost use Rattle.retro_syntax.specs.Tree;
 ghost use Rattle.retro_syntax.specs.Reader;
 ghost use Rattle.retro_syntax.specs.View;
-ghost use Rattle.retro_syntax.specs.View.{token_view, view, commands_of, word_view, simple_view, item_view};
-ghost use Rattle.retro_syntax.specs.ReaderViews.{StepsTo, frame_view, items_view, level_view, open_view, place_view, stack_view, stages_view, state_view, words_view};
+ghost use Rattle.retro_syntax.specs.View.{token_view, view, commands_of};
+ghost use Rattle.retro_syntax.specs.ReaderViews.{StepsTo, open_view, place_view, stack_view, state_view};
 
-use crate::build::{conditional, conditional_else, pipe, repetition};
-use crate::reader::{Arm, Frame, Open, Place, State};
-use crate::tree::{
-    AndOr, Command, Commands, Conditional, Connector, Direction, Item, Loop, Pipeline,
-    ReservedWord, Simple, Token, Word,
-};
-use crate::words::{Class, class_of, name_of};
+use crate::reader::{Frame, Open, Place, State};
+use crate::tree::{AndOr, Command, Commands, Connector, Pipeline, Token, Word};
 use std::alloc::{AllocError, Global};
 
 pub fn nothing(alloc: Global) -> Open
@@ -24,6 +19,17 @@ pub fn nothing(alloc: Global) -> Open
         joined: Vec::new(alloc),
         negated: false,
     }
+}
+
+pub fn step_to(
+    stack: Vec<(Open, Frame)>,
+    here: Open,
+    place: Place,
+) -> Result<Option<State>, AllocError>
+    ensures { StepsTo result
+        (Some (Reader.at (stack_view stack) (open_view here) (place_view place))) }
+{
+    Ok(Some(State { stack, here, place }))
 }
 
 pub fn and_or(here: Open, command: Command) -> (Vec<AndOr<Command>>, AndOr<Command>)
@@ -73,7 +79,7 @@ pub fn after_connector(
 ) -> Result<State, AllocError>
     ensures { IfOk result (λ n. Some (state_view n)
         ≡ Reader.go_on (stack_view stack) (open_view here) (view command)
-            (Tree.connector connector)) }
+        (Tree.connector connector)) }
 {
     let Open {
         done,
@@ -111,7 +117,7 @@ pub fn may_end(here: Open) -> Option<Commands<Command>>
 pub fn whole_list(here: Open, command: Command) -> Commands<Command>
     ensures { commands_of view result
         ≡ Reader.listed (open_view here).done (Reader.and_or (open_view here) (view command))
-            false }
+        false }
 {
     let (before, last) = and_or(here, command);
     Commands {

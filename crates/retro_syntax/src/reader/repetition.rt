@@ -1,19 +1,13 @@
 //! `for` up to its `do` (XCU 2.9.4.2).
 
-ghost use Rattle.std.specs.Prelude.{◌≡◌, ◌∷◌, ◌++◌, IfOk, List, Option, Some, None, map, option_map, reverse, string_bytes, true, false};
-ghost use Rattle.retro_syntax.specs.Tree;
+ghost use Rattle.std.specs.Prelude.{Option, Some, None, string_bytes};
 ghost use Rattle.retro_syntax.specs.Reader;
-ghost use Rattle.retro_syntax.specs.View;
-ghost use Rattle.retro_syntax.specs.View.{token_view, view, commands_of, word_view, simple_view, item_view};
-ghost use Rattle.retro_syntax.specs.ReaderViews.{StepsAt, StepsTo, frame_view, items_view, level_view, open_view, place_view, stack_view, stages_view, state_view, words_view};
+ghost use Rattle.retro_syntax.specs.ReaderViews.{StepsAt, words_view};
 
-use crate::build::{conditional, conditional_else, pipe, repetition};
 use crate::reader::compound::inner_list;
-use crate::reader::{Arm, Frame, Open, Place, State};
-use crate::tree::{
-    AndOr, Command, Commands, Conditional, Connector, Direction, Item, Loop, Pipeline,
-    ReservedWord, Simple, Token, Word,
-};
+use crate::reader::lists::step_to;
+use crate::reader::{Frame, Open, Place, State};
+use crate::tree::{Connector, ReservedWord, Token, Word};
 use crate::words::{Class, class_of, name_of};
 use std::alloc::{AllocError, Global};
 
@@ -28,11 +22,7 @@ pub fn at_for_name(
     match token {
         Token::Word(word) => match name_of(alloc, &word)? {
             None => Ok(None),
-            Some(name) => Ok(Some(State {
-                stack,
-                here,
-                place: Place::ForIn(name),
-            })),
+            Some(name) => step_to(stack, here, Place::ForIn(name)),
         },
         Token::Semicolon | Token::Bar | Token::Connector(_) | Token::Redirection(_) => Ok(None),
     }
@@ -49,11 +39,11 @@ pub fn at_for_in(
 {
     match token {
         Token::Word(word) => match class_of(&word) {
-            Class::Reserved(ReservedWord::In) => Ok(Some(State {
+            Class::Reserved(ReservedWord::In) => step_to(
                 stack,
                 here,
-                place: Place::ForWords(name, Vec::new(alloc)),
-            })),
+                Place::ForWords(name, Vec::new(alloc)),
+            ),
             Class::Reserved(
                 ReservedWord::Bang
                 | ReservedWord::If
@@ -86,17 +76,9 @@ pub fn at_for_words(
     match token {
         Token::Word(word) => {
             words.push(word)?;
-            Ok(Some(State {
-                stack,
-                here,
-                place: Place::ForWords(name, words),
-            }))
+            step_to(stack, here, Place::ForWords(name, words))
         }
-        Token::Semicolon => Ok(Some(State {
-            stack,
-            here,
-            place: Place::ForDo(name, words),
-        })),
+        Token::Semicolon => step_to(stack, here, Place::ForDo(name, words)),
         Token::Bar | Token::Connector(_) | Token::Redirection(_) => Ok(None),
     }
 }

@@ -1,19 +1,15 @@
 //! Simple commands and pipes of them (XCU 2.9.1, 2.9.2).
 
-ghost use Rattle.std.specs.Prelude.{◌≡◌, ◌∷◌, ◌++◌, IfOk, List, Option, Some, None, map, option_map, reverse, string_bytes, true, false};
-ghost use Rattle.retro_syntax.specs.Tree;
+ghost use Rattle.std.specs.Prelude.{◌≡◌, ◌∷◌, [], ◌++◌, Option, None, map, true, false};
 ghost use Rattle.retro_syntax.specs.Reader;
-ghost use Rattle.retro_syntax.specs.View;
-ghost use Rattle.retro_syntax.specs.View.{token_view, view, commands_of, word_view, simple_view, item_view};
-ghost use Rattle.retro_syntax.specs.ReaderViews.{StepsAt, StepsTo, frame_view, items_view, level_view, open_view, place_view, stack_view, stages_view, state_view, words_view};
+ghost use Rattle.retro_syntax.specs.Tree;
+ghost use Rattle.retro_syntax.specs.View.{token_view, word_view, simple_view, item_view};
+ghost use Rattle.retro_syntax.specs.ReaderViews.{StepsAt, StepsTo, items_view, open_view, stack_view, stages_view};
 
-use crate::build::{conditional, conditional_else, pipe, repetition};
-use crate::reader::lists::go_on;
-use crate::reader::{Arm, Frame, Open, Place, State};
-use crate::tree::{
-    AndOr, Command, Commands, Conditional, Connector, Direction, Item, Loop, Pipeline,
-    ReservedWord, Simple, Token, Word,
-};
+use crate::build::pipe;
+use crate::reader::lists::{go_on, step_to};
+use crate::reader::{Frame, Open, Place, State};
+use crate::tree::{Command, Connector, Direction, Item, Simple, Token, Word};
 use crate::words::{Class, class_of, is_assignment, is_ordinary};
 use std::alloc::{AllocError, Global};
 
@@ -27,7 +23,7 @@ pub fn begin_simple(
 ) -> Result<Option<State>, AllocError>
     ensures { StepsTo result
         (Reader.begin_simple (stack_view stack) (open_view here) (stages_view stages)
-            (word_view word) class) }
+        (word_view word) class) }
 {
     let simple = match class {
         Class::Assignment => {
@@ -42,11 +38,7 @@ pub fn begin_simple(
         }
         Class::Reserved(_) | Class::Forbidden => return Ok(None),
     };
-    Ok(Some(State {
-        stack,
-        here,
-        place: Place::Within(stages, simple),
-    }))
+    step_to(stack, here, Place::Within(stages, simple))
 }
 
 pub fn no_argument(items: &[Item]) -> bool
@@ -71,7 +63,7 @@ pub fn add_word(
 ) -> Result<Option<State>, AllocError>
     ensures { StepsTo result
         (Reader.add_word (stack_view stack) (open_view here) (stages_view stages)
-            (simple_view simple) (word_view word)) }
+        (simple_view simple) (word_view word)) }
 {
     let class = class_of(&word);
     match simple {
@@ -80,24 +72,36 @@ pub fn add_word(
                 return Ok(None);
             }
             words.push(word)?;
-            Ok(Some(State {
+            step_to(
                 stack,
                 here,
-                place: Place::Within(stages, Simple::Assignments(words)),
-            }))
+                Place::Within(stages, Simple::Assignments(words)),
+            )
         }
         Simple::Command(mut items) => {
             if no_argument(&items) && !is_ordinary(class) {
                 return Ok(None);
             }
             items.push(Item::Argument(word))?;
-            Ok(Some(State {
-                stack,
-                here,
-                place: Place::Within(stages, Simple::Command(items)),
-            }))
+            step_to(stack, here, Place::Within(stages, Simple::Command(items)))
         }
     }
+}
+
+pub fn end_pipe(
+    alloc: Global,
+    stack: Vec<(Open, Frame)>,
+    here: Open,
+    mut stages: Vec<Simple>,
+    last: Simple,
+    operator: Token,
+) -> Result<Option<State>, AllocError>
+    ensures { StepsTo result
+        (Reader.go_on (stack_view stack) (open_view here)
+        (Tree.simples (stages_view stages ++ simple_view last ∷ [])) (token_view operator)) }
+{
+    stages.push(last)?;
+    go_on(alloc, stack, here, pipe(stages), operator)
 }
 
 pub fn at_within(
@@ -115,34 +119,14 @@ pub fn at_within(
         Token::Word(word) => add_word(stack, here, stages, simple, word),
         Token::Redirection(direction) => match simple {
             Simple::Assignments(_) => Ok(None),
-            Simple::Command(items) => Ok(Some(State {
-                stack,
-                here,
-                place: Place::Target(stages, items, direction),
-            })),
+            Simple::Command(items) => step_to(stack, here, Place::Target(stages, items, direction)),
         },
         Token::Bar => {
             stages.push(simple)?;
-            Ok(Some(State {
-                stack,
-                here,
-                place: Place::Piped(stages),
-            }))
+            step_to(stack, here, Place::Piped(stages))
         }
-        Token::Semicolon => {
-            stages.push(simple)?;
-            go_on(alloc, stack, here, pipe(stages), Token::Semicolon)
-        }
-        Token::Connector(connector) => {
-            stages.push(simple)?;
-            go_on(
-                alloc,
-                stack,
-                here,
-                pipe(stages),
-                Token::Connector(connector),
-            )
-        }
+        Token::Semicolon => end_pipe(alloc, stack, here, stages, simple, token),
+        Token::Connector(_) => end_pipe(alloc, stack, here, stages, simple, token),
     }
 }
 
@@ -160,11 +144,7 @@ pub fn at_target(
     match token {
         Token::Word(word) => {
             items.push(Item::Redirect(direction, word))?;
-            Ok(Some(State {
-                stack,
-                here,
-                place: Place::Within(stages, Simple::Command(items)),
-            }))
+            step_to(stack, here, Place::Within(stages, Simple::Command(items)))
         }
         Token::Semicolon | Token::Bar | Token::Connector(_) | Token::Redirection(_) => Ok(None),
     }
@@ -186,7 +166,7 @@ pub fn at_piped(
         }
         Token::Redirection(direction) => {
             let place = Place::Target(stages, Vec::new(alloc), direction);
-            Ok(Some(State { stack, here, place }))
+            step_to(stack, here, place)
         }
         Token::Semicolon | Token::Bar | Token::Connector(_) => Ok(None),
     }
