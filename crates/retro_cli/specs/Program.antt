@@ -1,5 +1,5 @@
 -- The program as a function from words and an input to a text or a refusal, and what a run of it does.
-use Rattle.std.specs.Prelude.{◌≡◌, ℕ, List, [], ◌∷◌, Bool, true, false, Option, Some, None, Result, Ok, Err, if◌then◌else◌}
+use Rattle.std.specs.Prelude.{◌≡◌, ℕ, List, [], ◌∷◌, Bool, true, false, Option, Some, None, IsSome, Result, Ok, Err, if◌then◌else◌}
 use Rattle.std.specs.Io.KnownBytes.{Appends}
 use Rattle.retro_tree.specs.declared.state.State.{State}
 use Rattle.retro_keep.specs.Script.{ScriptValue}
@@ -71,6 +71,14 @@ is_quiet (exits.Refused number) = true
 is_quiet exits.OutOfMemory = true
 is_quiet exits.ReadFailed = true
 is_quiet exits.WriteFailed = false
+
+-- the words come first: bad ones are refusal 31, and only good ones lead to reading and writing
+abbrev pub JudgesWords : List Text → Exit → Type 0
+JudgesWords words exits.Done = IsSome (requested words)
+JudgesWords words (exits.Refused number) = requested words ≡ None → number ≡ 31
+JudgesWords words exits.OutOfMemory = Unit {0}
+JudgesWords words exits.ReadFailed = IsSome (requested words)
+JudgesWords words exits.WriteFailed = IsSome (requested words)
 
 -- what the program did on words and an input: `old` and `new` are what the writer held before and after
 abbrev pub Runs : List Text → Text → Option Text → Option Text → Exit → Type 0

@@ -8,7 +8,7 @@ use std::io::{Read, Write};
 
 /// Why an input isn't there whole.
 #[derive(Clone, Copy, Debug, PartialEq, Eq)]
-pub enum ReadFault {
+pub(crate) enum ReadFault {
     NoMem,
     Failed,
 }
@@ -17,7 +17,7 @@ pub enum ReadFault {
 const MOST_READS: u32 = 4_294_967_295;
 
 /// All that the reader still gives. Reading has failed where so many calls of `read` found no end.
-pub fn read_whole<R: Read>(alloc: Global, reader: &mut R) -> Result<Vec<u8>, ReadFault>
+pub(crate) fn read_whole<R: Read>(alloc: Global, reader: &mut R) -> Result<Vec<u8>, ReadFault>
     ensures { IfOk result (λ v. IfSome (R.remaining reader.old) (λ input. v.items ≡ input)) }
 {
     let mut input = Vec::new(alloc);
@@ -37,7 +37,7 @@ pub fn read_whole<R: Read>(alloc: Global, reader: &mut R) -> Result<Vec<u8>, Rea
 }
 
 /// Writes the text; false where the writer failed, or took no byte, before its end.
-pub fn write_whole<W: Write>(writer: &mut W, text: &[u8]) -> bool
+pub(crate) fn write_whole<W: Write>(writer: &mut W, text: &[u8]) -> bool
     ensures whole { result ≡ true → Appends (W.contents writer.old) (W.contents writer.new) text.now }
     ensures front { Begins (W.contents writer.old) (W.contents writer.new) text.now }
 {

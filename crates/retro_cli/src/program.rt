@@ -3,7 +3,7 @@ ghost use Rattle.std.specs.Prelude.{◌≡◌, true, map, IfSome, string_bytes};
 ghost use Rattle.std.specs.Io.KnownBytes.{Keeps};
 ghost use Rattle.retro_log.specs.Document.{script_in};
 ghost use Rattle.retro_cli.specs.Words.{request_view, requested};
-ghost use Rattle.retro_cli.specs.Program.{Answers, Runs, answer_of, answered, is_quiet, judged, numbered};
+ghost use Rattle.retro_cli.specs.Program.{Answers, JudgesWords, Runs, answer_of, answered, is_quiet, judged, numbered};
 
 use crate::edge::{ReadFault, read_whole, write_whole};
 use crate::replay::{are_there, replay};
@@ -96,6 +96,7 @@ pub fn run_with<T: AllocGlobal, R: Read, W: Write>(
 ) -> Exit
     ensures runs { IfSome (R.remaining reader.old) (λ input. Runs (map string_bytes words.now) input
         (W.contents writer.old) (W.contents writer.new) result) }
+    ensures words { JudgesWords (map string_bytes words.now) result }
     ensures quiet { is_quiet result ≡ true → Keeps (W.contents writer.old) (W.contents writer.new) }
 {
     let alloc = rt.alloc();

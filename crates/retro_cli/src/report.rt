@@ -37,7 +37,7 @@ fn replay_value(alloc: Global, state: &State, outputs: &[(u32, Bytes)]) -> Resul
 
 /// The report of a replay: each line's number and output, the sessions, and the tree, as compact
 /// JSON (RFC 8259) with keys in byte order, and a newline.
-pub fn replay_report(
+pub(crate) fn replay_report(
     alloc: Global,
     state: &State,
     outputs: &[(u32, Bytes)],

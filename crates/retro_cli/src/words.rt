@@ -12,14 +12,14 @@ use std::alloc::{AllocError, AllocFailed, Global};
 
 /// What the program is asked to do.
 #[derive(Debug, Drop)]
-pub enum Request {
+pub(crate) enum Request {
     /// To run a script's lines but for those with these numbers.
     Replay { cancel: Vec<u32> },
 }
 
 /// Why words ask for nothing.
 #[derive(Clone, Copy, Debug, PartialEq, Eq)]
-pub enum WordsFault {
+pub(crate) enum WordsFault {
     NoMem,
     /// Refusal 31.
     BadWords,
@@ -105,7 +105,7 @@ fn given_words<'a>(alloc: Global, words: &'a [String]) -> Result<Given<'a>, Word
 /// Words that `clap` refuses, a wish for help among them, and lists that aren't numbers with single
 /// commas between are bad words.
 #[tactic(auto, unfolding(crate::specs::Words::requested))]
-pub fn read_words(alloc: Global, words: &[String]) -> Result<Request, WordsFault>
+pub(crate) fn read_words(alloc: Global, words: &[String]) -> Result<Request, WordsFault>
     ensures { Means request_view result (requested (map string_bytes words.now)) }
 {
     let given = given_words(alloc, words)?;

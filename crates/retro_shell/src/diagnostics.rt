@@ -7,7 +7,7 @@ use std::alloc::Global;
 
 /// Why a path can't be read or written.
 #[derive(Clone, Copy, Debug, PartialEq, Eq)]
-pub enum Reason {
+pub(crate) enum Reason {
     NoSuchFile,
     NotDirectory,
     IsDirectory,

@@ -11,10 +11,8 @@ mod line;
 mod redirection;
 mod utilities;
 
-pub use diagnostics::Reason;
 pub use line::{play, step};
 pub use std::alloc::AllocError as NoMem;
-pub use utilities::Done;
 
 #[cfg(test)]
 mod tests;

@@ -10,7 +10,7 @@ use std::alloc::Global;
 
 /// What a utility leaves: its output, its diagnostics and its status.
 #[derive(Drop)]
-pub struct Done {
+pub(crate) struct Done {
     pub out: Bytes,
     pub err: Bytes,
     pub status: u8,
