@@ -4,3 +4,4 @@ pub mod Names
 pub mod Keyed
 pub mod Limits
 pub mod Entries
+pub mod Floats
