@@ -103,7 +103,7 @@ law_of_missing [] above other h = h
 law_of_missing (name ∷ rest) above other h = refl
 
 -- what stands below has a directory above it
-dir_above : (name : List ℕ) (rest : PathValue) (node above : Node) → node ≢ Missing → law_at (name ∷ rest) node above ≡ true → is_dir above ≡ true
+pub dir_above : (name : List ℕ) (rest : PathValue) (node above : Node) → node ≢ Missing → law_at (name ∷ rest) node above ≡ true → is_dir above ≡ true
 dir_above name rest Missing above ne h = absurd (ne refl)
 dir_above name rest Dir above ne h = first_true (is_dir above) _ h
 dir_above name rest (File bytes) above ne h = first_true (is_dir above) _ h

@@ -8,3 +8,4 @@ pub mod LawLemmas
 pub mod WholeLaw
 pub mod Standing
 pub mod StateLaw
+pub mod TreeLaw

@@ -1,5 +1,6 @@
 -- Where a write is permitted in a lawful tree, the tree stays lawful.
 use Rattle.std.proofs.Common.{nat_lt, length-append, arith, ◌+◌, ◌≡◌, ◌≤◌, ℕ, Bool, true, false, not, nat_le, length, List, [], ◌∷◌, ◌++◌, Option, Some, None, refl, sym, ap, ◌∙◌, nat_eq}
+use Rattle.std.specs.Prelude.{codes}
 use Rattle.std.specs.Option.{is_some}
 use Rattle.std.specs.Bool.{if◌then◌else◌}
 use Rattle.std.specs.Cmp.Lexicographic.{pointwise}
@@ -47,8 +48,8 @@ above_null : (q : PathValue) → is_some (below null_path (parent_of q)) ≡ fal
 unfolding is_null
 above_null [] h k = refl
 above_null (x ∷ []) h k = too_short _
-above_null (x ∷ y ∷ []) h k = sym (at_end (pointwise nat_eq (100 ∷ 101 ∷ 118 ∷ []) x) (pointwise nat_eq (110 ∷ 117 ∷ 108 ∷ 108 ∷ []) y)) ∙ k
-above_null (x ∷ y ∷ z ∷ r) h k = same_branch (pointwise nat_eq (100 ∷ 101 ∷ 118 ∷ []) x) (pointwise nat_eq (110 ∷ 117 ∷ 108 ∷ 108 ∷ []) y) (z ∷ r) (parent_of (z ∷ r)) ∙ h
+above_null (x ∷ y ∷ []) h k = sym (at_end (pointwise nat_eq (codes "dev") x) (pointwise nat_eq (codes "null") y)) ∙ k
+above_null (x ∷ y ∷ z ∷ r) h k = same_branch (pointwise nat_eq (codes "dev") x) (pointwise nat_eq (codes "null") y) (z ∷ r) (parent_of (z ∷ r)) ∙ h
 
 stands_under : (q : PathValue) (t : Tree) → IsLawfulTree t → AllNames q → is_null q ≡ false → node_in (parent_of q) t ≡ Dir → may_stand q ≡ true
 unfolding may_stand

@@ -97,7 +97,7 @@ pub test_from_state : (s : State) → IsLawful s → is_lawful s ≡ true
 unfolding is_lawful
 test_from_state s l = and_true _ _ (test_from_tree s.tree l.tree) (test_from_sessions s.sessions l.sessions)
 
-size_under_law : (p : PathValue) (node above : Node) → law_at p node above ≡ true → size_of node ≤ file_limit
+pub size_under_law : (p : PathValue) (node above : Node) → law_at p node above ≡ true → size_of node ≤ file_limit
 size_under_law p Missing above h = omega arith
 size_under_law p Dir above h = omega arith
 size_under_law [] (File bytes) above h = cc

@@ -13,4 +13,6 @@ entry_of None = Dir
 entry_of (Some bytes) = File bytes
 
 abbrev pub coded_entry : Coded Entry
-coded_entry = code_by (Option (List ℕ)) (coded_option (coded_list coded_ℕ)) bytes_of entry_of (elim [ Dir ↦ refl | File bytes ↦ refl ])
+coded_entry =
+    code_by (Option (List ℕ)) (coded_option (coded_list coded_ℕ)) bytes_of entry_of
+    (elim [ Dir ↦ refl | File bytes ↦ refl ])

@@ -1,9 +1,10 @@
 -- Lawful trees, by one test at each path, and lawful states.
-use Rattle.std.specs.Prelude.{◌≡◌, Bool, true, not, ◌&&◌, ◌||◌, nat_le, [], ◌∷◌, length, Some}
+use Rattle.std.specs.Prelude.{◌≡◌, ◌≢◌, ◌≤◌, Bool, true, false, not, ◌&&◌, ◌||◌, nat_le, [], ◌∷◌, length, Some, is_some}
 use Rattle.std.specs.List.{list_all}
 use Rattle.std.specs.FinMap as map
-use Rattle.retro_tree.specs.Path.{PathValue, parent_of, may_stand}
-use Rattle.retro_tree.specs.Node.{file_limit, node_of, is_dir}
+use Rattle.retro_tree.specs.Name.{AllNames}
+use Rattle.retro_tree.specs.Path.{PathValue, below, parent_of, null_path, may_stand}
+use Rattle.retro_tree.specs.Node.{file_limit, node_of, is_dir, size_of}
 use Rattle.retro_tree.specs.Tree.{Tree, node_in, has_child}
 use Rattle.retro_tree.specs.Limits.{AreLawfulSessions, are_lawful_sessions}
 use Rattle.retro_tree.specs.declared.node.Entry.{Entry}
@@ -16,15 +17,25 @@ abbrev pub law_at : PathValue → Node → Node → Bool
 law_at [] node above = is_dir node
 law_at (name ∷ rest) Missing above = true
 law_at (name ∷ rest) Dir above = is_dir above && may_stand (name ∷ rest)
-law_at (name ∷ rest) (File bytes) above = is_dir above && (may_stand (name ∷ rest) && nat_le (length bytes) file_limit)
+law_at (name ∷ rest) (File bytes) above =
+    is_dir above && (may_stand (name ∷ rest) && nat_le (length bytes) file_limit)
 
 -- each path passes
 unfoldable pub IsLawfulTree : Tree → Type 0
 IsLawfulTree tree = (p : PathValue) → law_at p (node_in p tree) (node_in (parent_of p) tree) ≡ true
 
+-- the same in words: each demand of its own
+pub record KeepsTreeLaw (tree : Tree) : Type 0 where
+  pub root : node_in [] tree ≡ Dir
+  pub parents : (p : PathValue) → node_in p tree ≢ Missing → node_in (parent_of p) tree ≡ Dir
+  pub apart : (p : PathValue) → node_in p tree ≢ Missing → is_some (below null_path p) ≡ false
+  pub names : (p : PathValue) → node_in p tree ≢ Missing → AllNames p
+  pub files : (p : PathValue) → size_of (node_in p tree) ≤ file_limit
+
 -- whether a node may be put at a path of a lawful tree
 abbrev pub may_put : PathValue → Node → Tree → Bool
-may_put p node tree = law_at p node (node_in (parent_of p) tree) && (is_dir node || not (has_child p tree))
+may_put p node tree =
+    law_at p node (node_in (parent_of p) tree) && (is_dir node || not (has_child p tree))
 
 -- whether what stands at a path may stand there
 unfoldable pub entry_passes : Tree → PathValue × Entry → Bool

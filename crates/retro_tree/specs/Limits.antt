@@ -15,10 +15,12 @@ use Rattle.retro_tree.specs.declared.state.State.{State}
 -- a status is at most 255, and the value of a variable has at most 65,536 bytes
 pub record IsLawfulSession (session : Session) : Type 0 where
   pub status : session.status ≤ 255
-  pub values : (name value : List ℕ) → map.get session.vars name ≡ Some value → length value ≤ value_limit
+  pub values : (name value : List ℕ)
+      → map.get session.vars name ≡ Some value → length value ≤ value_limit
 
 unfoldable pub AreLawfulSessions : map.FinMap nat_cmp Session → Type 0
-AreLawfulSessions sessions = (sid : ℕ) (session : Session) → map.get sessions sid ≡ Some session → IsLawfulSession session
+AreLawfulSessions sessions =
+    (sid : ℕ) (session : Session) → map.get sessions sid ≡ Some session → IsLawfulSession session
 
 -- a file has at most 1,048,576 bytes, and the sessions are within their limits
 pub record IsWithinLimits (s : State) : Type 0 where

@@ -1,7 +1,7 @@
 -- Paths as lists of names: their parents, what is below them, and /dev/null.
-use Rattle.std.specs.Prelude.{ℕ, Bool, true, false, not, ◌&&◌, if◌then◌else◌, List, [], ◌∷◌, nat_eq, Option, Some, None, is_some}
+use Rattle.std.specs.Prelude.{ℕ, Bool, true, false, not, ◌&&◌, if◌then◌else◌, List, [], ◌∷◌, Option, Some, None, is_some, codes}
 use Rattle.std.specs.List.{list_all}
-use Rattle.std.specs.Cmp.Lexicographic.{pointwise}
+use Rattle.retro_tree.specs.Order.{text_eq}
 use Rattle.retro_tree.specs.Name.{is_name}
 
 -- a path is a list of names, a name a list of bytes
@@ -28,7 +28,7 @@ last_of (name ∷ other ∷ rest) = last_of (other ∷ rest)
 abbrev pub below : PathValue → PathValue → Option PathValue
 below [] path = Some path
 below (x ∷ front) [] = None
-below (x ∷ front) (y ∷ path) = if pointwise nat_eq x y then below front path else None
+below (x ∷ front) (y ∷ path) = if text_eq x y then below front path else None
 
 -- the name of a child
 abbrev pub only_name : Option PathValue → Option (List ℕ)
@@ -44,14 +44,15 @@ child_name parent path = only_name (below parent path)
 abbrev pub is_child : PathValue → PathValue → Bool
 is_child p q = is_some (child_name p q)
 
--- /dev/null
+-- /dev/null (POSIX.1-2017 XBD 10.1)
 abbrev pub null_path : PathValue
-null_path = (100 ∷ 101 ∷ 118 ∷ []) ∷ (110 ∷ 117 ∷ 108 ∷ 108 ∷ []) ∷ []
+null_path = codes "dev" ∷ codes "null" ∷ []
 
--- whether something may stand at a path
+-- whether something may stand at a path: not at /dev/null or below it
 unfoldable pub may_stand : PathValue → Bool
 may_stand p = not (is_some (below null_path p)) && list_all is_name p
 
+-- whether a path is its front
 abbrev pub nothing_left : Option PathValue → Bool
 nothing_left None = false
 nothing_left (Some []) = true

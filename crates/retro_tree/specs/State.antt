@@ -30,7 +30,8 @@ put_session sid session s = record s { sessions = map.insert s.sessions sid sess
 
 -- another status of a session, which is made where it isn't there
 abbrev pub put_status : ℕ → ℕ → State → State
-put_status sid status s = record s { sessions = update s.sessions sid fresh_session (with_status status) }
+put_status sid status s =
+    record s { sessions = update s.sessions sid fresh_session (with_status status) }
 
 -- whether n bytes more may be written to a path
 abbrev pub permit_of : PathValue → ℕ → State → Permit

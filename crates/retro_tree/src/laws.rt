@@ -6,10 +6,19 @@ ghost use Rattle.retro_tree.specs.Node.{file_limit};
 ghost use Rattle.retro_tree.specs.Tree.{Tree};
 ghost use Rattle.retro_tree.specs.State.{put_node, grow_file, put_status, permit_of};
 ghost use Rattle.retro_tree.specs.Limits.{IsWithinLimits, within_limits};
-ghost use Rattle.retro_tree.specs.Lawful.{IsLawful, IsLawfulTree, is_lawful, is_lawful_tree};
+ghost use Rattle.retro_tree.specs.Lawful.{IsLawful, IsLawfulTree, KeepsTreeLaw, is_lawful, is_lawful_tree};
 ghost use Rattle.retro_tree.specs.declared.node.Node.TheVariants.{File};
 ghost use Rattle.retro_tree.specs.declared.node.Permit.TheVariants.{Yes};
 ghost use Rattle.retro_tree.specs.declared.state.State.{State};
+
+/// A tree is lawful exactly where its root is a directory, as is the parent of each other path at
+/// which something stands, none of these paths is at `/dev/null` or below it, their names may be
+/// names, and files are within the limit.
+#[tactic(auto, using(crate::proofs::TreeLaw::tree_law))]
+pub fn lawful_trees()
+    ensures told { (tree : Tree) → IsLawfulTree tree → KeepsTreeLaw tree }
+    ensures enough { (tree : Tree) → KeepsTreeLaw tree → IsLawfulTree tree }
+{}
 
 /// The whole test of a tree is true exactly where the tree is lawful.
 #[tactic(auto, using(crate::proofs::WholeLaw::whole_tree))]

@@ -29,9 +29,9 @@ mod var_name;
 pub use bytes::Bytes;
 pub use laws::{
     lawful_files, lawful_growths, lawful_states_are_within_limits, lawful_states_pass,
-    lawful_statuses, lawful_trees_pass,
+    lawful_statuses, lawful_trees, lawful_trees_pass,
 };
-pub use name::Name;
+pub use name::{NAME_LIMIT, Name};
 pub use node::{Entry, FILE_LIMIT, Kind, Node, Permit};
 pub use path::Path;
 pub use resolving::{Resolved, resolve};

@@ -7,13 +7,16 @@ use std::alloc::AllocError;
 use std::cmp::Ordering;
 use std::marker::Model;
 
+/// The greatest length of a name, in bytes.
+pub const NAME_LIMIT: usize = 255;
+
 /// Whether a text may be the name of a file: 1 to 255 bytes, without slash, not `.` or `..`.
 #[tactic(auto, unfolding(crate::specs::Name::is_name))]
 fn is_name(text: &str) -> bool
     ensures { result ≡ is_name text.now }
 {
     text.len() >= 1
-        && text.len() <= 255
+        && text.len() <= NAME_LIMIT
         && !text.as_bytes().contains(&b'/')
         && !(text == "." || text == "..")
 }

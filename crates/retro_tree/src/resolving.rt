@@ -3,14 +3,18 @@ ghost use Rattle.std.specs.Prelude.{◌≡◌, IfOk, map};
 ghost use Rattle.std.specs.List.{list_any};
 ghost use Rattle.retro_tree.specs.Resolving.{parts_of, walk, is_long, start_of, resolve, resolve_parts};
 
+use crate::name::NAME_LIMIT;
 use crate::path::Path;
 use std::alloc::{AllocError, Global};
 
 /// What a text names.
 #[derive(Drop, Clone)]
 pub enum Resolved {
+    /// A path.
     Is(Path),
+    /// Nothing, since the text is empty.
     Empty,
+    /// Nothing, since a name in the text is longer than names may be.
     LongName,
 }
 
@@ -21,17 +25,19 @@ fn parts_of(alloc: Global, text: &str) -> Result<Vec<&str>, AllocError>
     text.split('/').collect(alloc)
 }
 
+/// Whether a part is longer than names may be.
 fn has_long(parts: &[&str]) -> bool
     ensures { result ≡ list_any is_long (map (λ part. part.now) parts.now) }
 {
     for part in parts {
-        if part.len() > 255 {
+        if part.len() > NAME_LIMIT {
             return true;
         }
     }
     false
 }
 
+/// Where a text starts: at the root after a slash, else in the directory.
 fn start_of(alloc: Global, cwd: &Path, text: &str) -> Result<Path, AllocError>
     ensures { IfOk result (λ start. start ≡ start_of cwd.now text.now) }
 {
@@ -41,6 +47,7 @@ fn start_of(alloc: Global, cwd: &Path, text: &str) -> Result<Path, AllocError>
     }
 }
 
+/// The path that is reached from a start, part by part.
 fn walk(alloc: Global, start: Path, parts: &[&str]) -> Result<Path, AllocError>
     ensures { IfOk result (λ path. path ≡ walk start (map (λ part. part.now) parts.now)) }
 {
@@ -51,7 +58,10 @@ fn walk(alloc: Global, start: Path, parts: &[&str]) -> Result<Path, AllocError>
     Ok(path)
 }
 
-/// The path that a text names from a directory.
+/// The path that a text names from a directory, by the text alone: it is cut at slashes, empty
+/// parts and `.` stay where they are, and `..` takes away the name before it, at the root none.
+/// A text that begins with a slash starts at the root. A part of more than 255 bytes is a fault,
+/// also one that a later `..` takes away.
 pub fn resolve(alloc: Global, cwd: &Path, text: &str) -> Result<Resolved, AllocError>
     ensures { IfOk result (λ resolved. resolved ≡ resolve cwd.now text.now) }
 {

@@ -165,7 +165,8 @@ impl Sessions {
         sid: u32,
         status: u8,
     ) -> Result<(), AllocError>
-        ensures ok { OnOk result (self.new ≡ update self.old sid fresh_session (with_status status)) }
+        ensures ok { OnOk result
+            (self.new ≡ update self.old sid fresh_session (with_status status)) }
         ensures err { OnErr result (self.new ≡ self.old) }
     {
         if let Some(session) = self.sessions.get_mut(&sid) {

@@ -23,258 +23,369 @@ fn zeros(alloc: Global, count: usize) -> Result<Bytes, AllocError> {
     Ok(Bytes::of(zeros))
 }
 
-fn long(alloc: Global, count: usize) -> Result<String, AllocError> {
+fn long(alloc: Global, count: usize, end: &str) -> Result<String, AllocError> {
     let mut long = String::new(alloc);
     for _ in 0..count {
         long.push('n')?;
     }
+    long.push_str(end)?;
     Ok(long)
 }
 
-fn path(alloc: Global, names: &[&str]) -> Result<Path, Fail> {
-    let mut texts = Vec::new(alloc);
-    for name in names {
-        texts.push(String::from_str(alloc, name)?)?;
+/// The path as a text, empty for the root.
+fn spelled(alloc: Global, path: &Path) -> Result<String, AllocError> {
+    let mut text = String::new(alloc);
+    for name in path.names() {
+        text.push('/')?;
+        text.push_str(name.as_str())?;
     }
-    Ok(Path::of(alloc, texts)?.ok_or("no path")?)
+    Ok(text)
 }
 
-fn is_path(alloc: Global, names: &[&str]) -> Result<bool, AllocError> {
-    let mut texts = Vec::new(alloc);
-    for name in names {
-        texts.push(String::from_str(alloc, name)?)?;
+/// The path that a text names from the root.
+fn path(alloc: Global, text: &str) -> Result<Path, Fail> {
+    match resolve(alloc, &Path::root(alloc), text)? {
+        Resolved::Is(path) => Ok(path),
+        _ => Err("no path")?,
     }
-    Ok(Path::of(alloc, texts)?.is_some())
+}
+
+fn name(alloc: Global, text: &str) -> Result<Option<Name>, AllocError> {
+    Ok(Name::of(String::from_str(alloc, text)?))
+}
+
+fn var_name(alloc: Global, text: &str) -> Result<VarName, Fail> {
+    Ok(VarName::of(alloc, text)?.ok_or("no name")?)
+}
+
+/// What a text names from `/x/y`.
+fn named(alloc: Global, text: &str) -> Result<String, Fail> {
+    match resolve(alloc, &path(alloc, "/x/y")?, text)? {
+        Resolved::Is(path) => Ok(spelled(alloc, &path)?),
+        Resolved::Empty => Ok(String::from_str(alloc, "empty")?),
+        Resolved::LongName => Ok(String::from_str(alloc, "long")?),
+    }
 }
 
 #[test]
 fn resolves(rt: HostRuntime) -> Result<(), Fail> {
     let alloc = rt.alloc();
-    let cwd = path(alloc, &["x"])?;
-    let table = [
-        ("/a//b/./../c/", ["a", "c"].as_slice()),
-        ("..", [].as_slice()),
-        ("../..", [].as_slice()),
-        ("/", [].as_slice()),
-        (".", ["x"].as_slice()),
-        ("...", ["x", "..."].as_slice()),
-        ("y/../z", ["x", "z"].as_slice()),
-    ];
-    for (text, want) in table {
-        match resolve(alloc, &cwd, text)? {
-            Resolved::Is(found) => assert!(rt; found == path(alloc, want)?, "{text}"),
-            _ => assert!(rt; false, "{text}"),
-        }
+    for (text, want) in [
+        ("/a//b/./../c/", "/a/c"),
+        ("c", "/x/y/c"),
+        ("..", "/x"),
+        ("../../..", ""),
+        ("/", ""),
+        (".", "/x/y"),
+        ("...", "/x/y/..."),
+        ("", "empty"),
+    ] {
+        assert_eq!(rt; named(alloc, text)?.as_str(), want);
     }
-    assert!(rt; matches!(resolve(alloc, &cwd, "")?, Resolved::Empty));
     Ok(())
 }
 
 #[test]
 fn resolves_long_names(rt: HostRuntime) -> Result<(), Fail> {
     let alloc = rt.alloc();
-    let root = Path::root(alloc);
-    let mut fits = long(alloc, 255)?;
-    assert!(rt; matches!(resolve(alloc, &root, fits.as_str())?, Resolved::Is(_)));
-    fits.push_str("/..")?;
-    assert!(rt; matches!(resolve(alloc, &root, fits.as_str())?, Resolved::Is(_)));
-    let mut over = long(alloc, 256)?;
-    assert!(rt; matches!(resolve(alloc, &root, over.as_str())?, Resolved::LongName));
-    over.push_str("/..")?;
-    assert!(rt; matches!(resolve(alloc, &root, over.as_str())?, Resolved::LongName));
+    for (count, end, want) in [
+        (255, "/..", "/x/y"),
+        (256, "", "long"),
+        (256, "/..", "long"),
+    ] {
+        let text = long(alloc, count, end)?;
+        assert_eq!(rt; named(alloc, text.as_str())?.as_str(), want);
+    }
+    Ok(())
+}
+
+#[test]
+fn knows_variables(rt: HostRuntime) -> Result<(), Fail> {
+    let alloc = rt.alloc();
+    for text in [
+        "HOME", "_", "a", "a1", "_0", "IFS2", "ifs", "OLDPWDS", "Z_9",
+    ] {
+        assert_eq!(rt; var_name(alloc, text)?.copy()?.as_str(), text);
+    }
+    for text in [
+        "", "1a", "a-b", "é", "a b", "a\0", "IFS", "PWD", "OLDPWD", "CDPATH",
+    ] {
+        assert!(rt; VarName::of(alloc, text)?.is_none(), "{text}");
+    }
     Ok(())
 }
 
 #[test]
 fn knows_names(rt: HostRuntime) -> Result<(), Fail> {
     let alloc = rt.alloc();
-    for name in [
-        "HOME", "_", "a", "a1", "_0", "IFS2", "ifs", "OLDPWDS", "Z_9",
+    for (text, want) in [
+        ("...", true),
+        ("a\0", true),
+        ("", false),
+        (".", false),
+        ("..", false),
+        ("a/b", false),
     ] {
-        let found = VarName::of(alloc, name)?.ok_or("no name")?;
-        assert_eq!(rt; found.copy()?.as_str(), name);
+        assert_eq!(rt; name(alloc, text)?.is_some(), want, "{text}");
     }
-    for name in [
-        "", "1a", "a-b", "é", "a b", "a\0", "IFS", "PWD", "OLDPWD", "CDPATH",
-    ] {
-        assert!(rt; VarName::of(alloc, name)?.is_none(), "{name}");
+    for (count, want) in [(255, true), (256, false)] {
+        assert_eq!(rt; Name::of(long(alloc, count, "")?).is_some(), want);
     }
-    for name in ["", ".", "..", "a/b", "/"] {
-        assert!(rt; !is_path(alloc, &["a", name])?, "{name}");
-    }
-    assert!(rt; is_path(alloc, &["...", ".a", "é", "a\0b"])?);
-    assert!(rt; Name::of(long(alloc, 255)?).is_some());
-    assert!(rt; Name::of(long(alloc, 256)?).is_none());
     Ok(())
+}
+
+fn of_two(alloc: Global, first: &str, second: &str) -> Result<Option<Path>, AllocError> {
+    let mut texts = Vec::new(alloc);
+    texts.push(String::from_str(alloc, first)?)?;
+    texts.push(String::from_str(alloc, second)?)?;
+    Path::of(alloc, texts)
+}
+
+#[test]
+fn makes_paths(rt: HostRuntime) -> Result<(), Fail> {
+    let alloc = rt.alloc();
+    assert!(rt; of_two(alloc, "a", "b")? == Some(path(alloc, "/a/b")?));
+    assert!(rt; of_two(alloc, "a", "..")?.is_none());
+    Ok(())
+}
+
+/// The parent, and the parent's child of the last name.
+fn up_and_down(alloc: Global, text: &str) -> Result<(Path, Path), Fail> {
+    let whole = path(alloc, text)?;
+    let last = whole.last().ok_or("the root")?.copy()?;
+    let parent = whole.parent(alloc)?;
+    let child = parent.child(alloc, &last)?;
+    Ok((parent, child))
 }
 
 #[test]
 fn walks_paths(rt: HostRuntime) -> Result<(), Fail> {
     let alloc = rt.alloc();
-    let root = Path::root(alloc);
-    let file = path(alloc, &["a", "b"])?;
-    let name = Name::of(String::from_str(alloc, "b")?).ok_or("no name")?;
-    assert!(rt; file.parent(alloc)? == path(alloc, &["a"])?);
-    assert!(rt; root.parent(alloc)? == root);
-    assert!(rt; path(alloc, &["a"])?.child(alloc, &name)? == file);
-    assert!(rt; file.last() == Some(&name.copy()?));
-    assert!(rt; root.last().is_none());
-    assert_eq!(rt; file.names().len(), 2);
-    assert!(rt; file.copy()? == file);
-    assert!(rt; root.is_root() && !file.is_root());
-    assert!(rt; path(alloc, &["dev", "null"])?.is_null());
-    assert!(rt; !path(alloc, &["dev", "null", "a"])?.is_null());
-    assert!(rt; !path(alloc, &["dev", "null", "a"])?.may_stand());
-    assert!(rt; path(alloc, &["dev", "nul"])?.may_stand());
-    assert!(rt; path(alloc, &["dev"])? < path(alloc, &["dev", "a"])?);
-    assert!(rt; path(alloc, &["a", "b"])? < path(alloc, &["a-"])?);
+    let (parent, child) = up_and_down(alloc, "/a/b")?;
+    assert_eq!(rt; spelled(alloc, &parent)?.as_str(), "/a");
+    assert_eq!(rt; spelled(alloc, &child.copy()?)?.as_str(), "/a/b");
+    assert!(rt; Path::root(alloc).parent(alloc)?.is_root());
+    Ok(())
+}
+
+#[test]
+fn orders_paths(rt: HostRuntime) -> Result<(), Fail> {
+    let alloc = rt.alloc();
+    for (less, more) in [("/dev", "/dev/a"), ("/a/b", "/a-"), ("/", "/a")] {
+        assert!(rt; path(alloc, less)? < path(alloc, more)?);
+    }
+    Ok(())
+}
+
+#[test]
+fn knows_the_null_device(rt: HostRuntime) -> Result<(), Fail> {
+    let alloc = rt.alloc();
+    for (text, null, may_stand) in [
+        ("/dev/null", true, false),
+        ("/dev/null/a", false, false),
+        ("/dev/nul", false, true),
+        ("/a/dev/null", false, true),
+        ("/dev", false, true),
+    ] {
+        let path = path(alloc, text)?;
+        assert!(rt;
+            path.is_null() == null && path.may_stand() == may_stand,
+            "{text}"
+        );
+    }
+    Ok(())
+}
+
+#[test]
+fn keeps_bytes(rt: HostRuntime) -> Result<(), Fail> {
+    let alloc = rt.alloc();
+    let mut file = bytes(alloc, "ab")?;
+    file.extend(&bytes(alloc, "c")?)?;
+    assert!(rt; file.len() == 3 && file.copy()? == file);
+    assert_eq!(rt; file.as_slice(), b"abc".as_slice());
+    assert_eq!(rt; file.into_vec().as_slice(), b"abc".as_slice());
     Ok(())
 }
 
 #[test]
 fn keeps_texts(rt: HostRuntime) -> Result<(), Fail> {
     let alloc = rt.alloc();
-    let mut file = bytes(alloc, "ab")?;
-    file.extend(&bytes(alloc, "c")?)?;
-    assert_eq!(rt; file.len(), 3);
-    assert!(rt; file.copy()? == file);
-    assert_eq!(rt; file.as_slice(), b"abc".as_slice());
-    assert_eq!(rt; file.into_vec().as_slice(), b"abc".as_slice());
     let word = text(alloc, "é")?;
-    assert!(rt; word.copy()? == word);
-    assert!(rt; word < text(alloc, "éa")?);
+    assert!(rt; word.copy()? == word && word < text(alloc, "éa")?);
     assert_eq!(rt; word.bytes(), [195, 169].as_slice());
     assert_eq!(rt; word.as_str(), "é");
     assert_eq!(rt; word.into_string().as_str(), "é");
     Ok(())
 }
 
-#[test]
-fn judges_states(rt: HostRuntime) -> Result<(), Fail> {
-    let alloc = rt.alloc();
+/// The root with a directory at each of these paths.
+fn with_dirs(alloc: Global, dirs: &[&str]) -> Result<State, Fail> {
     let mut state = State::empty(alloc)?;
-    assert!(rt; state.is_lawful(alloc)?);
-    state.place(path(alloc, &["a"])?, Node::Dir)?;
-    state.place(path(alloc, &["a", "f"])?, Node::File(bytes(alloc, "x")?))?;
-    assert!(rt; state.is_lawful(alloc)? && state.tree().is_lawful(alloc)?);
+    for dir in dirs {
+        state.place(path(alloc, dir)?, Node::Dir)?;
+    }
+    Ok(state)
+}
 
-    let mut below_file = state.copy()?;
-    below_file.place(path(alloc, &["a", "f", "g"])?, Node::Dir)?;
-    assert!(rt; !below_file.is_lawful(alloc)? && below_file.is_within_limits());
+/// The root with a directory `/d` and a file `/f` of some bytes.
+fn with_file(alloc: Global, count: usize) -> Result<State, Fail> {
+    let mut state = with_dirs(alloc, &["/d"])?;
+    state.place(path(alloc, "/f")?, Node::File(zeros(alloc, count)?))?;
+    Ok(state)
+}
 
-    let mut no_parent = state.copy()?;
-    no_parent.place(path(alloc, &["b", "f"])?, Node::Dir)?;
-    assert!(rt; !no_parent.is_lawful(alloc)?);
+/// Whether a state is within the limits, and whether it is lawful.
+fn judged(alloc: Global, state: &State) -> Result<(bool, bool), AllocError> {
+    Ok((state.is_within_limits(), state.is_lawful(alloc)?))
+}
 
-    let mut no_root = state.copy()?;
-    no_root.place(Path::root(alloc), Node::Missing)?;
-    assert!(rt; !no_root.is_lawful(alloc)?);
-
-    let mut device = state.copy()?;
-    device.place(path(alloc, &["dev"])?, Node::Dir)?;
-    assert!(rt; device.is_lawful(alloc)?);
-    device.place(
-        path(alloc, &["dev", "null"])?,
-        Node::File(bytes(alloc, "")?),
-    )?;
-    assert!(rt; !device.is_lawful(alloc)?);
-    device.place(path(alloc, &["dev", "null"])?, Node::Missing)?;
-    assert!(rt; device.is_lawful(alloc)?);
+#[test]
+fn judges_directories(rt: HostRuntime) -> Result<(), Fail> {
+    let alloc = rt.alloc();
+    for (dirs, want) in [
+        ([].as_slice(), true),
+        (["/a", "/a/b"].as_slice(), true),
+        (["/a/b"].as_slice(), false),
+        (["/dev", "/dev/nul"].as_slice(), true),
+        (["/dev", "/dev/null"].as_slice(), false),
+    ] {
+        let state = with_dirs(alloc, dirs)?;
+        assert_eq!(rt; judged(alloc, &state)?, (true, want));
+        assert_eq!(rt; state.tree().is_lawful(alloc)?, want);
+    }
     Ok(())
 }
 
 #[test]
-fn judges_limits(rt: HostRuntime) -> Result<(), Fail> {
+fn judges_files(rt: HostRuntime) -> Result<(), Fail> {
     let alloc = rt.alloc();
+    for (count, want) in [(0, true), (1_048_576, true), (1_048_577, false)] {
+        assert_eq!(rt; judged(alloc, &with_file(alloc, count)?)?, (want, want));
+    }
     assert_eq!(rt; FILE_LIMIT, 1_048_576);
-    assert_eq!(rt; VALUE_LIMIT, 65_536);
-    let file = path(alloc, &["f"])?;
-    let mut state = State::empty(alloc)?;
-    state.place(file.copy()?, Node::File(zeros(alloc, 1_048_576)?))?;
-    assert!(rt; state.is_within_limits() && state.is_lawful(alloc)?);
-    state.grow(&file, &zeros(alloc, 1)?)?;
-    assert!(rt; !state.is_within_limits() && !state.is_lawful(alloc)?);
-    state.place(file, Node::Missing)?;
-
-    let name = VarName::of(alloc, "v")?.ok_or("no name")?;
-    let mut vars = BTreeMap::new(alloc);
-    vars.insert(name.copy()?, Text::of(long(alloc, 65_536)?))?;
-    state.add_session(1, Path::root(alloc), 255, vars)?;
-    assert!(rt; state.is_within_limits() && state.is_lawful(alloc)?);
-    let mut vars = BTreeMap::new(alloc);
-    vars.insert(name, Text::of(long(alloc, 65_537)?))?;
-    state.add_session(1, Path::root(alloc), 0, vars)?;
-    assert!(rt; !state.is_within_limits() && !state.is_lawful(alloc)?);
     Ok(())
+}
+
+fn with_child_of_file(alloc: Global) -> Result<State, Fail> {
+    let mut state = with_file(alloc, 0)?;
+    state.place(path(alloc, "/f/g")?, Node::Dir)?;
+    Ok(state)
+}
+
+fn without_root(alloc: Global) -> Result<State, Fail> {
+    let mut state = State::empty(alloc)?;
+    state.place(Path::root(alloc), Node::Missing)?;
+    Ok(state)
+}
+
+#[test]
+fn judges_lawless_trees(rt: HostRuntime) -> Result<(), Fail> {
+    let alloc = rt.alloc();
+    assert_eq!(rt; judged(alloc, &with_child_of_file(alloc)?)?, (true, false));
+    assert_eq!(rt; judged(alloc, &without_root(alloc)?)?, (true, false));
+    Ok(())
+}
+
+/// Session 7 in `/h`, with status 255 and a variable `v` of so many bytes.
+fn with_value(alloc: Global, count: usize) -> Result<State, Fail> {
+    let mut state = State::empty(alloc)?;
+    let mut vars = BTreeMap::new(alloc);
+    vars.insert(var_name(alloc, "v")?, Text::of(long(alloc, count, "")?))?;
+    state.add_session(7, path(alloc, "/h")?, 255, vars)?;
+    Ok(state)
+}
+
+#[test]
+fn judges_sessions(rt: HostRuntime) -> Result<(), Fail> {
+    let alloc = rt.alloc();
+    for (count, want) in [(0, true), (65_536, true), (65_537, false)] {
+        assert_eq!(rt; judged(alloc, &with_value(alloc, count)?)?, (want, want));
+    }
+    assert_eq!(rt; VALUE_LIMIT, 65_536);
+    Ok(())
+}
+
+fn permit(alloc: Global, text: &str, more: u64) -> Result<Permit, Fail> {
+    Ok(with_file(alloc, 1_048_575)?.permit(alloc, &path(alloc, text)?, more)?)
 }
 
 #[test]
 fn permits_writes(rt: HostRuntime) -> Result<(), Fail> {
     let alloc = rt.alloc();
-    let mut state = State::empty(alloc)?;
-    let file = path(alloc, &["f"])?;
-    state.place(file.copy()?, Node::File(zeros(alloc, 1_048_575)?))?;
-    assert_eq!(rt; state.permit(alloc, &file, 1)?, Permit::Yes);
-    assert_eq!(rt; state.permit(alloc, &file, 2)?, Permit::TooLarge);
-    assert_eq!(rt; state.permit(alloc, &file, u64::MAX)?, Permit::TooLarge);
-    let missing = path(alloc, &["m"])?;
-    assert_eq!(rt; state.permit(alloc, &missing, 1_048_576)?, Permit::Yes);
-    assert_eq!(rt; state.permit(alloc, &missing, 1_048_577)?, Permit::TooLarge);
-    assert_eq!(rt; state.permit(alloc, &Path::root(alloc), 0)?, Permit::IsDir);
-    assert_eq!(rt;
-        state.permit(alloc, &path(alloc, &["f", "g"])?, 0)?,
-        Permit::NotDir
-    );
-    assert_eq!(rt;
-        state.permit(alloc, &path(alloc, &["m", "g"])?, 0)?,
-        Permit::NoParent
-    );
+    for (text, more, want) in [
+        ("/f", 1, Permit::Yes),
+        ("/f", 2, Permit::TooLarge),
+        ("/f", u64::MAX, Permit::TooLarge),
+        ("/m", 1_048_576, Permit::Yes),
+        ("/m", 1_048_577, Permit::TooLarge),
+        ("/d", 0, Permit::IsDir),
+        ("/", 0, Permit::IsDir),
+        ("/f/g", 0, Permit::NotDir),
+        ("/m/g", 0, Permit::NoParent),
+    ] {
+        assert_eq!(rt; permit(alloc, text, more)?, want, "{text}");
+    }
     Ok(())
+}
+
+/// The root with a file `/f`, made by growths.
+fn with_growths(alloc: Global) -> Result<State, Fail> {
+    let mut state = State::empty(alloc)?;
+    for more in ["", "ab", "c"] {
+        state.grow(&path(alloc, "/f")?, &bytes(alloc, more)?)?;
+        state.grow(&Path::root(alloc), &bytes(alloc, more)?)?;
+    }
+    Ok(state)
 }
 
 #[test]
 fn grows_files(rt: HostRuntime) -> Result<(), Fail> {
     let alloc = rt.alloc();
-    let mut state = State::empty(alloc)?;
-    let file = path(alloc, &["f"])?;
-    state.grow(&file, &bytes(alloc, "")?)?;
-    assert_eq!(rt; state.kind(&file), Kind::File);
-    state.grow(&file, &bytes(alloc, "ab")?)?;
-    state.grow(&file, &bytes(alloc, "c")?)?;
-    state.grow(&Path::root(alloc), &bytes(alloc, "c")?)?;
-    assert!(rt; matches!(state.node(&Path::root(alloc))?, Node::Dir));
+    let state = with_growths(alloc)?;
+    let file = path(alloc, "/f")?;
     assert!(rt; state.file(&file) == Some(&bytes(alloc, "abc")?));
-    assert!(rt; state.file(&Path::root(alloc)).is_none());
+    assert!(rt; matches!(state.node(&file)?, Node::File(_)));
+    assert_eq!(rt; state.kind(&Path::root(alloc)), Kind::Dir);
     Ok(())
 }
 
 #[test]
-fn copies_all(rt: HostRuntime) -> Result<(), Fail> {
+fn copies_trees(rt: HostRuntime) -> Result<(), Fail> {
     let alloc = rt.alloc();
-    let mut state = State::empty(alloc)?;
-    let home = path(alloc, &["h"])?;
-    state.place(home.copy()?, Node::Dir)?;
-    let name = VarName::of(alloc, "HOME")?.ok_or("no name")?;
-    let mut vars = BTreeMap::new(alloc);
-    vars.insert(name.copy()?, text(alloc, "/h")?)?;
-    state.add_session(7, home.copy()?, 3, vars)?;
+    let tree = with_file(alloc, 1)?.copy()?.tree().copy()?;
+    let dir = path(alloc, "/d")?;
+    assert!(rt; tree.iter().count() == 3 && tree.kind(&dir) == Kind::Dir);
+    assert!(rt; matches!(tree.get(&dir), Some(Entry::Dir)));
+    assert!(rt; matches!(tree.node(&dir)?, Node::Dir) && tree.file(&dir).is_none());
+    Ok(())
+}
+
+/// Sessions 7 and 8, of which 8 is made by its status.
+fn with_statuses(alloc: Global) -> Result<State, Fail> {
+    let mut state = with_value(alloc, 1)?;
     state.set_status(alloc, 7, 4)?;
     state.set_status(alloc, 8, 5)?;
+    Ok(state.copy()?)
+}
 
-    let copy = state.copy()?;
-    assert!(rt; copy.cwd(alloc, 7)? == home);
-    assert!(rt; copy.cwd(alloc, 8)?.is_root() && copy.cwd(alloc, 9)?.is_root());
-    assert!(rt; copy.has_session(7) && copy.has_session(8) && !copy.has_session(9));
-    let session = copy.sessions().get(7).ok_or("no session")?;
-    assert_eq!(rt; session.status, 4);
-    assert!(rt; session.vars.get(&name) == Some(&text(alloc, "/h")?));
-    assert_eq!(rt; session.vars.iter().count(), 1);
-    assert_eq!(rt; copy.sessions().iter().count(), 2);
-    let tree = copy.tree().copy()?;
-    assert_eq!(rt; tree.iter().count(), 2);
-    assert_eq!(rt; tree.kind(&home), Kind::Dir);
-    assert!(rt; matches!(tree.get(&home), Some(Entry::Dir)));
-    assert!(rt; matches!(tree.node(&home)?, Node::Dir));
-    assert!(rt; tree.file(&home).is_none());
+#[test]
+fn copies_sessions(rt: HostRuntime) -> Result<(), Fail> {
+    let alloc = rt.alloc();
+    let state = with_statuses(alloc)?;
+    for (sid, there, cwd) in [(7, true, "/h"), (8, true, ""), (9, false, "")] {
+        assert_eq!(rt; state.has_session(sid), there);
+        assert_eq!(rt; spelled(alloc, &state.cwd(alloc, sid)?)?.as_str(), cwd);
+    }
+    assert_eq!(rt; state.sessions().iter().count(), 2);
+    Ok(())
+}
+
+#[test]
+fn reads_sessions(rt: HostRuntime) -> Result<(), Fail> {
+    let alloc = rt.alloc();
+    let state = with_statuses(alloc)?;
+    let session = state.sessions().get(7).ok_or("no session")?;
+    assert!(rt; session.status == 4 && session.vars.iter().count() == 1);
+    assert!(rt; session.vars.get(&var_name(alloc, "v")?) == Some(&text(alloc, "n")?));
     Ok(())
 }

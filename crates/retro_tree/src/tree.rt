@@ -131,7 +131,8 @@ impl Tree {
     /// Whether so many bytes more may be written to the file at a path, by what is there and at
     /// its parent.
     pub(crate) fn permit(&self, path: &Path, parent: &Path, more: u64) -> Permit
-        ensures { result ≡ permit_at (node_in path.now self.now) (node_in parent.now self.now) more }
+        ensures { result ≡
+            permit_at (node_in path.now self.now) (node_in parent.now self.now) more }
     {
         if self.kind(path) == Kind::Dir {
             return Permit::IsDir;
@@ -151,7 +152,8 @@ impl Tree {
 
     /// Adds bytes at the end of a file, in place. A missing file is made, and a directory stays.
     pub(crate) fn grow(&mut self, path: &Path, bytes: &Bytes) -> Result<(), AllocError>
-        ensures ok { OnOk result (self.new ≡ put path.now (grown bytes.now (node_in path.now self.old)) self.old) }
+        ensures ok { OnOk result
+            (self.new ≡ put path.now (grown bytes.now (node_in path.now self.old)) self.old) }
         ensures err { OnErr result (self.new ≡ self.old) }
     {
         if let Some(entry) = self.entries.get_mut(path) {
