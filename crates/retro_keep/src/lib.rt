@@ -8,3 +8,6 @@
 mod script;
 
 pub use script::{Script, ScriptFault, ScriptLine, are_rising, have_sessions};
+
+#[cfg(test)]
+mod tests;

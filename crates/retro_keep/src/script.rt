@@ -1,7 +1,7 @@
 //! Scripts.
 ghost use Rattle.std.specs.Prelude.{◌≡◌, ◌≢◌, IsTrue, IfOk, IfErr, Ok, Err};
 ghost use Rattle.std.specs.List.{list_all};
-ghost use Rattle.retro_tree.specs.Lawful.{is_lawful};
+ghost use Rattle.retro_tree.specs.Lawful.{IsLawful};
 ghost use Rattle.retro_keep.specs.Script.{rises_from, has_session, script_of, IsScript};
 ghost use Rattle.retro_keep.specs.declared.script.ScriptFault.TheVariants.{NoMem};
 
@@ -91,7 +91,7 @@ impl Script {
 
     /// The script of parts that are known to make one.
     pub fn of_parts(first: State, lines: Vec<ScriptLine>) -> Script
-        requires lawful { IsTrue (is_lawful first) }
+        requires lawful { IsLawful first }
         requires rising { IsTrue (rises_from 0 lines.items) }
         requires known { IsTrue (list_all (has_session first) lines.items) }
         ensures { result ≡ record { first = first; lines = lines.items } }

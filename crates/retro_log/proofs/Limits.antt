@@ -27,6 +27,8 @@ limits_of_sessions s h =
     rw (both (files_fit s.tree) _ limits).0 refl
 
 -- a lawful tree and lawful sessions are a lawful state
-pub state_is_lawful : (s : State) → is_lawful_tree s.tree ≡ true → are_lawful_sessions s.sessions ≡ true → is_lawful s ≡ true
+pub state_is_lawful : (s : State) → is_lawful_tree s.tree ≡ true → are_lawful_sessions s.sessions ≡ true → IsLawful s
 unfolding is_lawful
-state_is_lawful s tree sessions = rw (tree, sessions) refl
+state_is_lawful s tree sessions =
+    let passes : is_lawful s ≡ true = rw (tree, sessions) refl in
+    state_from_test s passes

@@ -1,9 +1,9 @@
 //! Reading a script's document.
-ghost use Rattle.std.specs.Prelude.{◌≡◌, true, IfOk, ok_or, string_bytes};
+ghost use Rattle.std.specs.Prelude.{◌≡◌, IfOk, ok_or, string_bytes};
 ghost use Rattle.std.specs.List.{list_all};
 ghost use Rattle.std.specs.BTreeMap.{keys};
 ghost use Rattle.serde_json.specs.View.{view};
-ghost use Rattle.retro_tree.specs.Lawful.{is_lawful};
+ghost use Rattle.retro_tree.specs.Lawful.{IsLawful};
 ghost use Rattle.retro_log.specs.ReadsAs.{ReadsAs};
 ghost use Rattle.retro_log.specs.Document.{is_script_key, only_keys, member_at, version_of, state_of, script_of, json_of, script_in};
 ghost use Rattle.retro_log.specs.declared.fault.Refusal.TheVariants.{NotJson};
@@ -64,7 +64,7 @@ fn version_is_one(value: &Value) -> Result<(), LogFault>
 fn first_state(alloc: Global, tree_value: &Value, sessions_value: &Value) -> Result<State, LogFault>
     ensures value { ReadsAs (λ s. s) result
         (state_of (view tree_value.now) (view sessions_value.now)) }
-    ensures lawful { IfOk result (λ s. is_lawful s ≡ true) }
+    ensures lawful { IfOk result (λ s. IsLawful s) }
 {
     let state = tree(alloc, tree_value)?;
     sessions(alloc, state, sessions_value)
@@ -100,7 +100,11 @@ fn json(alloc: Global, bytes: &[u8]) -> Result<Value, LogFault>
     }
 }
 
-/// The script that the bytes are, or the refusal that comes first.
+/// The script that the bytes are, or the refusal that comes first: not UTF-8 or no JSON value; no
+/// object, a foreign key, a missing key; the version; then tree, sessions and lines, each over its
+/// whole list for its shape, then its hex, then its limits, and then the tree's law, or the rising
+/// of the lines' numbers and their sessions. Of a doubled key the last value counts. Want of
+/// memory may come in place of any answer.
 #[tactic(auto, unfolding(crate::specs::Document::script_in))]
 pub fn read_script(alloc: Global, bytes: &[u8]) -> Result<Script, LogFault>
     ensures { ReadsAs (λ script. script) result (script_in bytes.now) }
