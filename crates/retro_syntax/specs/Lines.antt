@@ -74,6 +74,7 @@ pub record SpellsPlain (text : List ℕ) (found : List (List PlainItem)) : Type 
 
 -- ---- what `parse` answers
 
+-- The text is too long; else it spells no list of plain commands; else it spells the answered line.
 abbrev pub Meets : List ℕ → Result Line Refused → Type 0
 Meets text (Ok line) = (length text ≤ 4096) × PlainSpells text (line_view line)
 Meets text (Err Unsupported) =
@@ -81,6 +82,7 @@ Meets text (Err Unsupported) =
 Meets text (Err TooLong) = 4096 < length text
 Meets text (Err NoMem) = Unit {0}
 
+-- The same by the function: a refused text has no plain commands, and another those of its line.
 abbrev pub Answers : List ℕ → Result Line Refused → Type 0
 Answers text (Ok line) =
     (plain_line text ≡ plain_commands (line_view line)) × IsSome (plain_commands (line_view line))

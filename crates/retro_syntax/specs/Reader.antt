@@ -21,19 +21,30 @@ pub record Open : Type 0 where
 abbrev pub nothing : Open
 nothing = record { done = []; joined = []; negated = false }
 
--- what a list is read for
+-- what a list is read for, with what stands before it
 pub data Frame : Type 0 where
+  -- the condition of an `if` or `elif`, behind these arms
   condition : List (Commands × Commands) → Frame
+  -- what a `then` leads to, behind its condition
   consequence : List (Commands × Commands) → Commands → Frame
+  -- what an `else` leads to, behind the last arm
   alternative : List (Commands × Commands) → Commands → Commands → Frame
+  -- what a `for` repeats
   body : List ℕ → List Word → Frame
 
+-- where in a list the next token comes
 pub data Place : Type 0 where
+  -- where a command may begin
   start : Place
+  -- behind a part of a simple command, with the stages before it
   within : List Simple → Simple → Place
+  -- behind a redirection's operator, with the items before it
   target : List Simple → List Item → Direction → Place
+  -- behind a `|`
   piped : List Simple → Place
+  -- behind a whole compound command
   closed : Command → Place
+  -- behind `for`, its name, `in` or a word, and the `;` after them
   for_name : Place
   for_in : List ℕ → Place
   for_words : List ℕ → List Word → Place

@@ -1,4 +1,12 @@
-//! The lines of a shell session: reading a text as the one line that it spells.
+//! The lines of a shell: a text is read as the one line that it spells, or refused.
+//!
+//! [`parse`] takes the lists of plain commands: words without quotes and output redirections, with
+//! `;` between the commands. It answers the line's tree exactly where the text spells one, and each
+//! refusal exactly where it applies. [`plain_commands`] takes the commands out of the tree. No text
+//! spells two lines, and what is written with blanks between its tokens is read as it was written.
+//!
+//! Beneath it the tokens of the whole grammar are recognised (XCU 2.2, 2.3) and read as a tree
+//! (XCU 2.4, 2.10), which [`reading_is_spelling`] proves to be the tree that these tokens write.
 #![tactic(auto)]
 
 mod build;

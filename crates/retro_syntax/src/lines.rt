@@ -83,6 +83,7 @@ fn line_of(alloc: Global, text: &str) -> Result<Option<Line>, AllocError>
     }
 }
 
+/// Whether the character, of one byte, stands in no list of plain commands.
 fn is_foreign(character: u8) -> bool
     ensures { result ≡ Lines.is_foreign character }
 {
@@ -93,6 +94,7 @@ fn is_foreign(character: u8) -> bool
     }
 }
 
+/// Whether such a character is in the text.
 fn has_foreign(text: &str) -> bool
     ensures { result ≡ Lines.has_foreign text.now }
 {

@@ -28,6 +28,7 @@ pub struct PlainCommand<'a> {
     pub items: Vec<PlainItem<'a>>,
 }
 
+/// The text of a word that is one unquoted literal.
 fn plain_word<'a>(word: &'a Word) -> Option<&'a str>
     ensures { option_map (λ text. text.now) result ≡ Plain.plain_word (word_view word.now) }
 {
@@ -43,6 +44,7 @@ fn plain_word<'a>(word: &'a Word) -> Option<&'a str>
     }
 }
 
+/// A word or an output redirection, of such a word.
 fn plain_item<'a>(item: &'a Item) -> Option<PlainItem<'a>>
     ensures { option_map plain_item_view result ≡ Plain.plain_item (item_view item.now) }
 {
@@ -59,6 +61,7 @@ fn plain_item<'a>(item: &'a Item) -> Option<PlainItem<'a>>
     }
 }
 
+/// A command whose parts are all plain.
 fn plain_items<'a>(alloc: Global, items: &'a [Item]) -> Result<Option<PlainCommand<'a>>, AllocError>
     ensures { IfOk result (λ found. option_map plain_command_view found
         ≡ Plain.all_of Plain.plain_item (map item_view items.now)) }
@@ -75,6 +78,7 @@ fn plain_items<'a>(alloc: Global, items: &'a [Item]) -> Result<Option<PlainComma
     Ok(Some(PlainCommand { items: found }))
 }
 
+/// The command of a pipe that is one plain command.
 fn plain_stages<'a>(
     alloc: Global,
     stages: &'a [Simple],
@@ -94,6 +98,7 @@ fn plain_stages<'a>(
     }
 }
 
+/// The same of a command.
 fn plain_command<'a>(
     alloc: Global,
     command: &'a Command,
@@ -109,6 +114,7 @@ fn plain_command<'a>(
     }
 }
 
+/// The same of a pipeline.
 fn plain_pipeline<'a>(
     alloc: Global,
     pipeline: &'a Pipeline<Command>,
@@ -122,6 +128,7 @@ fn plain_pipeline<'a>(
     plain_command(alloc, &pipeline.command)
 }
 
+/// The same of an and-or list.
 fn plain_and_or<'a>(
     alloc: Global,
     and_or: &'a AndOr<Command>,
@@ -135,6 +142,7 @@ fn plain_and_or<'a>(
     }
 }
 
+/// The commands of a list, where each and-or list is one plain command.
 fn plain_list<'a>(
     alloc: Global,
     before: &'a [AndOr<Command>],

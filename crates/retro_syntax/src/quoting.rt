@@ -106,6 +106,7 @@ pub struct Lexing {
     pub backslash: bool,
 }
 
+/// The state behind a character that no backslash stands before.
 pub fn plain_at(
     alloc: Global,
     tokens: Vec<Token>,
@@ -131,6 +132,7 @@ pub fn plain_at(
     }
 }
 
+/// Whether a backslash may quote there.
 pub fn takes_backslash(pending: &Pending) -> bool
     ensures { result ≡ Quoting.takes_backslash (pending_view pending.now) }
 {
@@ -163,6 +165,7 @@ pub fn takes_backslash(pending: &Pending) -> bool
     }
 }
 
+/// The state behind the next character. A backslash and newline are removed (XCU 2.2.1).
 #[tactic(auto, unfolding(crate::specs::Quoting::lex_step))]
 pub fn lex_step(alloc: Global, lexing: Lexing, c: char) -> Result<Option<Lexing>, AllocError>
     ensures { LexesTo result (Quoting.lex_step (lexing_view lexing) c) }
@@ -195,6 +198,7 @@ pub fn lex_step(alloc: Global, lexing: Lexing, c: char) -> Result<Option<Lexing>
     }
 }
 
+/// The tokens, and a word of these pieces.
 pub fn push_word(
     mut tokens: Vec<Token>,
     pieces: Vec<Piece>,
@@ -206,6 +210,7 @@ pub fn push_word(
     Ok(Some(tokens))
 }
 
+/// The tokens of a text that ends in a word.
 pub fn reading_end(
     alloc: Global,
     tokens: Vec<Token>,
@@ -249,6 +254,7 @@ pub fn reading_end(
     }
 }
 
+/// The tokens, at the end of the text.
 pub fn lex_end(alloc: Global, lexing: Lexing) -> Result<Option<Vec<Token>>, AllocError>
     ensures { TokenizesTo result (Quoting.lex_end (Some (lexing_view lexing))) }
 {
@@ -267,6 +273,7 @@ pub fn lex_end(alloc: Global, lexing: Lexing) -> Result<Option<Vec<Token>>, Allo
     }
 }
 
+/// The tokens of these characters.
 #[tactic(auto, unfolding(crate::specs::Quoting::tokens_of))]
 pub fn lex(alloc: Global, characters: &[char]) -> Result<Option<Vec<Token>>, AllocError>
     ensures { TokenizesTo result (Quoting.tokens_of characters.now) }
@@ -287,6 +294,7 @@ pub fn lex(alloc: Global, characters: &[char]) -> Result<Option<Vec<Token>>, All
     lex_end(alloc, lexing)
 }
 
+/// The characters of the text.
 pub fn characters_of(alloc: Global, text: &str) -> Result<Vec<char>, AllocError>
     ensures { IfOk result (λ v. v.items ≡ chars text.now) }
 {

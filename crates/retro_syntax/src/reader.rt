@@ -82,6 +82,7 @@ pub struct State {
     pub place: Place,
 }
 
+/// The state behind the next token.
 #[tactic(auto, unfolding(crate::specs::Reader::step))]
 pub fn step(alloc: Global, state: State, token: Token) -> Result<Option<State>, AllocError>
     ensures { StepsTo result (Reader.step (state_view state) (token_view token)) }

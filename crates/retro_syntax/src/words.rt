@@ -17,6 +17,7 @@ pub enum Class {
     Ordinary,
 }
 
+/// How a reserved word is spelled.
 fn spelling(reserved: ReservedWord) -> &'static [u8]
     ensures { result.now ≡ Tree.spelling reserved }
 {
@@ -34,6 +35,7 @@ fn spelling(reserved: ReservedWord) -> &'static [u8]
     }
 }
 
+/// The reserved word with a rule that the text spells.
 fn reserved_word_of(text: &[u8]) -> Option<ReservedWord>
     ensures { result ≡ Words.lookup Words.reserved_words text.now }
 {
@@ -62,6 +64,7 @@ fn reserved_word_of(text: &[u8]) -> Option<ReservedWord>
     }
 }
 
+/// Whether the text spells a reserved word without a rule.
 fn is_other_reserved(text: &[u8]) -> bool
     ensures { result ≡ Words.is_one_of Words.other_reserved text.now }
 {
@@ -73,6 +76,7 @@ fn is_other_reserved(text: &[u8]) -> bool
         || b"while".as_slice() == text
 }
 
+/// Whether a name can go on by this.
 fn goes_on_name(text: &[u8]) -> bool
     ensures { result ≡ Words.goes_on_name text.now }
 {
@@ -86,6 +90,7 @@ fn goes_on_name(text: &[u8]) -> bool
     true
 }
 
+/// Whether the text is a name (XBD 3.235).
 fn is_name(text: &[u8]) -> bool
     ensures { result ≡ Words.is_name text.now }
 {
@@ -95,6 +100,7 @@ fn is_name(text: &[u8]) -> bool
     }
 }
 
+/// Whether a name that has begun can go on by this up to a `=`.
 fn goes_on_assignment(text: &[u8]) -> bool
     ensures { result ≡ Words.goes_on_assignment text.now }
 {
@@ -111,6 +117,7 @@ fn goes_on_assignment(text: &[u8]) -> bool
     false
 }
 
+/// Whether the text begins with a name and `=`.
 fn begins_assignment(text: &[u8]) -> bool
     ensures { result ≡ Words.begins_assignment text.now }
 {
@@ -121,6 +128,7 @@ fn begins_assignment(text: &[u8]) -> bool
     }
 }
 
+/// What a word without quotes and parameters is.
 fn plain_class(text: &[u8]) -> Class
     ensures { result ≡ Words.plain_class text.now (Words.lookup Words.reserved_words text.now) }
 {
@@ -132,6 +140,7 @@ fn plain_class(text: &[u8]) -> Class
     }
 }
 
+/// What the word is where a command may begin (XCU 2.10.2).
 #[tactic(auto, unfolding(crate::specs::Words::class))]
 pub fn class_of(word: &Word) -> Class
     ensures { result ≡ Words.class (word_view word.now) }
@@ -154,6 +163,7 @@ pub fn class_of(word: &Word) -> Class
     }
 }
 
+/// Whether the word is an assignment.
 pub fn is_assignment(class: Class) -> bool
     ensures { result ≡ Words.is_assignment class }
 {
@@ -163,6 +173,7 @@ pub fn is_assignment(class: Class) -> bool
     }
 }
 
+/// Whether the word is neither reserved nor an assignment.
 pub fn is_ordinary(class: Class) -> bool
     ensures { result ≡ Words.is_ordinary class }
 {

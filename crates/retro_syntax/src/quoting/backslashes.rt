@@ -13,12 +13,14 @@ use crate::quoting::{Lexing, Operator, Pending, Quote, Reading};
 use crate::tree::{Piece, Token};
 use std::alloc::{AllocError, Global};
 
+/// What a backslash quotes in double quotes.
 pub fn is_special_inside(c: char) -> bool
     ensures { result ≡ Quoting.is_special_inside c }
 {
     c == '$' || c == '`' || c == '"' || c == '\\'
 }
 
+/// A character behind a backslash, in a word.
 pub fn escaped_in(
     alloc: Global,
     tokens: Vec<Token>,
@@ -49,6 +51,7 @@ pub fn escaped_in(
     }
 }
 
+/// The same, where a parameter may end there.
 pub fn escaped_reading(
     alloc: Global,
     tokens: Vec<Token>,
@@ -79,6 +82,7 @@ pub fn escaped_reading(
     }
 }
 
+/// The same, where an operator may end there too.
 pub fn escaped_at(
     alloc: Global,
     tokens: Vec<Token>,

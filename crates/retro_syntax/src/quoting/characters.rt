@@ -10,24 +10,28 @@ use crate::quoting::{Lexing, Operator, Pending, Quote, Reading};
 use crate::tree::{Piece, Token, Word};
 use std::alloc::{AllocError, Global};
 
+/// Whether it parts tokens.
 pub fn is_blank(c: char) -> bool
     ensures { result ≡ Quoting.is_blank c }
 {
     c == ' ' || c == '\t'
 }
 
+/// Whether an operator begins with it.
 pub fn is_operator(c: char) -> bool
     ensures { result ≡ Quoting.is_operator c }
 {
     c == ';' || c == '&' || c == '|' || c == '<' || c == '>'
 }
 
+/// Whether it may not stand outside quotes.
 pub fn is_refused(c: char) -> bool
     ensures { result ≡ Quoting.is_refused c }
 {
     c == '\0' || c == '\n' || c == '(' || c == ')' || c == '`'
 }
 
+/// The state in a word.
 pub fn with_reading(tokens: Vec<Token>, reading: Reading) -> Option<Lexing>
     ensures { option_map lexing_view result
         ≡ Quoting.word_goes_on (tokens_view tokens) (reading_view reading) }
@@ -39,6 +43,7 @@ pub fn with_reading(tokens: Vec<Token>, reading: Reading) -> Option<Lexing>
     })
 }
 
+/// The state in a word that isn't all unquoted digits.
 pub fn in_word(tokens: Vec<Token>, pieces: Vec<Piece>, quote: Quote) -> Option<Lexing>
     ensures { option_map lexing_view result
         ≡ Quoting.word_goes_on (tokens_view tokens)
@@ -54,6 +59,7 @@ pub fn in_word(tokens: Vec<Token>, pieces: Vec<Piece>, quote: Quote) -> Option<L
     )
 }
 
+/// A character of a word, outside quotes.
 pub fn unquoted_at(
     alloc: Global,
     tokens: Vec<Token>,
@@ -93,6 +99,7 @@ pub fn unquoted_at(
     }
 }
 
+/// A character where a token may begin.
 pub fn fresh(alloc: Global, tokens: Vec<Token>, c: char) -> Result<Option<Lexing>, AllocError>
     ensures { LexesTo result (Quoting.fresh (tokens_view tokens) c) }
 {
@@ -120,6 +127,7 @@ pub fn fresh(alloc: Global, tokens: Vec<Token>, c: char) -> Result<Option<Lexing
     }))
 }
 
+/// A character in double quotes.
 pub fn in_double(
     alloc: Global,
     tokens: Vec<Token>,
@@ -148,6 +156,7 @@ pub fn in_double(
     }
 }
 
+/// A character in a word, or behind it.
 pub fn word_at(
     alloc: Global,
     mut tokens: Vec<Token>,

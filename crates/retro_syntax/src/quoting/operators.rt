@@ -10,6 +10,7 @@ use crate::quoting::{Lexing, Operator, Pending};
 use crate::tree::{Connector, Direction, Token};
 use std::alloc::{AllocError, Global};
 
+/// A character behind a whole operator, which is no part of it.
 pub fn after_operator(
     alloc: Global,
     mut tokens: Vec<Token>,
@@ -22,6 +23,7 @@ pub fn after_operator(
     fresh(alloc, tokens, c)
 }
 
+/// The state behind an operator's last character.
 pub fn whole_operator(mut tokens: Vec<Token>, token: Token) -> Result<Option<Lexing>, AllocError>
     ensures { LexesTo result
         (Some (Quoting.with_pending (tokens_view tokens ++ token_view token ∷ [])
@@ -35,6 +37,7 @@ pub fn whole_operator(mut tokens: Vec<Token>, token: Token) -> Result<Option<Lex
     }))
 }
 
+/// A character behind `<`.
 fn less_at(alloc: Global, tokens: Vec<Token>, c: char) -> Result<Option<Lexing>, AllocError>
     ensures { LexesTo result (Quoting.operator_at (tokens_view tokens) Operator.Less c) }
 {
@@ -44,6 +47,7 @@ fn less_at(alloc: Global, tokens: Vec<Token>, c: char) -> Result<Option<Lexing>,
     after_operator(alloc, tokens, Token::Redirection(Direction::From), c)
 }
 
+/// A character behind `>`.
 fn greater_at(alloc: Global, tokens: Vec<Token>, c: char) -> Result<Option<Lexing>, AllocError>
     ensures { LexesTo result (Quoting.operator_at (tokens_view tokens) Operator.Greater c) }
 {
@@ -56,6 +60,7 @@ fn greater_at(alloc: Global, tokens: Vec<Token>, c: char) -> Result<Option<Lexin
     after_operator(alloc, tokens, Token::Redirection(Direction::Onto), c)
 }
 
+/// A character behind an operator's first one.
 pub fn operator_at(
     alloc: Global,
     tokens: Vec<Token>,
@@ -76,6 +81,7 @@ pub fn operator_at(
     }
 }
 
+/// The tokens, where the operator goes on no more.
 pub fn settled(mut tokens: Vec<Token>, operator: Operator) -> Result<Option<Vec<Token>>, AllocError>
     ensures { TokenizesTo result (Quoting.settled (tokens_view tokens) operator) }
 {

@@ -12,12 +12,14 @@ use crate::quoting::{Lexing, Quote, Reading};
 use crate::tree::{Piece, Token};
 use std::alloc::{AllocError, Global};
 
+/// Whether it names a parameter that no text may have.
 pub fn is_unsupported_name(name: &str) -> bool
     ensures { result ≡ is_one_of Quoting.unsupported_names name.now }
 {
     "IFS" == name || "PWD" == name || "OLDPWD" == name || "CDPATH" == name
 }
 
+/// A parameter, in double quotes or not.
 pub fn parameter_piece(inside: bool, name: String) -> Piece
     ensures { piece_view result ≡ Quoting.parameter_piece inside (string_bytes name) }
 {
@@ -28,6 +30,7 @@ pub fn parameter_piece(inside: bool, name: String) -> Piece
     }
 }
 
+/// The quotes around a parameter.
 pub fn quote_of(inside: bool) -> Quote
     ensures { result ≡ Quoting.quote_of inside }
 {
@@ -38,6 +41,7 @@ pub fn quote_of(inside: bool) -> Quote
     }
 }
 
+/// The state behind a parameter's last character.
 pub fn with_parameter(
     tokens: Vec<Token>,
     mut pieces: Vec<Piece>,
@@ -55,6 +59,7 @@ pub fn with_parameter(
     Ok(in_word(tokens, pieces, quote_of(inside)))
 }
 
+/// A character behind a parameter, which is no part of it.
 pub fn after_parameter(
     alloc: Global,
     tokens: Vec<Token>,
@@ -74,18 +79,21 @@ pub fn after_parameter(
     word_at(alloc, tokens, pieces, false, quote_of(inside), c)
 }
 
+/// Whether a name may begin with it.
 pub fn begins_name(c: char) -> bool
     ensures { result ≡ Quoting.begins_name c }
 {
     c.is_ascii_alphabetic() || c == '_'
 }
 
+/// Whether a name may go on with it.
 pub fn continues_name(c: char) -> bool
     ensures { result ≡ Quoting.continues_name c }
 {
     c.is_ascii_alphanumeric() || c == '_'
 }
 
+/// Whether it is a parameter behind `$`, of a kind that no text may have.
 pub fn is_other_parameter(c: char) -> bool
     ensures { result ≡ Quoting.is_other_parameter c }
 {
@@ -99,6 +107,7 @@ pub fn is_other_parameter(c: char) -> bool
         || c == '('
 }
 
+/// The state behind `$` and the beginning of a name.
 pub fn named(tokens: Vec<Token>, pieces: Vec<Piece>, inside: bool, name: String) -> Option<Lexing>
     ensures { option_map lexing_view result
         ≡ Quoting.word_goes_on (tokens_view tokens)
@@ -114,6 +123,7 @@ pub fn named(tokens: Vec<Token>, pieces: Vec<Piece>, inside: bool, name: String)
     )
 }
 
+/// The state behind `${` and what there is of a name.
 pub fn braced(tokens: Vec<Token>, pieces: Vec<Piece>, inside: bool, name: String) -> Option<Lexing>
     ensures { option_map lexing_view result
         ≡ Quoting.word_goes_on (tokens_view tokens)
@@ -129,6 +139,7 @@ pub fn braced(tokens: Vec<Token>, pieces: Vec<Piece>, inside: bool, name: String
     )
 }
 
+/// A character behind `$`.
 pub fn dollar_at(
     alloc: Global,
     tokens: Vec<Token>,
@@ -153,6 +164,7 @@ pub fn dollar_at(
     }
 }
 
+/// A character behind `$` and the beginning of a name.
 pub fn named_at(
     alloc: Global,
     tokens: Vec<Token>,
@@ -171,6 +183,7 @@ pub fn named_at(
     after_parameter(alloc, tokens, pieces, inside, name, c)
 }
 
+/// A character behind `${`.
 pub fn brace_at(
     alloc: Global,
     tokens: Vec<Token>,
@@ -191,6 +204,7 @@ pub fn brace_at(
     }
 }
 
+/// A character behind `${` and what there is of a name.
 pub fn braced_at(
     alloc: Global,
     tokens: Vec<Token>,
@@ -217,6 +231,7 @@ pub fn braced_at(
     }
 }
 
+/// A character in a word or a parameter.
 pub fn reading_at(
     alloc: Global,
     tokens: Vec<Token>,

@@ -9,6 +9,7 @@ ghost use Rattle.retro_syntax.specs.QuotingViews.{pieces_view};
 use crate::tree::Piece;
 use std::alloc::{AllocError, Global};
 
+/// The text of one character.
 pub fn text_of(alloc: Global, c: char) -> Result<String, AllocError>
     ensures { IfOk result (λ s. string_bytes s ≡ encode_utf8 c) }
 {
@@ -25,6 +26,7 @@ pub fn text_and(mut text: String, c: char) -> Result<String, AllocError>
     Ok(text)
 }
 
+/// A backslash and a character.
 pub fn backslash_and(alloc: Global, c: char) -> Result<String, AllocError>
     ensures { IfOk result (λ s. string_bytes s ≡ 92 ∷ encode_utf8 c) }
 {
@@ -34,6 +36,7 @@ pub fn backslash_and(alloc: Global, c: char) -> Result<String, AllocError>
     Ok(text)
 }
 
+/// The text `?`.
 pub fn question_mark(alloc: Global) -> Result<String, AllocError>
     ensures { IfOk result (λ s. string_bytes s ≡ 63 ∷ []) }
 {
@@ -42,6 +45,7 @@ pub fn question_mark(alloc: Global) -> Result<String, AllocError>
     Ok(text)
 }
 
+/// The pieces and the last one, with an unquoted character behind it.
 pub fn grown_plain(
     alloc: Global,
     mut pieces: Vec<Piece>,
@@ -67,6 +71,7 @@ pub fn grown_plain(
     }
 }
 
+/// The pieces, with an unquoted character behind them.
 pub fn add_plain(alloc: Global, mut pieces: Vec<Piece>, c: char) -> Result<Vec<Piece>, AllocError>
     ensures { IfOk result (λ ps. pieces_view ps ≡ Quoting.add_plain (pieces_view pieces) c) }
 {
@@ -81,6 +86,7 @@ pub fn add_plain(alloc: Global, mut pieces: Vec<Piece>, c: char) -> Result<Vec<P
     }
 }
 
+/// The pieces and the last one, with a quoted text behind it.
 pub fn grown_quoted(
     alloc: Global,
     mut pieces: Vec<Piece>,
@@ -106,6 +112,7 @@ pub fn grown_quoted(
     }
 }
 
+/// The pieces, with a quoted text behind them.
 pub fn add_quoted(
     alloc: Global,
     mut pieces: Vec<Piece>,
@@ -125,6 +132,7 @@ pub fn add_quoted(
     }
 }
 
+/// The pieces, with a `$` behind them that stands for itself.
 pub fn add_dollar(alloc: Global, pieces: Vec<Piece>, inside: bool) -> Result<Vec<Piece>, AllocError>
     ensures { IfOk result (λ ps. pieces_view ps ≡ Quoting.add (pieces_view pieces) inside 36) }
 {

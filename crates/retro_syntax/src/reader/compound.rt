@@ -13,6 +13,7 @@ use crate::tree::{Command, Commands, Conditional, Connector, Loop, ReservedWord,
 use crate::words::{Class, class_of};
 use std::alloc::{AllocError, Global};
 
+/// The state where a list inside another begins.
 pub fn inner_list(
     alloc: Global,
     mut stack: Vec<(Open, Frame)>,
@@ -31,6 +32,7 @@ pub fn inner_list(
     })
 }
 
+/// A word that ends a condition.
 fn end_condition(
     alloc: Global,
     stack: Vec<(Open, Frame)>,
@@ -52,6 +54,7 @@ fn end_condition(
     }
 }
 
+/// A word that ends what a `then` leads to.
 fn end_consequence(
     alloc: Global,
     stack: Vec<(Open, Frame)>,
@@ -90,6 +93,7 @@ fn end_consequence(
     }
 }
 
+/// A word that ends what an `else` leads to.
 fn end_alternative(
     alloc: Global,
     stack: Vec<(Open, Frame)>,
@@ -112,6 +116,7 @@ fn end_alternative(
     }
 }
 
+/// A word that ends what a `for` repeats.
 fn end_body(
     alloc: Global,
     stack: Vec<(Open, Frame)>,
@@ -130,6 +135,7 @@ fn end_body(
     }
 }
 
+/// A word that ends a list which is read for this.
 pub fn close_by(
     alloc: Global,
     stack: Vec<(Open, Frame)>,
@@ -171,6 +177,7 @@ pub fn close_by(
     }
 }
 
+/// A word that ends the innermost list.
 pub fn close(
     alloc: Global,
     mut stack: Vec<(Open, Frame)>,
@@ -185,6 +192,7 @@ pub fn close(
     }
 }
 
+/// The same, where the list may end there.
 pub fn close_some(
     alloc: Global,
     stack: Vec<(Open, Frame)>,
@@ -200,6 +208,7 @@ pub fn close_some(
     }
 }
 
+/// A reserved word where a command may begin.
 pub fn begin_reserved(
     alloc: Global,
     stack: Vec<(Open, Frame)>,
@@ -233,6 +242,7 @@ pub fn begin_reserved(
     }
 }
 
+/// A word where a command may begin.
 pub fn begin(
     alloc: Global,
     stack: Vec<(Open, Frame)>,
@@ -249,6 +259,7 @@ pub fn begin(
     }
 }
 
+/// The token where a command may begin.
 pub fn at_start(
     alloc: Global,
     stack: Vec<(Open, Frame)>,

@@ -11,6 +11,7 @@ use crate::reader::{Frame, Open, Place, State};
 use crate::tree::{AndOr, Command, Commands, Connector, Pipeline, Token, Word};
 use std::alloc::{AllocError, Global};
 
+/// A list of which nothing stands yet.
 pub fn nothing(alloc: Global) -> Open
     ensures { open_view result ≡ Reader.nothing }
 {
@@ -21,6 +22,7 @@ pub fn nothing(alloc: Global) -> Open
     }
 }
 
+/// This state, for a step that can be taken.
 pub fn step_to(
     stack: Vec<(Open, Frame)>,
     here: Open,
@@ -32,6 +34,7 @@ pub fn step_to(
     Ok(Some(State { stack, here, place }))
 }
 
+/// The whole and-or lists, and the one that the command ends.
 pub fn and_or(here: Open, command: Command) -> (Vec<AndOr<Command>>, AndOr<Command>)
     ensures done { map (View.and_or_of view) result.0.items ≡ (open_view here).done }
     ensures last { View.and_or_of view result.1 ≡ Reader.and_or (open_view here) (view command) }
@@ -49,6 +52,7 @@ pub fn and_or(here: Open, command: Command) -> (Vec<AndOr<Command>>, AndOr<Comma
     )
 }
 
+/// The state behind a `;`.
 pub fn after_semicolon(
     alloc: Global,
     stack: Vec<(Open, Frame)>,
@@ -71,6 +75,7 @@ pub fn after_semicolon(
     })
 }
 
+/// The state behind `&&` or `||`.
 pub fn after_connector(
     stack: Vec<(Open, Frame)>,
     here: Open,
@@ -114,6 +119,7 @@ pub fn may_end(here: Open) -> Option<Commands<Command>>
     })
 }
 
+/// The list that the command ends.
 pub fn whole_list(here: Open, command: Command) -> Commands<Command>
     ensures { commands_of view result
         ≡ Reader.listed (open_view here).done (Reader.and_or (open_view here) (view command))

@@ -11,6 +11,7 @@ use crate::tree::{Connector, ReservedWord, Token, Word};
 use crate::words::{Class, class_of, name_of};
 use std::alloc::{AllocError, Global};
 
+/// The token behind `for`.
 pub fn at_for_name(
     alloc: Global,
     stack: Vec<(Open, Frame)>,
@@ -28,6 +29,7 @@ pub fn at_for_name(
     }
 }
 
+/// The token behind the variable's name.
 pub fn at_for_in(
     alloc: Global,
     stack: Vec<(Open, Frame)>,
@@ -63,6 +65,7 @@ pub fn at_for_in(
     }
 }
 
+/// The token behind `in` or a word.
 pub fn at_for_words(
     stack: Vec<(Open, Frame)>,
     here: Open,
@@ -83,6 +86,7 @@ pub fn at_for_words(
     }
 }
 
+/// The token behind the `;` after the words.
 pub fn at_for_do(
     alloc: Global,
     stack: Vec<(Open, Frame)>,

@@ -13,6 +13,7 @@ use crate::tree::{Command, Connector, Direction, Item, Simple, Token, Word};
 use crate::words::{Class, class_of, is_assignment, is_ordinary};
 use std::alloc::{AllocError, Global};
 
+/// The state behind a simple command's first word.
 pub fn begin_simple(
     alloc: Global,
     stack: Vec<(Open, Frame)>,
@@ -41,6 +42,7 @@ pub fn begin_simple(
     step_to(stack, here, Place::Within(stages, simple))
 }
 
+/// Whether no word stands there yet, redirections aside.
 pub fn no_argument(items: &[Item]) -> bool
     ensures { result ≡ Reader.no_argument (map item_view items.now) }
 {
@@ -54,6 +56,7 @@ pub fn no_argument(items: &[Item]) -> bool
     true
 }
 
+/// A further word of a simple command.
 pub fn add_word(
     stack: Vec<(Open, Frame)>,
     here: Open,
@@ -88,6 +91,7 @@ pub fn add_word(
     }
 }
 
+/// An operator that ends a pipe.
 pub fn end_pipe(
     alloc: Global,
     stack: Vec<(Open, Frame)>,
@@ -104,6 +108,7 @@ pub fn end_pipe(
     go_on(alloc, stack, here, pipe(stages), operator)
 }
 
+/// The token behind a part of a simple command.
 pub fn at_within(
     alloc: Global,
     stack: Vec<(Open, Frame)>,
@@ -130,6 +135,7 @@ pub fn at_within(
     }
 }
 
+/// The token behind a redirection's operator.
 pub fn at_target(
     stack: Vec<(Open, Frame)>,
     here: Open,
@@ -150,6 +156,7 @@ pub fn at_target(
     }
 }
 
+/// The token behind `|`.
 pub fn at_piped(
     alloc: Global,
     stack: Vec<(Open, Frame)>,
