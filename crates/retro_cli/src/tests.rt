@@ -8,6 +8,14 @@ const EMPTY: &str = r#"{"script":1,"tree":[],"sessions":[],"lines":[]}"#;
 
 const EMPTY_REPORT: &str = "{\"outputs\":[],\"sessions\":[],\"tree\":[]}\n";
 
+const UNORDERED: &str =
+    r#"{"sessions":[[1,"/",0,[]]],"lines":[],"script":1,"tree":[["/a/b","4A"],["/a"]]}"#;
+
+const ORDERED_REPORT: &str = concat!(
+    r#"{"outputs":[],"sessions":[[1,"/",0,[]]],"tree":[["/a"],["/a/b","4a"]]}"#,
+    "\n"
+);
+
 /// A file is written and read; the second line fails where the first is left out.
 const PAIR: &str =
     r#"{"script":1,"tree":[],"sessions":[[1,"/",0,[]]],"lines":[[1,1,"echo a > f"],[2,1,"cat f"]]}"#;
@@ -99,8 +107,9 @@ fn run(rt: &HostRuntime, texts: &[&str], input: &str) -> Result<(Exit, Vec<u8>),
 
 #[test]
 fn reports_are_written(rt: HostRuntime) -> Result<(), Fail> {
-    let cases: [(&[&str], &str, &str); 8] = [
+    let cases: [(&[&str], &str, &str); 9] = [
         (&["replay"], EMPTY, EMPTY_REPORT),
+        (&["replay"], UNORDERED, ORDERED_REPORT),
         (&["replay", "--cancel", "1"], PAIR, WITHOUT_FIRST),
         (&["replay"], PAIR, WHOLE),
         (&["replay", "--cancel="], PAIR, WHOLE),

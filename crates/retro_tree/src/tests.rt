@@ -200,7 +200,7 @@ fn knows_the_null_device(rt: HostRuntime) -> Result<(), Fail> {
 fn keeps_bytes(rt: HostRuntime) -> Result<(), Fail> {
     let alloc = rt.alloc();
     let mut file = bytes(alloc, "ab")?;
-    file.extend(&bytes(alloc, "c")?)?;
+    file.extend(b"c")?;
     assert!(rt; file.len() == 3 && file.copy()? == file);
     assert_eq!(rt; file.as_slice(), b"abc".as_slice());
     assert_eq!(rt; file.into_vec().as_slice(), b"abc".as_slice());
