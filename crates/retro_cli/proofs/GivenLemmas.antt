@@ -1,9 +1,8 @@
 -- From what `clap` promises of a parse to what the words ask for.
 use denote.Bor.{Bor}
-use Rattle.std.proofs.Common.{◌≡◌, ℕ, List, [], ◌∷◌, Bool, true, false, Option, Some, None, option_map, Box, box_value, codes, refl, sym, ap, subst, ◌∙◌}
-use Rattle.std.specs.Prelude.{◌⊎◌, is_some}
+use Rattle.std.proofs.Common.{◌≡◌, ℕ, List, [], ◌∷◌, true, Option, Some, None, option_map, Box, box_value, codes, refl, sym, subst}
 use Rattle.std.proofs.Common.{inl, inr}
-use Rattle.clap.specs.Words.{App, Kinds, Row, Text, fault_of, first_of, first_value, found_of, is_simple, is_simple_and_free, kind_of, rows_of, subcommand_of, subcommand_rows, subcommand_rows_of, subcommand_name_of, HasKind, IsAmong}
+use Rattle.clap.specs.Words.{App, Kinds, Row, Text, fault_of, first_value, is_simple, is_simple_and_free, kind_of, rows_of, subcommand_of, subcommand_rows, subcommand_rows_of, subcommand_name_of, HasKind}
 use Rattle.clap.specs.declared.parser.matches.ArgMatches.{ArgMatches}
 use Rattle.clap.specs.declared.parser.matches.ArgMatches.TheViews.{out-ArgMatches, out-SubCommand}
 use Rattle.clap.specs.declared.parser.matches.SubCommand.{SubCommand}
@@ -12,7 +11,7 @@ use Rattle.clap.specs.declared.error.Error.{Error}
 use Rattle.clap.specs.declared.error.kind.ErrorKind.TheVariants as kind
 use Rattle.clap.proofs.WalkLemmas.{first_value-rows}
 use Rattle.clap.proofs.OnLiterals.{clap_on_literals}
-use Rattle.retro_cli.specs.Words.{Given, given_of, given, program, unless_fault}
+use Rattle.retro_cli.specs.Words.{given, program, unless_fault}
 
 pub is_plain_program : is_simple program ≡ true
 unfolding clap_on_literals

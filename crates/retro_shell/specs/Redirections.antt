@@ -1,7 +1,6 @@
 -- Redirections of output (XCU 2.7), and where a command's output goes.
 use Rattle.std.specs.Prelude.{ℕ, ◌≡◌, ◌==◌, false, List, [], ◌∷◌, ◌++◌, length, Option, Some, None, codes, if◌then◌else◌}
 use Rattle.retro_tree.specs.Path.{PathValue}
-use Rattle.retro_tree.specs.Tree.{node_in}
 use Rattle.retro_tree.specs.State.{put_node, grow_file, permit_of}
 use Rattle.retro_tree.specs.Session.{session_in}
 use Rattle.retro_tree.specs.Resolving.{resolve}

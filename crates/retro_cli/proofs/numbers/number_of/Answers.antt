@@ -1,4 +1,4 @@
-use Rattle.std.proofs.Common.{◌≡◌, true, sym, ap, ◌∙◌, arith, rules}
+use Rattle.std.proofs.Common.{◌≡◌, true, sym, ap, ◌∙◌}
 use Rattle.std.specs.Str.{all_ascii_digits}
 use Rattle.retro_cli.proofs.NumberLemmas.{parsed}
 use Rattle.retro_cli.proofs.numbers.number_of.Goals as goal

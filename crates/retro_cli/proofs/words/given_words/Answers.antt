@@ -1,5 +1,5 @@
 use Rattle.std.proofs.Common.{ap, [], ◌≡◌, ◌∙◌, map, List, string_bytes}
-use Rattle.clap.specs.Words.{App, Kinds, Text, is_simple, is_simple_and_free, found_of, subcommand_of, HasKind}
+use Rattle.clap.specs.Words.{App, Text, is_simple, is_simple_and_free, found_of, subcommand_of, HasKind}
 use Rattle.retro_cli.proofs.GivenLemmas.{is_plain_program, is_free_program, named, is_given, is_refused, same_app}
 use Rattle.retro_cli.proofs.words.given_words.Goals as goal
 

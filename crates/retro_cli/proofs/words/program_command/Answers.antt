@@ -1,7 +1,6 @@
-use Rattle.std.proofs.Common.{ap, ap₂, codes, [], ◌∷◌, ◌≡◌, ◌∙◌}
+use Rattle.std.proofs.Common.{ap, ap₂, ◌∙◌}
 use Rattle.std.proofs.lemmas.Result.{IfOk-weaker}
-use Rattle.clap.specs.Words.{App, Shape, app_of, with_subcommand}
-use Rattle.retro_cli.specs.Words.{bare, cancel, command}
+use Rattle.clap.specs.Words.{App, Shape, with_subcommand}
 use Rattle.retro_cli.proofs.words.program_command.Goals as goal
 
 abbrev top : App → Shape
