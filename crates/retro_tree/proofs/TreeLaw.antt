@@ -1,5 +1,5 @@
 -- The law of trees by one test at each path, and by its demands.
-use Rattle.std.proofs.Common.{◌≡◌, ◌≢◌, ◌≤◌, Bool, true, false, not, List, [], ◌∷◌, ℕ, refl, ap, subst}
+use Rattle.std.proofs.Common.{◌≡◌, ◌≢◌, ◌≤◌, true, false, not, List, [], ◌∷◌, ℕ, refl, ap, subst}
 use Rattle.std.specs.Option.{is_some}
 use Rattle.std.proofs.lemmas.Bool.{false≢true, le-leb}
 use Rattle.retro_tree.specs.Name.{AllNames}
