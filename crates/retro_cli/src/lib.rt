@@ -1,4 +1,6 @@
-//! The program's texts: the report of a replay.
+//! The texts of the program: reports of what was run.
+//!
+//! [`replay_report`] gives the text that `replay_text` of `specs/Report.antt` defines.
 #![tactic(auto)]
 
 mod report;
