@@ -1,5 +1,5 @@
 -- Scripts: a first state, and the lines that are run from it.
-use Rattle.std.specs.Prelude.{◌≡◌, ℕ, Bool, true, not, ◌&&◌, List, [], ◌∷◌, Result, Ok, Err, IsTrue, nat_lt, if◌then◌else◌}
+use Rattle.std.specs.Prelude.{ℕ, Bool, true, not, ◌&&◌, List, [], ◌∷◌, Result, Ok, Err, IsTrue, nat_lt, if◌then◌else◌}
 use Rattle.std.specs.List.{list_all}
 use Rattle.std.specs.FinMap as map
 use Rattle.retro_tree.specs.Limits.{within_limits}

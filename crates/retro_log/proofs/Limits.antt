@@ -1,12 +1,10 @@
 -- A state with a lawful tree is within the limits where its sessions are.
-use Rattle.std.proofs.Common.{◌≡◌, Bool, true, false, ◌&&◌, refl, sym, ap, ◌∙◌}
+use Rattle.std.proofs.Common.{◌≡◌, Bool, true, false, ◌&&◌, refl}
 use Rattle.std.proofs.lemmas.Bool.{false≢true}
 use Rattle.std.specs.FinMap as map
 use Rattle.std.specs.Ordering.{nat_cmp}
-use Rattle.retro_tree.specs.Tree.{Tree}
 use Rattle.retro_tree.specs.Lawful.{IsLawful, is_lawful, is_lawful_tree}
 use Rattle.retro_tree.specs.Limits.{AreLawfulSessions, files_fit, are_lawful_sessions, within_limits}
-use Rattle.retro_tree.specs.declared.session.Session.{Session}
 use Rattle.retro_tree.specs.declared.state.State.{State}
 use Rattle.retro_tree.proofs.WholeLaw.{state_from_test, limits_of_lawful, test_from_limits, test_from_sessions}
 

@@ -1,5 +1,5 @@
 -- Names as documents write them, and names of files.
-use Rattle.std.proofs.Common.{◌≡◌, ℕ, List, [], ◌∷◌, Bool, true, false, not, ◌&&◌, ◌||◌, length, nat_le, refl, sym, ap, ◌∙◌, arith, ap₂}
+use Rattle.std.proofs.Common.{◌≡◌, List, [], ◌∷◌, Bool, true, false, not, ◌&&◌, length, nat_le, refl, sym, ap, ◌∙◌, arith, ap₂}
 use Rattle.std.proofs.lemmas.Bool.{false≢true, le-leb}
 use Rattle.std.specs.Prelude.{Option, Some, None, MatchOption}
 use Rattle.std.specs.List.{list_all}

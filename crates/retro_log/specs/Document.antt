@@ -1,5 +1,5 @@
 -- Which script a document is, and the refusal that comes first (RFC 8259 for the JSON text).
-use Rattle.std.specs.Prelude.{ℕ, ◌==◌, List, Bool, true, ◌&&◌, ◌||◌, Option, Some, None, Result, Ok, Err, bytes_eq, codes, if◌then◌else◌, ok_or, ⊤}
+use Rattle.std.specs.Prelude.{ℕ, ◌==◌, List, Bool, true, ◌&&◌, ◌||◌, Option, None, Result, Ok, bytes_eq, codes, if◌then◌else◌, ok_or, ⊤}
 use Rattle.std.specs.Str.{is_utf8}
 use Rattle.serde_json.specs.Data.{Data, Members, no_members, member}
 use Rattle.serde_json.specs.Read.{read}

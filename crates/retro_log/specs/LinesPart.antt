@@ -1,5 +1,5 @@
 -- The lines of a script's document: a list of `[number,sid,text]`.
-use Rattle.std.specs.Prelude.{ℕ, ◌^◌, List, [], ◌∷◌, Result, Ok, Err, nat_lt}
+use Rattle.std.specs.Prelude.{◌^◌, List, [], ◌∷◌, Result, Ok, Err, nat_lt}
 use Rattle.std.specs.List.{list_all}
 use Rattle.serde_json.specs.Data.{Data}
 use Rattle.retro_tree.specs.declared.state.State.{State}

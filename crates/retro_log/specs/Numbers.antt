@@ -1,6 +1,5 @@
 -- The numbers under which refusals are reported.
 use Rattle.std.specs.Prelude.{ℕ}
-use Rattle.retro_log.specs.declared.fault.Part.{Part}
 use Rattle.retro_log.specs.declared.fault.Refusal.{Refusal}
 use Rattle.retro_log.specs.declared.fault.Refusal.TheVariants.{NumbersNotRising, UnknownSession, LawlessTree, OverLimit, NotJson, WrongShape, UnknownKey, BadHex, BadVersion}
 

@@ -1,5 +1,5 @@
 -- The sessions of a document: a list of `[sid,cwd,status,[[name,value],..]]`.
-use Rattle.std.specs.Prelude.{ℕ, ◌^◌, List, [], ◌∷◌, map, Bool, Option, Some, None, Result, Ok, Err, is_some, ok_or}
+use Rattle.std.specs.Prelude.{ℕ, ◌^◌, List, [], ◌∷◌, map, Bool, Option, Result, Ok, Err, is_some, ok_or}
 use Rattle.std.specs.Option.{unwrap_or}
 use Rattle.std.specs.List.{list_all}
 use Rattle.std.specs.Ordering.{nat_cmp}

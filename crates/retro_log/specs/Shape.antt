@@ -1,5 +1,5 @@
 -- JSON values of one shape.
-use Rattle.std.specs.Prelude.{ℕ, ◌^◌, List, [], ◌∷◌, Option, Some, None, Result, nat_lt, if◌then◌else◌, option_map, option_and_then, ok_or}
+use Rattle.std.specs.Prelude.{ℕ, List, [], ◌∷◌, Option, Some, None, Result, nat_lt, if◌then◌else◌, option_map, option_and_then, ok_or}
 use Rattle.serde_json.specs.Data.{Data, Items, no_items, item}
 use Rattle.serde_json.specs.Find.{as_number, as_u64, as_str, as_array}
 use Rattle.retro_log.specs.declared.fault.Part.{Part}

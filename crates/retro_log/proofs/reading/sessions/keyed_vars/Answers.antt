@@ -1,7 +1,7 @@
-use Rattle.std.proofs.Common.{arith, ◌≡◌, ◌∙◌, true, false, [], ◌∷◌, map, refl, sym, ap}
+use Rattle.std.proofs.Common.{arith, ◌≡◌, ◌∙◌, true, false, map, sym, ap}
 use Rattle.std.specs.Prelude.{is_some}
 use Rattle.std.proofs.lemmas.List.{nil_from_length}
-use Rattle.std.specs.FinMap.{contains_key, insert, from_entries}
+use Rattle.std.specs.FinMap.{contains_key, from_entries}
 use Rattle.std.specs.Vec.Iter.{into_iter_items}
 use Rattle.retro_tree.specs.Order.{text_cmp, text_total, text_exact}
 use Rattle.retro_tree.proofs.MapLemmas.{get_made, made_insert}

@@ -1,6 +1,6 @@
-use Rattle.std.proofs.Common.{rules, arith, ◌≡◌, ◌∙◌, true, false, [], ◌∷◌, map, Some, option_map, refl, sym, ap}
+use Rattle.std.proofs.Common.{rules, arith, ◌≡◌, ◌∙◌, true, false, [], ◌∷◌, map, Some, option_map, refl, ap}
 use Rattle.std.proofs.lemmas.List.{nil_from_length}
-use Rattle.std.specs.FinMap.{FinMap, contains_key, empty}
+use Rattle.std.specs.FinMap.{contains_key, empty}
 use Rattle.std.specs.Vec.Iter.{into_iter_items}
 use Rattle.retro_tree.specs.Order.{path_total, path_exact}
 use Rattle.retro_tree.specs.State.{empty_state}
