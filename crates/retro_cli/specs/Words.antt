@@ -25,7 +25,11 @@ command name rules = record (new_app name).top { rules = rules }
 -- a command has to be given, and there is no help
 abbrev pub bare : App
 bare = record {
-  top = record (new_app (codes "retro")).top { disable_help_flag = true; disable_help_subcommand = true; subcommand_required = true };
+  top = record (new_app (codes "retro")).top {
+    disable_help_flag = true;
+    disable_help_subcommand = true;
+    subcommand_required = true;
+  };
   subs = [];
 }
 
