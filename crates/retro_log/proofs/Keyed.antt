@@ -2,7 +2,7 @@
 use Rattle.std.proofs.Common.{◌≡◌, Bool, true, false, not, ◌&&◌, ◌||◌, List, [], ◌∷◌, ◌++◌, Option, Some, None, refl, sym, ap, ◌∙◌, append_assoc, append-nil}
 use Rattle.std.specs.Prelude.{is_some}
 use Rattle.std.specs.List.{list_any}
-use Rattle.std.proofs.lemmas.Bool.{false≢true}
+use Rattle.std.proofs.lemmas.Bool.{and_parts, false≢true}
 use Rattle.std.proofs.lemmas.List.Folds.{list_any-append}
 use Rattle.std.proofs.lemmas.List.{map-append}
 use Rattle.std.specs.declared.cmp.Ordering.{Ordering}
@@ -11,10 +11,6 @@ use Rattle.std.specs.Cmp.{IsTotalOrder, eq_by_cmp_equiv}
 use Rattle.std.specs.FinMap.{FinMap, IsAntisymmetric, find, contains_key, insert, from_entries, get-from_entries, from_entries_push}
 use Rattle.std.specs.FinMap.Entries.{is_some-find}
 use Rattle.retro_log.specs.Keyed.{all_differ, keys_of, map_of}
-
-both : (a b : Bool) → a && b ≡ true → (a ≡ true) × (b ≡ true)
-both true b h = (refl, h)
-both false b h = absurd (false≢true h)
 
 off : (b : Bool) → not b ≡ true → b ≡ false
 off true h = absurd (false≢true h)
@@ -31,7 +27,7 @@ module _ {K : Type 0} {R : K → K → Ordering} (o : IsTotalOrder R) where
   differ_push : (ks : List K) (k : K) → all_differ R ks ≡ true → list_any (eq_by_cmp R k) ks ≡ false → all_differ R (ks ++ k ∷ []) ≡ true
   differ_push [] k h new = refl
   differ_push (x ∷ ks) k h new =
-      let parts = both (not (list_any (eq_by_cmp R x) ks)) (all_differ R ks) h in
+      let parts = and_parts (not (list_any (eq_by_cmp R x) ks)) (all_differ R ks) h in
       let apart = split (eq_by_cmp R k x) (list_any (eq_by_cmp R k) ks) new in
       let alone : list_any (eq_by_cmp R x) (ks ++ k ∷ []) ≡ false =
       list_any-append (eq_by_cmp R x) ks (k ∷ []) ∙ or_off _ _ (off _ parts.0) (or_off _ _ ((eq_by_cmp_equiv o).symm x k ∙ apart.0) refl) in

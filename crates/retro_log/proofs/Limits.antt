@@ -1,16 +1,12 @@
 -- A state with a lawful tree is within the limits where its sessions are.
-use Rattle.std.proofs.Common.{◌≡◌, Bool, true, false, ◌&&◌, refl}
-use Rattle.std.proofs.lemmas.Bool.{false≢true}
+use Rattle.std.proofs.Common.{◌≡◌, true, refl}
+use Rattle.std.proofs.lemmas.Bool.{and_parts}
 use Rattle.std.specs.FinMap as map
 use Rattle.std.specs.Ordering.{nat_cmp}
 use Rattle.retro_tree.specs.Lawful.{IsLawful, is_lawful, is_lawful_tree}
 use Rattle.retro_tree.specs.Limits.{AreLawfulSessions, files_fit, are_lawful_sessions, within_limits}
 use Rattle.retro_tree.specs.declared.state.State.{State}
 use Rattle.retro_tree.proofs.WholeLaw.{state_from_test, limits_of_lawful, test_from_limits, test_from_sessions}
-
-both : (a b : Bool) → a && b ≡ true → (a ≡ true) × (b ≡ true)
-both true b h = (refl, h)
-both false b h = absurd (false≢true h)
 
 bare_sessions : are_lawful_sessions map.empty ≡ true
 unfolding AreLawfulSessions
@@ -22,7 +18,7 @@ limits_of_sessions s h =
     let bare : State = record { tree = s.tree; sessions = map.empty } in
     let lawful : is_lawful bare ≡ true = rw (h, bare_sessions) refl in
     let limits : within_limits bare ≡ true = test_from_limits bare (limits_of_lawful bare (state_from_test bare lawful)) in
-    rw (both (files_fit s.tree) _ limits).0 refl
+    rw (and_parts (files_fit s.tree) _ limits).0 refl
 
 -- a lawful tree and lawful sessions are a lawful state
 pub state_is_lawful : (s : State) → is_lawful_tree s.tree ≡ true → are_lawful_sessions s.sessions ≡ true → IsLawful s

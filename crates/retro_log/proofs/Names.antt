@@ -1,6 +1,6 @@
 -- Names as documents write them, and names of files.
 use Rattle.std.proofs.Common.{◌≡◌, List, [], ◌∷◌, Bool, true, false, not, ◌&&◌, length, nat_le, refl, sym, ap, ◌∙◌, arith, ap₂}
-use Rattle.std.proofs.lemmas.Bool.{false≢true, le-leb}
+use Rattle.std.proofs.lemmas.Bool.{and_parts, false≢true, le-leb}
 use Rattle.std.specs.Prelude.{Option, Some, None, MatchOption}
 use Rattle.std.specs.List.{list_all}
 use Rattle.retro_tree.specs.Path.{PathValue}
@@ -22,14 +22,10 @@ unfolding is_written_name is_name
 name_fits [] h = absurd (false≢true h)
 name_fits (b ∷ bs) h = table (nat_le 1 (length (b ∷ bs))) _ _ _ _ _ (le-leb 1 (length (b ∷ bs)) (omega arith)) h
 
-parts : (a b : Bool) → a && b ≡ true → (a ≡ true) × (b ≡ true)
-parts true b h = (refl, h)
-parts false b h = absurd (false≢true h)
-
 pub names_fit : (names : List Text) → list_all is_written_name names ≡ true → list_all is_name names ≡ list_all is_short_name names
 names_fit [] h = refl
 names_fit (name ∷ names) h =
-    let both = parts (is_written_name name) (list_all is_written_name names) h in
+    let both = and_parts (is_written_name name) (list_all is_written_name names) h in
     ap₂ (λ a b. a && b) (name_fits name both.0) (names_fit names both.1)
 
 -- short written names have a path

@@ -21,7 +21,9 @@ has_keys p no_members = true
 has_keys p (member k d ms) = p k && has_keys p ms
 
 abbrev pub is_script_key : Text → Bool
-is_script_key k = bytes_eq k (codes "script") || bytes_eq k (codes "tree") || bytes_eq k (codes "sessions") || bytes_eq k (codes "lines")
+is_script_key k =
+    bytes_eq k (codes "script") || bytes_eq k (codes "tree")
+    || bytes_eq k (codes "sessions") || bytes_eq k (codes "lines")
 
 -- an object without foreign keys
 abbrev pub only_keys : Data → Result ⊤ Refusal

@@ -12,12 +12,17 @@ use Rattle.retro_log.specs.Shape.{Text, text_in}
 -- a name as it may be written: not empty, neither `.` nor `..`, without slash and NUL
 unfoldable pub is_written_name : Text → Bool
 is_written_name name =
-    not (length name == 0) && not (bytes_eq name (codes ".") || bytes_eq name (codes "..")) && not (list_any (λ b. b == 47) name) && not (list_any (λ b. b == 0) name)
+    not (length name == 0)
+    && not (bytes_eq name (codes ".") || bytes_eq name (codes ".."))
+    && not (list_any (λ b. b == 47) name)
+    && not (list_any (λ b. b == 0) name)
 
 -- the names after the first slash, by what stands between the slashes: an empty part alone is the root's
 abbrev pub names_after : Text → List Text → Option (List Text)
 names_after part parts =
-    if length part == 0 && length parts == 0 then Some [] else if list_all is_written_name (part ∷ parts) then Some (part ∷ parts) else None
+    if length part == 0 && length parts == 0 then Some []
+    else if list_all is_written_name (part ∷ parts) then Some (part ∷ parts)
+    else None
 
 -- the names, by what stands before, between and after the slashes: nothing before the first
 abbrev pub names_of_parts : List Text → Option (List Text)

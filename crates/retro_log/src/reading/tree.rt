@@ -146,7 +146,8 @@ fn node_of(entry: Entry) -> Node
 
 /// The state of what is listed and the root, or none where a path stands twice or is the root.
 fn joined(alloc: Global, places: Vec<Listed>) -> Result<Option<State>, NoMem>
-    ensures { IfOk result (λ found. found ≡ option_map (λ tree. record { tree = tree; sessions = map.empty })
+    ensures { IfOk result (λ found. found ≡
+        option_map (λ tree. record { tree = tree; sessions = map.empty })
         (map_of path_cmp (root_entry ∷ map listed_view places.items))) }
 {
     let mut state = State::empty(alloc)?;
