@@ -8,6 +8,7 @@ use Rattle.std.proofs.lemmas.Bool.{ltb-true}
 use Rattle.std.proofs.lemmas.Str.Parse.{IsNumeralModel, numerals_by_value, tells_all_ascii_digits, parse_digits}
 use Rattle.std.proofs.lemmas.List.{append-nil}
 use Rattle.std.proofs.Math.ListN.{drop_of_length-le}
+use Rattle.retro_log.proofs.Each.{at_item}
 use Rattle.retro_cli.specs.Numbers.{number_in, numbers_in}
 
 own : IsNumeralModel (λ ds. all_ascii_digits ds ≡ true) (digits_value 10)
@@ -64,12 +65,6 @@ regroup : (front : List ℕ) (n : ℕ) (o : Option (List ℕ)) → with_front fr
 regroup front n (Some ns) = ap (λ (zs : List ℕ). Some zs) (simp append_assoc)
 regroup front n None = refl
 
-pub at_item : {A D : Type 0} (va : A → D) (items : List A) (i : ℕ) (d : A) → i < length items
-    → map va (drop i items) ≡ va (get_or items i d) ∷ map va (drop (i + 1) items)
-at_item va items i d lt =
-    let here : drop i items ≡ get_or items i d ∷ drop (i + 1) items = drop-cons items i d lt ∙ rw (add-one i) refl in
-    ap (map va) here
-
 goes_on : (front : List ℕ) (text : List ℕ) (texts : List (List ℕ)) (n : ℕ) (total : Option (List ℕ)) → Some n ≡ number_in text
     → with_front front (numbers_in (text ∷ texts)) ≡ total → with_front (front ++ n ∷ []) (numbers_in texts) ≡ total
 unfolding numbers_in
@@ -94,12 +89,12 @@ IsReadTo va out items i = with_front out (numbers_in (map va (drop i items))) �
 pub loop_goes_on : {A : Type 0} (va : A → List ℕ) (out new : List ℕ) (items : List A) (i : ℕ) (d : A) (n : ℕ) → i < length items → new ≡ out ++ n ∷ []
     → Some n ≡ number_in (va (get_or items i d)) → IsReadTo va out items i → IsReadTo va new items (i + 1)
 loop_goes_on va out new items i d n lt push h so_far =
-    rw push (goes_on out (va (get_or items i d)) (map va (drop (i + 1) items)) n (numbers_in (map va items)) h (rw (sym (at_item va items i d lt)) so_far))
+    rw push (goes_on out (va (get_or items i d)) (map va (drop (i + 1) items)) n (numbers_in (map va items)) h (rw (sym (at_item va items i d (get_or items i d) lt refl)) so_far))
 
 pub loop_ends : {A : Type 0} (va : A → List ℕ) (out : List ℕ) (items : List A) (i : ℕ) (d : A) → i < length items
     → None ≡ number_in (va (get_or items i d)) → IsReadTo va out items i → numbers_in (map va items) ≡ None
 loop_ends va out items i d lt h so_far =
-    ends out (va (get_or items i d)) (map va (drop (i + 1) items)) (numbers_in (map va items)) h (rw (sym (at_item va items i d lt)) so_far)
+    ends out (va (get_or items i d)) (map va (drop (i + 1) items)) (numbers_in (map va items)) h (rw (sym (at_item va items i d (get_or items i d) lt refl)) so_far)
 
 pub loop_done : {A : Type 0} (va : A → List ℕ) (out : List ℕ) (items : List A) (i : ℕ) → length items ≤ i → IsReadTo va out items i → numbers_in (map va items) ≡ Some out
 loop_done va out items i le so_far =

@@ -30,6 +30,25 @@ const WHOLE: &str = concat!(
     "\n"
 );
 
+/// A directory for each of two users, their password file, and seven lines of the first.
+const LINES: &str = concat!(
+    r#"{"script":1,"tree":[["/etc"],["/etc/passwd","726f6f743a783a303a303a723a2f3a2f62696e2f"#,
+    "73680a616c6963653a783a3130303a3130303a613a2f683a2f62696e2f73680a6d616c",
+    r#"6c6f72793a783a3230303a3230303a6d3a2f746d703a2f62696e2f73680a"],["/h"],["/h/d"],["/tmp"]],"#,
+    r#""sessions":[[1,"/h",0,[["HOME","/h"]]],[2,"/tmp",0,[["HOME","/tmp"]]]],"#,
+    r#""lines":[[1,1,"echo a > f; echo b >> f; cat f f"],[2,1,"cat d"],[3,1,"echo x > d"],"#,
+    r#"[4,1,"echo x > n/m"],[5,1,"nosuch"],[6,1,"> f"],[7,1,";"]]}"#,
+);
+
+/// What a report on them says behind the first session's status, and behind its file `f`.
+const BEHIND_STATUS: &str = concat!(
+    r#",[["HOME","/h"]]],[2,"/tmp",0,[["HOME","/tmp"]]]],"tree":[["/etc"],["/etc/passwd","726f6f743a783a303a30"#,
+    "3a723a2f3a2f62696e2f73680a616c6963653a783a3130303a3130303a613a2f683a2f62696e2f73",
+    r#"680a6d616c6c6f72793a783a3230303a3230303a6d3a2f746d703a2f62696e2f73680a"],["/h"],["/h/d"],["/h/f",""#,
+);
+
+const BEHIND_FILE: &str = "\"],[\"/tmp\"]]}\n";
+
 /// Gives one byte a call, and fails at the call `fails`.
 #[derive(Drop)]
 struct Drip<'a> {
@@ -126,6 +145,66 @@ fn reports_are_written(rt: HostRuntime) -> Result<(), Fail> {
         let (exit, out) = run(&rt, texts, input)?;
         assert!(rt; exit == Exit::Done, "{texts:?}");
         assert!(rt; out.as_slice() == want.as_bytes(), "{texts:?}");
+    }
+    Ok(())
+}
+
+/// Each line of the seven, as the last that isn't cancelled: what the lines up to it print, the
+/// status that it leaves, and the file `f`.
+#[test]
+fn lines_print_and_end(rt: HostRuntime) -> Result<(), Fail> {
+    let rows: [(&str, &str, &str, &str); 7] = [
+        ("2,3,4,5,6,7", "610a620a610a620a", "0", "610a620a"),
+        (
+            "3,4,5,6,7",
+            "6361743a20643a2049732061206469726563746f72790a",
+            "1",
+            "610a620a",
+        ),
+        (
+            "4,5,6,7",
+            "73683a20643a2049732061206469726563746f72790a",
+            "1",
+            "610a620a",
+        ),
+        (
+            "5,6,7",
+            "73683a206e2f6d3a204e6f20737563682066696c65206f72206469726563746f72790a",
+            "1",
+            "610a620a",
+        ),
+        (
+            "6,7",
+            "73683a206e6f737563683a206e6f7420666f756e640a",
+            "127",
+            "610a620a",
+        ),
+        ("7", "", "0", ""),
+        ("", "73683a20756e737570706f72746564206c696e650a", "2", ""),
+    ];
+    let mut outputs = String::new(rt.alloc());
+    let mut number = b'0';
+    for (cancel, output, status, file) in rows {
+        number = number.saturating_add(1);
+        outputs.push_str(if number == b'1' { "[" } else { ",[" })?;
+        outputs.push(number as char)?;
+        outputs.push_str(",\"")?;
+        outputs.push_str(output)?;
+        outputs.push_str("\"]")?;
+        let mut want = String::from_str(rt.alloc(), "{\"outputs\":[")?;
+        for part in [
+            outputs.as_str(),
+            "],\"sessions\":[[1,\"/h\",",
+            status,
+            BEHIND_STATUS,
+            file,
+            BEHIND_FILE,
+        ] {
+            want.push_str(part)?;
+        }
+        let (exit, out) = run(&rt, &["replay", "--cancel", cancel], LINES)?;
+        assert!(rt; exit == Exit::Done, "{cancel}");
+        assert!(rt; out.as_slice() == want.as_bytes(), "{cancel}");
     }
     Ok(())
 }

@@ -1,2 +1,4 @@
 pub mod Joining
 pub mod Statuses
+pub mod Running
+pub mod Doings

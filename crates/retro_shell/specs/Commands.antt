@@ -24,17 +24,15 @@ executed sid words (s, failed name reason) = (s, printed (fault_text (codes "sh"
 unfoldable pub command : ℕ → List PlainItem → State → State × Printed
 command sid items s = executed sid (fields items) (redirected sid items terminal s)
 
-abbrev pub nothing_printed : Printed
-nothing_printed = printed [] 0
+-- a text before what is printed
+abbrev pub after_text : List ℕ → State × Printed → State × Printed
+after_text text r = (r.0, printed (text ++ r.1.text) r.1.status)
 
--- what was printed by two in a row, and the status of the second
-abbrev pub followed_by : Printed → Printed → Printed
-followed_by before after = printed (before.text ++ after.text) after.status
+-- one after the other: what both print, and the status of the second
+abbrev pub and_then : State × Printed → (State → State × Printed) → State × Printed
+and_then r more = after_text r.1.text (more r.0)
 
-abbrev pub then_run : Printed → State × Printed → (Printed → State → State × Printed) → State × Printed
-then_run before (s, after) more = more (followed_by before after) s
-
--- the commands one after the other, after what was printed before
-abbrev pub run : ℕ → List (List PlainItem) → Printed → State → State × Printed
-run sid [] before s = (s, before)
-run sid (items ∷ commands) before s = then_run before (command sid items s) (run sid commands)
+-- a command and those behind it
+abbrev pub run : ℕ → List PlainItem → List (List PlainItem) → State → State × Printed
+run sid items [] s = command sid items s
+run sid items (next ∷ commands) s = and_then (command sid items s) (run sid next commands)

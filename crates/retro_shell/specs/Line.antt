@@ -6,7 +6,7 @@ use Rattle.retro_tree.specs.declared.state.State.{State}
 use Rattle.retro_syntax.specs.Plain.{PlainItem}
 use Rattle.retro_syntax.specs.Lines.{plain_line}
 use Rattle.retro_shell.specs.Redirections.{Printed}
-use Rattle.retro_shell.specs.Commands.{run, nothing_printed}
+use Rattle.retro_shell.specs.Commands.{run}
 
 -- the status is set last
 abbrev pub ended : ℕ → State × Printed → State × List ℕ
@@ -16,7 +16,7 @@ ended sid (s, printed) = (put_status sid printed.status s, printed.text)
 abbrev pub meaning : ℕ → Option (List (List PlainItem)) → State → State × List ℕ
 meaning sid None s = (put_status sid 2 s, codes "sh: unsupported line" ++ 10 ∷ [])
 meaning sid (Some []) s = (s, [])
-meaning sid (Some (items ∷ commands)) s = ended sid (run sid (items ∷ commands) nothing_printed s)
+meaning sid (Some (items ∷ commands)) s = ended sid (run sid items commands s)
 
 -- the state after a line of a session, and what the terminal gets
 unfoldable pub line : ℕ → List ℕ → State → State × List ℕ

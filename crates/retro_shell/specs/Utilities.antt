@@ -66,17 +66,30 @@ abbrev pub contents_view : Contents → Result (List ℕ) Reason
 contents_view (contents.Bytes bytes) = Ok bytes.now
 contents_view (contents.Fault reason) = Err reason
 
--- what `cat` has printed after one more operand; `-` is standard input, which is empty
-abbrev pub with_reading : List ℕ → Result (List ℕ) Reason → Done → Done
-with_reading operand (Ok bytes) done = record done { out = done.out ++ bytes }
-with_reading operand (Err reason) done = record done { err = done.err ++ fault_text (codes "cat") operand reason; status = 1 }
+-- what `cat` makes of what an operand gives
+abbrev pub cat_reading : List ℕ → Result (List ℕ) Reason → Done
+cat_reading operand (Ok bytes) = record { out = bytes; err = []; status = 0 }
+cat_reading operand (Err reason) =
+    record { out = []; err = fault_text (codes "cat") operand reason; status = 1 }
 
-unfoldable pub cat_one : ℕ → State → List ℕ → Done → Done
-cat_one sid s operand done = if pointwise nat_eq operand (codes "-") then done else with_reading operand (reading sid operand s) done
+-- of one operand; `-` is standard input, which is empty
+unfoldable pub cat_one : ℕ → State → List ℕ → Done
+cat_one sid s operand =
+    if pointwise nat_eq operand (codes "-") then nothing_done 0
+    else cat_reading operand (reading sid operand s)
 
-abbrev pub cat_more : ℕ → State → List (List ℕ) → Done → Done
-cat_more sid s [] done = done
-cat_more sid s (operand ∷ operands) done = cat_more sid s operands (cat_one sid s operand done)
+-- one behind the other, with the last status that isn't 0
+abbrev pub both_done : Done → Done → Done
+both_done first second = record {
+  out = first.out ++ second.out;
+  err = first.err ++ second.err;
+  status = if second.status == 0 then first.status else second.status;
+}
+
+-- of all operands in turn
+abbrev pub cat_all : ℕ → State → List (List ℕ) → Done
+cat_all sid s [] = nothing_done 0
+cat_all sid s (operand ∷ operands) = both_done (cat_one sid s operand) (cat_all sid s operands)
 
 -- a dash and something more
 abbrev pub is_option : List ℕ → Bool
@@ -97,7 +110,7 @@ cat_operands (field ∷ fields) =
 
 abbrev pub cat_of : ℕ → State → Option (List (List ℕ)) → Done
 cat_of sid s None = usage (codes "cat")
-cat_of sid s (Some operands) = cat_more sid s operands (nothing_done 0)
+cat_of sid s (Some operands) = cat_all sid s operands
 
 unfoldable pub cat : ℕ → State → List (List ℕ) → Done
 cat sid s fields = cat_of sid s (cat_operands fields)

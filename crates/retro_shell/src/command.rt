@@ -2,7 +2,7 @@
 ghost use Rattle.std.specs.Prelude.{◌≡◌, IfOk, OnOk, map};
 ghost use Rattle.retro_tree.specs.Lawful.{IsLawful};
 ghost use Rattle.retro_syntax.specs.PlainViews.{plain_item_view, plain_command_view};
-ghost use Rattle.retro_shell.specs.Commands.{fields, command, run, nothing_printed};
+ghost use Rattle.retro_shell.specs.Commands.{fields, command, run};
 
 use crate::diagnostics::push_fault;
 use crate::redirection::{Opened, Printed, deliver, redirect};
@@ -51,21 +51,25 @@ fn run_command(
     }
 }
 
-/// Runs the commands of a list one after the other; the status is the last one's.
+/// Runs a command and those behind it, one after the other; the status is the last one's.
+#[tactic(auto, using(crate::proofs::Running::running))]
 pub(crate) fn run_commands(
     alloc: Global,
     state: &mut State,
     sid: u32,
-    commands: &[PlainCommand],
+    first: &PlainCommand,
+    rest: &[PlainCommand],
 ) -> Result<Printed, NoMem>
-    ensures means { IfOk result (λ p.
-        (state.new, p) ≡ run sid (map plain_command_view commands.now) nothing_printed state.old) }
+    ensures means { IfOk result (λ p. (state.new, p)
+        ≡ run sid (plain_command_view first.now) (map plain_command_view rest.now) state.old) }
     ensures lawful { OnOk result (IsLawful state.old → IsLawful state.new) }
     ensures sessions { OnOk result (state.new.sessions ≡ state.old.sessions) }
 {
-    let mut text = Bytes::new(alloc);
-    let mut status = 0;
-    for command in commands {
+    let Printed {
+        mut text,
+        mut status,
+    } = run_command(alloc, state, sid, first)?;
+    for command in rest {
         let printed = run_command(alloc, state, sid, command)?;
         text.extend(printed.text.as_slice())?;
         status = printed.status;

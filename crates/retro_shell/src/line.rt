@@ -61,9 +61,9 @@ fn run(
 {
     match commands {
         [] => Ok((state, Bytes::new(alloc))),
-        [_, ..] => {
+        [first, rest @ ..] => {
             let mut state = state;
-            let Printed { text, status } = run_commands(alloc, &mut state, sid, commands)?;
+            let Printed { text, status } = run_commands(alloc, &mut state, sid, first, rest)?;
             Ok(ended(alloc, state, sid, status, text)?)
         }
     }

@@ -2,7 +2,7 @@
 ghost use Rattle.std.specs.Prelude.{◌≡◌, ◌==◌, ◌++◌, ◌∷◌, IfOk, OnOk, List, ℕ, map, Some, None};
 ghost use Rattle.std.specs.List.{list_all};
 ghost use Rattle.std.specs.Option.{option_map};
-ghost use Rattle.retro_shell.specs.Utilities.{nothing_done, echo, joined, spaced, cat, cat_operands, is_option, has_only_u, reading, cat_one, contents_view, texts_of, utility, usage, not_found};
+ghost use Rattle.retro_shell.specs.Utilities.{nothing_done, echo, joined, spaced, cat, cat_operands, is_option, has_only_u, reading, cat_one, both_done, cat_all, contents_view, texts_of, utility, usage, not_found};
 
 use crate::diagnostics::{Reason, push_fault};
 use retro_tree::{Bytes, Entry, NoMem, Resolved, State, resolve};
@@ -111,7 +111,7 @@ fn reading<'a>(
 }
 
 /// Adds what an operand of `cat` gives, or its fault. `-` is standard input, which is empty.
-#[tactic(auto, unfolding(crate::specs::Utilities::cat_one))]
+#[tactic(auto, unfolding(crate::specs::Utilities::cat_one), using(crate::proofs::Doings::one_operand))]
 fn cat_one(
     alloc: Global,
     state: &State,
@@ -119,7 +119,7 @@ fn cat_one(
     operand: &str,
     done: &mut Done,
 ) -> Result<(), NoMem>
-    ensures { OnOk result (done.new ≡ cat_one sid state.now operand.now done.old) }
+    ensures { OnOk result (done.new ≡ both_done done.old (cat_one sid state.now operand.now)) }
 {
     if operand == "-" {
         return Ok(());
@@ -180,19 +180,27 @@ fn cat_operands<'a>(fields: &'a [&'a str]) -> Option<&'a [&'a str]>
     Some(rest)
 }
 
-/// `cat` (XCU cat): the bytes of each operand in turn; `-u` changes nothing.
-#[tactic(auto, unfolding(crate::specs::Utilities::cat))]
-fn cat(alloc: Global, state: &State, sid: u32, fields: &[&str]) -> Result<Done, NoMem>
-    ensures { IfOk result (λ done. done ≡ cat sid state.now (map (λ f. f.now) fields.now)) }
+/// What `cat` makes of all operands in turn.
+#[tactic(auto, using(crate::proofs::Doings::doing))]
+fn cat_all(alloc: Global, state: &State, sid: u32, operands: &[&str]) -> Result<Done, NoMem>
+    ensures { IfOk result (λ done. done ≡ cat_all sid state.now (map (λ o. o.now) operands.now)) }
 {
-    let Some(operands) = cat_operands(fields) else {
-        return Ok(usage(alloc, "cat")?);
-    };
     let mut done = Done::nothing(alloc, 0);
     for operand in operands {
         cat_one(alloc, state, sid, operand, &mut done)?;
     }
     Ok(done)
+}
+
+/// `cat` (XCU cat): the bytes of each operand in turn; `-u` changes nothing.
+#[tactic(auto, unfolding(crate::specs::Utilities::cat))]
+fn cat(alloc: Global, state: &State, sid: u32, fields: &[&str]) -> Result<Done, NoMem>
+    ensures { IfOk result (λ done. done ≡ cat sid state.now (map (λ f. f.now) fields.now)) }
+{
+    match cat_operands(fields) {
+        None => Ok(usage(alloc, "cat")?),
+        Some(operands) => Ok(cat_all(alloc, state, sid, operands)?),
+    }
 }
 
 /// What a utility prints that is used outside its forms.
