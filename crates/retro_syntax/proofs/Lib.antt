@@ -8,3 +8,4 @@ pub mod PlainLemmas
 pub mod WritingLemmas
 pub mod QuotingLemmas
 pub mod PlainWriting
+pub mod DepthLemmas

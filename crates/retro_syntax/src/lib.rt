@@ -10,6 +10,7 @@
 #![tactic(auto)]
 
 mod build;
+mod depth;
 mod lines;
 mod plain;
 mod quoting;
