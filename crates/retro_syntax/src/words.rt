@@ -1,11 +1,11 @@
 //! What a word is where a command may begin.
 
-ghost use Rattle.std.specs.Prelude.{◌≡◌, Option, map, option_map, string_bytes, IfOk};
+ghost use Rattle.std.specs.Prelude.{◌≡◌, ◌∷◌, [], MatchOption, Option, map, option_map, string_bytes, IfOk};
 ghost use Rattle.retro_syntax.specs.Words;
 ghost use Rattle.retro_syntax.specs.Tree;
-ghost use Rattle.retro_syntax.specs.View.{piece_view, word_view};
+ghost use Rattle.retro_syntax.specs.View.{assignment_view, piece_view, word_view};
 
-use crate::tree::{Piece, ReservedWord, Word};
+use crate::tree::{Assignment, Piece, ReservedWord, Word};
 use std::alloc::{AllocError, Global};
 
 /// What a word can be where a command may begin.
@@ -134,7 +134,7 @@ fn has_colon_tilde(text: &[u8]) -> bool
 }
 
 /// Whether the text begins with `~`.
-fn begins_tilde(text: &[u8]) -> bool
+pub fn begins_tilde(text: &[u8]) -> bool
     ensures { result ≡ Words.begins_tilde text.now }
 {
     match text {
@@ -204,6 +204,43 @@ pub fn class_of(word: &Word) -> Class
                 },
             },
             Piece::Quoted(_) | Piece::Parameter(_) | Piece::QuotedParameter(_) => Class::Ordinary,
+        },
+    }
+}
+
+/// The word's first piece, and those behind it.
+fn first_piece(word: Word) -> Option<(Piece, Vec<Piece>)>
+    ensures { MatchOption result (word.pieces.items ≡ [])
+        (λ x. word.pieces.items ≡ x.0 ∷ x.1.items) }
+{
+    let Word { mut pieces } = word;
+    if pieces.is_empty() {
+        return None;
+    }
+    let first = pieces.remove(0);
+    Some((first, pieces))
+}
+
+/// What the word assigns, where it begins with a name and `=`.
+pub fn assignment_of(alloc: Global, word: Word) -> Result<Option<Assignment>, AllocError>
+    ensures { IfOk result (λ a. option_map assignment_view a
+        ≡ Words.assignment_of (word_view word)) }
+{
+    match first_piece(word) {
+        None => Ok(None),
+        Some((first, mut pieces)) => match first {
+            Piece::Plain(text) => match split_name(&text) {
+                None => Ok(None),
+                Some((name, value)) => {
+                    let name = String::from_str(alloc, name)?;
+                    pieces.insert(0, Piece::Plain(String::from_str(alloc, value)?))?;
+                    Ok(Some(Assignment {
+                        name,
+                        value: Word { pieces },
+                    }))
+                }
+            },
+            Piece::Quoted(_) | Piece::Parameter(_) | Piece::QuotedParameter(_) => Ok(None),
         },
     }
 }
