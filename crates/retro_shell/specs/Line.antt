@@ -1,10 +1,10 @@
 -- What a line means: the state after it, and what the terminal gets.
-use Rattle.std.specs.Prelude.{ℕ, ◌≡◌, List, [], ◌∷◌, ◌++◌, Option, Some, None, codes}
+use Rattle.std.specs.Prelude.{ℕ, ◌≡◌, List, [], ◌∷◌, ◌++◌, Option, Some, None, option_and_then, codes}
 use Rattle.std.specs.FinMap as map
 use Rattle.retro_tree.specs.State.{put_status}
 use Rattle.retro_tree.specs.declared.state.State.{State}
-use Rattle.retro_syntax.specs.Plain.{PlainItem}
-use Rattle.retro_syntax.specs.Lines.{plain_line}
+use Rattle.retro_syntax.specs.Plain.{PlainItem, plain_commands}
+use Rattle.retro_syntax.specs.Lines.{parsed}
 use Rattle.retro_shell.specs.Redirections.{Printed}
 use Rattle.retro_shell.specs.Commands.{run}
 
@@ -12,7 +12,8 @@ use Rattle.retro_shell.specs.Commands.{run}
 abbrev pub ended : ℕ → State × Printed → State × List ℕ
 ended sid (s, printed) = (put_status sid printed.status s, printed.text)
 
--- a text outside the grammar; a blank line; a list of commands
+-- a text outside the grammar, or whose line is more than a list of plain commands; a blank line; a
+-- list of commands
 abbrev pub meaning : ℕ → Option (List (List PlainItem)) → State → State × List ℕ
 meaning sid None s = (put_status sid 2 s, codes "sh: unsupported line" ++ 10 ∷ [])
 meaning sid (Some []) s = (s, [])
@@ -20,7 +21,7 @@ meaning sid (Some (items ∷ commands)) s = ended sid (run sid items commands s)
 
 -- the state after a line of a session, and what the terminal gets
 unfoldable pub line : ℕ → List ℕ → State → State × List ℕ
-line sid text s = meaning sid (plain_line text) s
+line sid text s = meaning sid (option_and_then plain_commands (parsed text)) s
 
 -- the same sessions are there
 pub record HasSameSessions (old new : State) : Type 0 where

@@ -72,8 +72,9 @@ fn run(
 /// Runs a line of a session on an owned state, changed in place: the state after it, and the text
 /// that the terminal gets.
 ///
-/// A text outside the grammar prints `sh: unsupported line` and has status 2; a blank one changes
-/// nothing. The only error is want of memory, and the state is then spent.
+/// A text outside the grammar prints `sh: unsupported line` and has status 2, and so does a line
+/// that is more than a list of plain commands; a blank one changes nothing. The only error is want
+/// of memory, and the state is then spent.
 #[tactic(auto, unfolding(crate::specs::Line::line))]
 pub fn step(alloc: Global, state: State, sid: u32, text: &str) -> Result<(State, Bytes), NoMem>
     requires lawful { IsLawful state }
@@ -89,6 +90,7 @@ pub fn step(alloc: Global, state: State, sid: u32, text: &str) -> Result<(State,
         },
         Err(Refused::Unsupported) => Ok(refused(alloc, state, sid)?),
         Err(Refused::TooLong) => Ok(refused(alloc, state, sid)?),
+        Err(Refused::TooDeep) => Ok(refused(alloc, state, sid)?),
         Err(Refused::NoMem) => Err(NoMem),
     }
 }

@@ -1,16 +1,16 @@
 -- What is written for a tree is read as that tree.
 use Rattle.std.proofs.Common.{◌≡◌, ℕ, Bool, true, false, ◌&&◌, List, [], ◌∷◌, ◌++◌, Some, None, cond, option_map, subst, refl, sym, ap, ◌∙◌, append_assoc, append-nil}
-use Rattle.retro_syntax.specs.Tree.{plain, Word, Token, semicolon, bar, connector, redirection, word, whole, key, Item, argument, redirect, Simple, assignments, command, Commands, last, more, AndOr, end, chain, Pipeline, pipeline, Command, simples, conditional, loop, Arms, fi, otherwise, elif, items_then, words_then, simple_then, stages_then, commands_then, andor_then, pipeline_then, command_then, arms_then, for_then}
+use Rattle.retro_syntax.specs.Tree.{plain, Word, Assignment, assignment_word, assignments_then, Token, semicolon, bar, connector, redirection, word, whole, key, Item, argument, redirect, Simple, assignments, command, Commands, last, more, AndOr, end, chain, Pipeline, pipeline, Command, simples, conditional, loop, Arms, fi, otherwise, elif, items_then, words_then, simple_then, stages_then, commands_then, andor_then, pipeline_then, command_then, arms_then, for_then}
 use Rattle.retro_syntax.specs.declared.tree.Direction.{Direction}
 use Rattle.retro_syntax.specs.declared.tree.Connector.{Connector}
 use Rattle.retro_syntax.specs.declared.tree.ReservedWord.{ReservedWord}
 use Rattle.retro_syntax.specs.declared.tree.ReservedWord.TheVariants.{Bang as bang, If as key_if, Then as key_then, Elif as key_elif, Else as key_else, Fi as key_fi, For as key_for, In as key_in, Do as key_do, Done as key_done}
 use Rattle.retro_syntax.specs.declared.words.Class.{Class}
 use Rattle.retro_syntax.specs.declared.words.Class.TheVariants.{Reserved as reserved, Forbidden as forbidden, Assignment as assignment, Ordinary as ordinary}
-use Rattle.retro_syntax.specs.Words.{class, name_of, is_ordinary, is_assignment}
+use Rattle.retro_syntax.specs.Words.{class, name_of, is_ordinary}
 use Rattle.retro_syntax.specs.Reader.{Open, Frame, condition, consequence, alternative, body, Place, start, within, target, piped, closed, for_name, for_in, for_words, for_do, State, at, step, run, join, and_or, listed, arms_up_to, nothing, no_argument, finish, commands_of, close, close_some, begin_reserved, may_end, all_closed, finish_at, go_on}
-use Rattle.retro_syntax.specs.Spells.{are_assignments, begins_well, is_simple, are_simple, are_stages, is_compound, ends_compound, ends_itself, Spells, IsCommands, IsAndOr, IsPipeline, IsCommand, IsArms}
-use Rattle.retro_syntax.proofs.WordLemmas.{class_key}
+use Rattle.retro_syntax.specs.Spells.{is_assigned, are_assigned, begins_well, is_simple, are_simple, are_stages, is_compound, ends_compound, ends_itself, Spells, IsCommands, IsAndOr, IsPipeline, IsCommand, IsArms}
+use Rattle.retro_syntax.proofs.WordLemmas.{class_key, class_assigned, assignment_of_word}
 
 abbrev Stack : Type 0
 Stack = List (Open × Frame)
@@ -29,19 +29,19 @@ and_right false b e = cc
 next : (s s' : State) (t : Token) (r : List Token) → step s t ≡ Some s' → run (Some s) (t ∷ r) ≡ run (Some s') r
 next s s' t r e = ap (λ x. run x r) e
 
-step_assign : (st : Stack) (o : Open) (ss : List Simple) (xs : List Word) (w : Word) → is_assignment (class w) ≡ true
-    → step (at st o (within ss (assignments xs))) (word w) ≡ Some (at st o (within ss (assignments (xs ++ w ∷ []))))
+step_assign : (st : Stack) (o : Open) (ss : List Simple) (xs : List Assignment) (a : Assignment) → is_assigned a ≡ true
+    → step (at st o (within ss (assignments xs))) (word (assignment_word a)) ≡ Some (at st o (within ss (assignments (xs ++ a ∷ []))))
 unfolding step
-step_assign st o ss xs w h = rw h refl
+step_assign st o ss xs a h = rw (class_assigned a h, assignment_of_word a h) refl
 
--- more words behind an assignment
-words_on : (st : Stack) (o : Open) (ss : List Simple) (xs ws : List Word) (r : List Token) → are_assignments ws ≡ true
-    → run (Some (at st o (within ss (assignments xs)))) (words_then ws r) ≡ run (Some (at st o (within ss (assignments (xs ++ ws))))) r
-words_on st o ss xs [] r h = rw append-nil refl
-words_on st o ss xs (w ∷ ws) r h =
-    let one = and_left (is_assignment (class w)) (are_assignments ws) h in
-    let rest = words_on st o ss (xs ++ w ∷ []) ws r (and_right (is_assignment (class w)) (are_assignments ws) h) in
-    next _ _ (word w) (words_then ws r) (step_assign st o ss xs w one) ∙ rest ∙ ap (λ ys. run (Some (at st o (within ss (assignments ys)))) r) (append_assoc xs (w ∷ []) ws)
+-- more assignments behind others
+assignments_on : (st : Stack) (o : Open) (ss : List Simple) (xs ys : List Assignment) (r : List Token) → are_assigned ys ≡ true
+    → run (Some (at st o (within ss (assignments xs)))) (assignments_then ys r) ≡ run (Some (at st o (within ss (assignments (xs ++ ys))))) r
+assignments_on st o ss xs [] r h = rw append-nil refl
+assignments_on st o ss xs (a ∷ ys) r h =
+    let one = and_left (is_assigned a) (are_assigned ys) h in
+    let rest = assignments_on st o ss (xs ++ a ∷ []) ys r (and_right (is_assigned a) (are_assigned ys) h) in
+    next _ _ (word (assignment_word a)) (assignments_then ys r) (step_assign st o ss xs a one) ∙ rest ∙ ap (λ zs. run (Some (at st o (within ss (assignments zs)))) r) (append_assoc xs (a ∷ []) ys)
 
 -- the items behind some others, which have a word already or have none
 abbrev fits : List Item → List Item → Bool
@@ -89,15 +89,9 @@ items_on st o ss xs (redirect d w ∷ is) r h =
 -- ---- the first word of a simple command
 
 record Begins (st : Stack) (o : Open) (p : Place) (ss : List Simple) : Type 0 where
-  assign : (w : Word) → is_assignment (class w) ≡ true → step (at st o p) (word w) ≡ Some (at st o (within ss (assignments (w ∷ []))))
+  assign : (a : Assignment) → is_assigned a ≡ true → step (at st o p) (word (assignment_word a)) ≡ Some (at st o (within ss (assignments (a ∷ []))))
   plainly : (w : Word) → is_ordinary (class w) ≡ true → step (at st o p) (word w) ≡ Some (at st o (within ss (command (argument w ∷ []))))
   aims : (d : Direction) (w : Word) (r : List Token) → run (Some (at st o p)) (redirection d ∷ word w ∷ r) ≡ run (Some (at st o (within ss (command (redirect d w ∷ []))))) r
-
-is_assign : (k : Class) → is_assignment k ≡ true → k ≡ assignment
-is_assign (reserved k) e = cc
-is_assign forbidden e = cc
-is_assign assignment e = refl
-is_assign ordinary e = cc
 
 is_plain : (k : Class) → is_ordinary k ≡ true → k ≡ ordinary
 is_plain (reserved k) e = cc
@@ -108,7 +102,7 @@ is_plain ordinary e = refl
 begins_start : (st : Stack) (o : Open) → Begins st o start []
 unfolding step
 begins_start st o = record {
-  assign = λ w h. let e = is_assign (class w) h in rw e refl;
+  assign = λ a h. rw (class_assigned a h, assignment_of_word a h) refl;
   plainly = λ w h. let e = is_plain (class w) h in rw e refl;
   aims = λ d w r. refl;
 }
@@ -116,7 +110,7 @@ begins_start st o = record {
 begins_piped : (st : Stack) (o : Open) (ss : List Simple) → Begins st o (piped ss) ss
 unfolding step
 begins_piped st o ss = record {
-  assign = λ w h. let e = is_assign (class w) h in rw e refl;
+  assign = λ a h. rw (class_assigned a h, assignment_of_word a h) refl;
   plainly = λ w h. let e = is_plain (class w) h in rw e refl;
   aims = λ d w r. refl;
 }
@@ -124,9 +118,9 @@ begins_piped st o ss = record {
 simple_on : (st : Stack) (o : Open) (p : Place) (ss : List Simple) (s : Simple) (r : List Token) → Begins st o p ss → is_simple s ≡ true
     → run (Some (at st o p)) (simple_then s r) ≡ run (Some (at st o (within ss s))) r
 simple_on st o p ss (assignments []) r b h = cc
-simple_on st o p ss (assignments (w ∷ ws)) r b h =
-    next _ _ (word w) (words_then ws r) (b.assign w (and_left (is_assignment (class w)) (are_assignments ws) h))
-    ∙ words_on st o ss (w ∷ []) ws r (and_right (is_assignment (class w)) (are_assignments ws) h)
+simple_on st o p ss (assignments (a ∷ ys)) r b h =
+    next _ _ (word (assignment_word a)) (assignments_then ys r) (b.assign a (and_left (is_assigned a) (are_assigned ys) h))
+    ∙ assignments_on st o ss (a ∷ []) ys r (and_right (is_assigned a) (are_assigned ys) h)
 simple_on st o p ss (command []) r b h = cc
 simple_on st o p ss (command (argument w ∷ is)) r b h =
     next _ _ (word w) (items_then is r) (b.plainly w h) ∙ items_on st o ss (argument w ∷ []) is r refl

@@ -7,4 +7,4 @@ pub mod LineLemmas
 pub mod PlainLemmas
 pub mod WritingLemmas
 pub mod QuotingLemmas
-pub mod PlainWriting
+pub mod DepthLemmas

@@ -1,22 +1,20 @@
 -- A text is read as the line that it spells.
-use Rattle.std.proofs.Common.{true, false, not, nat_le, ◌&&◌, ◌≡◌, ◌≤◌, ◌<◌, Bool, ℕ, List, [], ◌∷◌, length, Option, Some, None, Result, Ok, Err, is_some, option_map, option_and_then, refl, sym, ap, subst, ◌∙◌}
+use Rattle.std.proofs.Common.{true, false, nat_le, ◌≡◌, ◌≤◌, ◌<◌, Bool, ℕ, List, [], ◌∷◌, length, Option, Some, None, cond, Result, Ok, Err, option_map, option_and_then, refl, sym, ap, subst, ◌∙◌}
 use Rattle.std.specs.Str.{chars}
-use Rattle.std.proofs.lemmas.Bool.{leb-true, le-leb, lt-leb}
+use Rattle.std.proofs.lemmas.Bool.{leb-true, leb-false, le-leb, lt-leb}
 use Rattle.retro_syntax.specs.Tree.{Token, Commands}
 use Rattle.retro_syntax.specs.Reader.{commands_of}
 use Rattle.retro_syntax.specs.Quoting.{tokens_of}
-use Rattle.retro_syntax.specs.Plain.{PlainItem, plain_commands}
-use Rattle.retro_syntax.specs.Lines.{SpellsLine, TextSpells, PlainSpells, SpellsPlain, Meets, Answers, line_of, line_of_tokens, line_view, has_foreign, plain_line, plain_read}
+use Rattle.retro_syntax.specs.Depth.{line_depth}
+use Rattle.retro_syntax.specs.Lines.{SpellsLine, TextSpells, SpellsWithin, Meets, Answers, line_of, line_of_tokens, line_view, parsed, if_short, if_shallow}
 use Rattle.retro_syntax.specs.declared.lines.Line.{Line}
 use Rattle.retro_syntax.specs.declared.lines.Refused.{Refused}
-use Rattle.retro_syntax.specs.declared.lines.Refused.TheVariants.{Unsupported}
+use Rattle.retro_syntax.specs.declared.lines.Refused.TheVariants.{Unsupported, TooDeep}
 use Rattle.retro_syntax.proofs.Sound.{Spells-commands_of}
 use Rattle.retro_syntax.proofs.Complete.{commands_of-Spells}
 
 inj : {A : Type 0} (a b : A) → Some a ≡ Some b → a ≡ b
 inj a b e = cc
-
--- ---- the whole grammar
 
 some_commands : (ts : List Token) (m : Option Commands) (l : Option Commands) → commands_of ts ≡ m → option_map (λ c. Some c) m ≡ Some l → SpellsLine ts l
 some_commands ts None l e f = absurd (let g : None ≡ Some l = f in cc)
@@ -51,92 +49,58 @@ line_of-TextSpells text l x = ap (option_and_then line_of_tokens) x.lexed ∙ sp
 pub one_line : (text : List ℕ) (k l : Option Commands) → TextSpells text k → TextSpells text l → k ≡ l
 one_line text k l x y = inj k l (sym (line_of-TextSpells text k x) ∙ line_of-TextSpells text l y)
 
--- ---- lists of plain commands
+-- ---- within the limits
 
-pub one_plain_line : (text : List ℕ) (k l : Option Commands) → PlainSpells text k → PlainSpells text l → k ≡ l
-one_plain_line text k l x y = one_line text k l x.spelled y.spelled
+pub parsed_long : (text : List ℕ) → 4096 < length text → parsed text ≡ None
+unfolding parsed
+parsed_long text h = ap (λ b. if_short b text) (lt-leb (length text) 4096 h)
 
-pub plain_line_long : (text : List ℕ) → 4096 < length text → plain_line text ≡ None
-unfolding plain_line
-plain_line_long text h = ap (λ b. plain_read (b && not (has_foreign text)) text) (lt-leb (length text) 4096 h)
+parsed_short : (text : List ℕ) → length text ≤ 4096 → parsed text ≡ option_and_then if_shallow (line_of text)
+unfolding parsed
+parsed_short text h = ap (λ b. if_short b text) (le-leb (length text) 4096 h)
 
-and_false : (b : Bool) → (b && false) ≡ false
-and_false true = refl
-and_false false = refl
+parsed_of : (text : List ℕ) (l : Option Commands) (t : Bool) → length text ≤ 4096 → line_of text ≡ Some l → nat_le (line_depth l) 32 ≡ t
+    → parsed text ≡ cond t (Some l) None
+parsed_of text l t h e d = parsed_short text h ∙ ap (option_and_then if_shallow) e ∙ ap (λ b. cond b (Some l) None) d
 
-pub plain_line_foreign : (text : List ℕ) → has_foreign text ≡ true → plain_line text ≡ None
-unfolding plain_line
-plain_line_foreign text h =
-    ap (λ b. plain_read (nat_le (length text) 4096 && not b) text) h
-    ∙ ap (λ b. plain_read b text) (and_false (nat_le (length text) 4096))
-
-pub plain_line_read : (text : List ℕ) → length text ≤ 4096 → has_foreign text ≡ false
-    → plain_line text ≡ option_and_then plain_commands (line_of text)
-unfolding plain_line
-plain_line_read text h f =
-    ap (λ b. plain_read (b && not (has_foreign text)) text) (le-leb (length text) 4096 h)
-    ∙ ap (λ b. plain_read (true && not b) text) f
-
-pub no_foreign_line : (text : List ℕ) → has_foreign text ≡ true → (l : Option Commands) → PlainSpells text l → ⊥
-no_foreign_line text h l x = let both : true ≡ false = sym h ∙ x.familiar in cc
-
-pub no_line : (text : List ℕ) → line_of text ≡ None → (l : Option Commands) → PlainSpells text l → ⊥
-no_line text h l x = let both : None ≡ Some l = sym h ∙ line_of-TextSpells text l x.spelled in cc
-
-pub no_plain_line : (text : List ℕ) (k : Option Commands) → line_of text ≡ Some k → plain_commands k ≡ None
-    → (l : Option Commands) → PlainSpells text l → ⊥
-no_plain_line text k e h l x =
-    let same : k ≡ l = inj k l (sym e ∙ line_of-TextSpells text l x.spelled) in
-    let both : false ≡ true = sym (ap is_some h) ∙ ap (λ m. is_some (plain_commands m)) same ∙ x.plain in cc
+no_line : (text : List ℕ) → line_of text ≡ None → (l : Option Commands) → TextSpells text l → ⊥
+no_line text h l x = let both : None ≡ Some l = sym h ∙ line_of-TextSpells text l x in cc
 
 -- ---- what is refused, and what is found
-
-none_of : {A : Type 0} (m : Option A) → is_some m ≡ false → m ≡ None
-none_of None h = refl
-none_of (Some x) h = cc
 
 -- both clauses of `parse`
 abbrev Both : List ℕ → Result Line Refused → Type 0
 Both text r = Meets text r × Answers text r
 
-pub refused_foreign : (text : List ℕ) → length text ≤ 4096 → has_foreign text ≡ true → Both text (Err Unsupported)
-refused_foreign text h f = ((h, no_foreign_line text f), plain_line_foreign text f)
+pub refused_unspelled : (text : List ℕ) → length text ≤ 4096 → line_of text ≡ None → Both text (Err Unsupported)
+refused_unspelled text h e = ((h, no_line text e), parsed_short text h ∙ ap (option_and_then if_shallow) e)
 
-pub refused_unspelled : (text : List ℕ) → length text ≤ 4096 → has_foreign text ≡ false → line_of text ≡ None
-    → Both text (Err Unsupported)
-refused_unspelled text h f e = ((h, no_line text e), plain_line_read text h f ∙ ap (option_and_then plain_commands) e)
+pub refused_deep : (text : List ℕ) (l : Option Commands) → length text ≤ 4096 → line_of text ≡ Some l → nat_le (line_depth l) 32 ≡ false → Both text (Err TooDeep)
+refused_deep text l h e d = ((h, (l, TextSpells-line_of text l e, leb-false (line_depth l) 32 d)), parsed_of text l false h e d)
 
-pub refused_plain : (text : List ℕ) (l : Option Commands) → length text ≤ 4096 → has_foreign text ≡ false
-    → line_of text ≡ Some l → is_some (plain_commands l) ≡ false → Both text (Err Unsupported)
-refused_plain text l h f e n =
-    let none = none_of (plain_commands l) n in
-    ((h, no_plain_line text l e none), plain_line_read text h f ∙ (ap (option_and_then plain_commands) e ∙ none))
+pub found_line : (text : List ℕ) (line : Line) → length text ≤ 4096 → line_of text ≡ Some (line_view line) → nat_le (line_depth (line_view line)) 32 ≡ true → Both text (Ok line)
+found_line text line h e d =
+    ((h, TextSpells-line_of text (line_view line) e, leb-true (line_depth (line_view line)) 32 d), parsed_of text (line_view line) true h e d)
 
-pub found_plain : (text : List ℕ) (line : Line) → length text ≤ 4096 → has_foreign text ≡ false
-    → line_of text ≡ Some (line_view line) → is_some (plain_commands (line_view line)) ≡ true → Both text (Ok line)
-found_plain text line h f e p =
-    let spells : PlainSpells text (line_view line) = record { familiar = f; spelled = TextSpells-line_of text (line_view line) e; plain = p } in
-    ((h, spells), (plain_line_read text h f ∙ ap (option_and_then plain_commands) e, p))
+-- ---- the line that is answered for a text
 
--- ---- the plain commands of a text
+shallow_line : (text : List ℕ) (k l : Option Commands) (t : Bool) → length text ≤ 4096 → line_of text ≡ Some k → nat_le (line_depth k) 32 ≡ t
+    → cond t (Some k) None ≡ Some l → SpellsWithin text l
+shallow_line text k l true h e d f =
+    subst (λ m. SpellsWithin text m) (inj k l f) (record { short = h; spelled = TextSpells-line_of text k e; shallow = leb-true (line_depth k) 32 d })
+shallow_line text k l false h e d f = absurd (let both : None ≡ Some l = f in cc)
 
-spelled_line : (text : List ℕ) (m : Option (Option Commands)) (cs : List (List PlainItem)) → length text ≤ 4096 → has_foreign text ≡ false
-    → line_of text ≡ m → option_and_then plain_commands m ≡ Some cs → SpellsPlain text cs
-spelled_line text None cs h f e g = absurd (let both : None ≡ Some cs = g in cc)
-spelled_line text (Some l) cs h f e g =
-    record { line = l; short = h; spelled = record { familiar = f; spelled = TextSpells-line_of text l e; plain = ap is_some g }; commands = g }
+spelled_line : (text : List ℕ) (m : Option (Option Commands)) (l : Option Commands) → length text ≤ 4096 → line_of text ≡ m → option_and_then if_shallow m ≡ Some l → SpellsWithin text l
+spelled_line text None l h e f = absurd (let both : None ≡ Some l = f in cc)
+spelled_line text (Some k) l h e f = shallow_line text k l (nat_le (line_depth k) 32) h e refl f
 
-read_line : (text : List ℕ) (short foreign : Bool) (cs : List (List PlainItem)) → nat_le (length text) 4096 ≡ short → has_foreign text ≡ foreign
-    → plain_read (short && not foreign) text ≡ Some cs → SpellsPlain text cs
-read_line text true false cs s f e = spelled_line text (line_of text) cs (leb-true (length text) 4096 s) f refl e
-read_line text true true cs s f e = absurd (let both : None ≡ Some cs = e in cc)
-read_line text false foreign cs s f e = absurd (let both : None ≡ Some cs = e in cc)
+short_line : (text : List ℕ) (t : Bool) (l : Option Commands) → nat_le (length text) 4096 ≡ t → if_short t text ≡ Some l → SpellsWithin text l
+short_line text true l h e = spelled_line text (line_of text) l (leb-true (length text) 4096 h) refl e
+short_line text false l h e = absurd (let both : None ≡ Some l = e in cc)
 
-pub plain_line-SpellsPlain : (text : List ℕ) (cs : List (List PlainItem)) → plain_line text ≡ Some cs → SpellsPlain text cs
-unfolding plain_line
-plain_line-SpellsPlain text cs e = read_line text (nat_le (length text) 4096) (has_foreign text) cs refl refl e
+pub parsed-SpellsWithin : (text : List ℕ) (l : Option Commands) → parsed text ≡ Some l → SpellsWithin text l
+unfolding parsed
+parsed-SpellsWithin text l e = short_line text (nat_le (length text) 4096) l refl e
 
-pub SpellsPlain-plain_line : (text : List ℕ) (cs : List (List PlainItem)) → SpellsPlain text cs → plain_line text ≡ Some cs
-SpellsPlain-plain_line text cs x =
-    plain_line_read text x.short x.spelled.familiar
-    ∙ (ap (option_and_then plain_commands) (line_of-TextSpells text x.line x.spelled.spelled) ∙ x.commands)
+pub SpellsWithin-parsed : (text : List ℕ) (l : Option Commands) → SpellsWithin text l → parsed text ≡ Some l
+SpellsWithin-parsed text l x = parsed_of text l true x.short (line_of-TextSpells text l x.spelled) (le-leb (line_depth l) 32 x.shallow)

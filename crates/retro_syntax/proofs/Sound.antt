@@ -1,16 +1,16 @@
 -- What is read as a tree is what is written for it.
 use Rattle.std.proofs.Common.{◌≡◌, ℕ, Bool, true, false, ◌&&◌, List, [], ◌∷◌, ◌++◌, Option, Some, None, cond, option_map, subst, refl, sym, ap, ◌∙◌}
-use Rattle.retro_syntax.specs.Tree.{plain, Word, Token, semicolon, bar, connector, redirection, word, whole, key, Item, argument, redirect, Simple, assignments, command, Commands, last, more, AndOr, Pipeline, pipeline, Command, simples, Arms, fi, otherwise, items_then, words_then, simple_then, stages_then, commands_then, andor_then, pipeline_then, command_then, arms_then, bang_then, closing_then, for_then}
+use Rattle.retro_syntax.specs.Tree.{plain, Word, Assignment, assignment_word, assignments_then, Token, semicolon, bar, connector, redirection, word, whole, key, Item, argument, redirect, Simple, assignments, command, Commands, last, more, AndOr, Pipeline, pipeline, Command, simples, Arms, fi, otherwise, items_then, words_then, simple_then, stages_then, commands_then, andor_then, pipeline_then, command_then, arms_then, bang_then, closing_then, for_then}
 use Rattle.retro_syntax.specs.declared.tree.Direction.{Direction}
 use Rattle.retro_syntax.specs.declared.tree.Connector.{Connector}
 use Rattle.retro_syntax.specs.declared.tree.ReservedWord.{ReservedWord}
 use Rattle.retro_syntax.specs.declared.tree.ReservedWord.TheVariants.{Bang as bang, If as key_if, Then as key_then, Elif as key_elif, Else as key_else, Fi as key_fi, For as key_for, In as key_in, Do as key_do, Done as key_done}
 use Rattle.retro_syntax.specs.declared.words.Class.{Class}
 use Rattle.retro_syntax.specs.declared.words.Class.TheVariants.{Reserved as reserved, Forbidden as forbidden, Assignment as assignment, Ordinary as ordinary}
-use Rattle.retro_syntax.specs.Words.{class, name_of, is_ordinary, is_assignment}
-use Rattle.retro_syntax.specs.Reader.{Open, Frame, condition, consequence, alternative, body, Place, start, within, target, piped, closed, for_name, for_in, for_words, for_do, State, at, step, step_at, run, join, and_or, listed, arms_up_to, nothing, no_argument, finish, commands_of, close, close_by, close_some, begin, begin_simple, begin_reserved, may_end, all_closed, finish_at, go_on, close_word, only_key, end_of}
-use Rattle.retro_syntax.specs.Spells.{Spells, are_assignments, begins_well, is_simple, are_simple, are_stages, is_compound, ends_compound, ends_itself, EndsItself, IsCommands, IsAndOr, IsPipeline, IsCommand, IsArms}
-use Rattle.retro_syntax.proofs.WordLemmas.{key_of_class, name_of_is}
+use Rattle.retro_syntax.specs.Words.{class, name_of, assignment_of, is_ordinary, is_assignment}
+use Rattle.retro_syntax.specs.Reader.{Open, Frame, condition, consequence, alternative, body, Place, start, within, target, piped, closed, for_name, for_in, for_words, for_do, State, at, step, step_at, run, join, and_or, listed, arms_up_to, nothing, no_argument, finish, commands_of, close, close_by, close_some, begin, begin_simple, push_assignment, begin_reserved, may_end, all_closed, finish_at, go_on, close_word, only_key, end_of}
+use Rattle.retro_syntax.specs.Spells.{Spells, is_assigned, are_assigned, begins_well, is_simple, are_simple, are_stages, is_compound, ends_compound, ends_itself, EndsItself, IsCommands, IsAndOr, IsPipeline, IsCommand, IsArms}
+use Rattle.retro_syntax.proofs.WordLemmas.{key_of_class, name_of_is, Assigns, assigns}
 
 abbrev Stack : Type 0
 Stack = List (Open × Frame)
@@ -135,6 +135,10 @@ words_then-push : (ws : List Word) (w : Word) (r : List Token) → words_then (w
 words_then-push [] w r = refl
 words_then-push (x ∷ ws) w r = ap (λ y. word x ∷ y) (words_then-push ws w r)
 
+assignments_then-push : (xs : List Assignment) (a : Assignment) (r : List Token) → assignments_then (xs ++ a ∷ []) r ≡ assignments_then xs (word (assignment_word a) ∷ r)
+assignments_then-push [] a r = refl
+assignments_then-push (x ∷ xs) a r = ap (λ y. word (assignment_word x) ∷ y) (assignments_then-push xs a r)
+
 items_then-push : (is : List Item) (i : Item) (r : List Token) → items_then (is ++ i ∷ []) r ≡ items_then is (items_then (i ∷ []) r)
 items_then-push [] i r = refl
 items_then-push (argument w ∷ is) i r = ap (λ y. word w ∷ y) (items_then-push is i r)
@@ -214,15 +218,15 @@ are_stages-push : (ss : List Simple) (s : Simple) → are_simple (ss ++ s ∷ []
 are_stages-push [] s h = h
 are_stages-push (x ∷ ss) s h = h
 
-are_assignments-push : (ws : List Word) (w : Word) → are_assignments ws ≡ true → is_assignment (class w) ≡ true → are_assignments (ws ++ w ∷ []) ≡ true
-are_assignments-push [] w h k = and_both (is_assignment (class w)) true k refl
-are_assignments-push (x ∷ ws) w h k =
-    and_both (is_assignment (class x)) (are_assignments (ws ++ w ∷ [])) (and_left (is_assignment (class x)) (are_assignments ws) h)
-    (are_assignments-push ws w (and_right (is_assignment (class x)) (are_assignments ws) h) k)
+are_assigned-push : (xs : List Assignment) (a : Assignment) → are_assigned xs ≡ true → is_assigned a ≡ true → are_assigned (xs ++ a ∷ []) ≡ true
+are_assigned-push [] a h k = and_both (is_assigned a) true k refl
+are_assigned-push (x ∷ xs) a h k =
+    and_both (is_assigned x) (are_assigned (xs ++ a ∷ [])) (and_left (is_assigned x) (are_assigned xs) h)
+    (are_assigned-push xs a (and_right (is_assigned x) (are_assigned xs) h) k)
 
-is_simple-assignments : (ws : List Word) (w : Word) → is_simple (assignments ws) ≡ true → is_assignment (class w) ≡ true → is_simple (assignments (ws ++ w ∷ [])) ≡ true
-is_simple-assignments [] w h k = cc
-is_simple-assignments (x ∷ ws) w h k = are_assignments-push (x ∷ ws) w h k
+is_simple-assignments : (xs : List Assignment) (a : Assignment) → is_simple (assignments xs) ≡ true → is_assigned a ≡ true → is_simple (assignments (xs ++ a ∷ [])) ≡ true
+is_simple-assignments [] a h k = cc
+is_simple-assignments (x ∷ xs) a h k = are_assigned-push (x ∷ xs) a h k
 
 well_from_simple : (is : List Item) → is_simple (command is) ≡ true → begins_well is ≡ true
 well_from_simple [] h = refl
@@ -326,14 +330,19 @@ record Precedes (p : Place) (ss : List Simple) : Type 0 where
   stages : are_simple ss ≡ true
   then_is : (r : List Token) → place_then p r ≡ piped_then ss r
 
+first_assigned : (st : Stack) (o : Open) (p : Place) (ss : List Simple) (w : Word) → Assigns w → Precedes p ss → IsStack st → IsOpen o
+    → Sound (at st o p) (word w) (push_assignment st o ss [] (assignment_of w))
+first_assigned st o p ss w x b hs ho =
+    subst (λ m. Sound (at st o p) (word w) (push_assignment st o ss [] m)) (sym x.found) (record {
+      written = λ r. ap (λ y. stack_then st (open_then o y)) (b.then_is (word w ∷ r)) ∙ ap (λ v. stack_then st (open_then o (piped_then ss (word v ∷ r)))) (sym x.written);
+      kept = (hs, ho, (b.stages, and_both (is_assigned x.given) true x.lawful refl));
+    })
+
 simple_sound : (st : Stack) (o : Open) (p : Place) (ss : List Simple) (w : Word) (c : Class) → class w ≡ c → Precedes p ss → IsStack st → IsOpen o
     → Sound (at st o p) (word w) (begin_simple st o ss w c)
 simple_sound st o p ss w (reserved k) e b hs ho = tt
 simple_sound st o p ss w forbidden e b hs ho = tt
-simple_sound st o p ss w assignment e b hs ho = record {
-  written = λ r. ap (λ x. stack_then st (open_then o x)) (b.then_is (word w ∷ r));
-  kept = (hs, ho, (b.stages, rw e refl));
-}
+simple_sound st o p ss w assignment e b hs ho = first_assigned st o p ss w (assigns w e) b hs ho
 simple_sound st o p ss w ordinary e b hs ho = record {
   written = λ r. ap (λ x. stack_then st (open_then o x)) (b.then_is (word w ∷ r));
   kept = (hs, ho, (b.stages, rw e refl));
@@ -385,14 +394,27 @@ close_word_sound st o d w ordinary e h hs ho = tt
 
 -- ---- inside a simple command
 
-assign_sound : (st : Stack) (o : Open) (ss : List Simple) (ws : List Word) (w : Word) (b : Bool) → is_assignment (class w) ≡ b
-    → (are_simple ss ≡ true) × (is_simple (assignments ws) ≡ true) → IsStack st → IsOpen o
-    → Sound (at st o (within ss (assignments ws))) (word w) (cond b (Some (at st o (within ss (assignments (ws ++ w ∷ []))))) None)
-assign_sound st o ss ws w false e h hs ho = tt
-assign_sound st o ss ws w true e h hs ho = record {
-  written = λ r. ap (λ x. stack_then st (open_then o (piped_then ss x))) (sym (words_then-push ws w r));
-  kept = (hs, ho, (h.0, is_simple-assignments ws w h.1 e));
-}
+more_assigned : (st : Stack) (o : Open) (ss : List Simple) (xs : List Assignment) (w : Word) → Assigns w
+    → (are_simple ss ≡ true) × (is_simple (assignments xs) ≡ true) → IsStack st → IsOpen o
+    → Sound (at st o (within ss (assignments xs))) (word w) (push_assignment st o ss xs (assignment_of w))
+more_assigned st o ss xs w x h hs ho =
+    subst (λ m. Sound (at st o (within ss (assignments xs))) (word w) (push_assignment st o ss xs m)) (sym x.found) (record {
+      written = λ r. ap (λ v. stack_then st (open_then o (piped_then ss (assignments_then xs (word v ∷ r))))) (sym x.written)
+          ∙ ap (λ y. stack_then st (open_then o (piped_then ss y))) (sym (assignments_then-push xs x.given r));
+      kept = (hs, ho, (h.0, is_simple-assignments xs x.given h.1 x.lawful));
+    })
+
+is_assign : (k : Class) → is_assignment k ≡ true → k ≡ assignment
+is_assign (reserved k) e = cc
+is_assign forbidden e = cc
+is_assign assignment e = refl
+is_assign ordinary e = cc
+
+assign_sound : (st : Stack) (o : Open) (ss : List Simple) (xs : List Assignment) (w : Word) (b : Bool) → is_assignment (class w) ≡ b
+    → (are_simple ss ≡ true) × (is_simple (assignments xs) ≡ true) → IsStack st → IsOpen o
+    → Sound (at st o (within ss (assignments xs))) (word w) (cond b (push_assignment st o ss xs (assignment_of w)) None)
+assign_sound st o ss xs w false e h hs ho = tt
+assign_sound st o ss xs w true e h hs ho = more_assigned st o ss xs w (assigns w (is_assign (class w) e)) h hs ho
 
 argument_sound : (st : Stack) (o : Open) (ss : List Simple) (is : List Item) (w : Word) (a b : Bool) → no_argument is ≡ a → is_ordinary (class w) ≡ b
     → (are_simple ss ≡ true) × (is_simple (command is) ≡ true) → IsStack st → IsOpen o

@@ -4,6 +4,8 @@ pub mod Words
 pub mod Reader
 pub mod Spells
 pub mod View
+pub mod Depth
+pub mod Fits
 pub mod ReaderViews
 pub mod Quoting
 pub mod QuotingViews

@@ -1,22 +1,19 @@
 -- Which line a text spells.
-use Rattle.std.specs.Prelude.{Bool, true, false, not, ◌&&◌, ◌||◌, nat_le, ◌≡◌, ◌<◌, ◌≤◌, ℕ, List, [], ◌∷◌, length, IsSome, Option, Some, None, option_map, option_and_then, Result, Ok, Err, codes}
+use Rattle.std.specs.Prelude.{Bool, true, false, nat_le, ◌≡◌, ◌<◌, ◌≤◌, ℕ, List, [], ◌∷◌, length, Option, Some, None, option_map, option_and_then, if◌then◌else◌, Result, Ok, Err}
 use Rattle.std.specs.Str.{chars}
-use Rattle.retro_syntax.specs.Ascii as ascii
 use Rattle.retro_syntax.specs.Tree.{Token, Commands}
 use Rattle.retro_syntax.specs.Reader.{commands_of}
 use Rattle.retro_syntax.specs.Quoting.{tokens_of}
-use Rattle.retro_syntax.specs.Plain.{PlainItem, plain_commands}
 use Rattle.retro_syntax.specs.Spells.{Spells}
+use Rattle.retro_syntax.specs.Depth.{line_depth}
 use Rattle.retro_syntax.specs.View as V
 use Rattle.retro_syntax.specs.declared.lines.Line.{Line}
 use Rattle.retro_syntax.specs.declared.lines.Refused.{Refused}
-use Rattle.retro_syntax.specs.declared.lines.Refused.TheVariants.{Unsupported, TooLong, NoMem}
+use Rattle.retro_syntax.specs.declared.lines.Refused.TheVariants.{Unsupported, TooLong, TooDeep, NoMem}
 
 -- the tree of a line; none where it is blank
 abbrev pub line_view : Line → Option Commands
 line_view l = option_map (V.commands_of V.view) l.commands
-
--- ---- the whole grammar
 
 -- The tokens are the tree written out; a blank line has none.
 abbrev pub SpellsLine : List Token → Option Commands → Type 0
@@ -37,55 +34,42 @@ line_of_tokens (t ∷ ts) = option_map (λ c. Some c) (commands_of (t ∷ ts))
 unfoldable pub line_of : List ℕ → Option (Option Commands)
 line_of text = option_and_then line_of_tokens (tokens_of (chars text))
 
--- ---- lists of plain commands
-
--- what stands in no list of plain commands: NUL, newline, and what quotes, expands, comments,
--- assigns, negates, or is another operator
-abbrev pub foreign_characters : List ℕ
-foreign_characters = ascii.nul ∷ ascii.newline ∷ codes "&|<(){}\\'\"$`#~=!"
-
-abbrev pub is_foreign : ℕ → Bool
-is_foreign c = ascii.is_among foreign_characters c
-
-abbrev pub has_foreign : List ℕ → Bool
-has_foreign [] = false
-has_foreign (c ∷ cs) = is_foreign c || has_foreign cs
-
--- The text spells the line, which is a list of plain commands.
-pub record PlainSpells (text : List ℕ) (line : Option Commands) : Type 0 where
-  pub familiar : has_foreign text ≡ false
-  pub spelled : TextSpells text line
-  pub plain : IsSome (plain_commands line)
-
-abbrev pub plain_read : Bool → List ℕ → Option (List (List PlainItem))
-plain_read true text = option_and_then plain_commands (line_of text)
-plain_read false text = None
-
--- the plain commands of a text; none for a text that is refused
-unfoldable pub plain_line : List ℕ → Option (List (List PlainItem))
-plain_line text = plain_read (nat_le (length text) 4096 && not (has_foreign text)) text
-
--- The text spells a line of these plain commands.
-pub record SpellsPlain (text : List ℕ) (found : List (List PlainItem)) : Type 0 where
-  pub line : Option Commands
-  pub short : length text ≤ 4096
-  pub spelled : PlainSpells text line
-  pub commands : plain_commands line ≡ Some found
-
 -- ---- what `parse` answers
 
--- The text is too long; else it spells no list of plain commands; else it spells the answered line.
+-- The text is too long; else it spells no line; else its line nests too deep; else that is the
+-- answer.
 abbrev pub Meets : List ℕ → Result Line Refused → Type 0
-Meets text (Ok line) = (length text ≤ 4096) × PlainSpells text (line_view line)
+Meets text (Ok line) =
+    (length text ≤ 4096) × TextSpells text (line_view line) × (line_depth (line_view line) ≤ 32)
 Meets text (Err Unsupported) =
-    (length text ≤ 4096) × ((line : Option Commands) → PlainSpells text line → ⊥)
+    (length text ≤ 4096) × ((line : Option Commands) → TextSpells text line → ⊥)
+Meets text (Err TooDeep) =
+    (length text ≤ 4096)
+    × ((line : Option Commands) × TextSpells text line × (32 < line_depth line))
 Meets text (Err TooLong) = 4096 < length text
 Meets text (Err NoMem) = Unit {0}
 
--- The same by the function: a refused text has no plain commands, and another those of its line.
+abbrev pub if_shallow : Option Commands → Option (Option Commands)
+if_shallow line = if nat_le (line_depth line) 32 then Some line else None
+
+abbrev pub if_short : Bool → List ℕ → Option (Option Commands)
+if_short true text = option_and_then if_shallow (line_of text)
+if_short false text = None
+
+-- the line that is answered for a text; none for a text that is refused
+unfoldable pub parsed : List ℕ → Option (Option Commands)
+parsed text = if_short (nat_le (length text) 4096) text
+
+-- The same by the function.
 abbrev pub Answers : List ℕ → Result Line Refused → Type 0
-Answers text (Ok line) =
-    (plain_line text ≡ plain_commands (line_view line)) × IsSome (plain_commands (line_view line))
-Answers text (Err Unsupported) = plain_line text ≡ None
-Answers text (Err TooLong) = plain_line text ≡ None
+Answers text (Ok line) = parsed text ≡ Some (line_view line)
+Answers text (Err Unsupported) = parsed text ≡ None
+Answers text (Err TooDeep) = parsed text ≡ None
+Answers text (Err TooLong) = parsed text ≡ None
 Answers text (Err NoMem) = Unit {0}
+
+-- The text spells the line, within the limits.
+pub record SpellsWithin (text : List ℕ) (line : Option Commands) : Type 0 where
+  pub short : length text ≤ 4096
+  pub spelled : TextSpells text line
+  pub shallow : line_depth line ≤ 32

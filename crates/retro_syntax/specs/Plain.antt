@@ -1,7 +1,8 @@
 -- The simple commands of a line that is a list of plain ones.
-use Rattle.std.specs.Prelude.{ℕ, true, false, List, [], ◌∷◌, Option, Some, None, option_map, option_and_then}
+use Rattle.std.specs.Prelude.{ℕ, true, false, List, [], ◌∷◌, Option, Some, None, option_map, option_and_then, if◌then◌else◌}
 use Rattle.retro_syntax.specs.Tree as T
 use Rattle.retro_syntax.specs.Tree.{plain, quoted, parameter, quoted_parameter, argument, redirect, assignments, command, simples, conditional, loop, pipeline, end, chain, last, more}
+use Rattle.retro_syntax.specs.Words.{begins_tilde}
 use Rattle.retro_syntax.specs.declared.tree.Direction.{Direction}
 use Rattle.retro_syntax.specs.declared.tree.Direction.TheVariants.{From, Onto, Append}
 
@@ -16,9 +17,9 @@ abbrev pub all_of : {A B : Type 0} → (A → Option B) → List A → Option (L
 all_of f [] = Some []
 all_of f (x ∷ xs) = option_and_then (λ y. option_map (λ ys. y ∷ ys) (all_of f xs)) (f x)
 
--- the bytes of a word that is one unquoted literal
+-- the bytes of a word that is one unquoted literal, without a tilde at its start
 abbrev pub plain_word : T.Word → Option (List ℕ)
-plain_word (plain text ∷ []) = Some text
+plain_word (plain text ∷ []) = if begins_tilde text then None else Some text
 plain_word w = None
 
 abbrev pub redirected : Direction → List ℕ → Option PlainItem
@@ -58,8 +59,8 @@ and_ors (last a closed) = a ∷ []
 and_ors (more a c) = a ∷ and_ors c
 
 -- Some where no pipeline is negated, joined, a pipe of several stages or compound, where nothing is
--- assigned or read from a file, and where each word is one unquoted literal. A blank line has no
--- commands.
+-- assigned or read from a file, and where each word is one unquoted literal that begins with no
+-- tilde. A blank line has no commands.
 abbrev pub plain_commands : Option T.Commands → Option (List (List PlainItem))
 plain_commands None = Some []
 plain_commands (Some c) = all_of plain_and_or (and_ors c)

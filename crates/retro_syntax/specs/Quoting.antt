@@ -3,7 +3,7 @@ use Rattle.std.specs.Prelude.{ℕ, Bool, true, false, ◌&&◌, ◌||◌, ◌==�
 use Rattle.std.specs.Char.{encode_utf8, is_ascii_digit, is_ascii_alphabetic, is_ascii_alphanumeric}
 use Rattle.retro_syntax.specs.Ascii as ascii
 use Rattle.retro_syntax.specs.Tree.{Piece, plain, quoted, parameter, quoted_parameter, Token, semicolon, bar, connector, redirection, word}
-use Rattle.retro_syntax.specs.Words.{is_one_of}
+use Rattle.retro_syntax.specs.Words.{is_one_of, unsupported_names}
 use Rattle.retro_syntax.specs.declared.tree.Direction.TheVariants.{From, Onto, Append}
 use Rattle.retro_syntax.specs.declared.tree.Connector.TheVariants.{AndIf, OrIf}
 use Rattle.retro_syntax.specs.declared.quoting.Operator.{Operator}
@@ -63,9 +63,6 @@ abbrev pub add_quoted : List Piece → List ℕ → List Piece
 add_quoted [] s = quoted s ∷ []
 add_quoted (p ∷ []) s = grown_quoted p s
 add_quoted (p ∷ q ∷ ps) s = p ∷ add_quoted (q ∷ ps) s
-
-abbrev pub unsupported_names : List (List ℕ)
-unsupported_names = codes "IFS" ∷ codes "PWD" ∷ codes "OLDPWD" ∷ codes "CDPATH" ∷ []
 
 abbrev pub parameter_piece : Bool → List ℕ → Piece
 parameter_piece inside n = if inside then quoted_parameter n else parameter n

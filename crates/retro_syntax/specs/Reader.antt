@@ -1,7 +1,7 @@
 -- A line read token by token: what stands open, and where in it the next token comes.
 use Rattle.std.specs.Prelude.{ℕ, Bool, true, false, List, [], ◌∷◌, ◌++◌, Option, Some, None, if◌then◌else◌, option_map}
-use Rattle.retro_syntax.specs.Tree.{Word, Token, semicolon, bar, connector, redirection, word, Item, argument, redirect, Simple, assignments, command, Commands, last, more, AndOr, end, chain, Pipeline, pipeline, Command, simples, conditional, loop, Arms, fi, otherwise, elif}
-use Rattle.retro_syntax.specs.Words.{class, name_of, is_ordinary, is_assignment}
+use Rattle.retro_syntax.specs.Tree.{Word, Assignment, Token, semicolon, bar, connector, redirection, word, Item, argument, redirect, Simple, assignments, command, Commands, last, more, AndOr, end, chain, Pipeline, pipeline, Command, simples, conditional, loop, Arms, fi, otherwise, elif}
+use Rattle.retro_syntax.specs.Words.{class, name_of, assignment_of, is_ordinary, is_assignment}
 use Rattle.retro_syntax.specs.declared.tree.Direction.{Direction}
 use Rattle.retro_syntax.specs.declared.tree.Connector.{Connector}
 use Rattle.retro_syntax.specs.declared.tree.ReservedWord.{ReservedWord}
@@ -121,8 +121,14 @@ begin_reserved st o key_if = Some (at ((o, condition []) ∷ st) nothing start)
 begin_reserved st o key_for = Some (at st o for_name)
 begin_reserved st o k = close_some st (may_end o) k
 
+-- behind one more assignment, where the word is one
+abbrev pub push_assignment : List (Open × Frame) → Open → List Simple → List Assignment
+    → Option Assignment → Option State
+push_assignment st o ss xs None = None
+push_assignment st o ss xs (Some a) = Some (at st o (within ss (assignments (xs ++ a ∷ []))))
+
 abbrev pub begin_simple : List (Open × Frame) → Open → List Simple → Word → Class → Option State
-begin_simple st o ss w assignment = Some (at st o (within ss (assignments (w ∷ []))))
+begin_simple st o ss w assignment = push_assignment st o ss [] (assignment_of w)
 begin_simple st o ss w ordinary = Some (at st o (within ss (command (argument w ∷ []))))
 begin_simple st o ss w c = None
 
@@ -137,9 +143,8 @@ no_argument (argument w ∷ is) = false
 no_argument (redirect d w ∷ is) = no_argument is
 
 abbrev pub add_word : List (Open × Frame) → Open → List Simple → Simple → Word → Option State
-add_word st o ss (assignments ws) w =
-    if is_assignment (class w) then Some (at st o (within ss (assignments (ws ++ w ∷ []))))
-    else None
+add_word st o ss (assignments xs) w =
+    if is_assignment (class w) then push_assignment st o ss xs (assignment_of w) else None
 add_word st o ss (command is) w =
     if no_argument is then
     (if is_ordinary (class w) then Some (at st o (within ss (command (is ++ argument w ∷ []))))

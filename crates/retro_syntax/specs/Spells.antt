@@ -1,11 +1,22 @@
 -- Which trees the grammar has, and what a list of tokens spells.
 use Rattle.std.specs.Prelude.{◌≡◌, Bool, true, false, ◌&&◌, List, [], ◌∷◌, Some}
-use Rattle.retro_syntax.specs.Tree.{plain, Word, Token, Item, argument, redirect, Simple, assignments, command, Commands, last, more, AndOr, end, chain, Pipeline, pipeline, Command, simples, conditional, loop, Arms, fi, otherwise, elif, commands_then}
-use Rattle.retro_syntax.specs.Words.{class, name_of, is_ordinary, is_assignment}
+use Rattle.retro_syntax.specs.Tree.{plain, quoted, parameter, quoted_parameter, Word, Assignment, Token, Item, argument, redirect, Simple, assignments, command, Commands, last, more, AndOr, end, chain, Pipeline, pipeline, Command, simples, conditional, loop, Arms, fi, otherwise, elif, commands_then}
+use Rattle.retro_syntax.specs.Words.{class, name_of, is_name, is_ordinary, is_supported}
 
-abbrev pub are_assignments : List Word → Bool
-are_assignments [] = true
-are_assignments (w ∷ ws) = is_assignment (class w) && are_assignments ws
+abbrev pub begins_unquoted : Word → Bool
+begins_unquoted [] = false
+begins_unquoted (plain text ∷ ps) = true
+begins_unquoted (quoted text ∷ ps) = false
+begins_unquoted (parameter n ∷ ps) = false
+begins_unquoted (quoted_parameter n ∷ ps) = false
+
+-- A name that may be assigned, and a value without an unquoted `:~`.
+abbrev pub is_assigned : Assignment → Bool
+is_assigned a = is_name a.name && (begins_unquoted a.value && is_supported a)
+
+abbrev pub are_assigned : List Assignment → Bool
+are_assigned [] = true
+are_assigned (a ∷ more_of) = is_assigned a && are_assigned more_of
 
 -- The first word, targets aside, is neither reserved nor an assignment.
 abbrev pub begins_well : List Item → Bool
@@ -15,7 +26,7 @@ begins_well (redirect d w ∷ is) = begins_well is
 
 abbrev pub is_simple : Simple → Bool
 is_simple (assignments []) = false
-is_simple (assignments (w ∷ ws)) = are_assignments (w ∷ ws)
+is_simple (assignments (a ∷ more_of)) = are_assigned (a ∷ more_of)
 is_simple (command []) = false
 is_simple (command (i ∷ is)) = begins_well (i ∷ is)
 

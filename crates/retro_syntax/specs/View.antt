@@ -6,6 +6,7 @@ use Rattle.retro_syntax.specs.Reader.{join, listed, arms_up_to}
 use Rattle.retro_syntax.specs.declared.tree.Piece.{Piece}
 use Rattle.retro_syntax.specs.declared.tree.Piece.TheVariants as p
 use Rattle.retro_syntax.specs.declared.tree.Word.{Word}
+use Rattle.retro_syntax.specs.declared.tree.Assignment.{Assignment}
 use Rattle.retro_syntax.specs.declared.tree.Item.{Item}
 use Rattle.retro_syntax.specs.declared.tree.Item.TheVariants as i
 use Rattle.retro_syntax.specs.declared.tree.Simple.{Simple}
@@ -28,12 +29,15 @@ piece_view (p.QuotedParameter x) = T.quoted_parameter (string_bytes x)
 abbrev pub word_view : Word → T.Word
 word_view w = map piece_view w.pieces.items
 
+abbrev pub assignment_view : Assignment → T.Assignment
+assignment_view a = record { name = string_bytes a.name; value = word_view a.value }
+
 abbrev pub item_view : Item → T.Item
 item_view (i.Argument w) = T.argument (word_view w)
 item_view (i.Redirect d w) = T.redirect d (word_view w)
 
 abbrev pub simple_view : Simple → T.Simple
-simple_view (s.Assignments ws) = T.assignments (map word_view ws.items)
+simple_view (s.Assignments xs) = T.assignments (map assignment_view xs.items)
 simple_view (s.Command is) = T.command (map item_view is.items)
 
 abbrev pub token_view : Token → T.Token

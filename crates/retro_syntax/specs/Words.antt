@@ -1,9 +1,9 @@
 -- What a word is where a command may begin (XCU 2.4, 2.10.2), and names (XBD 3.235).
-use Rattle.std.specs.Prelude.{ℕ, Bool, true, false, List, [], ◌∷◌, Option, Some, None, if◌then◌else◌, codes, ◌||◌, ◌&&◌, ◌==◌}
+use Rattle.std.specs.Prelude.{ℕ, Bool, true, false, not, List, [], ◌∷◌, Option, Some, None, option_map, option_and_then, if◌then◌else◌, codes, ◌||◌, ◌&&◌, ◌==◌}
 use Rattle.std.specs.Str.{bytes_eq}
 use Rattle.std.specs.Char.{is_ascii_alphabetic, is_ascii_alphanumeric}
 use Rattle.retro_syntax.specs.Ascii as ascii
-use Rattle.retro_syntax.specs.Tree.{plain, quoted, parameter, quoted_parameter, Word, Token, semicolon, bar, connector, redirection, word, spelling}
+use Rattle.retro_syntax.specs.Tree.{Piece, plain, quoted, parameter, quoted_parameter, Word, Assignment, Token, semicolon, bar, connector, redirection, word, spelling}
 use Rattle.retro_syntax.specs.declared.tree.ReservedWord.{ReservedWord}
 use Rattle.retro_syntax.specs.declared.tree.ReservedWord.TheVariants.{Bang as bang, If as key_if, Then as key_then, Elif as key_elif, Else as key_else, Fi as key_fi, For as key_for, In as key_in, Do as key_do, Done as key_done}
 use Rattle.retro_syntax.specs.declared.words.Class.{Class}
@@ -36,31 +36,76 @@ abbrev pub is_name : List ℕ → Bool
 is_name [] = false
 is_name (c ∷ cs) = (is_ascii_alphabetic c || c == ascii.underscore) && goes_on_name cs
 
-abbrev pub goes_on_assignment : List ℕ → Bool
-goes_on_assignment [] = false
-goes_on_assignment (c ∷ cs) =
-    c == ascii.equals
-    || ((is_ascii_alphanumeric c || c == ascii.underscore) && goes_on_assignment cs)
+-- names that no text may use
+abbrev pub unsupported_names : List (List ℕ)
+unsupported_names = codes "IFS" ∷ codes "PWD" ∷ codes "OLDPWD" ∷ codes "CDPATH" ∷ []
 
--- a name and `=` at the front
-abbrev pub begins_assignment : List ℕ → Bool
-begins_assignment [] = false
-begins_assignment (c ∷ cs) =
-    (is_ascii_alphabetic c || c == ascii.underscore) && goes_on_assignment cs
+-- ---- assignments
+
+-- the texts before and behind the first `=`
+abbrev pub split_equals : List ℕ → Option (List ℕ × List ℕ)
+split_equals [] = None
+split_equals (c ∷ cs) =
+    if c == ascii.equals then Some ([], cs)
+    else option_map (λ s. (c ∷ s.0, s.1)) (split_equals cs)
+
+abbrev pub if_named : List ℕ × List ℕ → Option (List ℕ × List ℕ)
+if_named s = if is_name s.0 then Some s else None
+
+-- the name, and what stands behind the `=`, of a text that begins with `name=`
+abbrev pub split_name : List ℕ → Option (List ℕ × List ℕ)
+split_name text = option_and_then if_named (split_equals text)
+
+-- `name=text`, with these pieces behind it
+abbrev pub assigned : List ℕ → List ℕ → List Piece → Assignment
+assigned n text ps = record { name = n; value = plain text ∷ ps }
+
+-- what a word assigns that begins with an unquoted `name=`
+abbrev pub assignment_of : Word → Option Assignment
+assignment_of [] = None
+assignment_of (plain text ∷ ps) = option_map (λ s. assigned s.0 s.1 ps) (split_name text)
+assignment_of (quoted text ∷ ps) = None
+assignment_of (parameter n ∷ ps) = None
+assignment_of (quoted_parameter n ∷ ps) = None
+
+abbrev pub begins_tilde : List ℕ → Bool
+begins_tilde [] = false
+begins_tilde (c ∷ cs) = c == ascii.tilde
+
+abbrev pub has_colon_tilde : List ℕ → Bool
+has_colon_tilde [] = false
+has_colon_tilde (c ∷ cs) = (c == ascii.colon && begins_tilde cs) || has_colon_tilde cs
+
+-- whether `:~` stands unquoted in the word
+abbrev pub has_unquoted_colon_tilde : Word → Bool
+has_unquoted_colon_tilde [] = false
+has_unquoted_colon_tilde (plain text ∷ ps) = has_colon_tilde text || has_unquoted_colon_tilde ps
+has_unquoted_colon_tilde (quoted text ∷ ps) = has_unquoted_colon_tilde ps
+has_unquoted_colon_tilde (parameter n ∷ ps) = has_unquoted_colon_tilde ps
+has_unquoted_colon_tilde (quoted_parameter n ∷ ps) = has_unquoted_colon_tilde ps
+
+-- whether it is in the profile
+abbrev pub is_supported : Assignment → Bool
+is_supported a =
+    not (is_one_of unsupported_names a.name) && not (has_unquoted_colon_tilde a.value)
+
+-- ---- what a word is
+
+abbrev pub assignment_class : Assignment → Class
+assignment_class a = if is_supported a then assignment else forbidden
 
 abbrev pub plain_class : List ℕ → Option ReservedWord → Class
 plain_class text (Some k) = reserved k
-plain_class text None =
-    if is_one_of other_reserved text then forbidden else (if begins_assignment text then assignment
-    else ordinary)
+plain_class text None = if is_one_of other_reserved text then forbidden else ordinary
+
+-- a word, by what it assigns
+abbrev pub class_by : Word → Option Assignment → Class
+class_by w (Some a) = assignment_class a
+class_by (plain text ∷ []) None = plain_class text (lookup reserved_words text)
+class_by w None = ordinary
 
 unfoldable pub class : Word → Class
-class [] = ordinary
-class (plain text ∷ []) = plain_class text (lookup reserved_words text)
-class (plain text ∷ p ∷ ps) = if begins_assignment text then assignment else ordinary
-class (quoted text ∷ ps) = ordinary
-class (parameter n ∷ ps) = ordinary
-class (quoted_parameter n ∷ ps) = ordinary
+class w = class_by w (assignment_of w)
 
 abbrev pub class_of_token : Token → Class
 class_of_token (word w) = class w
@@ -69,10 +114,13 @@ class_of_token bar = ordinary
 class_of_token (connector op) = ordinary
 class_of_token (redirection d) = ordinary
 
+abbrev pub is_variable : List ℕ → Bool
+is_variable text = is_name text && not (is_one_of unsupported_names text)
+
 -- the name that a word is, for `for`
 unfoldable pub name_of : Word → Option (List ℕ)
 name_of [] = None
-name_of (plain text ∷ []) = if is_name text then Some text else None
+name_of (plain text ∷ []) = if is_variable text then Some text else None
 name_of (plain text ∷ p ∷ ps) = None
 name_of (quoted text ∷ ps) = None
 name_of (parameter n ∷ ps) = None

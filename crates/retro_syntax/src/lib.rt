@@ -10,6 +10,7 @@
 #![tactic(auto)]
 
 mod build;
+mod depth;
 mod lines;
 mod plain;
 mod quoting;
@@ -23,7 +24,7 @@ ghost use Rattle.retro_syntax.specs.Reader.{commands_of};
 ghost use Rattle.retro_syntax.specs.Spells.{Spells};
 
 pub use lines::{
-    LONGEST_LINE, Line, Refused, one_line, parse, plain_line_is_spelling, writing_is_read,
+    LONGEST_LINE, Line, Refused, one_line, parse, parsed_is_spelling, writing_is_read,
 };
 pub use plain::{PlainCommand, PlainItem, plain_commands};
 

@@ -1,31 +1,21 @@
 //! Lines, and the texts that spell them.
 
-ghost use Rattle.std.specs.Prelude.{◌≡◌, ◌<◌, IfOk, Option, Some, None, List, ℕ, map, true, option_map, is_some};
+ghost use Rattle.std.specs.Prelude.{◌≡◌, IfOk, Option, Some, None, List, ℕ, map, nat_le, true, option_map};
+ghost use Rattle.retro_syntax.specs.Depth.{line_depth};
 ghost use Rattle.retro_syntax.specs.Lines as Lines;
 ghost use Rattle.retro_syntax.specs.Lines.{
   Answers,
   Meets,
-  PlainSpells,
-  SpellsPlain,
+  SpellsWithin,
   TextSpells,
   line_view,
-  plain_line,
+  parsed,
 };
-ghost use Rattle.retro_syntax.specs.Plain as Plain;
-ghost use Rattle.retro_syntax.specs.Plain.{PlainItem};
 ghost use Rattle.retro_syntax.specs.Quoting.{tokens_of};
 ghost use Rattle.retro_syntax.specs.Tree as Tree;
-ghost use Rattle.retro_syntax.specs.Writing.{
-  IsWriting,
-  Written,
-  WrittenItem,
-  are_writable,
-  plain_of,
-  token_of,
-  written,
-};
+ghost use Rattle.retro_syntax.specs.Writing.{Written, are_writable, token_of, written};
 
-use crate::plain::plain_commands;
+use crate::depth::is_shallow;
 use crate::quoting::tokens_of;
 use crate::reader::read_tokens;
 use crate::tree::{Command, Commands};
@@ -41,6 +31,8 @@ pub enum Refused {
     Unsupported,
     /// Refusal 6: the text has over 4,096 bytes.
     TooLong,
+    /// Refusal 7: `if` and `for` nest over 32 deep.
+    TooDeep,
     /// Memory is wanting.
     NoMem,
 }
@@ -83,45 +75,23 @@ fn line_of(alloc: Global, text: &str) -> Result<Option<Line>, AllocError>
     }
 }
 
-/// Whether the character, of one byte, stands in no list of plain commands.
-fn is_foreign(character: u8) -> bool
-    ensures { result ≡ Lines.is_foreign character }
+/// Whether `if` and `for` nest no deeper than they may.
+fn is_shallow_line(line: &Line) -> bool
+    ensures { result ≡ nat_le (line_depth (line_view line.now)) 32 }
 {
-    match character {
-        b'\0' | b'\n' | b'&' | b'|' | b'<' | b'(' | b')' | b'{' | b'}' => true,
-        b'\\' | b'\'' | b'"' | b'$' | b'`' | b'#' | b'~' | b'=' | b'!' => true,
-        _ => false,
+    match &line.commands {
+        None => true,
+        Some(commands) => is_shallow(commands),
     }
 }
 
-/// Whether such a character is in the text.
-fn has_foreign(text: &str) -> bool
-    ensures { result ≡ Lines.has_foreign text.now }
-{
-    let mut rest = text.as_bytes();
-    while let [first, more @ ..] = rest {
-        if is_foreign(*first) {
-            return true;
-        }
-        rest = more;
-    }
-    false
-}
-
-/// Whether the line is a list of plain commands.
-fn is_plain(alloc: Global, line: &Line) -> Result<bool, AllocError>
-    ensures { IfOk result (λ plain. plain ≡ is_some (Plain.plain_commands (line_view line.now))) }
-{
-    Ok(plain_commands(alloc, line)?.is_some())
-}
-
-/// The line that the text spells, where it has at most 4,096 bytes and is a list of plain commands:
-/// words and output redirections, parted by `;` (XCU 2.3, 2.10).
+/// The line that the text spells (XCU 2.2, 2.3, 2.10), where it has at most 4,096 bytes, and `if`
+/// and `for` nest at most 32 deep.
 ///
 /// # Errors
 ///
-/// `TooLong` for a text of over 4,096 bytes; else `Unsupported` where it spells no such line;
-/// `NoMem` where memory is wanting.
+/// `TooLong` for a text of over 4,096 bytes; else `Unsupported` where it spells no line of the
+/// grammar; else `TooDeep` where its line nests deeper; `NoMem` where memory is wanting.
 pub fn parse(alloc: Global, text: &str) -> Result<Line, Refused>
     ensures meets { Meets text.now result }
     ensures function { Answers text.now result }
@@ -129,16 +99,13 @@ pub fn parse(alloc: Global, text: &str) -> Result<Line, Refused>
     if text.len() > LONGEST_LINE {
         return Err(Refused::TooLong);
     }
-    if has_foreign(text) {
-        return Err(Refused::Unsupported);
-    }
     match line_of(alloc, text)? {
         None => Err(Refused::Unsupported),
         Some(line) => {
-            if is_plain(alloc, &line)? {
+            if is_shallow_line(&line) {
                 Ok(line)
             } else {
-                Err(Refused::Unsupported)
+                Err(Refused::TooDeep)
             }
         }
     }
@@ -146,26 +113,21 @@ pub fn parse(alloc: Global, text: &str) -> Result<Line, Refused>
 
 /// A text spells at most one line.
 pub fn one_line()
-    ensures whole { (text : List ℕ) (k l : Option Tree.Commands) → TextSpells text k
+    ensures { (text : List ℕ) (k l : Option Tree.Commands) → TextSpells text k
         → TextSpells text l → k ≡ l }
-    ensures plain { (text : List ℕ) (k l : Option Tree.Commands) → PlainSpells text k
-        → PlainSpells text l → k ≡ l }
 {}
 
-/// `plain_line`, which gives the plain commands of a text as a function, gives exactly those that
-/// the text spells.
-pub fn plain_line_is_spelling()
-    ensures read { (text : List ℕ) (found : List (List PlainItem)) → plain_line text
-        ≡ Some found → SpellsPlain text found }
-    ensures spelled { (text : List ℕ) (found : List (List PlainItem))
-        → SpellsPlain text found → plain_line text ≡ Some found }
+/// `parsed`, which gives the line that is answered for a text as a function, gives exactly the line
+/// that the text spells within the limits.
+pub fn parsed_is_spelling()
+    ensures read { (text : List ℕ) (line : Option Tree.Commands) → parsed text ≡ Some line
+        → SpellsWithin text line }
+    ensures spelled { (text : List ℕ) (line : Option Tree.Commands) → SpellsWithin text line
+        → parsed text ≡ Some line }
 {}
 
-/// What is written with a blank behind each token is read as it was written: `;`, `>`, `>>` and
-/// words without quotes as these tokens, and plain commands with a `;` behind each as these.
+/// What is written with a blank behind each token is read as it was written.
 pub fn writing_is_read()
-    ensures tokens { (ws : List Written) → are_writable ws ≡ true
+    ensures { (ws : List Written) → are_writable ws ≡ true
         → tokens_of (written ws) ≡ Some (map token_of ws) }
-    ensures commands { (text : List ℕ) (cs : List (List WrittenItem)) → IsWriting text cs
-        → plain_line text ≡ Some (map (map plain_of) cs) }
 {}

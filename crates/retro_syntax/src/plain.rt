@@ -8,6 +8,7 @@ ghost use Rattle.retro_syntax.specs.View.{and_or_of, item_view, pipeline_of, sim
 
 use crate::lines::Line;
 use crate::tree::{AndOr, Command, Direction, Item, Piece, Pipeline, Simple, Word};
+use crate::words::begins_tilde;
 use std::alloc::{AllocError, Global};
 
 /// A part of a plain command, in the order in which it is written.
@@ -28,7 +29,7 @@ pub struct PlainCommand<'a> {
     pub items: Vec<PlainItem<'a>>,
 }
 
-/// The text of a word that is one unquoted literal.
+/// The text of a word that is one unquoted literal, without a tilde at its start.
 fn plain_word<'a>(word: &'a Word) -> Option<&'a str>
     ensures { option_map (λ text. text.now) result ≡ Plain.plain_word (word_view word.now) }
 {
@@ -36,7 +37,13 @@ fn plain_word<'a>(word: &'a Word) -> Option<&'a str>
         [] => None,
         [first, more @ ..] => match first {
             Piece::Plain(text) => match more {
-                [] => Some(text.as_str()),
+                [] => {
+                    if begins_tilde(text.as_bytes()) {
+                        None
+                    } else {
+                        Some(text.as_str())
+                    }
+                }
                 [_second, _rest @ ..] => None,
             },
             Piece::Quoted(_) | Piece::Parameter(_) | Piece::QuotedParameter(_) => None,
@@ -174,7 +181,8 @@ fn plain_list<'a>(
 /// written. A blank line has none.
 ///
 /// `None` where a pipeline is negated, joined by `&&` or `||`, of several stages or compound, where
-/// something is assigned or read from a file, or where a word isn't one unquoted literal.
+/// something is assigned or read from a file, or where a word isn't one unquoted literal or begins
+/// with a tilde.
 ///
 /// # Errors
 ///

@@ -16,9 +16,10 @@ ghost use Rattle.retro_syntax.specs.QuotingViews.{LexesTo, TokenizesTo, lexing_v
 use crate::quoting::backslashes::escaped_at;
 use crate::quoting::characters::fresh;
 use crate::quoting::operators::{operator_at, settled};
-use crate::quoting::parameters::{is_unsupported_name, reading_at};
+use crate::quoting::parameters::reading_at;
 use crate::quoting::pieces::add_dollar;
 use crate::tree::{Piece, Token, Word};
+use crate::words::is_unsupported_name;
 use std::alloc::{AllocError, Global};
 
 /// An operator of one character, or the first character of one of two (XCU 2.10.2).

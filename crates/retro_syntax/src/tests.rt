@@ -1,8 +1,11 @@
+mod shown;
+
 use crate::{
-    PlainItem, Refused, one_line, parse, plain_commands, plain_line_is_spelling,
-    reading_is_spelling, writing_is_read,
+    PlainItem, Refused, one_line, parse, parsed_is_spelling, plain_commands, reading_is_spelling,
+    writing_is_read,
 };
-use std::alloc::Global;
+use shown::shown;
+use std::alloc::{AllocError, Global};
 use std::test::Fail;
 
 /// What `parse` refuses the text by.
@@ -13,35 +16,86 @@ fn refusal(alloc: Global, text: &str) -> Option<Refused> {
     }
 }
 
-#[test]
-fn lists_of_plain_commands_are_read(rt: HostRuntime) -> Result<(), Fail> {
-    let alloc = rt.alloc();
-    for text in [
-        "",
-        " \t ",
-        "a",
-        "a;",
-        "a ; b;",
-        "> f",
-        ">f>>g>h",
-        "echo a > f; echo b >> f; cat f f",
-    ] {
-        assert_eq!(rt; refusal(alloc, text), None);
+/// The line's tree, written out; none where the text is refused.
+fn tree(alloc: Global, text: &str) -> Result<Option<String>, AllocError> {
+    match parse(alloc, text) {
+        Ok(line) => Ok(Some(shown(alloc, &line)?)),
+        Err(_) => Ok(None),
     }
-    // Reserved words count where a command may begin, and digits directly before a redirection.
-    for text in [
-        "echo if",
-        "> if",
-        "> f a if",
-        "ifa",
-        "2 >f",
-        "a2>f",
-        "2",
-        "2a>f",
-        "> 2",
-        "é 日本",
-    ] {
-        assert_eq!(rt; refusal(alloc, text), None);
+}
+
+#[test]
+fn texts_are_read_as_their_trees(rt: HostRuntime) -> Result<(), Fail> {
+    let alloc = rt.alloc();
+    let lines = [
+        // Blank lines, lists, and the operators.
+        ("", ""),
+        (" \t # a; b", ""),
+        ("a;", "[(a,);]"),
+        ("a b;c", "[(a,b,);(c,)]"),
+        ("a && b || c;d", "[(a,)&&(b,)||(c,);(d,)]"),
+        ("a || ! b && c", "[(a,)||!(b,)&&(c,)]"),
+        ("! a | b>f|c", "[!(a,)(b,>f,)(c,)]"),
+        ("<a>b>>c d", "[(<a,>b,>>c,d,)]"),
+        ("> f | cat", "[(>f,)(cat,)]"),
+        ("2 > f a2>f 2a", "[(2,>f,a2,>f,2a,)]"),
+        // Compound commands, and reserved words that are words.
+        ("if a; then b; fi;", "[if[(a,);]then[(b,);];]"),
+        (
+            "if a; then b; elif c; then d; else e; fi",
+            "[if[(a,);]then[(b,);]if[(c,);]then[(d,);]else[(e,);]]",
+        ),
+        (
+            "if if a; then b; fi then c; fi && d",
+            "[if[if[(a,);]then[(b,);]]then[(c,);]&&(d,)]",
+        ),
+        (
+            "for if in in do; do ! a; done",
+            "[for if in in,do,do[!(a,);]]",
+        ),
+        (
+            "for i in; do a; b; done || c",
+            "[for i in do[(a,);(b,);]||(c,)]",
+        ),
+        ("echo if then; > if a", "[(echo,if,then,);(>if,a,)]"),
+        // Assignments.
+        ("x=1 _y2=a=b z=", "[(x:=1,_y2:=a=b,z:=,)]"),
+        ("x=\"a b\"$y'' | a x=1", "[(x:=\"a b\"${y}\"\",)(a,x=1,)]"),
+        ("> x=1 2a=b \"x\"=1 \\x=1", "[(>x=1,2a=b,\"x\"=1,\"x\"=1,)]"),
+        ("x=~/a:b y=a\":\"~ z=:\\~ a=:~b", ""),
+        (
+            "x=~/a:b y=a\":\"~ z=:\\~",
+            "[(x:=~/a:b,y:=a\":\"~,z:=:\"~\",)]",
+        ),
+        // Quotes, backslashes, and comments.
+        ("echo \"a'b\"'c\"d'\\ e", "[(echo,\"a'bc\"d \"e,)]"),
+        (
+            "a\\;\\\\ '\\' \"\\a\\\\\\$\\\"\" \"\"",
+            "[(a\";\\\",\"\\\",\"\\a\\$\"\",\"\",)]",
+        ),
+        ("e\\\nch\\\no a &\\\n& b>\\\n>c", "[(echo,a,)&&(b,>>c,)]"),
+        (
+            "i\\\nf a; then \"b\\\nc\" 'd\\\n'; fi # e",
+            "[if[(a,);]then[(\"bc\",\"d\\\n\",);]]",
+        ),
+        ("a#b \"#\" \\# #c\\", "[(a#b,\"#\",\"#\",)]"),
+        // Parameters, and dollars that stand for themselves.
+        ("$x${y}z $?${?}", "[(${x}${y}z,${?}${?},)]"),
+        (
+            "\"$x ${y}z$\" a$ $\"b\" $%",
+            "[(\"\"\"${x}\"\" \"\"${y}\"\"z$\",a$,$\"b\",$%,)]",
+        ),
+        (
+            "'$x' \\$x \"\\$x\" $x\\\ny",
+            "[(\"$x\",\"$\"x,\"$x\",${xy},)]",
+        ),
+        ("~ ~a/b é\r", "[(~,~a/b,é\r,)]"),
+    ];
+    for (text, want) in lines {
+        match tree(alloc, text)? {
+            Some(tree) => assert_eq!(rt; tree.as_str(), want, "at {text}"),
+            None => assert_eq!(rt; "", want, "at {text}"),
+        }
     }
     Ok(())
 }
@@ -49,56 +103,144 @@ fn lists_of_plain_commands_are_read(rt: HostRuntime) -> Result<(), Fail> {
 #[test]
 fn other_texts_are_unsupported(rt: HostRuntime) -> Result<(), Fail> {
     let alloc = rt.alloc();
-    let unsupported = Some(Refused::Unsupported);
     for text in [
-        ";", "a;;b", "; a", "a; ;", "a >", "a > > f", "a >; b", "a >>> f",
-    ] {
-        assert_eq!(rt; refusal(alloc, text), unsupported);
-    }
-    for text in [
-        "if a; then b; fi",
-        "for i in a; do b; done",
-        "2>f",
+        // Left out of the profile.
+        "a &",
+        "a & b",
+        "(a)",
+        "{ a; }",
+        "while a; do b; done",
+        "until a; do b; done",
+        "case a in esac",
+        "f() { a; }",
+        "a << b",
+        "$(a)",
+        "`a`",
+        "\"`a`\"",
+        "$1",
+        "\"$@\"",
+        "$((1))",
+        "${x:-w}",
+        "${1}",
+        "x=1 a",
+        "x=1 > f",
+        "if a; then b; fi > f",
+        "if a; then b; fi | c",
+        "a | if b; then c; fi",
+        "a <> f",
+        "a >| f",
+        "a <& 1",
+        "a >& 1",
+        "a 2> f",
         "a 2>f",
-        "a 10>>f",
+        "10<f",
+        "IFS=a",
+        "x=1 PWD=a",
+        "OLDPWD=",
+        "CDPATH=\"a\"",
+        "a $IFS",
+        "a \"${PWD}\"",
+        "for IFS in a; do b; done",
+        "a\nb",
+        "a\n",
+        "# a\n",
+        "x=a:~b",
+        "x=$y\"\":~",
+    ] {
+        assert_eq!(rt;
+            refusal(alloc, text),
+            Some(Refused::Unsupported),
+            "at {text}"
+        );
+    }
+    for text in [
+        // Not in the grammar.
+        ";",
+        "a;;b",
+        "; a",
+        "a >",
+        "a > > f",
+        "a >; b",
+        "a >>> f",
+        "a &&",
+        "|| a",
+        "a |",
+        "! ! a",
+        "!",
+        "a | ! b",
+        "if a; then fi",
+        "if a then b; fi",
+        "fi",
+        "a; then",
+        "for 1 in; do a; done",
+        "for i; do a; done",
+        "for i in a do b; done",
+        "for i in a; do b done",
         "> f if",
+        "> f x=1",
         "a; > f then",
+        "'a",
+        "\"a",
+        "a\\",
+        "\"a\\",
+        "a\0",
+        "'\0'",
+        "# \0",
+        "${x",
+        "\"$",
+        "2\\\n>f",
+        "elif",
+        "done",
+        "}",
+        "esac",
     ] {
-        assert_eq!(rt; refusal(alloc, text), unsupported);
-    }
-    for word in [
-        "case", "do", "done", "elif", "else", "esac", "fi", "for", "if", "in", "then", "until",
-        "while",
-    ] {
-        assert_eq!(rt; refusal(alloc, word), unsupported);
+        assert_eq!(rt;
+            refusal(alloc, text),
+            Some(Refused::Unsupported),
+            "at {text}"
+        );
     }
     Ok(())
 }
 
-#[test]
-fn foreign_characters_are_unsupported(rt: HostRuntime) -> Result<(), Fail> {
-    let alloc = rt.alloc();
-    for character in "\0\n&|<(){}\\'\"$`#~=!".chars() {
-        let mut text = String::new(alloc);
-        text.push_str("a b")?;
-        text.push(character)?;
-        assert_eq!(rt; refusal(alloc, &text), Some(Refused::Unsupported));
-        text.push_str("c")?;
-        assert_eq!(rt; refusal(alloc, &text), Some(Refused::Unsupported));
+/// The text, so often.
+fn push_times(out: &mut String, text: &str, times: u32) -> Result<(), AllocError> {
+    for _ in 0..times {
+        out.push_str(text)?;
     }
     Ok(())
 }
 
-#[test]
-fn texts_of_over_4096_bytes_are_too_long(rt: HostRuntime) -> Result<(), Fail> {
-    let alloc = rt.alloc();
+/// An `if` that nests so deep.
+fn nested(alloc: Global, depth: u32) -> Result<String, AllocError> {
     let mut text = String::new(alloc);
-    for _ in 0..4096 {
-        text.push('a')?;
+    push_times(&mut text, "if ", depth)?;
+    text.push_str(":")?;
+    push_times(&mut text, "; then :; fi", depth)?;
+    Ok(text)
+}
+
+#[test]
+fn limits_are_kept(rt: HostRuntime) -> Result<(), Fail> {
+    let alloc = rt.alloc();
+    assert_eq!(rt; refusal(alloc, &nested(alloc, 32)?), None);
+    assert_eq!(rt; refusal(alloc, &nested(alloc, 33)?), Some(Refused::TooDeep));
+    for (text, times, want) in [
+        ("#", 4096, None),
+        ("#", 4097, Some(Refused::TooLong)),
+        (":;", 2047, None),
+        ("if ", 1365, Some(Refused::Unsupported)),
+    ] {
+        let mut line = String::new(alloc);
+        push_times(&mut line, text, times)?;
+        assert_eq!(rt; refusal(alloc, &line), want);
     }
-    assert_eq!(rt; refusal(alloc, &text), None);
-    text.push('\n')?;
-    assert_eq!(rt; refusal(alloc, &text), Some(Refused::TooLong));
+    // What follows an `elif` is as deep as its `if`.
+    let mut line = String::new(alloc);
+    line.push_str("if a; then b; ")?;
+    push_times(&mut line, "elif a; then b; ", 40)?;
+    line.push_str("fi")?;
+    assert_eq!(rt; refusal(alloc, &line), None);
     Ok(())
 }
 
@@ -120,13 +262,19 @@ fn plain_commands_are_found(rt: HostRuntime) -> Result<(), Fail> {
         matches!(found.next(), Some(command) if command.items.as_slice() == second.as_slice())
     );
     assert!(rt; found.next().is_none());
+    for text in [
+        "a 'b'", "a $b", "~", "a ~b", "x=1", "a | b", "! a", "a < f", "a && b",
+    ] {
+        let line = parse(alloc, text)?;
+        assert!(rt; plain_commands(alloc, &line)?.is_none(), "at {text}");
+    }
     Ok(())
 }
 
 #[test]
 fn laws_are_called() {
     one_line();
-    plain_line_is_spelling();
+    parsed_is_spelling();
     reading_is_spelling();
     writing_is_read();
 }

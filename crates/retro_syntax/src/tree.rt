@@ -90,11 +90,20 @@ pub enum Item {
     Redirect(Direction, Word),
 }
 
+/// An assignment (XCU 2.9.1).
+#[derive(Drop)]
+pub struct Assignment {
+    /// The variable's name.
+    pub name: String,
+    /// The value. Its first piece is what stands unquoted behind the `=`, which may be nothing.
+    pub value: Word,
+}
+
 /// A simple command (XCU 2.9.1): assignments alone, or words and redirections.
 #[derive(Drop)]
 pub enum Simple {
-    /// Words that begin with a name and `=`.
-    Assignments(Vec<Word>),
+    /// Assignments, as written.
+    Assignments(Vec<Assignment>),
     /// Words and redirections, as written.
     Command(Vec<Item>),
 }

@@ -1,11 +1,11 @@
 //! What a word is where a command may begin.
 
-ghost use Rattle.std.specs.Prelude.{◌≡◌, Option, option_map, string_bytes, IfOk};
+ghost use Rattle.std.specs.Prelude.{◌≡◌, ◌∷◌, [], MatchOption, Option, map, option_map, string_bytes, IfOk};
 ghost use Rattle.retro_syntax.specs.Words;
 ghost use Rattle.retro_syntax.specs.Tree;
-ghost use Rattle.retro_syntax.specs.View.{word_view};
+ghost use Rattle.retro_syntax.specs.View.{assignment_view, piece_view, word_view};
 
-use crate::tree::{Piece, ReservedWord, Word};
+use crate::tree::{Assignment, Piece, ReservedWord, Word};
 use std::alloc::{AllocError, Global};
 
 /// What a word can be where a command may begin.
@@ -100,42 +100,90 @@ fn is_name(text: &[u8]) -> bool
     }
 }
 
-/// Whether a name that has begun can go on by this up to a `=`.
-fn goes_on_assignment(text: &[u8]) -> bool
-    ensures { result ≡ Words.goes_on_assignment text.now }
+/// Whether it names a variable that no text may use.
+pub fn is_unsupported_name(name: &str) -> bool
+    ensures { result ≡ Words.is_one_of Words.unsupported_names name.now }
+{
+    "IFS" == name || "PWD" == name || "OLDPWD" == name || "CDPATH" == name
+}
+
+/// The name, and what stands behind the `=`, of a text that begins with a name and `=`.
+fn split_name<'a>(text: &'a str) -> Option<(&'a str, &'a str)>
+    ensures { option_map (λ s. (s.0.now, s.1.now)) result ≡ Words.split_name text.now }
+{
+    let (name, value) = text.split_once('=')?;
+    if is_name(name.as_bytes()) {
+        Some((name, value))
+    } else {
+        None
+    }
+}
+
+/// Whether `:~` stands in the text.
+fn has_colon_tilde(text: &[u8]) -> bool
+    ensures { result ≡ Words.has_colon_tilde text.now }
 {
     let mut rest = text;
     while let [first, more @ ..] = rest {
-        if *first == b'=' {
+        if *first == b':' && begins_tilde(more) {
             return true;
-        }
-        if !(first.is_ascii_alphanumeric() || *first == b'_') {
-            return false;
         }
         rest = more;
     }
     false
 }
 
-/// Whether the text begins with a name and `=`.
-fn begins_assignment(text: &[u8]) -> bool
-    ensures { result ≡ Words.begins_assignment text.now }
+/// Whether the text begins with `~`.
+pub fn begins_tilde(text: &[u8]) -> bool
+    ensures { result ≡ Words.begins_tilde text.now }
 {
     match text {
         [] => false,
-        [first, more @ ..] => (first.is_ascii_alphabetic() || *first == b'_')
-            && goes_on_assignment(more),
+        [first, ..] => *first == b'~',
     }
 }
 
-/// What a word without quotes and parameters is.
+/// Whether `:~` stands unquoted in a word of these pieces.
+fn has_unquoted_colon_tilde(pieces: &[Piece]) -> bool
+    ensures { result ≡ Words.has_unquoted_colon_tilde (map piece_view pieces.now) }
+{
+    let mut rest = pieces;
+    while let [piece, more @ ..] = rest {
+        match piece {
+            Piece::Plain(text) => {
+                if has_colon_tilde(text.as_bytes()) {
+                    return true;
+                }
+            }
+            Piece::Quoted(_) | Piece::Parameter(_) | Piece::QuotedParameter(_) => {}
+        }
+        rest = more;
+    }
+    false
+}
+
+/// What `name=value` is, with these pieces behind it.
+fn assignment_class(name: &str, value: &str, more: &[Piece]) -> Class
+    ensures { result
+        ≡ Words.assignment_class (Words.assigned name.now value.now (map piece_view more.now)) }
+{
+    if is_unsupported_name(name)
+        || has_colon_tilde(value.as_bytes())
+        || has_unquoted_colon_tilde(more)
+    {
+        Class::Forbidden
+    } else {
+        Class::Assignment
+    }
+}
+
+/// What a word without quotes and parameters is, which assigns nothing.
 fn plain_class(text: &[u8]) -> Class
     ensures { result ≡ Words.plain_class text.now (Words.lookup Words.reserved_words text.now) }
 {
     match reserved_word_of(text) {
         Some(reserved) => Class::Reserved(reserved),
         None if is_other_reserved(text) => Class::Forbidden,
-        None if begins_assignment(text) => Class::Assignment,
         None => Class::Ordinary,
     }
 }
@@ -148,17 +196,51 @@ pub fn class_of(word: &Word) -> Class
     match word.pieces.as_slice() {
         [] => Class::Ordinary,
         [first, more @ ..] => match first {
-            Piece::Plain(text) => match more {
-                [] => plain_class(text.as_bytes()),
-                [_second, _rest @ ..] => {
-                    if begins_assignment(text.as_bytes()) {
-                        Class::Assignment
-                    } else {
-                        Class::Ordinary
-                    }
-                }
+            Piece::Plain(text) => match split_name(text) {
+                Some((name, value)) => assignment_class(name, value, more),
+                None => match more {
+                    [] => plain_class(text.as_bytes()),
+                    [_second, _rest @ ..] => Class::Ordinary,
+                },
             },
             Piece::Quoted(_) | Piece::Parameter(_) | Piece::QuotedParameter(_) => Class::Ordinary,
+        },
+    }
+}
+
+/// The word's first piece, and those behind it.
+fn first_piece(word: Word) -> Option<(Piece, Vec<Piece>)>
+    ensures { MatchOption result (word.pieces.items ≡ [])
+        (λ x. word.pieces.items ≡ x.0 ∷ x.1.items) }
+{
+    let Word { mut pieces } = word;
+    if pieces.is_empty() {
+        return None;
+    }
+    let first = pieces.remove(0);
+    Some((first, pieces))
+}
+
+/// What the word assigns, where it begins with a name and `=`.
+pub fn assignment_of(alloc: Global, word: Word) -> Result<Option<Assignment>, AllocError>
+    ensures { IfOk result (λ a. option_map assignment_view a
+        ≡ Words.assignment_of (word_view word)) }
+{
+    match first_piece(word) {
+        None => Ok(None),
+        Some((first, mut pieces)) => match first {
+            Piece::Plain(text) => match split_name(&text) {
+                None => Ok(None),
+                Some((name, value)) => {
+                    let name = String::from_str(alloc, name)?;
+                    pieces.insert(0, Piece::Plain(String::from_str(alloc, value)?))?;
+                    Ok(Some(Assignment {
+                        name,
+                        value: Word { pieces },
+                    }))
+                }
+            },
+            Piece::Quoted(_) | Piece::Parameter(_) | Piece::QuotedParameter(_) => Ok(None),
         },
     }
 }
@@ -183,6 +265,13 @@ pub fn is_ordinary(class: Class) -> bool
     }
 }
 
+/// Whether the text is a name that a text may use.
+fn is_variable(text: &str) -> bool
+    ensures { result ≡ Words.is_variable text.now }
+{
+    is_name(text.as_bytes()) && !is_unsupported_name(text)
+}
+
 /// The name that the word is, for `for`.
 #[tactic(auto, unfolding(crate::specs::Words::name_of))]
 pub fn name_of(alloc: Global, word: &Word) -> Result<Option<String>, AllocError>
@@ -190,7 +279,7 @@ pub fn name_of(alloc: Global, word: &Word) -> Result<Option<String>, AllocError>
         ≡ Words.name_of (word_view word.now)) }
 {
     match word.pieces.as_slice() {
-        [Piece::Plain(text)] if is_name(text.as_bytes()) => Ok(Some(text.clone()?)),
+        [Piece::Plain(text)] if is_variable(text) => Ok(Some(text.clone()?)),
         _ => Ok(None),
     }
 }

@@ -7,10 +7,11 @@ ghost use Rattle.retro_syntax.specs.QuotingViews.{LexesTo, pending_view, pieces_
 
 use crate::quoting::characters::in_word;
 use crate::quoting::operators::settled;
-use crate::quoting::parameters::{is_unsupported_name, parameter_piece, quote_of};
+use crate::quoting::parameters::{parameter_piece, quote_of};
 use crate::quoting::pieces::{add_dollar, add_quoted, backslash_and, text_of};
 use crate::quoting::{Lexing, Operator, Pending, Quote, Reading};
 use crate::tree::{Piece, Token};
+use crate::words::is_unsupported_name;
 use std::alloc::{AllocError, Global};
 
 /// What a backslash quotes in double quotes.

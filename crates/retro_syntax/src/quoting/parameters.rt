@@ -2,7 +2,6 @@
 
 ghost use Rattle.std.specs.Prelude.{option_map, ◌≡◌, [], Option, None, string_bytes, false};
 ghost use Rattle.retro_syntax.specs.Quoting;
-ghost use Rattle.retro_syntax.specs.Words.{is_one_of};
 ghost use Rattle.retro_syntax.specs.View.{tokens_view, piece_view};
 ghost use Rattle.retro_syntax.specs.QuotingViews.{LexesTo, lexing_view, pieces_view, reading_view};
 
@@ -10,14 +9,8 @@ use crate::quoting::characters::{in_word, with_reading, word_at};
 use crate::quoting::pieces::{add_dollar, question_mark, text_and, text_of};
 use crate::quoting::{Lexing, Quote, Reading};
 use crate::tree::{Piece, Token};
+use crate::words::is_unsupported_name;
 use std::alloc::{AllocError, Global};
-
-/// Whether it names a parameter that no text may have.
-pub fn is_unsupported_name(name: &str) -> bool
-    ensures { result ≡ is_one_of Quoting.unsupported_names name.now }
-{
-    "IFS" == name || "PWD" == name || "OLDPWD" == name || "CDPATH" == name
-}
 
 /// A parameter, in double quotes or not.
 pub fn parameter_piece(inside: bool, name: String) -> Piece

@@ -3,15 +3,39 @@
 ghost use Rattle.std.specs.Prelude.{◌≡◌, ◌∷◌, [], ◌++◌, Option, None, map, true, false};
 ghost use Rattle.retro_syntax.specs.Reader;
 ghost use Rattle.retro_syntax.specs.Tree;
-ghost use Rattle.retro_syntax.specs.View.{token_view, word_view, simple_view, item_view};
+ghost use Rattle.retro_syntax.specs.Words;
+ghost use Rattle.retro_syntax.specs.View.{assignment_view, token_view, word_view, simple_view, item_view};
 ghost use Rattle.retro_syntax.specs.ReaderViews.{StepsAt, StepsTo, items_view, open_view, stack_view, stages_view};
 
 use crate::build::pipe;
 use crate::reader::lists::{go_on, step_to};
 use crate::reader::{Frame, Open, Place, State};
-use crate::tree::{Command, Connector, Direction, Item, Simple, Token, Word};
-use crate::words::{Class, class_of, is_assignment, is_ordinary};
+use crate::tree::{Assignment, Command, Connector, Direction, Item, Simple, Token, Word};
+use crate::words::{Class, assignment_of, class_of, is_assignment, is_ordinary};
 use std::alloc::{AllocError, Global};
+
+/// The state behind one more assignment, where the word is one.
+fn push_assignment(
+    alloc: Global,
+    stack: Vec<(Open, Frame)>,
+    here: Open,
+    stages: Vec<Simple>,
+    mut assignments: Vec<Assignment>,
+    word: Word,
+) -> Result<Option<State>, AllocError>
+    ensures { StepsTo result
+        (Reader.push_assignment (stack_view stack) (open_view here) (stages_view stages)
+        (map assignment_view assignments.items) (Words.assignment_of (word_view word))) }
+{
+    match assignment_of(alloc, word)? {
+        None => Ok(None),
+        Some(assignment) => {
+            assignments.push(assignment)?;
+            let simple = Simple::Assignments(assignments);
+            step_to(stack, here, Place::Within(stages, simple))
+        }
+    }
+}
 
 /// The state behind a simple command's first word.
 pub fn begin_simple(
@@ -26,20 +50,15 @@ pub fn begin_simple(
         (Reader.begin_simple (stack_view stack) (open_view here) (stages_view stages)
         (word_view word) class) }
 {
-    let simple = match class {
-        Class::Assignment => {
-            let mut words = Vec::new(alloc);
-            words.push(word)?;
-            Simple::Assignments(words)
-        }
+    match class {
+        Class::Assignment => push_assignment(alloc, stack, here, stages, Vec::new(alloc), word),
         Class::Ordinary => {
             let mut items = Vec::new(alloc);
             items.push(Item::Argument(word))?;
-            Simple::Command(items)
+            step_to(stack, here, Place::Within(stages, Simple::Command(items)))
         }
-        Class::Reserved(_) | Class::Forbidden => return Ok(None),
-    };
-    step_to(stack, here, Place::Within(stages, simple))
+        Class::Reserved(_) | Class::Forbidden => Ok(None),
+    }
 }
 
 /// Whether no word stands there yet, redirections aside.
@@ -58,6 +77,7 @@ pub fn no_argument(items: &[Item]) -> bool
 
 /// A further word of a simple command.
 pub fn add_word(
+    alloc: Global,
     stack: Vec<(Open, Frame)>,
     here: Open,
     stages: Vec<Simple>,
@@ -70,16 +90,11 @@ pub fn add_word(
 {
     let class = class_of(&word);
     match simple {
-        Simple::Assignments(mut words) => {
+        Simple::Assignments(assignments) => {
             if !is_assignment(class) {
                 return Ok(None);
             }
-            words.push(word)?;
-            step_to(
-                stack,
-                here,
-                Place::Within(stages, Simple::Assignments(words)),
-            )
+            push_assignment(alloc, stack, here, stages, assignments, word)
         }
         Simple::Command(mut items) => {
             if no_argument(&items) && !is_ordinary(class) {
@@ -121,7 +136,7 @@ pub fn at_within(
         (Reader.within (stages_view stages) (simple_view simple)) token result }
 {
     match token {
-        Token::Word(word) => add_word(stack, here, stages, simple, word),
+        Token::Word(word) => add_word(alloc, stack, here, stages, simple, word),
         Token::Redirection(direction) => match simple {
             Simple::Assignments(_) => Ok(None),
             Simple::Command(items) => step_to(stack, here, Place::Target(stages, items, direction)),

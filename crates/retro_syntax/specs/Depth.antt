@@ -1,0 +1,31 @@
+-- How deep `if` and `for` nest in a line.
+use Rattle.std.specs.Prelude.{ℕ, suc, max, Option, Some, None}
+use Rattle.retro_syntax.specs.Tree.{Commands, last, more, AndOr, end, chain, Pipeline, pipeline, Command, simples, conditional, loop, Arms, fi, otherwise, elif}
+
+-- A simple command nests nothing; an `if` or a `for` is one deeper than what is in it.
+abbrev mutual
+  pub depth : Commands → ℕ
+  depth (last a closed) = and_or_depth a
+  depth (more a c) = max (and_or_depth a) (depth c)
+
+  pub and_or_depth : AndOr → ℕ
+  and_or_depth (end p) = pipeline_depth p
+  and_or_depth (chain p op a) = max (pipeline_depth p) (and_or_depth a)
+
+  pub pipeline_depth : Pipeline → ℕ
+  pipeline_depth (pipeline negated c) = command_depth c
+
+  pub command_depth : Command → ℕ
+  command_depth (simples ss) = 0
+  command_depth (conditional a) = suc (arms_depth a)
+  command_depth (loop name ws c) = suc (depth c)
+
+  -- An `elif` is as deep as its `if`.
+  pub arms_depth : Arms → ℕ
+  arms_depth (fi c t) = max (depth c) (depth t)
+  arms_depth (otherwise c t e) = max (depth c) (max (depth t) (depth e))
+  arms_depth (elif c t a) = max (depth c) (max (depth t) (arms_depth a))
+
+abbrev pub line_depth : Option Commands → ℕ
+line_depth None = 0
+line_depth (Some c) = depth c

@@ -1,0 +1,120 @@
+//! How deep `if` and `for` nest.
+
+ghost use Rattle.std.specs.Prelude.{◌≡◌, nat_le, true, false};
+ghost use Rattle.retro_syntax.specs.Depth as Depth;
+ghost use Rattle.retro_syntax.specs.Fits as Fits;
+ghost use Rattle.retro_syntax.specs.View.{commands_of, view};
+
+use crate::tree::{AndOr, Command, Commands, Conditional, Connector, Pipeline};
+
+/// Whether nothing in these pipelines nests deeper than `room`.
+#[cycle(depth)]
+fn joined_fit(joined: &[(Pipeline<Command>, Connector)], room: u8) -> bool
+    ensures { result ≡ Fits.joined_fit joined.now room }
+{
+    let mut rest = joined;
+    while let [first, more @ ..] = rest {
+        if !command_fits(&first.0.command, room) {
+            return false;
+        }
+        rest = more;
+    }
+    true
+}
+
+/// The same of an and-or list.
+#[cycle(depth)]
+fn and_or_fits(and_or: &AndOr<Command>, room: u8) -> bool
+    ensures { result ≡ Fits.and_or_fits and_or.now room }
+{
+    joined_fit(&and_or.joined, room) && command_fits(&and_or.last.command, room)
+}
+
+/// The same of and-or lists.
+#[cycle(depth)]
+fn and_ors_fit(list: &[AndOr<Command>], room: u8) -> bool
+    ensures { result ≡ Fits.and_ors_fit list.now room }
+{
+    let mut rest = list;
+    while let [first, more @ ..] = rest {
+        if !and_or_fits(first, room) {
+            return false;
+        }
+        rest = more;
+    }
+    true
+}
+
+/// The same of a list.
+#[cycle(depth)]
+fn list_fits(list: &Commands<Command>, room: u8) -> bool
+    ensures { result ≡ Fits.list_fits list.now room }
+{
+    and_ors_fit(&list.before, room) && and_or_fits(&list.last, room)
+}
+
+/// The same of conditions and what they lead to.
+#[cycle(depth)]
+fn arms_fit(arms: &[(Commands<Command>, Commands<Command>)], room: u8) -> bool
+    ensures { result ≡ Fits.arms_fit arms.now room }
+{
+    let mut rest = arms;
+    while let [first, more @ ..] = rest {
+        if !(list_fits(&first.0, room) && list_fits(&first.1, room)) {
+            return false;
+        }
+        rest = more;
+    }
+    true
+}
+
+/// The same of all conditions of an `if`, and what they lead to.
+#[cycle(depth)]
+fn conditional_fits(parts: &Conditional<Command>, room: u8) -> bool
+    ensures { result ≡ Fits.conditional_fits parts.now room }
+{
+    arms_fit(&parts.before, room)
+        && list_fits(&parts.condition, room)
+        && list_fits(&parts.consequence, room)
+}
+
+/// The same of a command. An `if` or a `for` nests one deeper than what is in it.
+#[cycle(depth)]
+fn command_fits(command: &Command, room: u8) -> bool
+    ensures { result ≡ Fits.command_fits command.now room }
+{
+    match command {
+        Command::Pipe(_) => true,
+        Command::If(parts) => {
+            if room == 0 {
+                return false;
+            }
+            conditional_fits(parts, room - 1)
+        }
+        Command::IfElse(parts, alternative) => {
+            if room == 0 {
+                return false;
+            }
+            if !conditional_fits(parts, room - 1) {
+                return false;
+            }
+            list_fits(alternative, room - 1)
+        }
+        Command::For(parts) => {
+            if room == 0 {
+                return false;
+            }
+            list_fits(&parts.body, room - 1)
+        }
+    }
+}
+
+/// How deep `if` and `for` may nest in a line.
+pub const DEEPEST_NESTING: u8 = 32;
+
+/// Whether `if` and `for` nest no deeper than that.
+pub fn is_shallow(list: &Commands<Command>) -> bool
+    ensures { result ≡ nat_le (Depth.depth (commands_of view list.now)) 32 }
+{
+    list_fits(list, DEEPEST_NESTING)
+}
