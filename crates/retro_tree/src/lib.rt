@@ -12,10 +12,15 @@
 //! `resolve` gives the path that a text names from a directory, by the text alone.
 #![tactic(auto)]
 
+mod ask;
 mod bytes;
+mod cell;
+mod change;
 mod laws;
+mod listing;
 mod name;
 mod node;
+mod note;
 mod path;
 mod resolving;
 mod session;
@@ -25,14 +30,20 @@ mod tests;
 mod text;
 mod tree;
 mod var_name;
+mod view;
 
+pub use ask::{Answer, Ask, User};
 pub use bytes::Bytes;
+pub use cell::{Cell, Value};
+pub use change::Change;
 pub use laws::{
     lawful_files, lawful_growths, lawful_states_are_within_limits, lawful_states_pass,
     lawful_statuses, lawful_trees, lawful_trees_pass,
 };
+pub use listing::Listing;
 pub use name::{NAME_LIMIT, Name};
 pub use node::{Entry, FILE_LIMIT, Kind, Node, Permit};
+pub use note::{Note, Notes};
 pub use path::Path;
 pub use resolving::{Resolved, resolve};
 pub use session::{Session, Sessions, VALUE_LIMIT, Vars};
@@ -40,6 +51,7 @@ pub use state::State;
 pub use text::Text;
 pub use tree::Tree;
 pub use var_name::VarName;
+pub use view::View;
 
 /// Memory was wanted and refused.
 pub use std::alloc::AllocError as NoMem;
