@@ -4,6 +4,8 @@ pub mod Entries
 pub mod MapLemmas
 pub mod StateLaws
 pub mod Results
+pub mod Fronts
+pub mod Together
 pub mod LawLemmas
 pub mod WholeLaw
 pub mod Standing
