@@ -13,18 +13,11 @@ use Rattle.retro_keep.specs.Runs.{Output, with_output, after_line, whole, is_amo
 use Rattle.retro_keep.specs.declared.script.ScriptLine.{ScriptLine}
 use Rattle.retro_cli.specs.Replay.{are_there, number_of}
 use Rattle.retro_cli.proofs.NumberLemmas.{at_item}
+use Rattle.retro_tree.proofs.Small.{first_true, both_true}
 
 -- outputs before those of a run
 abbrev pub with_front : List Output → State × List Output → State × List Output
 with_front before (s, outputs) = (s, before ++ outputs)
-
-first_true : (a b : Bool) → IsTrue (a && b) → IsTrue a
-first_true true b e = refl
-first_true false b e = e
-
-both_true : (a b : Bool) → IsTrue (a && b) → IsTrue b
-both_true true b e = e
-both_true false b e = absurd (true≢false (sym e))
 
 -- the lines from a place on: the one there, and the rest
 lines_at : (items : List (Bor ScriptLine)) (i : ℕ) (d : Bor ScriptLine) → i < length items → d ≡ get_or items i d

@@ -2,12 +2,15 @@ pub mod Small
 pub mod Parents
 pub mod Entries
 pub mod MapLemmas
-pub mod StateLaws
+pub mod Lookups
 pub mod Results
 pub mod Fronts
 pub mod Together
 pub mod LawLemmas
 pub mod WholeLaw
 pub mod Standing
-pub mod StateLaw
+pub mod Keeping
 pub mod TreeLaw
+pub mod CellLaw
+pub mod Agree
+pub mod Children

@@ -15,6 +15,7 @@
 mod ask;
 mod bytes;
 mod cell;
+mod cell_laws;
 mod change;
 mod laws;
 mod listing;
@@ -35,6 +36,10 @@ mod view;
 pub use ask::{Answer, Ask, User};
 pub use bytes::Bytes;
 pub use cell::{Cell, Value};
+pub use cell_laws::{
+    answers_depend_on_cells, cells_make_the_state, changes_write_one_cell,
+    listings_name_the_children,
+};
 pub use change::Change;
 pub use laws::{
     lawful_files, lawful_growths, lawful_states_are_within_limits, lawful_states_pass,
