@@ -127,7 +127,7 @@ there_of None = refl
 there_of (Some DirEntry) = refl
 there_of (Some (FileEntry bytes)) = refl
 
-there_in : (q : PathValue) (t : Tree) → is_there (node_in q t) ≡ is_some (finmap.get t q)
+pub there_in : (q : PathValue) (t : Tree) → is_there (node_in q t) ≡ is_some (finmap.get t q)
 unfolding node_in
 there_in q t = there_of (finmap.get t q)
 

@@ -14,3 +14,7 @@ pub mod TreeLaw
 pub mod CellLaw
 pub mod Agree
 pub mod Children
+pub mod OverlayLemmas
+pub mod NoteLaws
+pub mod OverlayLaying
+pub mod OverlayListing

@@ -22,6 +22,8 @@ mod listing;
 mod name;
 mod node;
 mod note;
+mod note_laws;
+mod overlay;
 mod path;
 mod resolving;
 mod session;
@@ -49,6 +51,10 @@ pub use listing::Listing;
 pub use name::{NAME_LIMIT, Name};
 pub use node::{Entry, FILE_LIMIT, Kind, Node, Permit};
 pub use note::{Note, Notes};
+pub use note_laws::{
+    allowed_notes_keep_the_law, notes_act_on_each_cell, notes_hold_by_their_cells, notes_in_turn,
+};
+pub use overlay::Overlay;
 pub use path::Path;
 pub use resolving::{Resolved, resolve};
 pub use session::{Session, Sessions, VALUE_LIMIT, Vars};
