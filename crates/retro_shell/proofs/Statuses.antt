@@ -9,8 +9,8 @@ use Rattle.std.specs.FinMap as map
 use Rattle.retro_tree.specs.State.{put_status}
 use Rattle.retro_tree.specs.declared.state.State.{State}
 use Rattle.retro_tree.specs.declared.session.Session.{Session}
-use Rattle.retro_tree.proofs.StateLaws.{get_inserted, get_inserted_apart}
-use Rattle.retro_tree.proofs.StateLaw.{lawful_status}
+use Rattle.retro_tree.proofs.Lookups.{get_inserted, get_inserted_apart}
+use Rattle.retro_tree.proofs.Keeping.{lawful_status}
 use Rattle.retro_shell.specs.Line.{HasSameSessions}
 
 kept : (m : map.FinMap nat_cmp Session) (sid n : ℕ) (session : Session) → IsTrue (map.contains_key m sid) → map.contains_key (map.insert m sid session) n ≡ map.contains_key m n

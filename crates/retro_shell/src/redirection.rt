@@ -53,7 +53,7 @@ fn prepare(alloc: Global, state: &mut State, path: &Path, mode: Mode) -> Result<
 }
 
 /// Opens the file that a word names for output.
-#[tactic(auto, unfolding(crate::specs::Redirections::opened_file), using(retro_tree::proofs::StateLaw::keeping))]
+#[tactic(auto, unfolding(crate::specs::Redirections::opened_file), using(retro_tree::proofs::Keeping::keeping))]
 fn open_file<'a>(
     alloc: Global,
     state: &mut State,
@@ -131,7 +131,7 @@ pub(crate) fn redirect<'a>(
 }
 
 /// Delivers what a command left: its output to its target, the rest to the terminal.
-#[tactic(auto, unfolding(crate::specs::Redirections::delivered), using(retro_tree::proofs::StateLaw::keeping))]
+#[tactic(auto, unfolding(crate::specs::Redirections::delivered), using(retro_tree::proofs::Keeping::keeping))]
 pub(crate) fn deliver(
     alloc: Global,
     state: &mut State,

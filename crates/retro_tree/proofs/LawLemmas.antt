@@ -17,7 +17,7 @@ use Rattle.retro_tree.specs.declared.node.Entry.{Entry}
 use Rattle.retro_tree.specs.declared.node.Entry.TheVariants.{Dir as DirEntry, File as FileEntry}
 use Rattle.retro_tree.specs.declared.node.Node.{Node}
 use Rattle.retro_tree.specs.declared.node.Node.TheVariants.{Missing, Dir, File}
-use Rattle.retro_tree.proofs.StateLaws.{node_put, node_put_apart}
+use Rattle.retro_tree.proofs.Lookups.{node_put, node_put_apart}
 use Rattle.retro_tree.proofs.Small.{tied, first_true, both_true, and_true, or_last, not_true}
 
 -- ---- parents and children

@@ -12,3 +12,10 @@ pub mod State
 pub mod Limits
 pub mod Lawful
 pub mod Resolving
+pub mod CellOrder
+pub mod User
+pub mod Cell
+pub mod Ask
+pub mod Change
+pub mod Notes
+pub mod Overlay

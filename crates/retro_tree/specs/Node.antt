@@ -24,6 +24,12 @@ is_dir Missing = false
 is_dir Dir = true
 is_dir (File bytes) = false
 
+-- whether something stands there
+abbrev pub is_there : Node → Bool
+is_there Missing = false
+is_there Dir = true
+is_there (File bytes) = true
+
 abbrev pub kind_of : Node → Kind
 kind_of Missing = kinds.Missing
 kind_of Dir = kinds.Dir

@@ -1,6 +1,7 @@
 -- Trees: finite maps from paths to directories and files.
-use Rattle.std.specs.Prelude.{Bool}
-use Rattle.std.specs.List.{list_any}
+use Rattle.std.specs.Prelude.{Bool, List}
+use Rattle.std.specs.List.{list_any, filter}
+use Rattle.std.specs.Ordering.{is_le}
 use Rattle.std.specs.FinMap as map
 use Rattle.retro_tree.specs.Order.{path_cmp}
 use Rattle.retro_tree.specs.Path.{PathValue, is_child}
@@ -26,3 +27,7 @@ put p (File bytes) tree = map.insert tree p (FileEntry bytes)
 -- whether something stands right below a path
 unfoldable pub has_child : PathValue → Tree → Bool
 has_child p tree = list_any (is_child p) (map.keys tree)
+
+-- what stands at a path and behind it, in order
+abbrev pub entries_from : PathValue → Tree → List (PathValue × Entry)
+entries_from p tree = filter (λ e. is_le (path_cmp p e.0)) (map.entries tree)

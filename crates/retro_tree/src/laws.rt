@@ -44,7 +44,7 @@ pub fn lawful_states_are_within_limits()
 
 /// A lawful state stays lawful where a file within the limit, or an empty one, is put at a path
 /// that may be written to.
-#[tactic(auto, using(crate::proofs::StateLaw::keeping))]
+#[tactic(auto, using(crate::proofs::Keeping::keeping))]
 pub fn lawful_files()
     ensures put { (p : PathValue) (bytes : List ℕ) (n : ℕ) (s : State)
         → IsLawful s → AllNames p → is_null p ≡ false → permit_of p n s ≡ Yes
@@ -55,7 +55,7 @@ pub fn lawful_files()
 {}
 
 /// A lawful state stays lawful where a file grows by as many bytes as may be written to it.
-#[tactic(auto, using(crate::proofs::StateLaw::keeping))]
+#[tactic(auto, using(crate::proofs::Keeping::keeping))]
 pub fn lawful_growths()
     ensures { (p : PathValue) (bytes : List ℕ) (s : State)
         → IsLawful s → AllNames p → is_null p ≡ false → permit_of p (length bytes) s ≡ Yes
@@ -63,7 +63,7 @@ pub fn lawful_growths()
 {}
 
 /// A lawful state stays lawful where a session's status is set.
-#[tactic(auto, using(crate::proofs::StateLaw::keeping))]
+#[tactic(auto, using(crate::proofs::Keeping::keeping))]
 pub fn lawful_statuses()
     ensures { (sid status : ℕ) (s : State)
         → IsLawful s → status ≤ 255 → IsLawful (put_status sid status s) }

@@ -12,10 +12,18 @@
 //! `resolve` gives the path that a text names from a directory, by the text alone.
 #![tactic(auto)]
 
+mod ask;
 mod bytes;
+mod cell;
+mod cell_laws;
+mod change;
 mod laws;
+mod listing;
 mod name;
 mod node;
+mod note;
+mod note_laws;
+mod overlay;
 mod path;
 mod resolving;
 mod session;
@@ -25,14 +33,28 @@ mod tests;
 mod text;
 mod tree;
 mod var_name;
+mod view;
 
+pub use ask::{Answer, Ask, User};
 pub use bytes::Bytes;
+pub use cell::{Cell, Value};
+pub use cell_laws::{
+    answers_depend_on_cells, cells_make_the_state, changes_write_one_cell,
+    listings_name_the_children,
+};
+pub use change::Change;
 pub use laws::{
     lawful_files, lawful_growths, lawful_states_are_within_limits, lawful_states_pass,
     lawful_statuses, lawful_trees, lawful_trees_pass,
 };
+pub use listing::Listing;
 pub use name::{NAME_LIMIT, Name};
 pub use node::{Entry, FILE_LIMIT, Kind, Node, Permit};
+pub use note::{Note, Notes};
+pub use note_laws::{
+    allowed_notes_keep_the_law, notes_act_on_each_cell, notes_hold_by_their_cells, notes_in_turn,
+};
+pub use overlay::Overlay;
 pub use path::Path;
 pub use resolving::{Resolved, resolve};
 pub use session::{Session, Sessions, VALUE_LIMIT, Vars};
@@ -40,6 +62,7 @@ pub use state::State;
 pub use text::Text;
 pub use tree::Tree;
 pub use var_name::VarName;
+pub use view::View;
 
 /// Memory was wanted and refused.
 pub use std::alloc::AllocError as NoMem;

@@ -9,7 +9,7 @@ use std::alloc::AllocError;
 pub const FILE_LIMIT: u64 = 1_048_576;
 
 /// What is at a path.
-#[derive(Drop, Clone)]
+#[derive(Drop, Clone, PartialEq, Eq)]
 pub enum Node {
     /// Nothing is there.
     Missing,

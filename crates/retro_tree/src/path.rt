@@ -1,10 +1,12 @@
 //! Paths: the names from the root down to a file or directory.
-ghost use Rattle.std.specs.Prelude.{◌≡◌, ◌++◌, ◌∷◌, [], IfOk, OnOk, OnErr, MatchOption, string_bytes, false, length, ◌-◌, take, map};
+ghost use Rattle.std.specs.Prelude.{◌≡◌, ◌++◌, ◌∷◌, [], IfOk, OnOk, OnErr, MatchOption, string_bytes, false, length, ◌-◌, take, map, option_map};
 ghost use Rattle.std.specs.List.{list_all};
 ghost use Rattle.std.specs.Option.{option_copied};
+ghost use Rattle.retro_tree.specs.Order.{path_eq};
 ghost use Rattle.retro_tree.specs.Name.{is_name, AllNames};
-ghost use Rattle.retro_tree.specs.Path.{parent_of, last_of, may_stand, is_null, is_root};
+ghost use Rattle.retro_tree.specs.Path.{parent_of, last_of, may_stand, is_null, is_root, below, is_child};
 ghost use Rattle.retro_tree.specs.Resolving.{step};
+ghost use Rattle.retro_tree.specs.User.{passwd};
 
 use crate::name::Name;
 use std::alloc::{AllocError, Global};
@@ -89,6 +91,66 @@ impl Path {
         let mut child = Path::of_names(alloc, self.names.as_slice())?;
         child.names.push(name.copy()?)?;
         Ok(child)
+    }
+
+    /// The names below a front of this path, or none where it isn't one.
+    #[tactic(auto, using(crate::proofs::Fronts::fronts))]
+    pub fn strip_prefix(&self, front: &Path) -> Option<&[Name]>
+        ensures { option_map (λ rest. rest.now) result ≡ below front.now self.now }
+    {
+        let count = front.names.len();
+        if count > self.names.len() {
+            return None;
+        }
+        let (start, rest) = self.names.as_slice().split_at(count);
+        if start == front.names.as_slice() {
+            Some(rest)
+        } else {
+            None
+        }
+    }
+
+    /// Whether this is a child of a directory: its path and one name more.
+    pub fn is_child_of(&self, parent: &Path) -> bool
+        ensures { result ≡ is_child parent.now self.now }
+    {
+        matches!(self.strip_prefix(parent), Some([_]))
+    }
+
+    /// Whether this is the directory of a path, where the root is its own.
+    #[tactic(auto, using(crate::proofs::Parents::take_is_parent))]
+    pub fn is_parent_of(&self, path: &Path) -> bool
+        ensures { result ≡ path_eq (parent_of path.now) self.now }
+    {
+        let count = path.names.len().saturating_sub(1);
+        let (front, _last) = path.names.as_slice().split_at(count);
+        front == self.names.as_slice()
+    }
+
+    /// The path of the password file, `/etc/passwd`.
+    #[tactic(auto, unfolding(crate::specs::User::passwd, crate::specs::Name::is_name))]
+    pub(crate) fn passwd(alloc: Global) -> Result<Path, AllocError>
+        ensures { IfOk result (λ path. path ≡ passwd) }
+    {
+        let mut names = Vec::new(alloc);
+        if let Some(name) = Name::of(String::from_str(alloc, "etc")?) {
+            names.push(name)?;
+        }
+        if let Some(name) = Name::of(String::from_str(alloc, "passwd")?) {
+            names.push(name)?;
+        }
+        Ok(Path { names })
+    }
+
+    /// Whether this is the path of the password file.
+    #[tactic(auto, unfolding(crate::specs::User::passwd))]
+    pub(crate) fn is_passwd(&self) -> bool
+        ensures { result ≡ path_eq passwd self.now }
+    {
+        match self.names.as_slice() {
+            [first, second] => first.as_str() == "etc" && second.as_str() == "passwd",
+            _ => false,
+        }
     }
 
     /// The path of names that are given.

@@ -4,12 +4,14 @@ ghost use Rattle.std.specs.Option.{option_copied};
 ghost use Rattle.std.specs.FinMap as map;
 ghost use Rattle.retro_tree.specs.Node.{bytes_in, kind_of};
 ghost use Rattle.retro_tree.specs.Tree.{node_in};
+ghost use Rattle.retro_tree.specs.Ask.{names_in};
 ghost use Rattle.retro_tree.specs.Session.{session_in};
 ghost use Rattle.retro_tree.specs.Limits.{IsWithinLimits, within_limits};
 ghost use Rattle.retro_tree.specs.Lawful.{IsLawful, is_lawful};
 ghost use Rattle.retro_tree.specs.State.{empty_state, put_node, grow_file, put_session, put_status, permit_of};
 
 use crate::bytes::Bytes;
+use crate::listing::Listing;
 use crate::node::{Entry, Kind, Node, Permit};
 use crate::path::Path;
 use crate::session::{Session, Sessions, Vars};
@@ -135,6 +137,14 @@ impl State {
         ensures { option_copied result ≡ bytes_in (node_in path.now self.now.tree) }
     {
         self.tree.file(path)
+    }
+
+    /// The names of what stands right below a path, in byte order, whatever stands at the path
+    /// itself. Takes the time of what stands below it.
+    pub fn names(&self, alloc: Global, path: &Path) -> Result<Listing, AllocError>
+        ensures { IfOk result (λ names. names ≡ names_in path.now self.now.tree) }
+    {
+        self.tree.names(alloc, path)
     }
 
     /// Whether so many bytes more may be written to the file at a path.

@@ -3,16 +3,18 @@ ghost use Rattle.std.specs.Prelude.{◌≡◌, IfOk, OnOk, OnErr, None};
 ghost use Rattle.std.specs.Option.{option_copied};
 ghost use Rattle.std.specs.FinMap as map;
 ghost use Rattle.retro_tree.specs.Node.{bytes_in, kind_of, size_of, permit_at, grown};
-ghost use Rattle.retro_tree.specs.Tree.{node_in, put};
+ghost use Rattle.retro_tree.specs.Tree.{node_in, put, has_child, entries_from};
+ghost use Rattle.retro_tree.specs.Ask.{names_in};
 ghost use Rattle.retro_tree.specs.Limits.{files_fit};
 ghost use Rattle.retro_tree.specs.Lawful.{is_lawful_tree, entry_passes};
 
 use crate::bytes::Bytes;
+use crate::listing::Listing;
 use crate::node::{Entry, FILE_LIMIT, Kind, Node, Permit};
 use crate::path::Path;
 use std::alloc::{AllocError, Global};
 use std::collections::BTreeMap;
-use std::collections::btree_map::Iter;
+use std::collections::btree_map::{Iter, Range};
 use std::marker::Model;
 
 /// A map from paths to directories and files.
@@ -73,6 +75,46 @@ impl Tree {
         ensures { result ≡ map.entries self.now }
     {
         self.entries.iter()
+    }
+
+    /// What the tree holds at a path and behind it, in order of paths.
+    fn from(&self, path: &Path) -> Range<'_, Path, Entry>
+        ensures { result ≡ entries_from path.now self.now }
+    {
+        self.entries.range(path..)
+    }
+
+    /// The names of what stands right below a path, in byte order, whatever stands at the path
+    /// itself. Takes the time of what stands below it.
+    pub fn names(&self, alloc: Global, path: &Path) -> Result<Listing, AllocError>
+        ensures { IfOk result (λ names. names ≡ names_in path.now self.now) }
+    {
+        let mut names = Vec::new(alloc);
+        for (other, _) in self.from(path) {
+            let Some(rest) = other.strip_prefix(path) else {
+                return Ok(Listing::of(names));
+            };
+            if let [name] = rest {
+                names.push(name.copy()?)?;
+            }
+        }
+        Ok(Listing::of(names))
+    }
+
+    /// Whether something stands right below a path. In a lawful tree the first that stands behind
+    /// the path tells.
+    pub(crate) fn has_child(&self, path: &Path) -> bool
+        ensures { result ≡ has_child path.now self.now }
+    {
+        for (other, _) in self.from(path) {
+            let Some(rest) = other.strip_prefix(path) else {
+                return false;
+            };
+            if rest.len() == 1 {
+                return true;
+            }
+        }
+        false
     }
 
     /// The same tree once more.

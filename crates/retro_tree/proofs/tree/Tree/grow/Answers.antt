@@ -6,7 +6,7 @@ use Rattle.retro_tree.specs.Order.{path_total, path_exact}
 use Rattle.retro_tree.specs.declared.node.Entry.TheVariants.{File as FileEntry}
 use Rattle.retro_tree.specs.contracts.tree.Tree.{the_view}
 use Rattle.retro_tree.proofs.MapLemmas.{made_insert, made_same, get_made}
-use Rattle.retro_tree.proofs.StateLaws.{put_grown, put_new}
+use Rattle.retro_tree.proofs.Lookups.{put_grown, put_new}
 use Rattle.retro_tree.proofs.Results.{on_ok, on_err}
 use Rattle.retro_tree.proofs.tree.Tree.grow.Goals as goal
 

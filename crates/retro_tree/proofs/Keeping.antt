@@ -20,7 +20,7 @@ use Rattle.retro_tree.specs.declared.node.Permit.TheVariants.{Yes}
 use Rattle.retro_tree.specs.declared.session.Session.{Session}
 use Rattle.retro_tree.specs.declared.state.State.{State}
 use Rattle.retro_tree.proofs.Small.{some_same, none_some}
-use Rattle.retro_tree.proofs.StateLaws.{get_inserted, get_inserted_apart}
+use Rattle.retro_tree.proofs.Lookups.{get_inserted, get_inserted_apart}
 use Rattle.retro_tree.proofs.Standing.{file_stands, growth_stands}
 
 -- ---- files

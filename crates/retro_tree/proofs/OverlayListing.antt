@@ -1,0 +1,195 @@
+-- The names of the children over an overlay.
+use Rattle.std.proofs.Common.{◌≡◌, ◌≢◌, ℕ, Bool, true, false, cond, ◌||◌, List, [], ◌∷◌, ◌++◌, Option, Some, None, refl, sym, ap, ◌∙◌, subst, T}
+use Rattle.std.specs.Option.{unwrap_or, is_some}
+use Rattle.std.specs.List.{list_any, filter}
+use Rattle.std.specs.Bool.{if◌then◌else◌}
+use Rattle.std.specs.Cmp.{tied_itself}
+use Rattle.std.specs.Cmp.Lexicographic.{nat_list_eq_equiv}
+use Rattle.std.specs.Ordering.{eq_by_cmp, is_eq, is_le}
+use Rattle.std.specs.declared.cmp.Ordering.TheVariants.{Less}
+use Rattle.std.specs.FinMap as finmap
+use Rattle.std.specs.FinMap.{get-entries, entries_sorted}
+use Rattle.std.specs.FinMap.Entries.{find, is_sorted, below_all, where_key, is_sorted-where_key, find-where_key}
+use Rattle.std.proofs.lemmas.Bool.{true≢false, false≢true}
+use Rattle.retro_tree.specs.Order.{path_cmp, text_eq, text_exact, text_ties}
+use Rattle.retro_tree.specs.CellOrder.{cell_cmp, cell_total, cell_exact}
+use Rattle.retro_tree.specs.Path.{PathValue, below, child_name, only_name, is_child}
+use Rattle.retro_tree.specs.Node.{is_there}
+use Rattle.retro_tree.specs.Tree.{Tree, node_in, put}
+use Rattle.retro_tree.specs.Ask.{names_in}
+use Rattle.retro_tree.specs.Cell.{value}
+use Rattle.retro_tree.specs.Overlay.{Cells, Overlays, cells_from, cell_below, marked, mark, mark_one, marks}
+use Rattle.retro_tree.specs.declared.node.Node.{Node}
+use Rattle.retro_tree.specs.declared.node.Node.TheVariants.{Missing, Dir, File}
+use Rattle.retro_tree.specs.declared.cell.Cell.{Cell}
+use Rattle.retro_tree.specs.declared.cell.Cell.TheVariants as cells
+use Rattle.retro_tree.specs.declared.cell.Value.{Value}
+use Rattle.retro_tree.specs.declared.cell.Value.TheVariants as values
+use Rattle.retro_tree.specs.declared.state.State.{State}
+use Rattle.retro_tree.proofs.Small.{tied, less, both_fst, both_snd, some_same}
+use Rattle.retro_tree.proofs.OverlayLemmas.{none_found}
+use Rattle.retro_tree.proofs.Lookups.{node_put, node_put_apart}
+use Rattle.retro_tree.proofs.Together.{behind, apart_from}
+use Rattle.retro_tree.proofs.Children.{child_name_of, names_listed, there_in, same_children}
+
+-- ---- what is laid below a path stands together, right behind the path's own cell
+abbrev fronted : PathValue → List (Cell × Value) → List (Cell × Value)
+fronted p [] = []
+fronted p (e ∷ es) = if cell_below p e.0 then e ∷ fronted p es else []
+
+behind_cell : (p : PathValue) (c : Cell) → cell_below p c ≡ true → is_le (cell_cmp (cells.At p) c) ≡ true
+behind_cell p (cells.At q) h = behind p q h
+behind_cell p (cells.Cwd sid) h = absurd (false≢true h)
+behind_cell p (cells.Var sid name) h = absurd (false≢true h)
+behind_cell p (cells.Status sid) h = absurd (false≢true h)
+
+apart_cell : (p : PathValue) (c d : Cell) → is_le (cell_cmp (cells.At p) c) ≡ true → cell_below p c ≡ false → cell_cmp c d ≡ Less → cell_below p d ≡ false
+apart_cell p c (cells.Cwd sid) h none e = refl
+apart_cell p c (cells.Var sid name) h none e = refl
+apart_cell p c (cells.Status sid) h none e = refl
+apart_cell p (cells.At k) (cells.At m) h none e = apart_from p k m h none e
+apart_cell p (cells.Cwd sid) (cells.At m) h none e = cc
+apart_cell p (cells.Var sid name) (cells.At m) h none e = cc
+apart_cell p (cells.Status sid) (cells.At m) h none e = cc
+
+none_after : (p : PathValue) (c : Cell) (es : List (Cell × Value)) → is_le (cell_cmp (cells.At p) c) ≡ true → cell_below p c ≡ false → T (below_all cell_cmp c es) → filter (λ e. cell_below p e.0) es ≡ []
+none_after p c [] h none s = refl
+none_after p c (e ∷ es) h none s =
+    ap (λ b. cond b (e ∷ filter (λ f. cell_below p f.0) es) (filter (λ f. cell_below p f.0) es)) (apart_cell p c e.0 h none (less _ (both_fst _ _ s)))
+    ∙ none_after p c es h none (both_snd _ _ s)
+
+laid_together : (p : PathValue) (es : List (Cell × Value)) → T (is_sorted cell_cmp es) → fronted p (filter (λ e. is_le (cell_cmp (cells.At p) e.0)) es) ≡ filter (λ e. cell_below p e.0) es
+laid_together p [] s = refl
+laid_together p (e ∷ es) s =
+    let from = filter (λ f. is_le (cell_cmp (cells.At p) f.0)) es in
+    let under = filter (λ f. cell_below p f.0) es in
+    elim (cell_below p e.0) as (λ b. cell_below p e.0 ≡ b → fronted p (cond (is_le (cell_cmp (cells.At p) e.0)) (e ∷ from) from) ≡ cond b (e ∷ under) under) [
+      | true ↦ λ t. ap (λ l. fronted p (cond l (e ∷ from) from)) (behind_cell p e.0 t)
+          ∙ ap (λ b. if b then e ∷ fronted p from else []) t
+          ∙ ap (λ fs. e ∷ fs) (laid_together p es (both_snd _ _ s))
+      | false ↦ λ t. elim (is_le (cell_cmp (cells.At p) e.0)) as (λ l. is_le (cell_cmp (cells.At p) e.0) ≡ l → fronted p (cond l (e ∷ from) from) ≡ under) [
+        | true ↦ λ h. ap (λ b. if b then e ∷ fronted p from else []) t ∙ sym (none_after p e.0 es h t (both_fst _ _ s))
+        | false ↦ λ h. laid_together p es (both_snd _ _ s)
+      ] refl
+    ] refl
+
+-- ---- marks
+abbrev marks_all : PathValue → List (Cell × Value) → Tree → Tree
+marks_all p [] t = t
+marks_all p (e ∷ es) t = marks_all p es (mark_one p e.0 e.1 t)
+
+marks_fronted : (p : PathValue) (es : List (Cell × Value)) (t : Tree) → marks p es t ≡ marks_all p (fronted p es) t
+marks_fronted p [] t = refl
+marks_fronted p (e ∷ es) t =
+    elim (cell_below p e.0) as (λ b. (if b then marks p es (mark_one p e.0 e.1 t) else t) ≡ marks_all p (if b then e ∷ fronted p es else []) t) [
+      | true ↦ marks_fronted p es (mark_one p e.0 e.1 t)
+      | false ↦ refl
+    ]
+
+there_mark : (n : Node) → is_there (mark n) ≡ is_there n
+there_mark Missing = refl
+there_mark Dir = refl
+there_mark (File bytes) = refl
+
+same_child : (p : PathValue) (n m : List ℕ) → p ++ n ∷ [] ≡ p ++ m ∷ [] → n ≡ m
+same_child p n m e = some_same n m (sym (child_name_of p n) ∙ ap (child_name p) e ∙ child_name_of p m)
+
+or_true : (a : Bool) → (a || true) ≡ true
+or_true true = refl
+or_true false = refl
+
+or_false : (a : Bool) → (a || false) ≡ a
+or_false true = refl
+or_false false = refl
+
+there_marked : (p : PathValue) (n : List ℕ) (ns : List (List ℕ)) (t : Tree) → is_there (node_in (p ++ n ∷ []) (marked p ns t)) ≡ (list_any (text_eq n) ns || is_there (node_in (p ++ n ∷ []) t))
+there_marked p n [] t = refl
+there_marked p n (m ∷ ns) t =
+    there_marked p n ns (put (p ++ m ∷ []) Dir t)
+    ∙ elim (text_eq n m) as (λ b. text_eq n m ≡ b → (list_any (text_eq n) ns || is_there (node_in (p ++ n ∷ []) (put (p ++ m ∷ []) Dir t))) ≡ ((b || list_any (text_eq n) ns) || is_there (node_in (p ++ n ∷ []) t))) [
+      | true ↦ λ e. ap (λ x. list_any (text_eq n) ns || is_there x) (ap (λ k. node_in (p ++ k ∷ []) (put (p ++ m ∷ []) Dir t)) (text_exact n m (tied _ (sym (text_ties n m) ∙ e))) ∙ node_put (p ++ m ∷ []) Dir t) ∙ or_true (list_any (text_eq n) ns)
+      | false ↦ λ e. ap (λ x. list_any (text_eq n) ns || is_there x) (node_put_apart (p ++ m ∷ []) (p ++ n ∷ []) Dir t (λ s. true≢false (sym (ap (λ k. text_eq k m) (same_child p n m s) ∙ nat_list_eq_equiv.refl m) ∙ e)))
+    ] refl
+
+abbrev laid_mark : Option Value → Node → Node
+laid_mark None n = n
+laid_mark (Some (values.Node node)) n = mark node
+laid_mark (Some (values.Cwd q)) n = n
+laid_mark (Some (values.Text t)) n = n
+laid_mark (Some (values.Status k)) n = n
+
+mark_here : (p q : PathValue) (v : Value) (t : Tree) → is_child p q ≡ true → node_in q (mark_one p (cells.At q) v t) ≡ laid_mark (Some v) (node_in q t)
+mark_here p q (values.Node node) t e = ap (λ b. node_in q (if b then put q (mark node) t else t)) e ∙ node_put q (mark node) t
+mark_here p q (values.Cwd r) t e = refl
+mark_here p q (values.Text x) t e = refl
+mark_here p q (values.Status k) t e = refl
+
+mark_there : (p q : PathValue) (c : Cell) (v : Value) (t : Tree) → cells.At q ≢ c → node_in q (mark_one p c v t) ≡ node_in q t
+mark_there p q (cells.At r) (values.Node node) t ne = go (is_child p r)
+  where
+    go : (b : Bool) → node_in q (if b then put r (mark node) t else t) ≡ node_in q t
+    go true = node_put_apart r q (mark node) t (λ e. ne (ap cells.At e))
+    go false = refl
+mark_there p q (cells.At r) (values.Cwd x) t ne = refl
+mark_there p q (cells.At r) (values.Text x) t ne = refl
+mark_there p q (cells.At r) (values.Status k) t ne = refl
+mark_there p q (cells.Cwd sid) v t ne = refl
+mark_there p q (cells.Var sid x) v t ne = refl
+mark_there p q (cells.Status sid) v t ne = refl
+
+node_marks : (p q : PathValue) → is_child p q ≡ true → (es : List (Cell × Value)) → T (is_sorted cell_cmp es) → (t : Tree) → node_in q (marks_all p es t) ≡ laid_mark (find cell_cmp (cells.At q) es) (node_in q t)
+node_marks p q child [] h t = refl
+node_marks p q child (e ∷ es) h t =
+    node_marks p q child es (both_snd _ _ h) (mark_one p e.0 e.1 t)
+    ∙ elim (eq_by_cmp cell_cmp (cells.At q) e.0) as (λ b. eq_by_cmp cell_cmp (cells.At q) e.0 ≡ b → laid_mark (find cell_cmp (cells.At q) es) (node_in q (mark_one p e.0 e.1 t)) ≡ laid_mark (cond b (Some e.1) (find cell_cmp (cells.At q) es)) (node_in q t)) [
+      | true ↦ λ s. let same = cell_exact (cells.At q) e.0 (tied _ s) in
+          ap (λ x. laid_mark x (node_in q (mark_one p e.0 e.1 t))) (none_found (cells.At q) es (subst (λ c. T (below_all cell_cmp c es)) (sym same) (both_fst _ _ h)))
+          ∙ ap (λ c. node_in q (mark_one p c e.1 t)) (sym same) ∙ mark_here p q e.1 t child
+      | false ↦ λ s. ap (laid_mark (find cell_cmp (cells.At q) es)) (mark_there p q e.0 e.1 t (λ same. true≢false (sym (ap (λ c. eq_by_cmp cell_cmp c e.0) same ∙ ap is_eq (tied_itself cell_total e.0)) ∙ s)))
+    ] refl
+
+-- a child is below its parent
+child_is_below : (o : Option PathValue) → is_some (only_name o) ≡ true → is_some o ≡ true
+child_is_below None h = h
+child_is_below (Some rest) h = refl
+
+-- what the marks leave at a child
+child_marks : (p q : PathValue) (laid : Cells) (t : Tree) → is_child p q ≡ true → node_in q (marks p (cells_from (cells.At p) laid) t) ≡ laid_mark (finmap.get laid (cells.At q)) (node_in q t)
+child_marks p q laid t child =
+    ap (node_in q) (marks_fronted p (cells_from (cells.At p) laid) t ∙ ap (λ es. marks_all p es t) (laid_together p (finmap.entries laid) (entries_sorted laid)))
+    ∙ node_marks p q child (where_key cell_cmp (cell_below p) (finmap.entries laid)) (is_sorted-where_key cell_cmp (cell_below p) (finmap.entries laid) (entries_sorted laid)) t
+    ∙ ap (λ x. laid_mark x (node_in q t))
+    (find-where_key cell_cmp (cell_below p) (cells.At q) (λ c e. ap (cell_below p) (sym (cell_exact (cells.At q) c e))) (finmap.entries laid)
+    ∙ ap (λ b. cond b (find cell_cmp (cells.At q) (finmap.entries laid)) None) (child_is_below (below p q) child)
+    ∙ sym (get-entries laid (cells.At q)))
+
+abbrev node_held : Value → Node
+node_held (values.Node node) = node
+node_held (values.Cwd p) = Missing
+node_held (values.Text t) = Missing
+node_held (values.Status n) = Missing
+
+none_there : (q : PathValue) → is_there (node_in q finmap.empty) ≡ false
+none_there q = there_in q finmap.empty ∙ ap is_some (finmap.get-empty path_cmp q)
+
+listed : (p : PathValue) (laid : Cells) (under now : State) → Overlays laid under now → (n : List ℕ) → is_there (node_in (p ++ n ∷ []) (marks p (cells_from (cells.At p) laid) (marked p (names_in p under.tree) finmap.empty))) ≡ is_there (node_in (p ++ n ∷ []) now.tree)
+unfolding value
+listed p laid under now h n =
+    let q = p ++ n ∷ [] in
+    ap is_there (child_marks p q laid (marked p (names_in p under.tree) finmap.empty) (ap is_some (child_name_of p n)))
+    ∙ go (finmap.get laid (cells.At q)) refl
+  where
+    go : (x : Option Value) → finmap.get laid (cells.At (p ++ n ∷ [])) ≡ x → is_there (laid_mark x (node_in (p ++ n ∷ []) (marked p (names_in p under.tree) finmap.empty))) ≡ is_there (node_in (p ++ n ∷ []) now.tree)
+    go None e =
+        there_marked p n (names_in p under.tree) finmap.empty
+        ∙ ap (λ b. list_any (text_eq n) (names_in p under.tree) || b) (none_there (p ++ n ∷ []))
+        ∙ or_false _
+        ∙ names_listed p n under.tree ∙ sym (there_in _ under.tree)
+        ∙ ap (λ v. is_there (node_held v)) (sym (h (cells.At (p ++ n ∷ [])) ∙ ap (λ x. unwrap_or x (value (cells.At (p ++ n ∷ [])) under)) e))
+    go (Some v) e =
+        let here : values.Node (node_in (p ++ n ∷ []) now.tree) ≡ v = h (cells.At (p ++ n ∷ [])) ∙ ap (λ x. unwrap_or x (value (cells.At (p ++ n ∷ [])) under)) e in
+        ap (λ w. is_there (laid_mark (Some w) (node_in (p ++ n ∷ []) (marked p (names_in p under.tree) finmap.empty)))) (sym here) ∙ there_mark (node_in (p ++ n ∷ []) now.tree)
+
+-- the small tree has the names of the children
+pub listed_over : (p : PathValue) (laid : Cells) (under now : State) → Overlays laid under now → names_in p (marks p (cells_from (cells.At p) laid) (marked p (names_in p under.tree) finmap.empty)) ≡ names_in p now.tree
+listed_over p laid under now h = same_children p _ _ (listed p laid under now h)

@@ -1,0 +1,9 @@
+use Rattle.std.proofs.Common.{◌≡◌, ◌++◌, map}
+use Rattle.std.specs.List.{filter_map}
+use Rattle.retro_tree.specs.Path.{child_name}
+use Rattle.retro_tree.specs.Ask.{names_in}
+use Rattle.retro_tree.proofs.Together.{together}
+use Rattle.retro_tree.proofs.tree.Tree.names.Given as goal
+
+abbrev pub invariant-loop-other : goal.invariant-loop-other
+invariant-loop-other l = l.names.items ++ filter_map (child_name l.path) (together l.path (map (λ e. e.0) l.other-iterator)) ≡ names_in l.path l.self

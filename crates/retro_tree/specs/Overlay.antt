@@ -1,0 +1,73 @@
+-- Values laid over the cells of a state.
+use Rattle.std.specs.Prelude.{◌≡◌, ℕ, Bool, false, if◌then◌else◌, List, [], ◌∷◌, ◌++◌, Option, Some, None, is_some}
+use Rattle.std.specs.List.{filter}
+use Rattle.std.specs.Ordering.{is_le}
+use Rattle.std.specs.Option.{unwrap_or}
+use Rattle.std.specs.FinMap as map
+use Rattle.retro_tree.specs.CellOrder.{cell_cmp}
+use Rattle.retro_tree.specs.Path.{PathValue, below, is_child}
+use Rattle.retro_tree.specs.Tree.{Tree, put}
+use Rattle.retro_tree.specs.Cell.{value}
+use Rattle.retro_tree.specs.Change.{value_grown}
+use Rattle.retro_tree.specs.declared.cell.Cell.{Cell}
+use Rattle.retro_tree.specs.declared.cell.Cell.TheVariants as cells
+use Rattle.retro_tree.specs.declared.cell.Value.{Value}
+use Rattle.retro_tree.specs.declared.cell.Value.TheVariants as values
+use Rattle.retro_tree.specs.declared.node.Node.{Node}
+use Rattle.retro_tree.specs.declared.node.Node.TheVariants.{Missing, Dir, File}
+use Rattle.retro_tree.specs.declared.state.State.{State}
+
+abbrev pub Cells : Type 0
+Cells = map.FinMap cell_cmp Value
+
+-- now has what is laid where something is, and what the state below has elsewhere
+abbrev pub Overlays : Cells → State → State → Type 0
+Overlays laid below now = (c : Cell) → value c now ≡ unwrap_or (map.get laid c) (value c below)
+
+-- what is laid over a cell, grown by some bytes, where something is
+abbrev pub grown_at : Cell → List ℕ → Option Value → Cells → Cells
+grown_at c bytes None laid = laid
+grown_at c bytes (Some v) laid = map.insert laid c (value_grown bytes v)
+
+-- the node among what is laid
+abbrev pub laid_node : Option Value → Option Node
+laid_node None = None
+laid_node (Some (values.Node node)) = Some node
+laid_node (Some (values.Cwd q)) = None
+laid_node (Some (values.Text t)) = None
+laid_node (Some (values.Status n)) = None
+
+-- ---- the children of a path, as a small tree in which each is a directory
+
+-- what is laid over a cell and behind it, in order
+abbrev pub cells_from : Cell → Cells → List (Cell × Value)
+cells_from c laid = filter (λ e. is_le (cell_cmp c e.0)) (map.entries laid)
+
+-- whether a cell is that of a path below another, or of the path itself
+abbrev pub cell_below : PathValue → Cell → Bool
+cell_below p (cells.At q) = is_some (below p q)
+cell_below p (cells.Cwd sid) = false
+cell_below p (cells.Var sid name) = false
+cell_below p (cells.Status sid) = false
+
+-- a child for each name
+abbrev pub marked : PathValue → List (List ℕ) → Tree → Tree
+marked p [] tree = tree
+marked p (n ∷ ns) tree = marked p ns (put (p ++ n ∷ []) Dir tree)
+
+-- whatever is there, as a directory
+abbrev pub mark : Node → Node
+mark Missing = Missing
+mark Dir = Dir
+mark (File bytes) = Dir
+
+-- what is laid over the cell of a child
+abbrev pub mark_one : PathValue → Cell → Value → Tree → Tree
+mark_one p (cells.At q) (values.Node node) tree =
+    if is_child p q then put q (mark node) tree else tree
+mark_one p _ _ tree = tree
+
+-- the same for each of these, up to the first that isn't below the path
+abbrev pub marks : PathValue → List (Cell × Value) → Tree → Tree
+marks p [] tree = tree
+marks p (e ∷ es) tree = if cell_below p e.0 then marks p es (mark_one p e.0 e.1 tree) else tree

@@ -1,0 +1,51 @@
+//! Laws of cells, changes and answers, as contracts of functions that do nothing.
+ghost use Rattle.std.specs.Prelude.{◌≡◌, ◌≢◌, ℕ, List, [], ◌∷◌, ◌++◌, true, is_some};
+ghost use Rattle.std.specs.FinMap as map;
+ghost use Rattle.std.specs.List.{list_any};
+ghost use Rattle.std.specs.List.Sorted.{IsStrictlySortedBy};
+ghost use Rattle.retro_tree.specs.Order.{text_cmp, text_eq};
+ghost use Rattle.retro_tree.specs.Path.{PathValue};
+ghost use Rattle.retro_tree.specs.Tree.{Tree};
+ghost use Rattle.retro_tree.specs.Cell.{value};
+ghost use Rattle.retro_tree.specs.Ask.{names_in, answer, supports};
+ghost use Rattle.retro_tree.specs.Change.{apply, cell_of, written};
+ghost use Rattle.retro_tree.specs.declared.cell.Cell.{Cell};
+ghost use Rattle.retro_tree.specs.declared.ask.Ask.{Ask};
+ghost use Rattle.retro_tree.specs.declared.change.Change.{Change};
+ghost use Rattle.retro_tree.specs.declared.state.State.{State};
+
+/// A change writes its own cell, by what the cell held, and leaves each other cell as it is. This
+/// holds of every state, also where the session of the change isn't there.
+#[tactic(auto, using(crate::proofs::CellLaw::cell_laws))]
+pub fn changes_write_one_cell()
+    ensures own { (change : Change) (s : State) → value (cell_of change) (apply change s)
+        ≡ written change (value (cell_of change) s) }
+    ensures other { (change : Change) (c : Cell) (s : State)
+        → c ≢ cell_of change → value c (apply change s) ≡ value c s }
+{}
+
+/// An answer depends on the cells that its question supports, and on no other.
+#[tactic(auto, using(crate::proofs::Agree::agreeing))]
+pub fn answers_depend_on_cells()
+    ensures { (ask : Ask) (s t : State)
+        → ((c : Cell) → supports ask c ≡ true → value c s ≡ value c t)
+        → answer ask s ≡ answer ask t }
+{}
+
+/// States are equal where all cells hold the same and the same sessions are there.
+#[tactic(auto, using(crate::proofs::Agree::same_state))]
+pub fn cells_make_the_state()
+    ensures { (s t : State) → ((c : Cell) → value c s ≡ value c t)
+        → ((sid : ℕ) → map.contains_key s.sessions sid ≡ map.contains_key t.sessions sid)
+        → s ≡ t }
+{}
+
+/// The names of what stands right below a path are in byte order, each once, and are exactly those
+/// of the children that are there.
+#[tactic(auto, using(crate::proofs::Children::listings))]
+pub fn listings_name_the_children()
+    ensures rising { (p : PathValue) (tree : Tree)
+        → IsStrictlySortedBy text_cmp (names_in p tree) }
+    ensures exact { (p : PathValue) (name : List ℕ) (tree : Tree)
+        → list_any (text_eq name) (names_in p tree) ≡ is_some (map.get tree (p ++ name ∷ [])) }
+{}

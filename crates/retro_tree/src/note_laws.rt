@@ -1,0 +1,56 @@
+//! Laws of notes, as contracts of functions that do nothing.
+ghost use Rattle.std.specs.Prelude.{◌≡◌, ◌↔◌, ◌++◌, ◌||◌, true, false, List};
+ghost use Rattle.retro_tree.specs.Cell.{value};
+ghost use Rattle.retro_tree.specs.Lawful.{IsLawful};
+ghost use Rattle.retro_tree.specs.Notes.{after, Holds, AllAllowed, touches, changes, effects};
+ghost use Rattle.retro_tree.specs.declared.cell.Cell.{Cell};
+ghost use Rattle.retro_tree.specs.declared.cell.Value.{Value};
+ghost use Rattle.retro_tree.specs.declared.note.Note.{Note};
+ghost use Rattle.retro_tree.specs.declared.state.State.{State};
+
+/// Notes act on each cell alone: what it holds after them follows from what it held before, and a
+/// cell that they don't change keeps what it holds.
+#[tactic(auto, using(crate::proofs::NoteLaws::one_cell))]
+pub fn notes_act_on_each_cell()
+    ensures alone { (notes : List Note) (c : Cell) (s : State)
+        → value c (after notes s) ≡ effects notes c (value c s) }
+    ensures no_effect { (notes : List Note) (c : Cell) (v : Value)
+        → changes notes c ≡ false → effects notes c v ≡ v }
+    ensures unchanged { (notes : List Note) (c : Cell) (s : State)
+        → changes notes c ≡ false → value c (after notes s) ≡ value c s }
+{}
+
+/// Notes that hold in a state hold in each state that agrees with it on the cells of the notes,
+/// among which are the cells that they change.
+#[tactic(auto, using(crate::proofs::NoteLaws::by_cells))]
+pub fn notes_hold_by_their_cells()
+    ensures agreed { (notes : List Note) (s t : State)
+        → ((c : Cell) → touches notes c ≡ true → value c s ≡ value c t)
+        → Holds notes s → Holds notes t }
+    ensures changed { (notes : List Note) (c : Cell)
+        → changes notes c ≡ true → touches notes c ≡ true }
+{}
+
+/// A lawful state stays lawful under notes whose changes are each lawful where they are made.
+#[tactic(auto, using(crate::proofs::NoteLaws::lawful_after))]
+pub fn allowed_notes_keep_the_law()
+    ensures { (notes : List Note) (s : State)
+        → IsLawful s → AllAllowed notes s → IsLawful (after notes s) }
+{}
+
+/// What notes after notes mean: the later ones start where the earlier ones end.
+#[tactic(auto, using(crate::proofs::NoteLaws::in_turn))]
+pub fn notes_in_turn()
+    ensures state { (xs ys : List Note) (s : State)
+        → after (xs ++ ys) s ≡ after ys (after xs s) }
+    ensures holding { (xs ys : List Note) (s : State)
+        → Holds (xs ++ ys) s ↔ (Holds xs s × Holds ys (after xs s)) }
+    ensures allowed { (xs ys : List Note) (s : State)
+        → AllAllowed (xs ++ ys) s ↔ (AllAllowed xs s × AllAllowed ys (after xs s)) }
+    ensures effect { (xs ys : List Note) (c : Cell) (v : Value)
+        → effects (xs ++ ys) c v ≡ effects ys c (effects xs c v) }
+    ensures touched { (xs ys : List Note) (c : Cell)
+        → touches (xs ++ ys) c ≡ (touches xs c || touches ys c) }
+    ensures changed { (xs ys : List Note) (c : Cell)
+        → changes (xs ++ ys) c ≡ (changes xs c || changes ys c) }
+{}
