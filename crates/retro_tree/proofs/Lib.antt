@@ -14,3 +14,4 @@ pub mod TreeLaw
 pub mod CellLaw
 pub mod Agree
 pub mod Children
+pub mod Users
