@@ -12,9 +12,11 @@
 mod build;
 mod depth;
 mod lines;
+mod parsed;
 mod plain;
 mod quoting;
 mod reader;
+mod tildes;
 pub mod tree;
 mod words;
 
@@ -26,7 +28,9 @@ ghost use Rattle.retro_syntax.specs.Spells.{Spells};
 pub use lines::{
     LONGEST_LINE, Line, Refused, one_line, parse, parsed_is_spelling, writing_is_read,
 };
+pub use parsed::Parsed;
 pub use plain::{PlainCommand, PlainItem, plain_commands};
+pub use tildes::TildePrefix;
 
 /// Reading answers exactly the tree that is spelled, and no two trees are spelled alike.
 pub fn reading_is_spelling()
