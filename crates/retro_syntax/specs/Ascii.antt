@@ -43,6 +43,9 @@ asterisk = 42
 abbrev pub hyphen : ℕ
 hyphen = 45
 
+abbrev pub slash : ℕ
+slash = 47
+
 abbrev pub colon : ℕ
 colon = 58
 

@@ -13,3 +13,4 @@ pub mod Plain
 pub mod PlainViews
 pub mod Lines
 pub mod Writing
+pub mod Tildes

@@ -1,5 +1,5 @@
 -- Which line a text spells.
-use Rattle.std.specs.Prelude.{Bool, true, false, nat_le, ◌≡◌, ◌<◌, ◌≤◌, ℕ, List, [], ◌∷◌, length, Option, Some, None, option_map, option_and_then, if◌then◌else◌, Result, Ok, Err}
+use Rattle.std.specs.Prelude.{◌≢◌, Bool, true, false, nat_le, ◌≡◌, ◌<◌, ◌≤◌, ℕ, List, [], ◌∷◌, length, Option, Some, None, option_map, option_and_then, if◌then◌else◌, Result, Ok, Err}
 use Rattle.std.specs.Str.{chars}
 use Rattle.retro_syntax.specs.Tree.{Token, Commands}
 use Rattle.retro_syntax.specs.Reader.{commands_of}
@@ -73,3 +73,9 @@ pub record SpellsWithin (text : List ℕ) (line : Option Commands) : Type 0 wher
   pub short : length text ≤ 4096
   pub spelled : TextSpells text line
   pub shallow : line_depth line ≤ 32
+
+-- The answer is `parse`'s, and isn't want of memory.
+pub record IsAnswer (text : List ℕ) (answer : Result Line Refused) : Type 0 where
+  pub meets : Meets text answer
+  pub function : Answers text answer
+  pub answered : answer ≢ Err NoMem

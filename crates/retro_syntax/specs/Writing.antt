@@ -1,54 +1,181 @@
--- A writing of tokens that is read as them: each has a blank behind it.
-use Rattle.std.specs.Prelude.{ℕ, Bool, true, false, not, ◌&&◌, List, [], ◌∷◌, ◌++◌, codes}
+-- A writing of tokens that is read as them: quotes around quoted parts, `${name}` for parameters, and
+-- a blank behind each token.
+use Rattle.std.specs.Prelude.{ℕ, Bool, true, false, not, ◌&&◌, ◌||◌, ◌==◌, List, [], ◌∷◌, ◌++◌, map, codes, if◌then◌else◌}
 use Rattle.std.specs.Char.{encode_utf8}
+use Rattle.std.specs.Str.{bytes_eq}
 use Rattle.retro_syntax.specs.Ascii as ascii
 use Rattle.retro_syntax.specs.Tree as T
-use Rattle.retro_syntax.specs.declared.tree.Direction.TheVariants.{Onto, Append}
+use Rattle.retro_syntax.specs.Words.{is_variable}
+use Rattle.retro_syntax.specs.Quoting.{begins_name, is_other_parameter, is_special_inside}
+use Rattle.retro_syntax.specs.declared.tree.Direction.{Direction}
+use Rattle.retro_syntax.specs.declared.tree.Direction.TheVariants.{From, Onto, Append}
+use Rattle.retro_syntax.specs.declared.tree.Connector.{Connector}
+use Rattle.retro_syntax.specs.declared.tree.Connector.TheVariants.{AndIf, OrIf}
 
--- `;`, `>`, `>>`, and a word of these characters
+-- a part of a word, by its characters
+pub data Part : Type 0 where
+  unquoted : List ℕ → Part
+  -- quoted characters, and the names of the parameters behind them in the same quotes
+  quoted : List ℕ → List (List ℕ) → Part
+  -- the name of a parameter outside quotes
+  parameter : List ℕ → Part
+
 pub data Written : Type 0 where
   semicolon : Written
-  truncate : Written
-  append : Written
-  word : List ℕ → Written
+  bar : Written
+  connector : Connector → Written
+  redirection : Direction → Written
+  word : List Part → Written
+
+-- ---- the tokens
 
 abbrev pub bytes_of : List ℕ → List ℕ
 bytes_of [] = []
 bytes_of (c ∷ cs) = encode_utf8 c ++ bytes_of cs
 
+abbrev pub pieces_of : Part → List T.Piece
+pieces_of (unquoted cs) = T.plain (bytes_of cs) ∷ []
+pieces_of (quoted cs ns) = T.quoted (bytes_of cs) ∷ map T.quoted_parameter ns
+pieces_of (parameter n) = T.parameter n ∷ []
+
+abbrev pub word_of : List Part → T.Word
+word_of [] = []
+word_of (p ∷ ps) = pieces_of p ++ word_of ps
+
 abbrev pub token_of : Written → T.Token
 token_of semicolon = T.semicolon
-token_of truncate = T.redirection Onto
-token_of append = T.redirection Append
-token_of (word cs) = T.word (T.plain (bytes_of cs) ∷ [])
+token_of bar = T.bar
+token_of (connector op) = T.connector op
+token_of (redirection d) = T.redirection d
+token_of (word ps) = T.word (word_of ps)
 
-abbrev pub characters_of : Written → List ℕ
-characters_of semicolon = ascii.semicolon ∷ []
-characters_of truncate = ascii.greater ∷ []
-characters_of append = ascii.greater ∷ ascii.greater ∷ []
-characters_of (word cs) = cs
+-- ---- the characters, before those `r` that follow
+
+abbrev pub braces_then : List ℕ → List ℕ → List ℕ
+braces_then n r = ascii.dollar ∷ ascii.left_brace ∷ n ++ ascii.right_brace ∷ r
+
+abbrev pub parameters_then : List (List ℕ) → List ℕ → List ℕ
+parameters_then [] r = r
+parameters_then (n ∷ ns) r = braces_then n (parameters_then ns r)
+
+-- a backslash stands before each of $ ` " and the backslash
+abbrev pub escaped_then : List ℕ → List ℕ → List ℕ
+escaped_then [] r = r
+escaped_then (c ∷ cs) r =
+    if is_special_inside c then ascii.backslash ∷ c ∷ escaped_then cs r else c ∷ escaped_then cs r
+
+abbrev pub part_then : Part → List ℕ → List ℕ
+part_then (unquoted cs) r = cs ++ r
+part_then (quoted cs ns) r =
+    ascii.double_quote ∷ escaped_then cs (parameters_then ns (ascii.double_quote ∷ r))
+part_then (parameter n) r = braces_then n r
+
+abbrev pub parts_then : List Part → List ℕ → List ℕ
+parts_then [] r = r
+parts_then (p ∷ ps) r = part_then p (parts_then ps r)
+
+abbrev pub connector_then : Connector → List ℕ → List ℕ
+connector_then AndIf r = ascii.ampersand ∷ ascii.ampersand ∷ r
+connector_then OrIf r = ascii.bar ∷ ascii.bar ∷ r
+
+abbrev pub direction_then : Direction → List ℕ → List ℕ
+direction_then From r = ascii.less ∷ r
+direction_then Onto r = ascii.greater ∷ r
+direction_then Append r = ascii.greater ∷ ascii.greater ∷ r
+
+abbrev pub token_then : Written → List ℕ → List ℕ
+token_then semicolon r = ascii.semicolon ∷ r
+token_then bar r = ascii.bar ∷ r
+token_then (connector op) r = connector_then op r
+token_then (redirection d) r = direction_then d r
+token_then (word ps) r = parts_then ps r
 
 abbrev pub written : List Written → List ℕ
 written [] = []
-written (w ∷ ws) = characters_of w ++ ascii.space ∷ written ws
+written (w ∷ ws) = token_then w (ascii.space ∷ written ws)
 
--- what stands in no word of a plain command
+-- ---- what can be written so
+
+-- what stands in no unquoted part; a `$` may where it stands for itself
 abbrev pub breaking_characters : List ℕ
 breaking_characters =
-    ascii.space ∷ ascii.tab ∷ ascii.semicolon ∷ ascii.greater ∷ ascii.nul ∷ ascii.newline
-    ∷ codes "&|<(){}\\'\"$`#~=!"
+    ascii.backslash ∷ ascii.space ∷ ascii.tab ∷ ascii.semicolon ∷ ascii.ampersand ∷ ascii.bar
+    ∷ ascii.less ∷ ascii.greater ∷ ascii.single_quote ∷ ascii.double_quote ∷ ascii.dollar
+    ∷ ascii.nul ∷ ascii.newline ∷ ascii.left_parenthesis ∷ ascii.right_parenthesis
+    ∷ ascii.backquote ∷ []
 
-abbrev pub are_whole : List ℕ → Bool
-are_whole [] = true
-are_whole (c ∷ cs) = not (ascii.is_among breaking_characters c) && are_whole cs
+abbrev pub fits : ℕ → Bool
+fits c = not (ascii.is_among breaking_characters c)
 
--- a word has one character or more, and none that breaks it
+-- whether a `$` before it doesn't stand for itself
+abbrev pub begins_parameter : ℕ → Bool
+begins_parameter c =
+    begins_name c || (c == ascii.left_brace || (c == ascii.question || is_other_parameter c))
+
+-- a `$` before this stands for itself; `followed` says whether a parameter comes behind the part
+abbrev pub stands_alone : Bool → List ℕ → Bool
+stands_alone followed [] = not followed
+stands_alone followed (c ∷ cs) = not (begins_parameter c)
+
+abbrev pub are_unquoted : Bool → List ℕ → Bool
+are_unquoted followed [] = true
+are_unquoted followed (c ∷ cs) =
+    (fits c || (c == ascii.dollar && stands_alone followed cs)) && are_unquoted followed cs
+
+-- all but NUL
+abbrev pub are_quoted : List ℕ → Bool
+are_quoted [] = true
+are_quoted (c ∷ cs) = not (c == ascii.nul) && are_quoted cs
+
+abbrev pub is_parameter : List ℕ → Bool
+is_parameter n = is_variable n || bytes_eq n (codes "?")
+
+abbrev pub are_parameters : List (List ℕ) → Bool
+are_parameters [] = true
+are_parameters (n ∷ ns) = is_parameter n && are_parameters ns
+
+abbrev pub is_part : Bool → Part → Bool
+is_part followed (unquoted []) = false
+is_part followed (unquoted (c ∷ cs)) = are_unquoted followed (c ∷ cs)
+is_part followed (quoted cs ns) = are_quoted cs && are_parameters ns
+is_part followed (parameter n) = is_parameter n
+
+abbrev pub is_unquoted_parameter : Part → Bool
+is_unquoted_parameter (unquoted cs) = false
+is_unquoted_parameter (quoted cs ns) = false
+is_unquoted_parameter (parameter n) = true
+
+-- Two unquoted parts would be one, and two quoted ones without parameters between.
+abbrev pub are_apart : Part → Part → Bool
+are_apart (unquoted cs) (unquoted ds) = false
+are_apart (unquoted cs) (quoted ds ms) = true
+are_apart (unquoted cs) (parameter m) = true
+are_apart (quoted cs ns) (unquoted ds) = true
+are_apart (quoted cs []) (quoted ds ms) = false
+are_apart (quoted cs (n ∷ ns)) (quoted ds ms) = true
+are_apart (quoted cs ns) (parameter m) = true
+are_apart (parameter n) q = true
+
+abbrev pub are_parts : List Part → Bool
+are_parts [] = true
+are_parts (p ∷ []) = is_part false p
+are_parts (p ∷ q ∷ ps) =
+    is_part (is_unquoted_parameter q) p && (are_apart p q && are_parts (q ∷ ps))
+
+-- A word has a part, and begins no comment.
+abbrev pub begins_no_comment : List Part → Bool
+begins_no_comment [] = false
+begins_no_comment (unquoted [] ∷ ps) = false
+begins_no_comment (unquoted (c ∷ cs) ∷ ps) = not (c == ascii.hash)
+begins_no_comment (quoted cs ns ∷ ps) = true
+begins_no_comment (parameter n ∷ ps) = true
+
 abbrev pub is_writable : Written → Bool
-is_writable (word []) = false
-is_writable (word (c ∷ cs)) = are_whole (c ∷ cs)
 is_writable semicolon = true
-is_writable truncate = true
-is_writable append = true
+is_writable bar = true
+is_writable (connector op) = true
+is_writable (redirection d) = true
+is_writable (word ps) = begins_no_comment ps && are_parts ps
 
 abbrev pub are_writable : List Written → Bool
 are_writable [] = true

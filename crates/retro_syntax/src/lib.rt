@@ -1,20 +1,26 @@
 //! The lines of a shell: a text is read as the one line that it spells, or refused.
 //!
-//! [`parse`] takes the lists of plain commands: words without quotes and output redirections, with
-//! `;` between the commands. It answers the line's tree exactly where the text spells one, and each
-//! refusal exactly where it applies. [`plain_commands`] takes the commands out of the tree. No text
-//! spells two lines, and what is written with blanks between its tokens is read as it was written.
+//! [`parse`] answers the line's tree exactly where the text spells one within the limits, and each
+//! refusal exactly where it applies; a [`Parsed`] keeps a text with that answer. No text spells two
+//! lines.
 //!
-//! Beneath it the tokens of the whole grammar are recognised (XCU 2.2, 2.3) and read as a tree
-//! (XCU 2.4, 2.10), which [`reading_is_spelling`] proves to be the tree that these tokens write.
+//! A line is spelled in two steps. Its text is a list of tokens (XCU 2.2, 2.3), defined character by
+//! character; [`writing_is_read`] says of the definition that tokens written with quotes, braces
+//! and blanks are read as themselves. The tokens are a tree written out (XCU 2.4, 2.10);
+//! [`reading_is_spelling`] says that the reader finds just that tree.
+//!
+//! Words are lists of pieces, and [`tree::Word::tilde_prefix`] finds their tilde prefix.
+//! [`plain_commands`] takes the commands out of a line that is a list of plain ones.
 #![tactic(auto)]
 
 mod build;
 mod depth;
 mod lines;
+mod parsed;
 mod plain;
 mod quoting;
 mod reader;
+mod tildes;
 pub mod tree;
 mod words;
 
@@ -26,7 +32,9 @@ ghost use Rattle.retro_syntax.specs.Spells.{Spells};
 pub use lines::{
     LONGEST_LINE, Line, Refused, one_line, parse, parsed_is_spelling, writing_is_read,
 };
+pub use parsed::Parsed;
 pub use plain::{PlainCommand, PlainItem, plain_commands};
+pub use tildes::TildePrefix;
 
 /// Reading answers exactly the tree that is spelled, and no two trees are spelled alike.
 pub fn reading_is_spelling()

@@ -126,7 +126,8 @@ pub fn parsed_is_spelling()
         → parsed text ≡ Some line }
 {}
 
-/// What is written with a blank behind each token is read as it was written.
+/// Tokens written with quotes around quoted parts, `${name}` for parameters and a blank behind each
+/// token are read as they were written.
 pub fn writing_is_read()
     ensures { (ws : List Written) → are_writable ws ≡ true
         → tokens_of (written ws) ≡ Some (map token_of ws) }

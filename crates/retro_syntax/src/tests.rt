@@ -1,8 +1,9 @@
 mod shown;
 
+use crate::tree::{Command, Item, Simple};
 use crate::{
-    PlainItem, Refused, one_line, parse, parsed_is_spelling, plain_commands, reading_is_spelling,
-    writing_is_read,
+    Line, Parsed, PlainItem, Refused, one_line, parse, parsed_is_spelling, plain_commands,
+    reading_is_spelling, writing_is_read,
 };
 use shown::shown;
 use std::alloc::{AllocError, Global};
@@ -268,6 +269,59 @@ fn plain_commands_are_found(rt: HostRuntime) -> Result<(), Fail> {
         let line = parse(alloc, text)?;
         assert!(rt; plain_commands(alloc, &line)?.is_none(), "at {text}");
     }
+    Ok(())
+}
+
+/// The tilde prefix of the line's first word or first value, where it has one: login and rest.
+fn tilde_prefix(line: &Line) -> Option<(&str, &str)> {
+    let commands = line.commands.as_ref()?;
+    let prefix = match &commands.last.last.command {
+        Command::Pipe(stages) => match stages.first()? {
+            Simple::Assignments(assignments) => assignments.first()?.tilde_prefix()?,
+            Simple::Command(items) => match items.first()? {
+                Item::Argument(word) => word.tilde_prefix()?,
+                Item::Redirect(_, word) => word.tilde_prefix()?,
+            },
+        },
+        Command::If(_) | Command::IfElse(_, _) | Command::For(_) => return None,
+    };
+    Some((prefix.login, prefix.rest))
+}
+
+#[test]
+fn tilde_prefixes_are_found(rt: HostRuntime) -> Result<(), Fail> {
+    let alloc = rt.alloc();
+    for (text, want) in [
+        ("~", Some(("", ""))),
+        ("~bob/a$x", Some(("bob", "/a"))),
+        ("> ~a:b c", Some(("a:b", ""))),
+        ("x=~:a", Some(("", ":a"))),
+        ("x=~a:b/c", Some(("a", ":b/c"))),
+        ("x=~a/$y", Some(("a", "/"))),
+        ("~\"\"", None),
+        ("~$x", None),
+        ("~a\\b/c", None),
+        ("\\~", None),
+        ("a~", None),
+        ("x=a~", None),
+        ("x=\"\"~", None),
+    ] {
+        let line = parse(alloc, text)?;
+        assert_eq!(rt; tilde_prefix(&line), want, "at {text}");
+    }
+    Ok(())
+}
+
+#[test]
+fn texts_keep_their_answers(rt: HostRuntime) -> Result<(), Fail> {
+    let alloc = rt.alloc();
+    let lawful = Parsed::of(alloc, String::from_str(alloc, "a | b")?)?;
+    assert_eq!(rt; lawful.text(), "a | b");
+    assert!(rt; lawful.line().is_some());
+    assert_eq!(rt; lawful.refused(), None);
+    let refused = Parsed::of(alloc, String::from_str(alloc, "a &")?)?;
+    assert!(rt; refused.line().is_none());
+    assert_eq!(rt; refused.refused(), Some(Refused::Unsupported));
     Ok(())
 }
 

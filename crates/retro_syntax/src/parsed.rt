@@ -1,0 +1,71 @@
+//! A text together with its line.
+
+ghost use Rattle.std.specs.Prelude.{◌≡◌, ◌≢◌, IfOk, IfSome, Err, Some, is_none, is_some, option_map, string_bytes};
+ghost use Rattle.retro_syntax.specs.Lines.{Meets, line_view, parsed};
+ghost use Rattle.retro_syntax.specs.declared.lines.Refused.TheVariants.{NoMem};
+
+use crate::lines::{Line, Refused, parse};
+use std::alloc::{AllocError, Global};
+use std::marker::Model;
+
+/// A text, together with what [`parse`] answers for it. Contracts see it as the text.
+#[derive(Drop)]
+pub struct Parsed {
+    text: String,
+    answer: Result<Line, Refused>,
+}
+
+impl Model for Parsed {
+    ghost use Rattle.std.specs.Prelude.{List, ℕ, string_bytes};
+    ghost use Rattle.retro_syntax.specs.Lines.{IsAnswer};
+
+    ghost Value = { List ℕ };
+
+    ghost view = { λ p. string_bytes p.text };
+
+    ghost invariant = { λ p. IsAnswer (string_bytes p.text) p.answer };
+}
+
+impl Parsed {
+    /// The text with its answer.
+    ///
+    /// # Errors
+    ///
+    /// `AllocError` where memory is wanting.
+    pub fn of(alloc: Global, text: String) -> Result<Parsed, AllocError>
+        ensures { IfOk result (λ p. p ≡ string_bytes text) }
+    {
+        match parse(alloc, &text) {
+            Err(Refused::NoMem) => Err(AllocError),
+            answer => Ok(Parsed { text, answer }),
+        }
+    }
+
+    /// The text.
+    pub fn text(&self) -> &str
+        ensures { result.now ≡ self.now }
+    {
+        &self.text
+    }
+
+    /// The line that the text spells within the limits; none where the text is refused.
+    pub fn line(&self) -> Option<&Line>
+        ensures { option_map (λ line. line_view line.now) result ≡ parsed self.now }
+    {
+        match &self.answer {
+            Ok(line) => Some(line),
+            Err(_) => None,
+        }
+    }
+
+    /// Why the text is refused, where it is. It is never `NoMem`.
+    pub fn refused(&self) -> Option<Refused>
+        ensures meets { IfSome result (λ why. Meets self.now (Err why) × (why ≢ NoMem)) }
+        ensures found { is_some result ≡ is_none (parsed self.now) }
+    {
+        match &self.answer {
+            Ok(_) => None,
+            Err(why) => Some(*why),
+        }
+    }
+}
