@@ -15,3 +15,4 @@ pub mod CellLaw
 pub mod Agree
 pub mod Children
 pub mod Users
+pub mod Allowed
