@@ -19,3 +19,4 @@ pub mod NoteLaws
 pub mod OverlayLaying
 pub mod OverlayListing
 pub mod Users
+pub mod Allowed

@@ -11,6 +11,8 @@ pub mod Session
 pub mod State
 pub mod Limits
 pub mod Lawful
+pub mod Setting
+pub mod Known
 pub mod Resolving
 pub mod CellOrder
 pub mod User

@@ -1,4 +1,4 @@
-use Rattle.std.proofs.Common.{ap, ◌∙◌, sym, refl, subst}
+use Rattle.std.proofs.Common.{ap, ◌∙◌, sym, refl, subst, false}
 use Rattle.std.specs.Prelude.{IsSome}
 use Rattle.std.specs.Option.{option_copied_mut}
 use Rattle.std.specs.FinMap as map
@@ -8,7 +8,7 @@ use Rattle.retro_tree.specs.contracts.tree.Tree.{the_view}
 use Rattle.retro_tree.proofs.MapLemmas.{made_insert, made_same, get_made}
 use Rattle.retro_tree.proofs.Lookups.{put_grown, put_new}
 use Rattle.retro_tree.proofs.Results.{on_ok, on_err}
-use Rattle.retro_tree.proofs.tree.Tree.grow.Goals as goal
+use Rattle.retro_tree.proofs.tree.Tree.extend.Goals as goal
 
 pub returns-in-Some-clause-ok : goal.returns-in-Some-clause-ok
 returns-in-Some-clause-ok c =
@@ -37,7 +37,7 @@ returns-clause-ok c =
     let es = c.self.inside.entries.entries in
     let p = c.args.path.now in
     let none = sym c.get_mut.ensures.value ∙ ap option_copied_mut c.in_default.is in
-    let same = ap (λ n. the_view (record { entries = n })) c.get_mut.follows.holds-at-none ∙ c.self.view_is in
+    let same = ap (λ n. the_view (record { entries = n; known_lawful = false })) c.get_mut.follows.holds-at-none ∙ c.self.view_is in
     let absent = ap (λ m. map.get m p) (sym c.self.view_is) ∙ get_made path_total es p ∙ none in
     on_ok c.insert.result _ _ (λ is. is
     ∙ (λ i. map.insert (same i) (c.in_ok-path.ensures i) (FileEntry (c.in_ok-bytes.ensures i)))
