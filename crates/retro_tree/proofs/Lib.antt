@@ -18,3 +18,4 @@ pub mod OverlayLemmas
 pub mod NoteLaws
 pub mod OverlayLaying
 pub mod OverlayListing
+pub mod Users

@@ -14,6 +14,10 @@ use Rattle.retro_tree.specs.declared.ask.User.{User}
 unfoldable pub is_plain_text : List ℕ → Bool
 is_plain_text bytes = is_utf8 bytes && not (list_any (λ b. b == 0) bytes)
 
+-- such bytes as a text
+abbrev pub plain_text : List ℕ → Option (List ℕ)
+plain_text bytes = if is_plain_text bytes then Some bytes else None
+
 -- a decimal number of one to ten digits, at most 4,294,967,295
 unfoldable pub user_number : List ℕ → Option ℕ
 user_number text =
@@ -35,6 +39,11 @@ entry_of_fields _ = None
 -- the entry of a line that is well formed: seven fields, parted by colons
 unfoldable pub entry_of_line : List ℕ → Option (List ℕ × User)
 entry_of_line line = entry_of_fields (slice_split (λ b. b == 58) line)
+
+-- the user of an entry that has the login name
+abbrev pub named : List ℕ → Option (List ℕ × User) → Option User
+named name None = None
+named name (Some e) = if text_eq e.0 name then Some e.1 else None
 
 -- the first entry with the login name
 abbrev pub first_of : List ℕ → List (List ℕ × User) → Option User

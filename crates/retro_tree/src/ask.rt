@@ -1,6 +1,8 @@
 //! Questions to a state, and what it answers.
 ghost use Rattle.std.specs.Prelude.{◌≡◌, IfOk};
+ghost use Rattle.retro_tree.specs.Ask.{supports};
 
+use crate::cell::Cell;
 use crate::listing::Listing;
 use crate::node::{Kind, Node, Permit};
 use crate::path::Path;
@@ -75,5 +77,22 @@ impl Answer {
         ensures { IfOk result (λ copy. copy ≡ self.now) }
     {
         self.clone()
+    }
+}
+
+/// Whether the answer to a question can depend on a cell.
+#[tactic(auto, unfolding(crate::specs::Ask::supports))]
+pub fn supports(ask: &Ask, cell: &Cell) -> bool
+    ensures { result ≡ supports ask.now cell.now }
+{
+    match (ask, cell) {
+        (Ask::Kind(path) | Ask::Bytes(path), Cell::At(at)) => path == at,
+        (Ask::Names(path), Cell::At(at)) => path == at || at.is_child_of(path),
+        (Ask::CanWrite(path, _), Cell::At(at)) => path == at || at.is_parent_of(path),
+        (Ask::User(_), Cell::At(at)) => at.is_passwd(),
+        (Ask::VarOf(asked, variable), Cell::Var(sid, name)) => asked == sid && variable == name,
+        (Ask::CwdOf(asked), Cell::Cwd(sid)) => asked == sid,
+        (Ask::StatusOf(asked), Cell::Status(sid)) => asked == sid,
+        _ => false,
     }
 }

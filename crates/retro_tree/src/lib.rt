@@ -12,6 +12,7 @@
 //! `resolve` gives the path that a text names from a directory, by the text alone.
 #![tactic(auto)]
 
+mod answering;
 mod ask;
 mod bytes;
 mod cell;
@@ -32,10 +33,11 @@ mod state;
 mod tests;
 mod text;
 mod tree;
+mod user;
 mod var_name;
 mod view;
 
-pub use ask::{Answer, Ask, User};
+pub use ask::{Answer, Ask, User, supports};
 pub use bytes::Bytes;
 pub use cell::{Cell, Value};
 pub use cell_laws::{

@@ -1,0 +1,114 @@
+-- The fields of the password file, as the code reads them.
+use Rattle.std.proofs.Common.{◌≡◌, ◌<◌, ◌≤◌, ◌^◌, ◌==◌, ℕ, zero, suc, Bool, true, false, not, ◌&&◌, nat_le, List, [], ◌∷◌, length, Some, None, Result, Ok, Err, refl, sym, ap, ◌∙◌, arith}
+use Rattle.std.specs.Bool.{if◌then◌else◌}
+use Rattle.std.specs.Result.{result_ok, OkIff}
+use Rattle.std.specs.List.{list_any, list_all}
+use Rattle.std.specs.Char.{is_ascii_digit}
+use Rattle.std.specs.Str.{IsUtf8, is_utf8, all_ascii_digits, IsAscii}
+use Rattle.std.specs.Str.Parse.{digits_value, ParsesUnsigned}
+use Rattle.std.proofs.lemmas.Bool.{true≢false, false≢true, leb-true, le-leb}
+use Rattle.std.proofs.lemmas.Str.{IsUtf8-from_is_utf8, is_utf8-from_IsUtf8, IsUtf8-from_ascii}
+use Rattle.std.proofs.lemmas.Str.Parse.{parse_digits, numerals_by_value, tells_all_ascii_digits}
+use Rattle.retro_tree.specs.User.{is_plain_text, plain_text, user_number}
+use Rattle.retro_tree.proofs.Small.{first_true, both_true, and_true}
+
+-- ---- texts
+chosen : {A : Type 0} (b : Bool) (x : A) → b ≡ true → if b then Some x else None ≡ Some x
+chosen true x e = refl
+chosen false x e = absurd (false≢true e)
+
+passed : {A : Type 0} (b : Bool) (x : A) → b ≡ false → if b then Some x else None ≡ None
+passed true x e = absurd (true≢false e)
+passed false x e = refl
+
+and_false : (a b : Bool) → b ≡ false → (a && b) ≡ false
+and_false true b e = e
+and_false false b e = refl
+
+pub with_nul : (bytes : List ℕ) → list_any (λ b. b == 0) bytes ≡ true → plain_text bytes ≡ None
+unfolding is_plain_text
+with_nul bytes h = passed (is_utf8 bytes && not (list_any (λ b. b == 0) bytes)) bytes (and_false (is_utf8 bytes) _ (ap not h))
+
+pub without_nul : (bytes : List ℕ) → IsUtf8 bytes → list_any (λ b. b == 0) bytes ≡ false → plain_text bytes ≡ Some bytes
+unfolding is_plain_text
+without_nul bytes u h = chosen (is_utf8 bytes && not (list_any (λ b. b == 0) bytes)) bytes (and_true _ _ (is_utf8-from_IsUtf8 bytes u) (ap not h))
+
+pub no_utf8 : (bytes : List ℕ) → (IsUtf8 bytes → ⊥) → plain_text bytes ≡ None
+unfolding is_plain_text
+no_utf8 bytes h = go (is_utf8 bytes) refl
+  where
+    go : (b : Bool) → is_utf8 bytes ≡ b → if b && not (list_any (λ b. b == 0) bytes) then Some bytes else None ≡ None
+    go true e = absurd (h (IsUtf8-from_is_utf8 bytes e))
+    go false e = refl
+
+pub ruleset texts = (with_nul, without_nul, no_utf8)
+
+-- ---- numbers
+all_digits : (bytes : List ℕ) → list_all is_ascii_digit bytes ≡ all_ascii_digits bytes
+all_digits [] = refl
+all_digits (c ∷ cs) = ap (λ b. is_ascii_digit c && b) (all_digits cs)
+
+digit_is_ascii : (c : ℕ) → is_ascii_digit c ≡ true → c < 128
+digit_is_ascii c e = let le = leb-true c 57 (both_true (nat_le 48 c) (nat_le c 57) e) in omega arith
+
+digits_are_ascii : (bytes : List ℕ) → list_all is_ascii_digit bytes ≡ true → IsAscii bytes
+digits_are_ascii [] h i = omega arith
+digits_are_ascii (c ∷ cs) h zero = digit_is_ascii c (first_true (is_ascii_digit c) _ h)
+digits_are_ascii (c ∷ cs) h (suc i) = digits_are_ascii cs (both_true (is_ascii_digit c) _ h) i
+
+pub digits_are_text : (bytes : List ℕ) → list_all is_ascii_digit bytes ≡ true → IsUtf8 bytes
+digits_are_text bytes h = IsUtf8-from_ascii bytes (digits_are_ascii bytes h)
+
+le_false : (m n : ℕ) → n < m → nat_le m n ≡ false
+le_false m n h = go (nat_le m n) refl
+  where
+    go : (b : Bool) → nat_le m n ≡ b → b ≡ false
+    go true e = let le = leb-true m n e in absurd (omega arith)
+    go false e = refl
+
+first_false : (a b : Bool) → a ≡ false → (a && b) ≡ false
+first_false true b e = absurd (true≢false e)
+first_false false b e = refl
+
+abbrev passes : List ℕ → Bool
+passes bytes = nat_le 1 (length bytes) && (nat_le (length bytes) 10 && (all_ascii_digits bytes && nat_le (digits_value 10 bytes) 4294967295))
+
+pub too_long : (bytes : List ℕ) → 10 < length bytes → user_number bytes ≡ None
+unfolding user_number
+too_long bytes h = passed (passes bytes) (digits_value 10 bytes) (and_false (nat_le 1 (length bytes)) _ (first_false (nat_le (length bytes) 10) _ (le_false _ _ h)))
+
+pub no_digits : (bytes : List ℕ) → list_all is_ascii_digit bytes ≡ false → user_number bytes ≡ None
+unfolding user_number
+no_digits bytes h =
+    passed (passes bytes) (digits_value 10 bytes)
+    (and_false (nat_le 1 (length bytes)) _ (and_false (nat_le (length bytes) 10) _ (first_false (all_ascii_digits bytes) _ (sym (all_digits bytes) ∙ h))))
+
+pub number_read : {E : Type 0} (bytes : List ℕ) (r : Result ℕ E) → length bytes ≤ 10 → list_all is_ascii_digit bytes ≡ true → ParsesUnsigned 32 10 bytes r → result_ok r ≡ user_number bytes
+unfolding user_number
+number_read {E} bytes r short digits h = go r (parse_digits (numerals_by_value (λ ds. all_ascii_digits ds ≡ true) tells_all_ascii_digits) 32 bytes r h (sym (all_digits bytes) ∙ digits))
+  where
+    fits : 0 < length bytes → digits_value 10 bytes < 2 ^ 32 → passes bytes ≡ true
+    fits some small =
+        and_true _ _ (le-leb _ _ (omega arith))
+        (and_true _ _ (le-leb _ _ short) (and_true _ _ (sym (all_digits bytes) ∙ digits) (le-leb _ _ (omega arith))))
+
+    some_digit : passes bytes ≡ true → 0 < length bytes
+    some_digit e = let l = leb-true 1 (length bytes) (first_true (nat_le 1 (length bytes)) _ e) in omega arith
+
+    small : passes bytes ≡ true → digits_value 10 bytes < 2 ^ 32
+    small e =
+        let l = leb-true (digits_value 10 bytes) 4294967295 (both_true (all_ascii_digits bytes) _ (both_true (nat_le (length bytes) 10) _ (both_true (nat_le 1 (length bytes)) _ e))) in
+        omega arith
+
+    go : (q : Result ℕ E) → OkIff q ((0 < length bytes) × (digits_value 10 bytes < 2 ^ 32)) (digits_value 10 bytes) → result_ok q ≡ if passes bytes then Some (digits_value 10 bytes) else None
+    go (Ok x) k = ap Some k.1 ∙ sym (chosen (passes bytes) (digits_value 10 bytes) (fits k.0.0 k.0.1))
+    go (Err e) k = sym (without (passes bytes) refl)
+      where
+        without : (b : Bool) → passes bytes ≡ b → if b then Some (digits_value 10 bytes) else None ≡ None
+        without true t = absurd (k (some_digit t, small t))
+        without false t = refl
+
+pub not_text : (bytes : List ℕ) → list_all is_ascii_digit bytes ≡ true → (IsUtf8 bytes → ⊥) → user_number bytes ≡ None
+not_text bytes h not_utf8 = absurd (not_utf8 (digits_are_text bytes h))
+
+pub ruleset numbers = (too_long, no_digits, not_text, number_read)

@@ -1,0 +1,111 @@
+//! The entries of the password file.
+ghost use Rattle.std.specs.Prelude.{◌≡◌, ◌==◌, IfOk, map, option_map};
+ghost use Rattle.std.specs.List.{slice_split, list_all};
+ghost use Rattle.std.specs.Char.{is_ascii_digit};
+ghost use Rattle.retro_tree.specs.User.{plain_text, user_number, named, entry_by, entry_of_line, find_user};
+
+use crate::ask::User;
+use crate::text::Text;
+use std::alloc::{AllocError, Global};
+use std::str;
+
+/// The greatest count of digits in the number of a user.
+const MOST_DIGITS: usize = 10;
+
+/// What stands between separators.
+fn cut(alloc: Global, bytes: &[u8], separator: u8) -> Result<Vec<&[u8]>, AllocError>
+    ensures { IfOk result (λ parts. map (λ part. part.now) parts.items
+        ≡ slice_split (λ b. b == separator) bytes.now) }
+{
+    bytes.split(|byte| *byte == separator).collect(alloc)
+}
+
+/// The text of bytes that are UTF-8 without NUL.
+#[tactic(auto, using(crate::proofs::Users::texts))]
+fn plain_text(bytes: &[u8]) -> Option<&str>
+    ensures { option_map (λ text. text.now) result ≡ plain_text bytes.now }
+{
+    let Ok(text) = str::from_utf8(bytes) else {
+        return None;
+    };
+    if bytes.contains(&0) {
+        return None;
+    }
+    Some(text)
+}
+
+/// Whether all bytes are decimal digits.
+fn are_digits(bytes: &[u8]) -> bool
+    ensures { result ≡ list_all is_ascii_digit bytes.now }
+{
+    bytes.iter().all(|byte| byte.is_ascii_digit())
+}
+
+/// The number that one to ten digits write, where it is at most 4,294,967,295.
+#[tactic(auto, using(crate::proofs::Users::numbers))]
+fn user_number(digits: &[u8]) -> Option<u32>
+    ensures { result ≡ user_number digits.now }
+{
+    if digits.len() > MOST_DIGITS || !are_digits(digits) {
+        return None;
+    }
+    match str::from_utf8(digits) {
+        Ok(text) => text.parse::<u32>().ok(),
+        Err(_) => None,
+    }
+}
+
+/// The user of these fields, where they are well formed and have the login name.
+fn user_of_fields(
+    alloc: Global,
+    name: &Text,
+    login: &[u8],
+    number: &[u8],
+    home: &[u8],
+) -> Result<Option<User>, AllocError>
+    ensures { IfOk result (λ user. user
+        ≡ named name.now (entry_by login.now number.now home.now)) }
+{
+    if login.is_empty() || login != name.bytes() || plain_text(login).is_none() {
+        return Ok(None);
+    }
+    let Some(home) = plain_text(home) else {
+        return Ok(None);
+    };
+    let Some(number) = user_number(number) else {
+        return Ok(None);
+    };
+    let home = Text::of(String::from_str(alloc, home)?);
+    Ok(Some(User { number, home }))
+}
+
+/// The user of a line, where it is well formed and has the login name: seven fields, parted by
+/// colons.
+#[tactic(auto, unfolding(crate::specs::User::entry_of_line))]
+fn user_of_line(alloc: Global, name: &Text, line: &[u8]) -> Result<Option<User>, AllocError>
+    ensures { IfOk result (λ user. user ≡ named name.now (entry_of_line line.now)) }
+{
+    let fields = cut(alloc, line, b':')?;
+    match fields.as_slice() {
+        [login, _, number, _, _, home, _] => user_of_fields(alloc, name, login, number, home),
+        _ => Ok(None),
+    }
+}
+
+/// The user with a login name: that of the first line that is well formed and has it.
+#[tactic(auto, unfolding(crate::specs::User::find_user))]
+pub(crate) fn find_user(
+    alloc: Global,
+    name: &Text,
+    bytes: &[u8],
+) -> Result<Option<User>, AllocError>
+    ensures { IfOk result (λ user. user ≡ find_user name.now bytes.now) }
+{
+    let lines = cut(alloc, bytes, b'\n')?;
+    for line in &lines {
+        if let Some(user) = user_of_line(alloc, name, line)? {
+            return Ok(Some(user));
+        }
+    }
+    Ok(None)
+}
