@@ -19,3 +19,7 @@ pub mod NoteLaws
 pub mod OverlayLaying
 pub mod OverlayListing
 pub mod Users
+pub mod SettingLemmas
+pub mod Undoing
+pub mod OverlayCommit
+pub mod PutCells

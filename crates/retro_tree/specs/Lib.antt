@@ -19,3 +19,5 @@ pub mod Ask
 pub mod Change
 pub mod Notes
 pub mod Overlay
+pub mod Setting
+pub mod Commit

@@ -6,6 +6,8 @@ ghost use Rattle.retro_tree.specs.Maps.{update};
 ghost use Rattle.retro_tree.specs.Session.{fresh_session, with_status};
 ghost use Rattle.retro_tree.specs.Limits.{values_fit, are_lawful_sessions};
 
+pub(crate) mod setting;
+
 use crate::path::Path;
 use crate::text::Text;
 use crate::var_name::VarName;

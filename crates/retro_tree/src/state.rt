@@ -10,6 +10,8 @@ ghost use Rattle.retro_tree.specs.Limits.{IsWithinLimits, within_limits};
 ghost use Rattle.retro_tree.specs.Lawful.{IsLawful, is_lawful};
 ghost use Rattle.retro_tree.specs.State.{empty_state, put_node, grow_file, put_session, put_status, permit_of};
 
+pub(crate) mod writing;
+
 use crate::bytes::Bytes;
 use crate::listing::Listing;
 use crate::node::{Entry, Kind, Node, Permit};

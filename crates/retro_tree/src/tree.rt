@@ -8,6 +8,8 @@ ghost use Rattle.retro_tree.specs.Ask.{names_in};
 ghost use Rattle.retro_tree.specs.Limits.{files_fit};
 ghost use Rattle.retro_tree.specs.Lawful.{is_lawful_tree, entry_passes};
 
+mod exchange;
+
 use crate::bytes::Bytes;
 use crate::listing::Listing;
 use crate::node::{Entry, FILE_LIMIT, Kind, Node, Permit};
