@@ -20,3 +20,7 @@ pub mod OverlayLaying
 pub mod OverlayListing
 pub mod Users
 pub mod Allowed
+pub mod SettingLemmas
+pub mod Undoing
+pub mod OverlayCommit
+pub mod PutCells

@@ -21,3 +21,4 @@ pub mod Ask
 pub mod Change
 pub mod Notes
 pub mod Overlay
+pub mod Commit

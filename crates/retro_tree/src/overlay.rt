@@ -7,6 +7,7 @@ ghost use Rattle.retro_tree.specs.Overlay.{Overlays, grown_at};
 ghost use Rattle.retro_tree.specs.declared.state.State.{State};
 
 mod answering;
+mod commit;
 mod laying;
 mod listing;
 

@@ -11,11 +11,14 @@ ghost use Rattle.retro_tree.specs.Lawful.{IsLawful, is_lawful};
 ghost use Rattle.retro_tree.specs.State.{empty_state, put_node, grow_file, put_session, put_status, permit_of};
 ghost use Rattle.retro_tree.specs.Change.{put_setting};
 
+pub(crate) mod writing;
+
 use crate::bytes::Bytes;
 use crate::listing::Listing;
 use crate::node::{Kind, Node, Permit};
 use crate::path::Path;
-use crate::session::{Session, Sessions, Setting, Vars};
+use crate::session::setting::Setting;
+use crate::session::{Session, Sessions, Vars};
 use crate::text::Text;
 use crate::tree::Tree;
 use crate::var_name::VarName;

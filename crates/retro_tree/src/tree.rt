@@ -9,6 +9,8 @@ ghost use Rattle.retro_tree.specs.Ask.{names_in};
 ghost use Rattle.retro_tree.specs.Limits.{files_fit};
 ghost use Rattle.retro_tree.specs.Lawful.{IsLawfulTree, may_put, may_grow, is_lawful_tree, entry_passes};
 
+mod exchange;
+
 use crate::bytes::Bytes;
 use crate::listing::Listing;
 use crate::node::{Entry, FILE_LIMIT, Kind, Node, Permit};
@@ -63,7 +65,7 @@ impl Tree {
 
     /// Puts an entry at a path, in the place of one that is there. Forgets whether the tree is
     /// lawful.
-    fn insert(&mut self, path: Path, entry: Entry) -> Result<(), AllocError>
+    pub(crate) fn insert(&mut self, path: Path, entry: Entry) -> Result<(), AllocError>
         ensures ok { OnOk result (self.new ≡ map.insert self.old path entry) }
         ensures err { OnErr result (self.new ≡ self.old) }
     {
@@ -73,7 +75,7 @@ impl Tree {
     }
 
     /// Takes away what is at a path, where something is. Forgets whether the tree is lawful.
-    fn remove(&mut self, path: &Path)
+    pub(crate) fn remove(&mut self, path: &Path)
         ensures { self.new ≡ map.remove self.old path.now }
     {
         self.known_lawful = false;

@@ -6,19 +6,20 @@ ghost use Rattle.retro_tree.specs.Node.{kind_of, permit_at};
 ghost use Rattle.retro_tree.specs.Tree.{node_in};
 ghost use Rattle.retro_tree.specs.Session.{session_in};
 ghost use Rattle.retro_tree.specs.State.{permit_of};
+ghost use Rattle.retro_tree.specs.User.{user_in, passwd};
 ghost use Rattle.retro_tree.specs.Cell.{value};
 ghost use Rattle.retro_tree.specs.Ask.{answer};
 ghost use Rattle.retro_tree.specs.Overlay.{Overlays, laid_node};
-ghost use Rattle.retro_tree.specs.declared.ask.Ask.TheVariants as Ask;
 ghost use Rattle.retro_tree.specs.declared.cell.Cell.TheVariants as Cell;
 ghost use Rattle.retro_tree.specs.declared.state.State.{State};
 
 use super::Overlay;
-use crate::ask::{Answer, Ask};
+use crate::ask::{Answer, Ask, User};
 use crate::cell::{Cell, Value};
 use crate::node::{FILE_LIMIT, Kind, Node, Permit};
 use crate::path::Path;
 use crate::text::Text;
+use crate::user::find_user;
 use crate::var_name::VarName;
 use crate::view::View;
 use std::alloc::{AllocError, Global};
@@ -157,6 +158,53 @@ impl Overlay {
         }
     }
 
+    /// The user with a login name in the shown state.
+    #[tactic(auto, unfolding(crate::specs::Ask::answer, crate::specs::Cell::value))]
+    fn shown_user<V: View>(
+        &self,
+        alloc: Global,
+        view: &V,
+        name: &Text,
+    ) -> Result<Option<User>, AllocError>
+        ensures { IfOk result (λ user. (now : State)
+            → Overlays self.now (V.shown view.now) now
+            → user ≡ user_in name.now (node_in passwd now.tree)) }
+    {
+        let path = Path::passwd(alloc)?;
+        match self.node(&path)? {
+            Some(Node::File(bytes)) => Ok(find_user(alloc, name, bytes.as_slice())?),
+            Some(Node::Missing | Node::Dir) => Ok(None),
+            None => match view.answer(alloc, &Ask::User(name.copy()?))? {
+                Answer::User(user) => Ok(user),
+                _ => unreachable!(),
+            },
+        }
+    }
+
+    /// What the shown state answers to a question.
+    ///
+    /// # Errors
+    ///
+    /// Where memory is wanting.
+    #[tactic(auto, unfolding(crate::specs::Ask::answer))]
+    pub fn answer<V: View>(&self, alloc: Global, view: &V, ask: &Ask) -> Result<Answer, AllocError>
+        ensures { IfOk result (λ a. (now : State)
+            → Overlays self.now (V.shown view.now) now → a ≡ answer ask.now now) }
+    {
+        match ask {
+            Ask::Kind(path) => Ok(Answer::Kind(self.shown_kind(alloc, view, path)?)),
+            Ask::Bytes(path) => Ok(Answer::Bytes(self.shown_node(alloc, view, path)?)),
+            Ask::Names(path) => Ok(Answer::Names(self.shown_listing(alloc, view, path)?)),
+            Ask::CanWrite(path, more) => {
+                Ok(Answer::CanWrite(self.shown_permit(alloc, view, path, *more)?))
+            }
+            Ask::User(name) => Ok(Answer::User(self.shown_user(alloc, view, name)?)),
+            Ask::VarOf(sid, name) => Ok(Answer::Var(self.shown_var(alloc, view, *sid, name)?)),
+            Ask::CwdOf(sid) => Ok(Answer::Cwd(self.shown_cwd(alloc, view, *sid)?)),
+            Ask::StatusOf(sid) => Ok(Answer::Status(self.shown_status(alloc, view, *sid)?)),
+        }
+    }
+
     /// What a cell of the shown state holds, copied.
     ///
     /// # Errors
@@ -200,13 +248,6 @@ fn permit(node: &Node, above: &Node, more: u32) -> Permit
 }
 
 impl Node {
-    /// The same node once more.
-    fn copy(&self) -> Result<Node, AllocError>
-        ensures { IfOk result (λ copy. copy ≡ self.now) }
-    {
-        self.clone()
-    }
-
     /// Of which kind it is.
     fn kind(&self) -> Kind
         ensures { result ≡ kind_of self.now }

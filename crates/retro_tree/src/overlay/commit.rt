@@ -1,0 +1,120 @@
+//! What is laid, put into a state: all of it or nothing.
+ghost use Rattle.std.specs.Prelude.{◌≡◌, [], IfOk, OnOk, OnErr, false, reverse};
+ghost use Rattle.std.specs.FinMap as map;
+ghost use Rattle.retro_tree.specs.Commit.{put_cell, put_cells, removes, removals, writes, unwound, CanUnwind};
+
+use super::Overlay;
+use crate::cell::{Cell, Value};
+use crate::state::State;
+use crate::state::writing::Undo;
+use std::alloc::{AllocError, Global};
+use std::collections::btree_map::IntoIter;
+
+impl Overlay {
+    /// Puts all that is laid into a state. What isn't laid is neither copied nor read. After want
+    /// of memory the state is as before: what takes memory is written first, and undone then, which
+    /// takes none; removals come last.
+    ///
+    /// # Errors
+    ///
+    /// Where memory is wanting.
+    #[tactic(auto, using(crate::proofs::OverlayCommit::unwinding))]
+    pub fn commit(self, alloc: Global, state: &mut State) -> Result<(), AllocError>
+        ensures ok { OnOk result (state.new ≡ put_cells (map.entries self) state.old) }
+        ensures err { OnErr result (state.new ≡ state.old) }
+    {
+        let mut undos = Vec::new(alloc);
+        let mut left = Vec::new(alloc);
+        match self.write_all(alloc, state, &mut undos, &mut left) {
+            Ok(()) => {
+                erase_all(alloc, state, &left);
+                Ok(())
+            }
+            Err(error) => {
+                unwind(alloc, state, undos);
+                Err(error)
+            }
+        }
+    }
+
+    /// What is laid, in order of cells, given away.
+    fn into_entries(self) -> IntoIter<Cell, Value>
+        ensures { result ≡ map.entries self }
+    {
+        self.cells.into_iter()
+    }
+
+    /// Writes all that is laid into a state, but for removals, which are left. Each write, also of
+    /// those before want of memory, can be undone.
+    fn write_all(
+        self,
+        alloc: Global,
+        state: &mut State,
+        undos: &mut Vec<Undo>,
+        left: &mut Vec<(Cell, Value)>,
+    ) -> Result<(), AllocError>
+        requires undos { undos.old.items ≡ [] }
+        requires left { left.old.items ≡ [] }
+        ensures can { CanUnwind (reverse undos.new.items) state.new }
+        ensures unwound { unwound (reverse undos.new.items) state.new ≡ state.old }
+        ensures ok { OnOk result (state.new ≡ put_cells (writes (map.entries self)) state.old) }
+        ensures left { OnOk result (left.new.items ≡ removals (map.entries self)) }
+    {
+        for (cell, value) in self.into_entries() {
+            if value.removes() {
+                left.push((cell, value))?;
+            } else {
+                write_one(alloc, state, undos, cell, value)?;
+            }
+        }
+        Ok(())
+    }
+}
+
+/// Writes one value, which is no removal, into a state, with how it is undone.
+#[tactic(auto, using(crate::proofs::OverlayCommit::unwinding))]
+fn write_one(
+    alloc: Global,
+    state: &mut State,
+    undos: &mut Vec<Undo>,
+    cell: Cell,
+    value: Value,
+) -> Result<(), AllocError>
+    requires value { removes value ≡ false }
+    requires can { CanUnwind (reverse undos.old.items) state.old }
+    ensures can { CanUnwind (reverse undos.new.items) state.new }
+    ensures unwound { unwound (reverse undos.new.items) state.new
+        ≡ unwound (reverse undos.old.items) state.old }
+    ensures ok { OnOk result (state.new ≡ put_cell cell value state.old) }
+{
+    let Some(undo) = state.write(alloc, cell, value)? else {
+        return Ok(());
+    };
+    if let Err(failed) = undos.push(undo) {
+        state.undo(alloc, failed.value);
+        return Err(AllocError);
+    }
+    Ok(())
+}
+
+/// Undoes what was written, from the last to the first. Takes no memory.
+fn unwind(alloc: Global, state: &mut State, undos: Vec<Undo>)
+    requires { CanUnwind (reverse undos.items) state.old }
+    ensures { state.new ≡ unwound (reverse undos.items) state.old }
+{
+    let mut undos = undos;
+    while let Some(undo) = undos.pop() {
+        state.undo(alloc, undo);
+    }
+}
+
+/// Takes away what the removals among these say. Takes no memory.
+fn erase_all(alloc: Global, state: &mut State, entries: &[(Cell, Value)])
+    ensures { state.new ≡ put_cells (removals entries.now) state.old }
+{
+    for (cell, value) in entries {
+        if value.removes() {
+            state.erase(alloc, cell, value);
+        }
+    }
+}

@@ -1,0 +1,148 @@
+//! Values written into the cells of a state, and how that is undone without memory.
+ghost use Rattle.std.specs.Prelude.{◌≡◌, IfOk, OnOk, OnErr, Some, true, false};
+ghost use Rattle.std.specs.FinMap as map;
+ghost use Rattle.retro_tree.specs.Maps.{update};
+ghost use Rattle.retro_tree.specs.Session.{fresh_session};
+ghost use Rattle.retro_tree.specs.Setting.{with_setting, unsets};
+ghost use Rattle.retro_tree.specs.Commit.{put_cell, removes, undone, can_undo, Undoes};
+
+use super::State;
+use crate::cell::{Cell, Value};
+use crate::node::{Entry, Node};
+use crate::path::Path;
+use crate::session::setting::Setting;
+use std::alloc::{AllocError, Global};
+
+/// How one value that was written is undone.
+#[derive(Drop)]
+pub(crate) enum Undo {
+    /// At a path there was this entry, or none.
+    Entry(Path, Option<Entry>),
+    /// The session wasn't there.
+    Session(u32),
+    /// One thing of a session was this.
+    Setting(u32, Setting),
+}
+
+impl State {
+    /// Writes a value into a cell, but for removals, and gives how that is undone, where something
+    /// changed. After want of memory the state is as before.
+    #[tactic(auto, unfolding(crate::specs::Commit::put_cell))]
+    pub(crate) fn write(
+        &mut self,
+        alloc: Global,
+        cell: Cell,
+        value: Value,
+    ) -> Result<Option<Undo>, AllocError>
+        requires { removes value ≡ false }
+        ensures ok { OnOk result (self.new ≡ put_cell cell value self.old) }
+        ensures undo { IfOk result (λ undo. Undoes undo self.new self.old) }
+        ensures err { OnErr result (self.new ≡ self.old) }
+    {
+        match cell {
+            Cell::At(path) => match value {
+                Value::Node(Node::Dir) => Ok(Some(self.write_entry(path, Entry::Dir)?)),
+                Value::Node(Node::File(bytes)) => {
+                    Ok(Some(self.write_entry(path, Entry::File(bytes))?))
+                }
+                _ => Ok(None),
+            },
+            Cell::Cwd(sid) => match value {
+                Value::Cwd(path) => Ok(Some(self.write_setting(alloc, sid, Setting::Cwd(path))?)),
+                _ => Ok(None),
+            },
+            Cell::Var(sid, name) => match value {
+                Value::Text(Some(text)) => {
+                    Ok(Some(self.write_setting(alloc, sid, Setting::Var(name, Some(text)))?))
+                }
+                _ => Ok(None),
+            },
+            Cell::Status(sid) => match value {
+                Value::Status(status) => Ok(Some(self.write_setting(
+                    alloc,
+                    sid,
+                    Setting::Status(status),
+                )?)),
+                _ => Ok(None),
+            },
+        }
+    }
+    /// Puts an entry at a path, and gives how that is undone.
+    #[tactic(auto, using(crate::proofs::Undoing::undoing))]
+    fn write_entry(&mut self, path: Path, entry: Entry) -> Result<Undo, AllocError>
+        ensures ok { OnOk result
+            (self.new ≡ record self.old { tree = map.insert self.old.tree path entry }) }
+        ensures undo { IfOk result (λ undo. Undoes (Some undo) self.new self.old) }
+        ensures err { OnErr result (self.new ≡ self.old) }
+    {
+        let key = path.copy()?;
+        let before = self.tree.exchange(path, entry)?;
+        Ok(Undo::Entry(key, before))
+    }
+
+    /// Sets one thing of a session, but for a variable that is taken away, and gives how that is
+    /// undone.
+    #[tactic(auto, using(crate::proofs::Undoing::undoing))]
+    fn write_setting(
+        &mut self,
+        alloc: Global,
+        sid: u32,
+        setting: Setting,
+    ) -> Result<Undo, AllocError>
+        requires { unsets setting ≡ false }
+        ensures ok { OnOk result (self.new ≡ record self.old
+            { sessions = update self.old.sessions sid fresh_session (with_setting setting) }) }
+        ensures undo { IfOk result (λ undo. Undoes (Some undo) self.new self.old) }
+        ensures err { OnErr result (self.new ≡ self.old) }
+    {
+        match self.sessions.write(alloc, sid, setting)? {
+            None => Ok(Undo::Session(sid)),
+            Some(before) => Ok(Undo::Setting(sid, before)),
+        }
+    }
+
+    /// Undoes what was written. Takes no memory.
+    pub(crate) fn undo(&mut self, alloc: Global, undo: Undo)
+        requires { can_undo undo self.old ≡ true }
+        ensures { self.new ≡ undone undo self.old }
+    {
+        match undo {
+            Undo::Entry(path, before) => match before {
+                None => self.tree.remove(&path),
+                Some(entry) => self.tree.replace(path, entry),
+            },
+            Undo::Session(sid) => self.sessions.remove(sid),
+            Undo::Setting(sid, setting) => self.sessions.reset(alloc, sid, setting),
+        }
+    }
+
+    /// Takes away what is in a cell, as a removal says. Takes no memory.
+    #[tactic(auto, unfolding(crate::specs::Commit::put_cell))]
+    pub(crate) fn erase(&mut self, alloc: Global, cell: &Cell, value: &Value)
+        requires { removes value.now ≡ true }
+        ensures { self.new ≡ put_cell cell.now value.now self.old }
+    {
+        match cell {
+            Cell::At(path) => {
+                if let Value::Node(_) = value {
+                    self.tree.remove(path);
+                }
+            }
+            Cell::Var(sid, name) => {
+                if let Value::Text(_) = value {
+                    self.sessions.unset(alloc, *sid, name);
+                }
+            }
+            Cell::Cwd(_) | Cell::Status(_) => (),
+        }
+    }
+}
+
+impl Value {
+    /// Whether it says that nothing is in the cell.
+    pub(crate) fn removes(&self) -> bool
+        ensures { result ≡ removes self.now }
+    {
+        matches!(self, Value::Node(Node::Missing) | Value::Text(None))
+    }
+}
