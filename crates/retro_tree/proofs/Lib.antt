@@ -23,3 +23,4 @@ pub mod SettingLemmas
 pub mod Undoing
 pub mod OverlayCommit
 pub mod PutCells
+pub mod OverlayLasting
