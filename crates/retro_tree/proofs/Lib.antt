@@ -24,3 +24,4 @@ pub mod SettingLemmas
 pub mod Undoing
 pub mod OverlayCommit
 pub mod PutCells
+pub mod OverlayLasting

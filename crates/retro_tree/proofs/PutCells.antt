@@ -18,7 +18,7 @@ use Rattle.retro_tree.specs.Cell.{value}
 use Rattle.retro_tree.specs.Change.{apply}
 use Rattle.retro_tree.specs.Notes.{cell_eq}
 use Rattle.retro_tree.specs.Overlay.{Cells, Overlays}
-use Rattle.retro_tree.specs.Commit.{put_text, put_cell, put_cells, removes, removals, writes, makes}
+use Rattle.retro_tree.specs.Commit.{put_text, put_cell, put_cells, removes, removals, writes, makes, committed}
 use Rattle.retro_tree.specs.declared.cell.Cell.{Cell}
 use Rattle.retro_tree.specs.declared.cell.Cell.TheVariants as cells
 use Rattle.retro_tree.specs.declared.cell.Value.{Value}
@@ -110,7 +110,7 @@ value_put (cells.Status sid) (values.Text text) s d = same_if (cell_eq (cells.St
 value_put (cells.Status sid) (values.Status n) s d = value_applied (changes.SetStatus sid n) d s
 
 -- ---- the sessions
-key_updated : (m : FinMap nat_cmp Session) (sid : ℕ) (x : Session) (k : ℕ) → finmap.contains_key (finmap.insert m sid x) k ≡ (eq_by_cmp nat_cmp k sid || finmap.contains_key m k)
+pub key_updated : (m : FinMap nat_cmp Session) (sid : ℕ) (x : Session) (k : ℕ) → finmap.contains_key (finmap.insert m sid x) k ≡ (eq_by_cmp nat_cmp k sid || finmap.contains_key m k)
 key_updated m sid x k = ap is_some (get-insert nat_cmp_total m sid x k) ∙ go (eq_by_cmp nat_cmp k sid)
   where
     go : (b : Bool) → is_some (cond b (Some x) (finmap.get m k)) ≡ (b || finmap.contains_key m k)
@@ -205,7 +205,7 @@ filtered_twice (e ∷ es) =
       | false ↦ λ t. filtered_twice es
     ] refl
 
-pub parted : (laid : Cells) (s : State) → put_cells (removals (removals (finmap.entries laid))) (put_cells (writes (finmap.entries laid)) s) ≡ put_cells (finmap.entries laid) s
+pub parted : (laid : Cells) (s : State) → put_cells (removals (removals (finmap.entries laid))) (put_cells (writes (finmap.entries laid)) s) ≡ committed laid s
 parted laid s = ap (λ es. put_cells es (put_cells (writes (finmap.entries laid)) s)) (filtered_twice (finmap.entries laid)) ∙ in_parts (finmap.entries laid) (entries_sorted laid) s
 
 -- ---- the state that is shown
@@ -246,7 +246,7 @@ settled now (e ∷ es) h own s other c = settled now es (both_snd _ _ h) later (
         go true t = ap (λ v. held e.0 v (value d s)) (sym here) ∙ held_own e.0 now (value d s) ∙ ap (λ k. value k now) (same_cells e.0 d t)
         go false t = other d (found_later d e es t ∙ is)
 
-pub cells_shown : (laid : Cells) (s now : State) → Overlays laid s now → (c : Cell) → value c (put_cells (finmap.entries laid) s) ≡ value c now
+pub cells_shown : (laid : Cells) (s now : State) → Overlays laid s now → (c : Cell) → value c (committed laid s) ≡ value c now
 cells_shown laid s now h =
     settled now (finmap.entries laid) (entries_sorted laid)
     (λ c v is. h c ∙ ap (λ o. unwrap_or o (value c s)) (get-entries laid c ∙ is)) s
@@ -265,7 +265,7 @@ sessions_made (e ∷ es) s k =
     moved false false c = refl
 
 -- a state with these cells and these sessions is what is left
-pub state_shown : (laid : Cells) (s now : State) → Overlays laid s now → ((k : ℕ) → finmap.contains_key now.sessions k ≡ (list_any (λ e. makes k e.0 e.1) (finmap.entries laid) || finmap.contains_key s.sessions k)) → put_cells (finmap.entries laid) s ≡ now
+pub state_shown : (laid : Cells) (s now : State) → Overlays laid s now → ((k : ℕ) → finmap.contains_key now.sessions k ≡ (list_any (λ e. makes k e.0 e.1) (finmap.entries laid) || finmap.contains_key s.sessions k)) → committed laid s ≡ now
 state_shown laid s now h sessions = same_state _ _ (cells_shown laid s now h) (λ k. sessions_made (finmap.entries laid) s k ∙ sym (sessions k))
 
 pub ruleset commits = (cells_shown, sessions_made, state_shown)

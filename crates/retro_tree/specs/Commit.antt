@@ -6,6 +6,7 @@ use Rattle.std.specs.FinMap as map
 use Rattle.retro_tree.specs.Maps.{update}
 use Rattle.retro_tree.specs.Session.{fresh_session, session_in}
 use Rattle.retro_tree.specs.Setting.{with_setting, has_place, unset}
+use Rattle.retro_tree.specs.Overlay.{Cells}
 use Rattle.retro_tree.specs.State.{put_node, put_status}
 use Rattle.retro_tree.specs.Change.{put_var, put_cwd}
 use Rattle.retro_tree.specs.declared.node.Node.TheVariants.{Missing, Dir, File}
@@ -36,6 +37,10 @@ put_cell _ _ s = s
 abbrev pub put_cells : List (Cell × Value) → State → State
 put_cells [] s = s
 put_cells (e ∷ es) s = put_cells es (put_cell e.0 e.1 s)
+
+-- what an overlay leaves of a state
+abbrev pub committed : Cells → State → State
+committed laid s = put_cells (map.entries laid) s
 
 -- whether a session is made by that, where it isn't there
 abbrev pub makes : ℕ → Cell → Value → Bool

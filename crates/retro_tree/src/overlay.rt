@@ -14,6 +14,7 @@ mod listing;
 use crate::bytes::Bytes;
 use crate::cell::{Cell, Value};
 use crate::node::Node;
+pub use commit::overlays_last;
 use std::alloc::{AllocError, Global};
 use std::collections::BTreeMap;
 use std::collections::btree_map::Iter;

@@ -1,7 +1,12 @@
 //! What is laid, put into a state: all of it or nothing.
-ghost use Rattle.std.specs.Prelude.{◌≡◌, [], IfOk, OnOk, OnErr, false, reverse};
+ghost use Rattle.std.specs.Prelude.{◌≡◌, ◌||◌, ℕ, [], OnOk, OnErr, false, reverse};
+ghost use Rattle.std.specs.List.{list_any};
 ghost use Rattle.std.specs.FinMap as map;
-ghost use Rattle.retro_tree.specs.Commit.{put_cell, put_cells, removes, removals, writes, unwound, CanUnwind};
+ghost use Rattle.retro_tree.specs.Cell.{value};
+ghost use Rattle.retro_tree.specs.Overlay.{Cells, Overlays};
+ghost use Rattle.retro_tree.specs.Commit.{committed, makes, put_cell, put_cells, removes, removals, writes, unwound, CanUnwind};
+ghost use Rattle.retro_tree.specs.declared.cell.Cell.{Cell as StateCell};
+ghost use Rattle.retro_tree.specs.declared.state.State.{State as StateValue};
 
 use super::Overlay;
 use crate::cell::{Cell, Value};
@@ -18,9 +23,12 @@ impl Overlay {
     /// # Errors
     ///
     /// Where memory is wanting.
-    #[tactic(auto, using(crate::proofs::OverlayCommit::unwinding))]
+    #[tactic(auto, using(crate::proofs::PutCells::cells_shown))]
     pub fn commit(self, alloc: Global, state: &mut State) -> Result<(), AllocError>
-        ensures ok { OnOk result (state.new ≡ put_cells (map.entries self) state.old) }
+        ensures ok { OnOk result (state.new ≡ committed self state.old) }
+        ensures shown { OnOk result ((now : StateValue)
+            → Overlays self state.old now
+            → (c : StateCell) → value c state.new ≡ value c now) }
         ensures err { OnErr result (state.new ≡ state.old) }
     {
         let mut undos = Vec::new(alloc);
@@ -70,6 +78,25 @@ impl Overlay {
         Ok(())
     }
 }
+
+/// What an overlay leaves of a state has what is laid in each of these cells, and the sessions that
+/// were there or are laid. So it is the state that is shown over it, where that has the same
+/// sessions.
+#[tactic(auto, using(crate::proofs::PutCells::commits))]
+pub fn overlays_last()
+    ensures cells { (laid : Cells) (s now : StateValue)
+        → Overlays laid s now → (c : StateCell) → value c (committed laid s) ≡ value c now }
+    ensures sessions { (laid : Cells) (s : StateValue) (sid : ℕ)
+        → map.contains_key (committed laid s).sessions sid
+        ≡ (list_any (λ e. makes sid e.0 e.1) (map.entries laid)
+        || map.contains_key s.sessions sid) }
+    ensures state { (laid : Cells) (s now : StateValue)
+        → Overlays laid s now
+        → ((sid : ℕ) → map.contains_key now.sessions sid
+        ≡ (list_any (λ e. makes sid e.0 e.1) (map.entries laid)
+        || map.contains_key s.sessions sid))
+        → committed laid s ≡ now }
+{}
 
 /// Writes one value, which is no removal, into a state, with how it is undone.
 #[tactic(auto, using(crate::proofs::OverlayCommit::unwinding))]

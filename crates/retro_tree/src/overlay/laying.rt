@@ -4,6 +4,7 @@ ghost use Rattle.std.specs.FinMap as map;
 ghost use Rattle.retro_tree.specs.Change.{apply, cell_of};
 ghost use Rattle.retro_tree.specs.Notes.{cell_eq};
 ghost use Rattle.retro_tree.specs.Overlay.{Overlays};
+ghost use Rattle.retro_tree.specs.Commit.{committed};
 ghost use Rattle.retro_tree.specs.declared.cell.Cell.{Cell as StateCell};
 ghost use Rattle.retro_tree.specs.declared.change.Change.TheVariants as Change;
 ghost use Rattle.retro_tree.specs.declared.state.State.{State};
@@ -17,13 +18,14 @@ use crate::view::View;
 use std::alloc::{AllocError, Global};
 
 impl Overlay {
-    /// Lays a change over the view: the state that was shown is shown as the change leaves it. A
-    /// file that is laid already grows in place. After want of memory the overlay is as before.
+    /// Lays a change over the view: the state that was shown is shown as the change leaves it, and
+    /// what the overlay would leave of the view's state is so too. A file that is laid already
+    /// grows in place. After want of memory the overlay is as before.
     ///
     /// # Errors
     ///
     /// Where memory is wanting.
-    #[tactic(auto, using(crate::proofs::OverlayLaying::laying))]
+    #[tactic(auto, using(crate::proofs::OverlayLaying::laying, crate::proofs::OverlayLasting::lasting))]
     pub fn lay<V: View>(
         &mut self,
         alloc: Global,
@@ -33,6 +35,10 @@ impl Overlay {
         ensures ok { OnOk result ((now : State)
             → Overlays self.old (V.shown view.now) now
             → Overlays self.new (V.shown view.now) (apply change now)) }
+        ensures lasts { OnOk result ((now : State)
+            → Overlays self.old (V.shown view.now) now
+            → committed self.old (V.shown view.now) ≡ now
+            → committed self.new (V.shown view.now) ≡ apply change now) }
         ensures cells { OnOk result ((c : StateCell) → map.contains_key self.new c
             ≡ (cell_eq (cell_of change) c || map.contains_key self.old c)) }
         ensures err { OnErr result (self.new ≡ self.old) }
@@ -52,7 +58,7 @@ impl Overlay {
     }
 
     /// Lays a growth over the view. What isn't laid yet is copied out of the view once.
-    #[tactic(auto, using(crate::proofs::OverlayLaying::laying))]
+    #[tactic(auto, using(crate::proofs::OverlayLaying::laying, crate::proofs::OverlayLasting::lasting))]
     fn lay_growth<V: View>(
         &mut self,
         alloc: Global,
@@ -63,6 +69,10 @@ impl Overlay {
         ensures ok { OnOk result ((now : State)
             → Overlays self.old (V.shown view.now) now
             → Overlays self.new (V.shown view.now) (apply (Change.Grow path bytes.now) now)) }
+        ensures lasts { OnOk result ((now : State)
+            → Overlays self.old (V.shown view.now) now
+            → committed self.old (V.shown view.now) ≡ now
+            → committed self.new (V.shown view.now) ≡ apply (Change.Grow path bytes.now) now) }
         ensures cells { OnOk result ((c : StateCell) → map.contains_key self.new c
             ≡ (cell_eq (cell_of (Change.Grow path bytes.now)) c || map.contains_key self.old c)) }
         ensures err { OnErr result (self.new ≡ self.old) }

@@ -1,6 +1,7 @@
-use Rattle.std.proofs.Common.{◌∙◌}
+use Rattle.std.proofs.Common.{ap, ◌∙◌}
+use Rattle.retro_tree.specs.Cell.{value}
 use Rattle.retro_tree.specs.Commit.{put_cells, removals}
-use Rattle.retro_tree.proofs.PutCells.{parted}
+use Rattle.retro_tree.proofs.PutCells.{parted, cells_shown}
 use Rattle.retro_tree.proofs.overlay.Overlay.commit.Goals as goal
 
 pub returns-in-Ok-clause-ok : goal.returns-in-Ok-clause-ok
@@ -8,3 +9,7 @@ returns-in-Ok-clause-ok c =
     c.erase_all.ensures
     ∙ (λ i. put_cells (removals ((c.deref.ensures.value ∙ c.in-Ok.ensures.left) i)) (c.in-Ok.ensures.ok i))
     ∙ parted c.args.self c.args.state.now
+
+pub returns-in-Ok-clause-shown : goal.returns-in-Ok-clause-shown
+returns-in-Ok-clause-shown c now h q =
+    ap (value q) (returns-in-Ok-clause-ok c) ∙ cells_shown c.args.self c.args.state.now now h q
