@@ -1,25 +1,29 @@
 -- The changes that keep a lawful state lawful.
-use Rattle.std.proofs.Common.{◌≡◌, ◌≤◌, ℕ, false, List, [], length, Option, Some, None, refl, sym, ap, ◌∙◌, subst, ⊎_elim, arith}
-use Rattle.std.proofs.lemmas.Bool.{cases_eq}
+use Rattle.std.proofs.Common.{◌≡◌, ◌≤◌, ℕ, true, false, List, [], length, Option, Some, None, refl, sym, ap, ◌∙◌, subst, ⊎_elim, arith}
+use Rattle.std.proofs.lemmas.Bool.{cases_eq, leb-true, le-leb}
 use Rattle.std.specs.Ordering.{nat_cmp}
 use Rattle.std.specs.Option.{unwrap_or}
 use Rattle.std.specs.Cmp.{nat_cmp_total}
 use Rattle.std.specs.FinMap as map
 use Rattle.std.specs.FinMap.{nat_cmp-IsAntisymmetric}
 use Rattle.retro_tree.specs.Maps.{update}
-use Rattle.retro_tree.specs.Order.{text_cmp}
+use Rattle.retro_tree.specs.Order.{text_cmp, text_total, text_exact}
 use Rattle.retro_tree.specs.Name.{AllNames}
 use Rattle.retro_tree.specs.Path.{PathValue, is_null}
 use Rattle.retro_tree.specs.Node.{file_limit}
-use Rattle.retro_tree.specs.Session.{fresh_session, session_in, with_status}
+use Rattle.retro_tree.specs.Session.{fresh_session, session_in, value_limit}
+use Rattle.retro_tree.specs.Setting.{with_setting, setting_fits}
 use Rattle.retro_tree.specs.State.{put_node, grow_file, put_status, permit_of}
 use Rattle.retro_tree.specs.Limits.{IsLawfulSession, AreLawfulSessions}
 use Rattle.retro_tree.specs.Lawful.{IsLawful}
 use Rattle.retro_tree.specs.declared.node.Node.TheVariants.{File}
 use Rattle.retro_tree.specs.declared.node.Permit.TheVariants.{Yes}
 use Rattle.retro_tree.specs.declared.session.Session.{Session}
+use Rattle.retro_tree.specs.declared.session.Setting.{Setting}
+use Rattle.retro_tree.specs.declared.session.Setting.TheVariants.{Var, Cwd, Status}
 use Rattle.retro_tree.specs.declared.state.State.{State}
 use Rattle.retro_tree.proofs.Small.{some_same, none_some}
+use Rattle.retro_tree.proofs.LawLemmas.{same_or_apart_text}
 use Rattle.retro_tree.proofs.Lookups.{get_inserted, get_inserted_apart}
 use Rattle.retro_tree.proofs.Standing.{file_stands, growth_stands}
 
@@ -46,20 +50,29 @@ session_is_lawful m sid l = go (map.get m sid) refl
     go None is = fresh_is_lawful
     go (Some t) is = l sid t is
 
-with_lawful_status : (status : ℕ) (t : Session) → status ≤ 255 → IsLawfulSession t → IsLawfulSession (with_status status t)
-with_lawful_status status t fit l = record { status = fit; values = l.values }
+with_lawful_setting : (setting : Setting) (t : Session) → setting_fits setting ≡ true → IsLawfulSession t → IsLawfulSession (with_setting setting t)
+with_lawful_setting (Var name text) t fit l = record { status = l.status; values = values }
+  where
+    values : (q value : List ℕ) → map.get (map.insert t.vars name text) q ≡ Some value → length value ≤ value_limit
+    values q value is =
+        ⊎_elim
+        (λ e. subst (λ v. length v ≤ value_limit) (some_same text value (sym (get_inserted text_total t.vars name text) ∙ ap (map.get (map.insert t.vars name text)) (sym e) ∙ is)) (leb-true _ _ fit))
+        (λ ne. l.values q value (sym (get_inserted_apart text_total text_exact t.vars name text q ne) ∙ is))
+        (same_or_apart_text q name)
+with_lawful_setting (Cwd p) t fit l = record { status = l.status; values = l.values }
+with_lawful_setting (Status status) t fit l = record { status = leb-true _ _ fit; values = l.values }
 
-updated_sessions : (m : map.FinMap nat_cmp Session) (sid status : ℕ) → status ≤ 255 → AreLawfulSessions m → AreLawfulSessions (update m sid fresh_session (with_status status))
+pub settings : (m : map.FinMap nat_cmp Session) (sid : ℕ) (setting : Setting) → AreLawfulSessions m → setting_fits setting ≡ true → AreLawfulSessions (update m sid fresh_session (with_setting setting))
 unfolding AreLawfulSessions
-updated_sessions m sid status fit l other t is =
+settings m sid setting l fit other t is =
     ⊎_elim
-    (λ e. subst IsLawfulSession (some_same (with_status status (session_in sid m)) t (sym (get_inserted nat_cmp_total m sid (with_status status (session_in sid m)))
-    ∙ ap (map.get (update m sid fresh_session (with_status status))) (sym e) ∙ is))
-    (with_lawful_status status (session_in sid m) fit (session_is_lawful m sid l)))
-    (λ ne. l other t (sym (get_inserted_apart nat_cmp_total nat_cmp-IsAntisymmetric m sid (with_status status (session_in sid m)) other ne) ∙ is))
+    (λ e. subst IsLawfulSession (some_same (with_setting setting (session_in sid m)) t (sym (get_inserted nat_cmp_total m sid (with_setting setting (session_in sid m)))
+    ∙ ap (map.get (update m sid fresh_session (with_setting setting))) (sym e) ∙ is))
+    (with_lawful_setting setting (session_in sid m) fit (session_is_lawful m sid l)))
+    (λ ne. l other t (sym (get_inserted_apart nat_cmp_total nat_cmp-IsAntisymmetric m sid (with_setting setting (session_in sid m)) other ne) ∙ is))
     (cases_eq other sid)
 
 pub lawful_status : (sid status : ℕ) (s : State) → IsLawful s → status ≤ 255 → IsLawful (put_status sid status s)
-lawful_status sid status s l fit = record { tree = l.tree; sessions = updated_sessions s.sessions sid status fit l.sessions }
+lawful_status sid status s l fit = record { tree = l.tree; sessions = settings s.sessions sid (Status status) l.sessions (le-leb _ _ fit) }
 
 pub ruleset keeping = (lawful_file, lawful_empty, lawful_growth, lawful_status)

@@ -8,11 +8,11 @@ use Rattle.std.specs.Ordering.{eq_by_cmp, is_eq}
 use Rattle.std.specs.Cmp.{tied_itself}
 use Rattle.std.specs.FinMap as finmap
 use Rattle.std.proofs.lemmas.Bool.{true≢false, false≢true}
-use Rattle.retro_tree.specs.Order.{path_cmp, path_total, path_exact, text_exact, text_ties}
+use Rattle.retro_tree.specs.Order.{path_cmp, path_total, path_exact, text_cmp, text_total, text_exact, text_ties}
 use Rattle.retro_tree.specs.Path.{PathValue, below, only_name, parent_of, is_child}
 use Rattle.retro_tree.specs.Node.{node_of, grown, is_dir}
 use Rattle.retro_tree.specs.Tree.{Tree, node_in, put, has_child}
-use Rattle.retro_tree.specs.Lawful.{law_at, IsLawfulTree, may_put}
+use Rattle.retro_tree.specs.Lawful.{law_at, IsLawfulTree, may_put, may_grow}
 use Rattle.retro_tree.specs.declared.node.Entry.{Entry}
 use Rattle.retro_tree.specs.declared.node.Entry.TheVariants.{Dir as DirEntry, File as FileEntry}
 use Rattle.retro_tree.specs.declared.node.Node.{Node}
@@ -173,6 +173,30 @@ lawful_put p node tree lawful may q =
     (λ ne. law_there p q node tree ne lawful may)
     (same_or_apart q p)
 
+-- ---- and back: a change that leaves a lawful tree passes the test
+child_needs_dir : (p q : PathValue) (node : Node) (tree : Tree) → is_child p q ≡ true → finmap.contains_key tree q ≡ true → IsLawfulTree (put p node tree) → is_dir node ≡ true
+unfolding IsLawfulTree
+child_needs_dir p [] node tree e there lawful = absurd (true≢false (sym e ∙ not_own_child p))
+child_needs_dir p (name ∷ rest) node tree e there lawful =
+    let up = parent_of_child p (name ∷ rest) e in
+    let ne : name ∷ rest ≢ p = λ same. apart_from_parent name rest (up ∙ sym same) in
+    let law = (λ i. law_at (name ∷ rest) (sym (node_put_apart p (name ∷ rest) node tree ne) i) (sym (ap (λ k. node_in k (put p node tree)) up ∙ node_put p node tree) i)) ∙ lawful (name ∷ rest) in
+    dir_above name rest (node_in (name ∷ rest) tree) node (there_of_key tree (name ∷ rest) there) law
+
+childless : (p : PathValue) (node : Node) (tree : Tree) (b : Bool) → has_child p tree ≡ b → IsLawfulTree (put p node tree) → (is_dir node || not b) ≡ true
+unfolding has_child
+childless p node tree true h lawful =
+    let some = some_child p (finmap.keys tree) h in
+    ap (λ b. b || false) (child_needs_dir p some.0 node tree some.1 (finmap.contains_key-keys tree some.0 ∙ some.2) lawful)
+childless p Missing tree false h lawful = refl
+childless p Dir tree false h lawful = refl
+childless p (File bytes) tree false h lawful = refl
+
+pub may_put_back : (p : PathValue) (node : Node) (tree : Tree) → IsLawfulTree (put p node tree) → may_put p node tree ≡ true
+unfolding IsLawfulTree
+may_put_back p node tree lawful = and_true _ _ (sym (law_here p node tree) ∙ lawful p) (childless p node tree (has_child p tree) refl lawful)
+
+-- ---- growths
 parent_is_dir : (p q : PathValue) (tree : Tree) → is_child p q ≡ true → finmap.contains_key tree q ≡ true → IsLawfulTree tree → is_dir (node_in p tree) ≡ true
 unfolding IsLawfulTree
 parent_is_dir p [] tree e there lawful = absurd (true≢false (sym e ∙ not_own_child p))
@@ -190,6 +214,21 @@ none_below_file p tree lawful h = go (has_child p tree) refl
     go false e = refl
 
 -- so a growth needs no look below
-pub may_grow : (p : PathValue) (bytes : List ℕ) (tree : Tree) → IsLawfulTree tree → is_dir (node_in p tree) ≡ false → law_at p (grown bytes (node_in p tree)) (node_in (parent_of p) tree) ≡ true → IsLawfulTree (put p (grown bytes (node_in p tree)) tree)
-may_grow p bytes tree lawful h law =
+pub lawful_growth : (p : PathValue) (bytes : List ℕ) (tree : Tree) → IsLawfulTree tree → is_dir (node_in p tree) ≡ false → law_at p (grown bytes (node_in p tree)) (node_in (parent_of p) tree) ≡ true → IsLawfulTree (put p (grown bytes (node_in p tree)) tree)
+lawful_growth p bytes tree lawful h law =
     lawful_put p (grown bytes (node_in p tree)) tree lawful (and_true _ _ law (or_last (is_dir (grown bytes (node_in p tree))) _ (ap not (none_below_file p tree lawful h))))
+
+-- what is at the path of a node that was put, in a tree that is lawful then
+pub law_after : (p : PathValue) (node : Node) (tree : Tree) → IsLawfulTree (put p node tree) → law_at p node (node_in (parent_of p) tree) ≡ true
+unfolding IsLawfulTree
+law_after p node tree lawful = sym (law_here p node tree) ∙ lawful p
+
+pub growing : (p : PathValue) (bytes : List ℕ) (tree : Tree) → IsLawfulTree tree → may_grow p bytes tree ≡ true → IsLawfulTree (put p (grown bytes (node_in p tree)) tree)
+growing p bytes tree lawful may = lawful_growth p bytes tree lawful (not_true _ (first_true (not (is_dir (node_in p tree))) _ may)) (both_true (not (is_dir (node_in p tree))) _ may)
+
+pub same_or_apart_text : (q p : List ℕ) → (q ≡ p) ⊎ (q ≢ p)
+same_or_apart_text q p =
+    elim (eq_by_cmp text_cmp q p) as (λ b. eq_by_cmp text_cmp q p ≡ b → (q ≡ p) ⊎ (q ≢ p)) [
+      | true ↦ λ t. inl (text_exact q p (tied _ t))
+      | false ↦ λ t. inr (λ e. true≢false (sym (ap (λ k. eq_by_cmp text_cmp k p) e ∙ ap is_eq (tied_itself text_total p)) ∙ t))
+    ] refl

@@ -14,7 +14,7 @@ use Rattle.retro_tree.specs.declared.node.Node.{Node}
 use Rattle.retro_tree.specs.declared.node.Node.TheVariants.{Missing, Dir, File}
 use Rattle.retro_tree.specs.declared.node.Permit.TheVariants as permits
 use Rattle.retro_tree.proofs.Small.{first_true, both_true, and_true, not_true}
-use Rattle.retro_tree.proofs.LawLemmas.{lawful_put, none_below_file, may_grow}
+use Rattle.retro_tree.proofs.LawLemmas.{lawful_put, none_below_file, lawful_growth}
 
 -- a directory of a lawful tree isn't at /dev/null or below
 dir_stands : (p : PathValue) (t : Tree) → IsLawfulTree t → node_in p t ≡ Dir → is_some (below null_path p) ≡ false
@@ -96,4 +96,4 @@ law_of_growth q bytes t (File old) l names apart is may =
 -- a growth where a write of so many bytes is permitted
 pub growth_stands : (q : PathValue) (bytes : List ℕ) (t : Tree) → IsLawfulTree t → AllNames q → is_null q ≡ false → permit_at (node_in q t) (node_in (parent_of q) t) (length bytes) ≡ permits.Yes → IsLawfulTree (put q (grown bytes (node_in q t)) t)
 growth_stands q bytes t l names apart may =
-    may_grow q bytes t l (permit_no_dir (node_in q t) (node_in (parent_of q) t) (length bytes) may) (law_of_growth q bytes t (node_in q t) l names apart refl may)
+    lawful_growth q bytes t l (permit_no_dir (node_in q t) (node_in (parent_of q) t) (length bytes) may) (law_of_growth q bytes t (node_in q t) l names apart refl may)

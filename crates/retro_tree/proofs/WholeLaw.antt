@@ -126,3 +126,6 @@ limits_exact b s e = (λ t. limits_from_test s (sym e ∙ t), λ l. e ∙ test_f
 
 pub state_exact : (b : Bool) (s : State) → b ≡ is_lawful s → IsTrue b ↔ IsLawful s
 state_exact b s e = (λ t. state_from_test s (sym e ∙ t), λ l. e ∙ test_from_state s l)
+
+pub sessions_exact : (b : Bool) (sessions : map.FinMap nat_cmp Session) → b ≡ are_lawful_sessions sessions → IsTrue b ↔ AreLawfulSessions sessions
+sessions_exact b sessions e = (λ t. sessions_from_test sessions (sym e ∙ t), λ l. e ∙ test_from_sessions sessions l)

@@ -1,13 +1,15 @@
 -- How a state changes, one cell at a time, and which changes are lawful.
-use Rattle.std.specs.Prelude.{◌≡◌, ℕ, Bool, true, false, not, ◌&&◌, nat_le, List, Some, length}
+use Rattle.std.specs.Prelude.{◌≡◌, ℕ, Bool, true, false, nat_le, List, Some, length}
 use Rattle.std.specs.FinMap as map
 use Rattle.retro_tree.specs.Maps.{update}
-use Rattle.retro_tree.specs.Path.{PathValue, parent_of}
+use Rattle.retro_tree.specs.Path.{PathValue}
 use Rattle.retro_tree.specs.Node.{grown, is_dir}
 use Rattle.retro_tree.specs.Tree.{node_in}
 use Rattle.retro_tree.specs.Session.{fresh_session, with_var, with_cwd, value_limit}
 use Rattle.retro_tree.specs.State.{put_node, grow_file, put_status}
-use Rattle.retro_tree.specs.Lawful.{IsLawful, law_at, may_put}
+use Rattle.retro_tree.specs.Lawful.{IsLawful, may_put, may_grow}
+use Rattle.retro_tree.specs.Setting.{with_setting}
+use Rattle.retro_tree.specs.declared.session.Setting.{Setting}
 use Rattle.retro_tree.specs.declared.cell.Cell.{Cell}
 use Rattle.retro_tree.specs.declared.cell.Cell.TheVariants as cells
 use Rattle.retro_tree.specs.declared.cell.Value.{Value}
@@ -23,6 +25,11 @@ put_var sid name text s =
 
 abbrev pub put_cwd : ℕ → PathValue → State → State
 put_cwd sid p s = record s { sessions = update s.sessions sid fresh_session (with_cwd p) }
+
+-- any setting of a session, likewise
+abbrev pub put_setting : ℕ → Setting → State → State
+put_setting sid setting s =
+    record s { sessions = update s.sessions sid fresh_session (with_setting setting) }
 
 -- the state after a change
 unfoldable pub apply : Change → State → State
@@ -80,9 +87,7 @@ pub record IsLawfulChange (c : Change) (s : State) : Type 0 where
 -- the same of a lawful state, by a test at the cell and around it; that its session is there aside
 unfoldable pub may_make : Change → State → Bool
 may_make (changes.Put p node) s = may_put p node s.tree
-may_make (changes.Grow p bytes) s =
-    not (is_dir (node_in p s.tree))
-    && law_at p (grown bytes (node_in p s.tree)) (node_in (parent_of p) s.tree)
+may_make (changes.Grow p bytes) s = may_grow p bytes s.tree
 may_make (changes.SetVar sid name text) s = nat_le (length text) value_limit
 may_make (changes.SetCwd sid p) s = true
 may_make (changes.SetStatus sid status) s = nat_le status 255

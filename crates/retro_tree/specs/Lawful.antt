@@ -1,10 +1,10 @@
 -- Lawful trees, by one test at each path, and lawful states.
-use Rattle.std.specs.Prelude.{◌≡◌, ◌≢◌, ◌≤◌, Bool, true, false, not, ◌&&◌, ◌||◌, nat_le, [], ◌∷◌, length, Some, is_some}
+use Rattle.std.specs.Prelude.{◌≡◌, ◌≢◌, ◌≤◌, ℕ, List, Bool, true, false, not, ◌&&◌, ◌||◌, nat_le, [], ◌∷◌, length, Some, is_some}
 use Rattle.std.specs.List.{list_all}
 use Rattle.std.specs.FinMap as map
 use Rattle.retro_tree.specs.Name.{AllNames}
 use Rattle.retro_tree.specs.Path.{PathValue, below, parent_of, null_path, may_stand}
-use Rattle.retro_tree.specs.Node.{file_limit, node_of, is_dir, size_of}
+use Rattle.retro_tree.specs.Node.{file_limit, node_of, is_dir, size_of, grown}
 use Rattle.retro_tree.specs.Tree.{Tree, node_in, has_child}
 use Rattle.retro_tree.specs.Limits.{AreLawfulSessions, are_lawful_sessions}
 use Rattle.retro_tree.specs.declared.node.Entry.{Entry}
@@ -36,6 +36,12 @@ pub record KeepsTreeLaw (tree : Tree) : Type 0 where
 abbrev pub may_put : PathValue → Node → Tree → Bool
 may_put p node tree =
     law_at p node (node_in (parent_of p) tree) && (is_dir node || not (has_child p tree))
+
+-- whether the file at a path of a lawful tree may grow by some bytes
+abbrev pub may_grow : PathValue → List ℕ → Tree → Bool
+may_grow p bytes tree =
+    not (is_dir (node_in p tree))
+    && law_at p (grown bytes (node_in p tree)) (node_in (parent_of p) tree)
 
 -- whether what stands at a path may stand there
 unfoldable pub entry_passes : Tree → PathValue × Entry → Bool

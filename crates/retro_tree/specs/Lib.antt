@@ -11,6 +11,8 @@ pub mod Session
 pub mod State
 pub mod Limits
 pub mod Lawful
+pub mod Setting
+pub mod Known
 pub mod Resolving
 pub mod CellOrder
 pub mod User
@@ -19,5 +21,5 @@ pub mod Ask
 pub mod Change
 pub mod Notes
 pub mod Overlay
-pub mod Setting
+pub mod Former
 pub mod Commit

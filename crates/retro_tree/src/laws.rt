@@ -1,5 +1,5 @@
 //! Laws of lawful states, as contracts of functions that do nothing.
-ghost use Rattle.std.specs.Prelude.{◌≡◌, ◌≤◌, IsTrue, false, ℕ, List, [], length};
+ghost use Rattle.std.specs.Prelude.{◌≡◌, ◌≤◌, IsTrue, true, false, ℕ, List, [], length};
 ghost use Rattle.retro_tree.specs.Name.{AllNames};
 ghost use Rattle.retro_tree.specs.Path.{PathValue, is_null};
 ghost use Rattle.retro_tree.specs.Node.{file_limit};
@@ -7,6 +7,8 @@ ghost use Rattle.retro_tree.specs.Tree.{Tree};
 ghost use Rattle.retro_tree.specs.State.{put_node, grow_file, put_status, permit_of};
 ghost use Rattle.retro_tree.specs.Limits.{IsWithinLimits, within_limits};
 ghost use Rattle.retro_tree.specs.Lawful.{IsLawful, IsLawfulTree, KeepsTreeLaw, is_lawful, is_lawful_tree};
+ghost use Rattle.retro_tree.specs.Change.{IsLawfulChange, has_its_session, may_make};
+ghost use Rattle.retro_tree.specs.declared.change.Change.{Change};
 ghost use Rattle.retro_tree.specs.declared.node.Node.TheVariants.{File};
 ghost use Rattle.retro_tree.specs.declared.node.Permit.TheVariants.{Yes};
 ghost use Rattle.retro_tree.specs.declared.state.State.{State};
@@ -67,4 +69,13 @@ pub fn lawful_growths()
 pub fn lawful_statuses()
     ensures { (sid status : ℕ) (s : State)
         → IsLawful s → status ≤ 255 → IsLawful (put_status sid status s) }
+{}
+
+/// Of a lawful state a change is lawful exactly where its session is there and it passes the test
+/// at its cell and around it.
+#[tactic(auto, using(crate::proofs::Allowed::lawful_changes))]
+pub fn lawful_changes()
+    ensures sound { (c : Change) (s : State) → IsLawful s → has_its_session c s ≡ true
+        → may_make c s ≡ true → IsLawfulChange c s }
+    ensures whole { (c : Change) (s : State) → IsLawfulChange c s → may_make c s ≡ true }
 {}

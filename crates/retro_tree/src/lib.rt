@@ -18,6 +18,7 @@ mod bytes;
 mod cell;
 mod cell_laws;
 mod change;
+mod changing;
 mod laws;
 mod listing;
 mod name;
@@ -46,8 +47,8 @@ pub use cell_laws::{
 };
 pub use change::Change;
 pub use laws::{
-    lawful_files, lawful_growths, lawful_states_are_within_limits, lawful_states_pass,
-    lawful_statuses, lawful_trees, lawful_trees_pass,
+    lawful_changes, lawful_files, lawful_growths, lawful_states_are_within_limits,
+    lawful_states_pass, lawful_statuses, lawful_trees, lawful_trees_pass,
 };
 pub use listing::Listing;
 pub use name::{NAME_LIMIT, Name};

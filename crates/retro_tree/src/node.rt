@@ -1,5 +1,5 @@
 //! What stands at a path, and whether it may be written to.
-ghost use Rattle.std.specs.Prelude.{◌≡◌, OnOk, OnErr, Some, nat_le};
+ghost use Rattle.std.specs.Prelude.{◌≡◌, IfOk, OnOk, OnErr, Some, nat_le};
 ghost use Rattle.retro_tree.specs.Node.{entry_grown, node_of, size_of, file_limit};
 
 use crate::bytes::Bytes;
@@ -52,6 +52,15 @@ pub enum Entry {
     Dir,
     /// A file with its bytes.
     File(Bytes),
+}
+
+impl Node {
+    /// The same node once more.
+    pub fn copy(&self) -> Result<Node, AllocError>
+        ensures { IfOk result (λ copy. copy ≡ self.now) }
+    {
+        self.clone()
+    }
 }
 
 impl Entry {

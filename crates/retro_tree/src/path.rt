@@ -84,6 +84,16 @@ impl Path {
         Path::of_names(alloc, front)
     }
 
+    /// The directory of this path, by the path itself. Takes no memory.
+    #[tactic(auto, using(crate::proofs::Parents::take_is_parent))]
+    pub(crate) fn into_parent(self) -> Path
+        ensures { result ≡ parent_of self }
+    {
+        let mut path = self;
+        path.names.pop();
+        path
+    }
+
     /// The path of a name in this directory.
     pub fn child(&self, alloc: Global, name: &Name) -> Result<Path, AllocError>
         ensures { IfOk result (λ child. child ≡ self.now ++ name.now ∷ []) }
@@ -111,7 +121,7 @@ impl Path {
     }
 
     /// Whether this is a child of a directory: its path and one name more.
-    pub fn is_child_of(&self, parent: &Path) -> bool
+    pub(crate) fn is_child_of(&self, parent: &Path) -> bool
         ensures { result ≡ is_child parent.now self.now }
     {
         matches!(self.strip_prefix(parent), Some([_]))
@@ -119,7 +129,7 @@ impl Path {
 
     /// Whether this is the directory of a path, where the root is its own.
     #[tactic(auto, using(crate::proofs::Parents::take_is_parent))]
-    pub fn is_parent_of(&self, path: &Path) -> bool
+    pub(crate) fn is_parent_of(&self, path: &Path) -> bool
         ensures { result ≡ path_eq (parent_of path.now) self.now }
     {
         let count = path.names.len().saturating_sub(1);

@@ -1,12 +1,13 @@
 //! The sessions of a state.
-ghost use Rattle.std.specs.Prelude.{◌≡◌, ◌&&◌, nat_le, OnOk, OnErr};
+ghost use Rattle.std.specs.Prelude.{◌≡◌, ◌&&◌, ◌↔◌, nat_le, IsTrue, OnOk, OnErr};
 ghost use Rattle.std.specs.Option.{option_copied};
 ghost use Rattle.std.specs.FinMap as map;
 ghost use Rattle.retro_tree.specs.Maps.{update};
-ghost use Rattle.retro_tree.specs.Session.{fresh_session, with_status};
-ghost use Rattle.retro_tree.specs.Limits.{values_fit, are_lawful_sessions};
+ghost use Rattle.retro_tree.specs.Session.{fresh_session};
+ghost use Rattle.retro_tree.specs.Setting.{with_setting, setting_fits};
+ghost use Rattle.retro_tree.specs.Limits.{AreLawfulSessions, values_fit, are_lawful_sessions};
 
-pub(crate) mod setting;
+pub(crate) mod former;
 
 use crate::path::Path;
 use crate::text::Text;
@@ -62,6 +63,15 @@ impl Vars {
         self.values.get(name)
     }
 
+    /// Sets a variable. After want of memory the variables are as before.
+    fn insert(&mut self, name: VarName, value: Text) -> Result<(), AllocError>
+        ensures ok { OnOk result (self.new ≡ map.insert self.old name value) }
+        ensures err { OnErr result (self.new ≡ self.old) }
+    {
+        self.values.insert(name, value)?;
+        Ok(())
+    }
+
     /// The variables with their values, in order of names.
     pub fn iter(&self) -> Iter<'_, VarName, Text>
         ensures { result ≡ map.entries self.now }
@@ -94,10 +104,11 @@ pub struct Session {
     pub status: u8,
 }
 
-/// The sessions of a state, by their numbers.
+/// The sessions of a state, by their numbers. They may be known to be within the limits.
 #[derive(Drop, Clone)]
 pub struct Sessions {
     sessions: BTreeMap<u32, Session>,
+    known_lawful: bool,
 }
 
 impl Model for Sessions {
@@ -111,7 +122,11 @@ impl Model for Sessions {
 
     ghost coded = { map.code coded_ℕ coded_session };
 
-    ghost view = { λ a. map.from_entries a.sessions.entries };
+    ghost use Rattle.retro_tree.specs.Known.{sessions_of, SessionsAreKnown};
+
+    ghost view = { sessions_of };
+
+    ghost invariant = { SessionsAreKnown };
 }
 
 impl Sessions {
@@ -121,6 +136,7 @@ impl Sessions {
     {
         Sessions {
             sessions: BTreeMap::new(alloc),
+            known_lawful: false,
         }
     }
 
@@ -151,33 +167,97 @@ impl Sessions {
         true
     }
 
-    /// Adds a session, or puts another in its place.
+    /// Whether the sessions are known to be within the limits.
+    pub(crate) fn is_known_lawful(&self) -> bool
+        ensures { IsTrue result → AreLawfulSessions self.now }
+    {
+        self.known_lawful
+    }
+
+    /// Whether each session is within the limits, which is known from then on.
+    pub(crate) fn judge(&mut self) -> bool
+        ensures exact { IsTrue result ↔ AreLawfulSessions self.old }
+        ensures same { self.new ≡ self.old }
+    {
+        let lawful = self.are_lawful();
+        self.known_lawful = lawful;
+        lawful
+    }
+
+    /// Adds a session, or puts another in its place. Forgets whether the sessions are lawful.
     pub(crate) fn insert(&mut self, sid: u32, session: Session) -> Result<(), AllocError>
         ensures ok { OnOk result (self.new ≡ map.insert self.old sid session) }
         ensures err { OnErr result (self.new ≡ self.old) }
     {
+        self.known_lawful = false;
         self.sessions.insert(sid, session)?;
         Ok(())
     }
 
-    /// Sets the status of a session. One that isn't there is made first.
-    pub(crate) fn set_status(
+    /// Makes a setting in a session. One that isn't there is made first. Sessions that are known to
+    /// be lawful stay so where the setting is within the limits.
+    pub(crate) fn set(
         &mut self,
         alloc: Global,
         sid: u32,
-        status: u8,
+        setting: Setting,
     ) -> Result<(), AllocError>
         ensures ok { OnOk result
-            (self.new ≡ update self.old sid fresh_session (with_status status)) }
+            (self.new ≡ update self.old sid fresh_session (with_setting setting)) }
         ensures err { OnErr result (self.new ≡ self.old) }
     {
+        let stays = self.stays_lawful(sid, &setting);
+        self.write(alloc, sid, setting)?;
+        self.known_lawful = stays;
+        Ok(())
+    }
+
+    /// Whether the sessions are known to be lawful after a setting.
+    #[tactic(auto, using(crate::proofs::Keeping::settings))]
+    fn stays_lawful(&self, sid: u32, setting: &Setting) -> bool
+        ensures { IsTrue result
+            → AreLawfulSessions (update self.now sid fresh_session (with_setting setting.now)) }
+    {
+        self.is_known_lawful() && setting.fits()
+    }
+
+    /// Makes a setting, and forgets whether the sessions are lawful.
+    fn write(&mut self, alloc: Global, sid: u32, setting: Setting) -> Result<(), AllocError>
+        ensures ok { OnOk result
+            (self.new ≡ update self.old sid fresh_session (with_setting setting)) }
+        ensures err { OnErr result (self.new ≡ self.old) }
+    {
+        self.known_lawful = false;
         if let Some(session) = self.sessions.get_mut(&sid) {
-            session.status = status;
-            return Ok(());
+            return session.set(setting);
         }
         let mut session = Session::fresh(alloc);
-        session.status = status;
+        session.set(setting)?;
         self.insert(sid, session)
+    }
+}
+
+/// What a change sets in a session.
+#[derive(Drop)]
+pub(crate) enum Setting {
+    /// The value of a variable.
+    Var(VarName, Text),
+    /// The directory.
+    Cwd(Path),
+    /// The status.
+    Status(u8),
+}
+
+impl Setting {
+    /// Whether the setting is within the limits. A status is a byte, so it always is.
+    fn fits(&self) -> bool
+        ensures { result ≡ setting_fits self.now }
+    {
+        match self {
+            Setting::Var(_, value) => value.bytes().len() <= VALUE_LIMIT,
+            Setting::Cwd(_) => true,
+            Setting::Status(status) => *status <= u8::MAX,
+        }
     }
 }
 
@@ -192,6 +272,19 @@ impl Session {
             vars: Vars::new(alloc),
             status: 0,
         }
+    }
+
+    /// Makes a setting. After want of memory the session is as before.
+    fn set(&mut self, setting: Setting) -> Result<(), AllocError>
+        ensures ok { OnOk result (self.new ≡ with_setting setting self.old) }
+        ensures err { OnErr result (self.new ≡ self.old) }
+    {
+        match setting {
+            Setting::Var(name, value) => self.vars.insert(name, value)?,
+            Setting::Cwd(path) => self.cwd = path,
+            Setting::Status(status) => self.status = status,
+        }
+        Ok(())
     }
 
     /// Whether the status and the values of the variables are within the limits. A status is a

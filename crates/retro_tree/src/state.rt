@@ -9,14 +9,15 @@ ghost use Rattle.retro_tree.specs.Session.{session_in};
 ghost use Rattle.retro_tree.specs.Limits.{IsWithinLimits, within_limits};
 ghost use Rattle.retro_tree.specs.Lawful.{IsLawful, is_lawful};
 ghost use Rattle.retro_tree.specs.State.{empty_state, put_node, grow_file, put_session, put_status, permit_of};
+ghost use Rattle.retro_tree.specs.Change.{put_setting};
 
 pub(crate) mod writing;
 
 use crate::bytes::Bytes;
 use crate::listing::Listing;
-use crate::node::{Entry, Kind, Node, Permit};
+use crate::node::{Kind, Node, Permit};
 use crate::path::Path;
-use crate::session::{Session, Sessions, Vars};
+use crate::session::{Session, Sessions, Setting, Vars};
 use crate::text::Text;
 use crate::tree::Tree;
 use crate::var_name::VarName;
@@ -36,12 +37,13 @@ impl State {
     pub fn empty(alloc: Global) -> Result<State, AllocError>
         ensures { IfOk result (λ state. state ≡ empty_state) }
     {
-        let mut tree = Tree::new(alloc);
-        tree.insert(Path::root(alloc), Entry::Dir)?;
-        Ok(State {
-            tree,
+        let mut state = State {
+            tree: Tree::new(alloc),
             sessions: Sessions::new(alloc),
-        })
+        };
+        state.place(Path::root(alloc), Node::Dir)?;
+        state.judge(alloc)?;
+        Ok(state)
     }
 
     /// The same state once more.
@@ -70,14 +72,7 @@ impl State {
         ensures ok { OnOk result (self.new ≡ put_node path node self.old) }
         ensures err { OnErr result (self.new ≡ self.old) }
     {
-        match node {
-            Node::Missing => {
-                self.tree.remove(&path);
-                Ok(())
-            }
-            Node::Dir => self.tree.insert(path, Entry::Dir),
-            Node::File(bytes) => self.tree.insert(path, Entry::File(bytes)),
-        }
+        self.tree.put(path, node)
     }
 
     /// Adds bytes at the end of a file, in place. A missing file is made, and a directory stays.
@@ -117,7 +112,21 @@ impl State {
         ensures ok { OnOk result (self.new ≡ put_status sid status self.old) }
         ensures err { OnErr result (self.new ≡ self.old) }
     {
-        self.sessions.set_status(alloc, sid, status)
+        self.set(alloc, sid, Setting::Status(status))
+    }
+
+    /// Makes a setting in a session. One that isn't there is made first: at the root, without
+    /// variables, with status 0. After want of memory the state is as before.
+    pub(crate) fn set(
+        &mut self,
+        alloc: Global,
+        sid: u32,
+        setting: Setting,
+    ) -> Result<(), AllocError>
+        ensures ok { OnOk result (self.new ≡ put_setting sid setting self.old) }
+        ensures err { OnErr result (self.new ≡ self.old) }
+    {
+        self.sessions.set(alloc, sid, setting)
     }
 
     /// Which kind of node is at a path.
@@ -197,6 +206,24 @@ impl State {
         ensures exact { IfOk result (λ lawful. IsTrue lawful ↔ IsLawful self.now) }
     {
         Ok(self.passes_law(alloc)?)
+    }
+
+    /// Whether the state is lawful, which it remembers: from then on, as long as each change is
+    /// lawful, `allows` looks at no more than what is around a change. An empty state knows it.
+    pub fn judge(&mut self, alloc: Global) -> Result<bool, AllocError>
+        ensures exact { IfOk result (λ lawful. IsTrue lawful ↔ IsLawful self.old) }
+        ensures same { self.new ≡ self.old }
+    {
+        let tree = self.tree.judge(alloc)?;
+        let sessions = self.sessions.judge();
+        Ok(tree && sessions)
+    }
+
+    /// Whether the state is known to be lawful.
+    pub(crate) fn is_known_lawful(&self) -> bool
+        ensures { IsTrue result → IsLawful self.now }
+    {
+        self.tree.is_known_lawful() && self.sessions.is_known_lawful()
     }
 
     #[tactic(auto, unfolding(crate::specs::Lawful::is_lawful))]

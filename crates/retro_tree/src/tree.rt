@@ -1,12 +1,13 @@
 //! A tree of files.
-ghost use Rattle.std.specs.Prelude.{◌≡◌, IfOk, OnOk, OnErr, None};
+ghost use Rattle.std.specs.Prelude.{◌≡◌, ◌↔◌, ◌&&◌, IsTrue, IfOk, OnOk, OnErr, None};
 ghost use Rattle.std.specs.Option.{option_copied};
 ghost use Rattle.std.specs.FinMap as map;
-ghost use Rattle.retro_tree.specs.Node.{bytes_in, kind_of, size_of, permit_at, grown};
+ghost use Rattle.retro_tree.specs.Path.{parent_of, may_stand};
+ghost use Rattle.retro_tree.specs.Node.{bytes_in, is_dir, kind_of, size_of, permit_at, grown};
 ghost use Rattle.retro_tree.specs.Tree.{node_in, put, has_child, entries_from};
 ghost use Rattle.retro_tree.specs.Ask.{names_in};
 ghost use Rattle.retro_tree.specs.Limits.{files_fit};
-ghost use Rattle.retro_tree.specs.Lawful.{is_lawful_tree, entry_passes};
+ghost use Rattle.retro_tree.specs.Lawful.{IsLawfulTree, may_put, may_grow, is_lawful_tree, entry_passes};
 
 mod exchange;
 
@@ -19,10 +20,11 @@ use std::collections::BTreeMap;
 use std::collections::btree_map::{Iter, Range};
 use std::marker::Model;
 
-/// A map from paths to directories and files.
+/// A map from paths to directories and files. It may be known to be lawful.
 #[derive(Drop, Clone)]
 pub struct Tree {
     entries: BTreeMap<Path, Entry>,
+    known_lawful: bool,
 }
 
 impl Model for Tree {
@@ -36,7 +38,11 @@ impl Model for Tree {
 
     ghost coded = { map.code (coded_list (coded_list coded_ℕ)) coded_entry };
 
-    ghost view = { λ a. map.from_entries a.entries.entries };
+    ghost use Rattle.retro_tree.specs.Known.{tree_of, TreeIsKnown};
+
+    ghost view = { tree_of };
+
+    ghost invariant = { TreeIsKnown };
 }
 
 impl Tree {
@@ -46,6 +52,7 @@ impl Tree {
     {
         Tree {
             entries: BTreeMap::new(alloc),
+            known_lawful: false,
         }
     }
 
@@ -56,20 +63,62 @@ impl Tree {
         self.entries.get(path)
     }
 
-    /// Puts an entry at a path, in the place of one that is there.
-    pub(crate) fn insert(&mut self, path: Path, entry: Entry) -> Result<(), AllocError>
+    /// Puts an entry at a path, in the place of one that is there. Forgets whether the tree is
+    /// lawful.
+    fn insert(&mut self, path: Path, entry: Entry) -> Result<(), AllocError>
         ensures ok { OnOk result (self.new ≡ map.insert self.old path entry) }
         ensures err { OnErr result (self.new ≡ self.old) }
     {
+        self.known_lawful = false;
         self.entries.insert(path, entry)?;
         Ok(())
     }
 
-    /// Takes away what is at a path, where something is.
-    pub(crate) fn remove(&mut self, path: &Path)
+    /// Takes away what is at a path, where something is. Forgets whether the tree is lawful.
+    fn remove(&mut self, path: &Path)
         ensures { self.new ≡ map.remove self.old path.now }
     {
+        self.known_lawful = false;
         self.entries.remove(path);
+    }
+
+    /// Puts a node at a path, where Missing removes. A tree that is known to be lawful stays so
+    /// where the node may be put. After want of memory the tree is as before.
+    pub(crate) fn put(&mut self, path: Path, node: Node) -> Result<(), AllocError>
+        ensures ok { OnOk result (self.new ≡ put path node self.old) }
+        ensures err { OnErr result (self.new ≡ self.old) }
+    {
+        let stays = self.stays_lawful(&path, &node)?;
+        self.write(path, node)?;
+        self.known_lawful = stays;
+        Ok(())
+    }
+
+    /// Puts a node at a path, and forgets whether the tree is lawful.
+    fn write(&mut self, path: Path, node: Node) -> Result<(), AllocError>
+        ensures ok { OnOk result (self.new ≡ put path node self.old) }
+        ensures err { OnErr result (self.new ≡ self.old) }
+    {
+        match node {
+            Node::Missing => {
+                self.remove(&path);
+                Ok(())
+            }
+            Node::Dir => self.insert(path, Entry::Dir),
+            Node::File(bytes) => self.insert(path, Entry::File(bytes)),
+        }
+    }
+
+    /// Whether the tree is known to be lawful after a node is put at a path.
+    #[tactic(auto, using(crate::proofs::LawLemmas::lawful_put))]
+    fn stays_lawful(&self, path: &Path, node: &Node) -> Result<bool, AllocError>
+        ensures { IfOk result (λ stays. IsTrue stays
+            → IsLawfulTree (put path.now node.now self.now)) }
+    {
+        if !self.is_known_lawful() {
+            return Ok(false);
+        }
+        self.may_put(path, node)
     }
 
     /// What the tree holds, in order of paths: by their names, and those by their bytes.
@@ -150,6 +199,14 @@ impl Tree {
         }
     }
 
+    /// Whether a directory is at a path.
+    #[tactic(auto, unfolding(crate::specs::Tree::node_in))]
+    pub(crate) fn is_dir(&self, path: &Path) -> bool
+        ensures { result ≡ is_dir (node_in path.now self.now) }
+    {
+        matches!(self.get(path), Some(Entry::Dir))
+    }
+
     /// The bytes of the file at a path, where one is.
     #[tactic(auto, unfolding(crate::specs::Tree::node_in))]
     pub fn file(&self, path: &Path) -> Option<&Bytes>
@@ -194,18 +251,106 @@ impl Tree {
         }
     }
 
-    /// Adds bytes at the end of a file, in place. A missing file is made, and a directory stays.
+    /// Adds bytes at the end of a file, in place. A missing file is made, and a directory stays. A
+    /// tree that is known to be lawful stays so where the file may grow. After want of memory the
+    /// tree is as before.
     pub(crate) fn grow(&mut self, path: &Path, bytes: &Bytes) -> Result<(), AllocError>
         ensures ok { OnOk result
             (self.new ≡ put path.now (grown bytes.now (node_in path.now self.old)) self.old) }
         ensures err { OnErr result (self.new ≡ self.old) }
     {
+        let stays = self.stays_lawful_grown(path, bytes)?;
+        self.extend(path, bytes)?;
+        self.known_lawful = stays;
+        Ok(())
+    }
+
+    /// Adds bytes at the end of a file, and forgets whether the tree is lawful.
+    fn extend(&mut self, path: &Path, bytes: &Bytes) -> Result<(), AllocError>
+        ensures ok { OnOk result
+            (self.new ≡ put path.now (grown bytes.now (node_in path.now self.old)) self.old) }
+        ensures err { OnErr result (self.new ≡ self.old) }
+    {
+        self.known_lawful = false;
         if let Some(entry) = self.entries.get_mut(path) {
             return entry.grow(bytes);
         }
         let path = path.copy()?;
         let bytes = bytes.copy()?;
         self.insert(path, Entry::File(bytes))
+    }
+
+    /// Whether the tree is known to be lawful after bytes are added to a file.
+    #[tactic(auto, using(crate::proofs::LawLemmas::growing))]
+    fn stays_lawful_grown(&self, path: &Path, bytes: &Bytes) -> Result<bool, AllocError>
+        ensures { IfOk result (λ stays. IsTrue stays → IsLawfulTree
+            (put path.now (grown bytes.now (node_in path.now self.now)) self.now)) }
+    {
+        if !self.is_known_lawful() {
+            return Ok(false);
+        }
+        self.may_grow(path, bytes)
+    }
+
+    /// Whether a node may be put at a path of a lawful tree, by what is around it.
+    pub(crate) fn may_put(&self, path: &Path, node: &Node) -> Result<bool, AllocError>
+        ensures { IfOk result (λ may. may ≡ may_put path.now node.now self.now) }
+    {
+        if path.is_root() {
+            return Ok(matches!(node, Node::Dir));
+        }
+        match node {
+            Node::Missing => Ok(!self.has_child(path)),
+            Node::Dir => self.has_place_for(path),
+            Node::File(bytes) => {
+                if bytes.len() as u64 > FILE_LIMIT || self.has_child(path) {
+                    return Ok(false);
+                }
+                self.has_place_for(path)
+            }
+        }
+    }
+
+    /// Whether the file at a path of a lawful tree may grow by some bytes.
+    #[tactic(auto, unfolding(crate::specs::Tree::node_in))]
+    pub(crate) fn may_grow(&self, path: &Path, bytes: &Bytes) -> Result<bool, AllocError>
+        ensures { IfOk result (λ may. may ≡ may_grow path.now bytes.now self.now) }
+    {
+        if path.is_root() || self.is_dir(path) {
+            return Ok(false);
+        }
+        let more = bytes.len() as u64;
+        if more > FILE_LIMIT || self.size(path) as u64 > FILE_LIMIT - more {
+            return Ok(false);
+        }
+        self.has_place_for(path)
+    }
+
+    /// Whether something may stand at a path but for its size: its parent is a directory, and it
+    /// isn't at `/dev/null` or below it.
+    fn has_place_for(&self, path: &Path) -> Result<bool, AllocError>
+        ensures { IfOk result (λ has. has
+            ≡ (is_dir (node_in (parent_of path.now) self.now) && may_stand path.now)) }
+    {
+        let parent = path.copy()?.into_parent();
+        Ok(self.is_dir(&parent) && path.may_stand())
+    }
+
+    /// Whether the tree is known to be lawful.
+    pub(crate) fn is_known_lawful(&self) -> bool
+        ensures { IsTrue result → IsLawfulTree self.now }
+    {
+        self.known_lawful
+    }
+
+    /// Whether the tree is lawful, which is known from then on.
+    pub(crate) fn judge(&mut self, alloc: Global) -> Result<bool, AllocError>
+        ensures exact { IfOk result (λ lawful. IsTrue lawful ↔ IsLawfulTree self.old) }
+        ensures same { self.new ≡ self.old }
+    {
+        let lawful = self.is_lawful(alloc)?;
+        self.known_lawful = lawful;
+        Ok(lawful)
     }
 
     /// Whether each file is within the limit.
@@ -228,11 +373,11 @@ impl Tree {
         ensures { IfOk result (λ lawful. lawful ≡ is_lawful_tree self.now) }
     {
         let root = Path::root(alloc);
-        if self.kind(&root) != Kind::Dir {
+        if !self.is_dir(&root) {
             return Ok(false);
         }
         for (path, entry) in self.iter() {
-            if !self.entry_passes(alloc, path, entry)? {
+            if !self.entry_passes(path, entry)? {
                 return Ok(false);
             }
         }
@@ -241,20 +386,15 @@ impl Tree {
 
     /// Whether what stands at a path may stand there.
     #[tactic(auto, unfolding(crate::specs::Lawful::entry_passes))]
-    fn entry_passes(&self, alloc: Global, path: &Path, entry: &Entry) -> Result<bool, AllocError>
+    fn entry_passes(&self, path: &Path, entry: &Entry) -> Result<bool, AllocError>
         ensures { IfOk result (λ passes. passes ≡ entry_passes self.now (path.now, entry.now)) }
     {
-        let is_dir = matches!(entry, Entry::Dir);
         if path.is_root() {
-            return Ok(is_dir);
+            return Ok(matches!(entry, Entry::Dir));
         }
-        let parent = path.parent(alloc)?;
-        if self.kind(&parent) != Kind::Dir || !path.may_stand() {
+        if !entry.fits() {
             return Ok(false);
         }
-        match entry {
-            Entry::File(bytes) => Ok(bytes.len() as u64 <= FILE_LIMIT),
-            Entry::Dir => Ok(true),
-        }
+        self.has_place_for(path)
     }
 }

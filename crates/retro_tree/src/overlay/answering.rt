@@ -248,13 +248,6 @@ fn permit(node: &Node, above: &Node, more: u32) -> Permit
 }
 
 impl Node {
-    /// The same node once more.
-    fn copy(&self) -> Result<Node, AllocError>
-        ensures { IfOk result (λ copy. copy ≡ self.now) }
-    {
-        self.clone()
-    }
-
     /// Of which kind it is.
     fn kind(&self) -> Kind
         ensures { result ≡ kind_of self.now }

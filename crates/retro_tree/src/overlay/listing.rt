@@ -11,7 +11,7 @@ use super::Overlay;
 use crate::cell::{Cell, Value};
 use crate::listing::Listing;
 use crate::name::Name;
-use crate::node::{Entry, Kind, Node};
+use crate::node::{Kind, Node};
 use crate::path::Path;
 use crate::tree::Tree;
 use crate::view::View;
@@ -80,10 +80,11 @@ impl Overlay {
                 return Ok(tree);
             };
             if let ([_], Value::Node(node)) = (rest, value) {
-                match node {
-                    Node::Missing => tree.remove(at),
-                    Node::Dir | Node::File(_) => tree.insert(at.copy()?, Entry::Dir)?,
-                }
+                let mark = match node {
+                    Node::Missing => Node::Missing,
+                    Node::Dir | Node::File(_) => Node::Dir,
+                };
+                tree.put(at.copy()?, mark)?;
             }
         }
         Ok(tree)
@@ -96,7 +97,7 @@ fn marked(alloc: Global, path: &Path, names: &[Name]) -> Result<Tree, AllocError
 {
     let mut tree = Tree::new(alloc);
     for name in names {
-        tree.insert(path.child(alloc, name)?, Entry::Dir)?;
+        tree.put(path.child(alloc, name)?, Node::Dir)?;
     }
     Ok(tree)
 }
