@@ -1,5 +1,5 @@
 -- The changes that keep a lawful state lawful.
-use Rattle.std.proofs.Common.{◌≡◌, ◌≤◌, ℕ, true, false, List, [], length, Option, Some, None, refl, sym, ap, ◌∙◌, subst, ⊎_elim, arith}
+use Rattle.std.proofs.Common.{◌≡◌, ◌≤◌, ℕ, true, false, List, [], length, Option, Some, None, refl, sym, ap, ◌∙◌, nat_le, ◌&&◌, subst, ⊎_elim, arith}
 use Rattle.std.proofs.lemmas.Bool.{cases_eq, leb-true, le-leb}
 use Rattle.std.specs.Ordering.{nat_cmp}
 use Rattle.std.specs.Option.{unwrap_or}
@@ -14,7 +14,7 @@ use Rattle.retro_tree.specs.Node.{file_limit}
 use Rattle.retro_tree.specs.Session.{fresh_session, session_in, value_limit}
 use Rattle.retro_tree.specs.Setting.{with_setting, setting_fits}
 use Rattle.retro_tree.specs.State.{put_node, grow_file, put_status, permit_of}
-use Rattle.retro_tree.specs.Limits.{IsLawfulSession, AreLawfulSessions}
+use Rattle.retro_tree.specs.Limits.{IsLawfulSession, AreLawfulSessions, values_fit}
 use Rattle.retro_tree.specs.Lawful.{IsLawful}
 use Rattle.retro_tree.specs.declared.node.Node.TheVariants.{File}
 use Rattle.retro_tree.specs.declared.node.Permit.TheVariants.{Yes}
@@ -22,9 +22,10 @@ use Rattle.retro_tree.specs.declared.session.Session.{Session}
 use Rattle.retro_tree.specs.declared.session.Setting.{Setting}
 use Rattle.retro_tree.specs.declared.session.Setting.TheVariants.{Var, Cwd, Status}
 use Rattle.retro_tree.specs.declared.state.State.{State}
-use Rattle.retro_tree.proofs.Small.{some_same, none_some}
+use Rattle.retro_tree.proofs.Small.{some_same, none_some, first_true, both_true}
 use Rattle.retro_tree.proofs.LawLemmas.{same_or_apart_text}
 use Rattle.retro_tree.proofs.Lookups.{get_inserted, get_inserted_apart}
+use Rattle.retro_tree.proofs.WholeLaw.{values_from_test}
 use Rattle.retro_tree.proofs.Standing.{file_stands, growth_stands}
 
 -- ---- files
@@ -62,15 +63,23 @@ with_lawful_setting (Var name text) t fit l = record { status = l.status; values
 with_lawful_setting (Cwd p) t fit l = record { status = l.status; values = l.values }
 with_lawful_setting (Status status) t fit l = record { status = leb-true _ _ fit; values = l.values }
 
-pub settings : (m : map.FinMap nat_cmp Session) (sid : ℕ) (setting : Setting) → AreLawfulSessions m → setting_fits setting ≡ true → AreLawfulSessions (update m sid fresh_session (with_setting setting))
+inserted : (m : map.FinMap nat_cmp Session) (sid : ℕ) (new : Session) → AreLawfulSessions m → IsLawfulSession new → AreLawfulSessions (map.insert m sid new)
 unfolding AreLawfulSessions
-settings m sid setting l fit other t is =
+inserted m sid new l fit other t is =
     ⊎_elim
-    (λ e. subst IsLawfulSession (some_same (with_setting setting (session_in sid m)) t (sym (get_inserted nat_cmp_total m sid (with_setting setting (session_in sid m)))
-    ∙ ap (map.get (update m sid fresh_session (with_setting setting))) (sym e) ∙ is))
-    (with_lawful_setting setting (session_in sid m) fit (session_is_lawful m sid l)))
-    (λ ne. l other t (sym (get_inserted_apart nat_cmp_total nat_cmp-IsAntisymmetric m sid (with_setting setting (session_in sid m)) other ne) ∙ is))
+    (λ e. subst IsLawfulSession (some_same new t (sym (get_inserted nat_cmp_total m sid new) ∙ ap (map.get (map.insert m sid new)) (sym e) ∙ is)) fit)
+    (λ ne. l other t (sym (get_inserted_apart nat_cmp_total nat_cmp-IsAntisymmetric m sid new other ne) ∙ is))
     (cases_eq other sid)
+
+pub settings : (m : map.FinMap nat_cmp Session) (sid : ℕ) (setting : Setting) → AreLawfulSessions m → setting_fits setting ≡ true → AreLawfulSessions (update m sid fresh_session (with_setting setting))
+settings m sid setting l fit = inserted m sid (with_setting setting (session_in sid m)) l (with_lawful_setting setting (session_in sid m) fit (session_is_lawful m sid l))
+
+pub added : (m : map.FinMap nat_cmp Session) (sid : ℕ) (new : Session) → AreLawfulSessions m → (nat_le new.status 255 && values_fit new.vars) ≡ true → AreLawfulSessions (map.insert m sid new)
+added m sid new l fit =
+    inserted m sid new l (record {
+      status = leb-true _ _ (first_true (nat_le new.status 255) _ fit);
+      values = values_from_test new.vars (both_true (nat_le new.status 255) _ fit);
+    })
 
 pub lawful_status : (sid status : ℕ) (s : State) → IsLawful s → status ≤ 255 → IsLawful (put_status sid status s)
 lawful_status sid status s l fit = record { tree = l.tree; sessions = settings s.sessions sid (Status status) l.sessions (le-leb _ _ fit) }

@@ -40,7 +40,7 @@ test_from_tree tree h =
     (λ q e is. ap (λ o. law_at q (node_of o) (node_in (parent_of q) tree)) (sym is) ∙ h q))
 
 -- ---- sessions
-values_from_test : (vars : map.FinMap text_cmp (List ℕ)) → values_fit vars ≡ true → (name value : List ℕ) → map.get vars name ≡ Some value → length value ≤ value_limit
+pub values_from_test : (vars : map.FinMap text_cmp (List ℕ)) → values_fit vars ≡ true → (name value : List ℕ) → map.get vars name ≡ Some value → length value ≤ value_limit
 unfolding values_fit
 values_from_test vars h name value is = leb-true _ _ (tested text_total text_exact (λ e. nat_le (length e.1) value_limit) vars h name value is)
 

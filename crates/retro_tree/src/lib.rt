@@ -5,9 +5,15 @@
 //! of two finite maps: from paths to directories and files, and from numbers to sessions. After
 //! want of memory, which is `NoMem`, a state is as before.
 //!
+//! All that a state holds stands in its cells: what is at a path, and the directory, the variables
+//! and the status of a session. `State::apply` makes a change, which writes one cell.
+//! `State::answer` answers a question, by the cells that `supports` tells and by no other. What
+//! shows a state through its answers is a `View`.
+//!
 //! `State::is_lawful` is true exactly where the root is a directory, the parent of each other path
-//! is one, nothing stands at `/dev/null` or below it, and the state is within the limits. A write
-//! that `State::permit` allows, anywhere but at `/dev/null`, keeps a lawful state lawful.
+//! is one, nothing stands at `/dev/null` or below it, and the state is within the limits.
+//! `State::allows` is true exactly where a change is lawful, and a lawful change keeps a lawful
+//! state lawful. A write that `State::permit` allows, anywhere but at `/dev/null`, is one.
 //!
 //! `resolve` gives the path that a text names from a directory, by the text alone.
 #![tactic(auto)]

@@ -184,8 +184,28 @@ impl Sessions {
         lawful
     }
 
-    /// Adds a session, or puts another in its place. Forgets whether the sessions are lawful.
-    pub(crate) fn insert(&mut self, sid: u32, session: Session) -> Result<(), AllocError>
+    /// Adds a session, or puts another in its place. Sessions that are known to be lawful stay so
+    /// where this one is within the limits. After want of memory the sessions are as before.
+    pub(crate) fn add(&mut self, sid: u32, session: Session) -> Result<(), AllocError>
+        ensures ok { OnOk result (self.new ≡ map.insert self.old sid session) }
+        ensures err { OnErr result (self.new ≡ self.old) }
+    {
+        let stays = self.stays_lawful_with(sid, &session);
+        self.insert(sid, session)?;
+        self.known_lawful = stays;
+        Ok(())
+    }
+
+    /// Whether the sessions are known to be lawful with one more.
+    #[tactic(auto, using(crate::proofs::Keeping::added))]
+    fn stays_lawful_with(&self, sid: u32, session: &Session) -> bool
+        ensures { IsTrue result → AreLawfulSessions (map.insert self.now sid session.now) }
+    {
+        self.is_known_lawful() && session.fits()
+    }
+
+    /// Adds a session, and forgets whether the sessions are lawful.
+    fn insert(&mut self, sid: u32, session: Session) -> Result<(), AllocError>
         ensures ok { OnOk result (self.new ≡ map.insert self.old sid session) }
         ensures err { OnErr result (self.new ≡ self.old) }
     {

@@ -103,7 +103,7 @@ impl State {
             vars: Vars::of(vars),
             status,
         };
-        self.sessions.insert(sid, session)
+        self.sessions.add(sid, session)
     }
 
     /// Sets the status of a session. One that isn't there is made first: at the root, without
@@ -209,7 +209,8 @@ impl State {
     }
 
     /// Whether the state is lawful, which it remembers: from then on, as long as each change is
-    /// lawful, `allows` looks at no more than what is around a change. An empty state knows it.
+    /// lawful, `allows` looks at no more than what is around a change. A state that was made from
+    /// an empty one by lawful changes knows it without this.
     pub fn judge(&mut self, alloc: Global) -> Result<bool, AllocError>
         ensures exact { IfOk result (λ lawful. IsTrue lawful ↔ IsLawful self.old) }
         ensures same { self.new ≡ self.old }
