@@ -3,7 +3,7 @@ ghost use Rattle.std.specs.Prelude.{◌≡◌, IfOk};
 ghost use Rattle.std.specs.FinMap as map;
 ghost use Rattle.retro_tree.specs.Ask.{names_in, listing};
 ghost use Rattle.retro_tree.specs.Tree.{node_in};
-ghost use Rattle.retro_tree.specs.Overlay.{Overlays, cells_from, marked, marks};
+ghost use Rattle.retro_tree.specs.Overlay.{Overlays, cells_from, first_below, marked, marks};
 ghost use Rattle.retro_tree.specs.declared.cell.Cell.TheVariants as Cell;
 ghost use Rattle.retro_tree.specs.declared.state.State.{State};
 
@@ -36,6 +36,9 @@ impl Overlay {
             → Overlays self.now (V.shown view.now) now → names ≡ names_in path.now now.tree) }
     {
         let below = view.children(alloc, path)?;
+        if !self.lies_below(path)? {
+            return Ok(below);
+        }
         let tree = marked(alloc, path, below.names())?;
         let shown = self.mark(tree, path)?;
         Ok(shown.names(alloc, path)?)
@@ -63,6 +66,18 @@ impl Overlay {
         ensures { result ≡ cells_from cell.now self.now }
     {
         self.cells.range(cell..)
+    }
+
+    /// Whether something is laid at a path or below it.
+    fn lies_below(&self, path: &Path) -> Result<bool, AllocError>
+        ensures { IfOk result (λ lies.
+            lies ≡ first_below path.now (cells_from (Cell.At path.now) self.now)) }
+    {
+        let start = Cell::At(path.copy()?);
+        match self.from(&start).next() {
+            Some((Cell::At(at), _)) => Ok(at.strip_prefix(path).is_some()),
+            _ => Ok(false),
+        }
     }
 
     /// Marks each child of a path that is laid, and takes away those that are laid as missing.
