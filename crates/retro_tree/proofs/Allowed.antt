@@ -1,5 +1,5 @@
 -- Which changes are lawful, by tests around them.
-use Rattle.std.proofs.Common.{◌≡◌, Bool, true, false, not, nat_cmp, ℕ, Some, refl, sym, ap, ◌∙◌}
+use Rattle.std.proofs.Common.{◌≡◌, Bool, true, false, not, nat_cmp, ℕ, refl, sym, ap, ◌∙◌}
 use Rattle.std.specs.Prelude.{IsTrue, ◌↔◌}
 use Rattle.std.proofs.lemmas.Bool.{true≢false, false≢true, le-leb}
 use Rattle.std.specs.Cmp.{nat_cmp_total}
@@ -13,7 +13,7 @@ use Rattle.retro_tree.specs.Limits.{IsLawfulSession, AreLawfulSessions}
 use Rattle.retro_tree.specs.Lawful.{IsLawful}
 use Rattle.retro_tree.specs.Change.{apply, has_its_session, grows_dir, may_make, IsLawfulChange}
 use Rattle.retro_tree.specs.declared.session.Session.{Session}
-use Rattle.retro_tree.specs.declared.session.setting.Setting.TheVariants.{Var, Cwd, Status}
+use Rattle.retro_tree.specs.declared.session.Setting.TheVariants.{Var, Cwd, Status}
 use Rattle.retro_tree.specs.declared.change.Change.{Change}
 use Rattle.retro_tree.specs.declared.change.Change.TheVariants as changes
 use Rattle.retro_tree.specs.declared.state.State.{State}
@@ -27,7 +27,7 @@ pub kept : (c : Change) (s : State) → IsLawful s → may_make c s ≡ true →
 unfolding apply may_make
 kept (changes.Put p node) s l may = record { tree = lawful_put p node s.tree l.tree may; sessions = l.sessions }
 kept (changes.Grow p bytes) s l may = record { tree = growing p bytes s.tree l.tree may; sessions = l.sessions }
-kept (changes.SetVar sid name text) s l may = record { tree = l.tree; sessions = settings s.sessions sid (Var name (Some text)) l.sessions may }
+kept (changes.SetVar sid name text) s l may = record { tree = l.tree; sessions = settings s.sessions sid (Var name text) l.sessions may }
 kept (changes.SetCwd sid p) s l may = record { tree = l.tree; sessions = settings s.sessions sid (Cwd p) l.sessions refl }
 kept (changes.SetStatus sid status) s l may = record { tree = l.tree; sessions = settings s.sessions sid (Status status) l.sessions may }
 

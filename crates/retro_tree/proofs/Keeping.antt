@@ -19,12 +19,12 @@ use Rattle.retro_tree.specs.Lawful.{IsLawful}
 use Rattle.retro_tree.specs.declared.node.Node.TheVariants.{File}
 use Rattle.retro_tree.specs.declared.node.Permit.TheVariants.{Yes}
 use Rattle.retro_tree.specs.declared.session.Session.{Session}
-use Rattle.retro_tree.specs.declared.session.setting.Setting.{Setting}
-use Rattle.retro_tree.specs.declared.session.setting.Setting.TheVariants.{Var, Cwd, Status}
+use Rattle.retro_tree.specs.declared.session.Setting.{Setting}
+use Rattle.retro_tree.specs.declared.session.Setting.TheVariants.{Var, Cwd, Status}
 use Rattle.retro_tree.specs.declared.state.State.{State}
 use Rattle.retro_tree.proofs.Small.{some_same, none_some, first_true, both_true}
 use Rattle.retro_tree.proofs.LawLemmas.{same_or_apart_text}
-use Rattle.retro_tree.proofs.Lookups.{get_inserted, get_inserted_apart, get_removed, get_removed_apart}
+use Rattle.retro_tree.proofs.Lookups.{get_inserted, get_inserted_apart}
 use Rattle.retro_tree.proofs.WholeLaw.{values_from_test}
 use Rattle.retro_tree.proofs.Standing.{file_stands, growth_stands}
 
@@ -52,15 +52,7 @@ session_is_lawful m sid l = go (map.get m sid) refl
     go (Some t) is = l sid t is
 
 with_lawful_setting : (setting : Setting) (t : Session) → setting_fits setting ≡ true → IsLawfulSession t → IsLawfulSession (with_setting setting t)
-with_lawful_setting (Var name None) t fit l = record { status = l.status; values = values }
-  where
-    values : (q value : List ℕ) → map.get (map.remove t.vars name) q ≡ Some value → length value ≤ value_limit
-    values q value is =
-        ⊎_elim
-        (λ e. absurd (none_some value (sym (get_removed text_total t.vars name) ∙ ap (map.get (map.remove t.vars name)) (sym e) ∙ is)))
-        (λ ne. l.values q value (sym (get_removed_apart text_total text_exact t.vars name q ne) ∙ is))
-        (same_or_apart_text q name)
-with_lawful_setting (Var name (Some text)) t fit l = record { status = l.status; values = values }
+with_lawful_setting (Var name text) t fit l = record { status = l.status; values = values }
   where
     values : (q value : List ℕ) → map.get (map.insert t.vars name text) q ≡ Some value → length value ≤ value_limit
     values q value is =

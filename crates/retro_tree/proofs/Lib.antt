@@ -19,9 +19,10 @@ pub mod NoteLaws
 pub mod OverlayLaying
 pub mod OverlayListing
 pub mod Users
-pub mod Allowed
-pub mod SettingLemmas
+pub mod FormerLemmas
 pub mod Undoing
+pub mod Erasing
 pub mod OverlayCommit
 pub mod PutCells
 pub mod OverlayLasting
+pub mod Allowed

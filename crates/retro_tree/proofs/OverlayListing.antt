@@ -18,7 +18,7 @@ use Rattle.retro_tree.specs.Node.{is_there}
 use Rattle.retro_tree.specs.Tree.{Tree, node_in, put}
 use Rattle.retro_tree.specs.Ask.{names_in}
 use Rattle.retro_tree.specs.Cell.{value}
-use Rattle.retro_tree.specs.Overlay.{Cells, Overlays, cells_from, cell_below, marked, mark, mark_one, marks}
+use Rattle.retro_tree.specs.Overlay.{Cells, Overlays, cells_from, cell_below, first_below, marked, mark, mark_one, marks}
 use Rattle.retro_tree.specs.declared.node.Node.{Node}
 use Rattle.retro_tree.specs.declared.node.Node.TheVariants.{Missing, Dir, File}
 use Rattle.retro_tree.specs.declared.cell.Cell.{Cell}
@@ -193,3 +193,20 @@ listed p laid under now h n =
 -- the small tree has the names of the children
 pub listed_over : (p : PathValue) (laid : Cells) (under now : State) → Overlays laid under now → names_in p (marks p (cells_from (cells.At p) laid) (marked p (names_in p under.tree) finmap.empty)) ≡ names_in p now.tree
 listed_over p laid under now h = same_children p _ _ (listed p laid under now h)
+
+marks_none : (p : PathValue) (es : List (Cell × Value)) (t : Tree) → first_below p es ≡ false → marks p es t ≡ t
+marks_none p [] t h = refl
+marks_none p (e ∷ es) t h = ap (λ b. if b then marks p es (mark_one p e.0 e.1 t) else t) h
+
+marked_again : (p : PathValue) (t : Tree) → names_in p (marked p (names_in p t) finmap.empty) ≡ names_in p t
+marked_again p t = same_children p _ _ (λ n.
+    there_marked p n (names_in p t) finmap.empty
+    ∙ ap (λ b. list_any (text_eq n) (names_in p t) || b) (none_there (p ++ n ∷ []))
+    ∙ or_false _ ∙ names_listed p n t ∙ sym (there_in _ t))
+
+-- where nothing is laid below the path the names are as they were
+pub none_listed : (p : PathValue) (laid : Cells) (under now : State) → first_below p (cells_from (cells.At p) laid) ≡ false → Overlays laid under now → names_in p under.tree ≡ names_in p now.tree
+none_listed p laid under now none h =
+    sym (marked_again p under.tree)
+    ∙ ap (names_in p) (sym (marks_none p (cells_from (cells.At p) laid) (marked p (names_in p under.tree) finmap.empty) none))
+    ∙ listed_over p laid under now h

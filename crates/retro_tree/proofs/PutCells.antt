@@ -1,9 +1,10 @@
 -- What values that are put into cells leave in each cell, and which sessions they make.
-use Rattle.std.proofs.Common.{◌≡◌, ◌≢◌, ℕ, Bool, true, false, not, ◌||◌, ◌&&◌, cond, List, [], ◌∷◌, Option, Some, None, refl, sym, ap, subst, ◌∙◌, nat_cmp, T, ⊎_elim}
+use Rattle.std.proofs.Common.{◌≡◌, ◌≢◌, ℕ, Bool, true, false, not, ◌||◌, ◌&&◌, cond, List, [], ◌∷◌, ◌++◌, reverse, Option, Some, None, refl, sym, ap, subst, ◌∙◌, nat_cmp, T, ⊎_elim}
 use Rattle.std.specs.Bool.{if◌then◌else◌}
 use Rattle.std.specs.Option.{is_some, unwrap_or}
 use Rattle.std.specs.Ordering.{eq_by_cmp, is_eq}
-use Rattle.std.specs.List.{filter, list_any}
+use Rattle.std.specs.List.{filter, list_any, list_all}
+use Rattle.std.proofs.lemmas.List.{reverse-append}
 use Rattle.std.specs.Cmp.{nat_cmp_total, eq_by_cmp_equiv, tied_itself}
 use Rattle.std.specs.FinMap as finmap
 use Rattle.std.specs.FinMap.{FinMap, nat_cmp-IsAntisymmetric, get-insert, get-entries, entries_sorted}
@@ -13,7 +14,7 @@ use Rattle.retro_tree.specs.Order.{text_total, text_exact}
 use Rattle.retro_tree.specs.CellOrder.{cell_cmp, cell_total}
 use Rattle.retro_tree.specs.Maps.{update}
 use Rattle.retro_tree.specs.Session.{fresh_session, session_in}
-use Rattle.retro_tree.specs.Setting.{without_var, unset}
+use Rattle.retro_tree.specs.Former.{without_var, unset}
 use Rattle.retro_tree.specs.Cell.{value}
 use Rattle.retro_tree.specs.Change.{apply}
 use Rattle.retro_tree.specs.Notes.{cell_eq}
@@ -26,7 +27,7 @@ use Rattle.retro_tree.specs.declared.cell.Value.TheVariants as values
 use Rattle.retro_tree.specs.declared.change.Change.TheVariants as changes
 use Rattle.retro_tree.specs.declared.session.Session.{Session}
 use Rattle.retro_tree.specs.declared.state.State.{State}
-use Rattle.retro_tree.proofs.Small.{tied, less, both_fst, both_snd, none_some}
+use Rattle.retro_tree.proofs.Small.{and_true, tied, less, both_fst, both_snd, none_some}
 use Rattle.retro_tree.proofs.Lookups.{get_removed, get_removed_apart, session_updated, session_updated_apart, var_of_none}
 use Rattle.retro_tree.proofs.CellLaw.{kept}
 use Rattle.retro_tree.proofs.Agree.{same_state}
@@ -188,6 +189,15 @@ below_filtered c p (e ∷ es) h =
       | false ↦ rest
     ]
 
+is_sorted-where : (p : Cell × Value → Bool) (es : List (Cell × Value)) → T (is_sorted cell_cmp es) → T (is_sorted cell_cmp (filter p es))
+is_sorted-where p [] h = tt
+is_sorted-where p (e ∷ es) h =
+    let rest = is_sorted-where p es (both_snd _ _ h) in
+    elim (p e) as (λ b. T (is_sorted cell_cmp (cond b (e ∷ filter p es) (filter p es)))) [
+      | true ↦ both _ _ (below_filtered e.0 p es (both_fst _ _ h)) rest
+      | false ↦ rest
+    ]
+
 -- the writes first, and then the removals
 in_parts : (es : List (Cell × Value)) → T (is_sorted cell_cmp es) → (s : State) → put_cells (removals es) (put_cells (writes es) s) ≡ put_cells es s
 in_parts [] h s = refl
@@ -197,16 +207,30 @@ in_parts (e ∷ es) h s =
       | false ↦ in_parts es (both_snd _ _ h) (put_cell e.0 e.1 s)
     ]
 
-filtered_twice : (es : List (Cell × Value)) → removals (removals es) ≡ removals es
-filtered_twice [] = refl
-filtered_twice (e ∷ es) =
-    elim (removes e.1) as (λ b. removes e.1 ≡ b → removals (cond b (e ∷ removals es) (removals es)) ≡ cond b (e ∷ removals es) (removals es)) [
-      | true ↦ λ t. ap (λ b. cond b (e ∷ removals (removals es)) (removals (removals es))) t ∙ ap (λ fs. e ∷ fs) (filtered_twice es)
-      | false ↦ λ t. filtered_twice es
+-- from the last to the first
+puts_append : (xs ys : List (Cell × Value)) (s : State) → put_cells (xs ++ ys) s ≡ put_cells ys (put_cells xs s)
+puts_append [] ys s = refl
+puts_append (x ∷ xs) ys s = puts_append xs ys (put_cell x.0 x.1 s)
+
+reversed : (es : List (Cell × Value)) → T (is_sorted cell_cmp es) → (s : State) → put_cells (reverse es) s ≡ put_cells es s
+reversed [] h s = refl
+reversed (e ∷ es) h s =
+    ap (λ fs. put_cells fs s) (reverse-append (e ∷ []) es) ∙ puts_append (reverse es) (e ∷ []) s
+    ∙ ap (put_cell e.0 e.1) (reversed es (both_snd _ _ h) s)
+    ∙ sym (put_past e.0 e.1 es s (both_fst _ _ h))
+
+pub all_removals : (es : List (Cell × Value)) → list_all (λ e. removes e.1) (removals es) ≡ true
+all_removals [] = refl
+all_removals (e ∷ es) =
+    elim (removes e.1) as (λ b. removes e.1 ≡ b → list_all (λ f. removes f.1) (cond b (e ∷ removals es) (removals es)) ≡ true) [
+      | true ↦ λ t. and_true _ _ t (all_removals es)
+      | false ↦ λ t. all_removals es
     ] refl
 
-pub parted : (laid : Cells) (s : State) → put_cells (removals (removals (finmap.entries laid))) (put_cells (writes (finmap.entries laid)) s) ≡ committed laid s
-parted laid s = ap (λ es. put_cells es (put_cells (writes (finmap.entries laid)) s)) (filtered_twice (finmap.entries laid)) ∙ in_parts (finmap.entries laid) (entries_sorted laid) s
+pub parted : (laid : Cells) (s : State) → put_cells (reverse (removals (finmap.entries laid))) (put_cells (writes (finmap.entries laid)) s) ≡ committed laid s
+parted laid s =
+    reversed (removals (finmap.entries laid)) (is_sorted-where (λ e. removes e.1) (finmap.entries laid) (entries_sorted laid)) (put_cells (writes (finmap.entries laid)) s)
+    ∙ in_parts (finmap.entries laid) (entries_sorted laid) s
 
 -- ---- the state that is shown
 held_own : (c : Cell) (s : State) (old : Value) → held c (value c s) old ≡ value c s

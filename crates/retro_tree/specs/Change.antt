@@ -9,7 +9,7 @@ use Rattle.retro_tree.specs.Session.{fresh_session, with_var, with_cwd, value_li
 use Rattle.retro_tree.specs.State.{put_node, grow_file, put_status}
 use Rattle.retro_tree.specs.Lawful.{IsLawful, may_put, may_grow}
 use Rattle.retro_tree.specs.Setting.{with_setting}
-use Rattle.retro_tree.specs.declared.session.setting.Setting.{Setting}
+use Rattle.retro_tree.specs.declared.session.Setting.{Setting}
 use Rattle.retro_tree.specs.declared.cell.Cell.{Cell}
 use Rattle.retro_tree.specs.declared.cell.Cell.TheVariants as cells
 use Rattle.retro_tree.specs.declared.cell.Value.{Value}

@@ -5,7 +5,7 @@ use Rattle.std.specs.Ordering.{nat_cmp, eq_by_cmp}
 use Rattle.std.specs.FinMap as map
 use Rattle.retro_tree.specs.Maps.{update}
 use Rattle.retro_tree.specs.Session.{fresh_session, session_in}
-use Rattle.retro_tree.specs.Setting.{with_setting, has_place, unset}
+use Rattle.retro_tree.specs.Former.{with_former, has_place, unset}
 use Rattle.retro_tree.specs.Overlay.{Cells}
 use Rattle.retro_tree.specs.State.{put_node, put_status}
 use Rattle.retro_tree.specs.Change.{put_var, put_cwd}
@@ -72,16 +72,16 @@ abbrev pub undone : Undo → State → State
 undone (undos.Entry p None) s = record s { tree = map.remove s.tree p }
 undone (undos.Entry p (Some entry)) s = record s { tree = map.insert s.tree p entry }
 undone (undos.Session sid) s = record s { sessions = map.remove s.sessions sid }
-undone (undos.Setting sid setting) s =
-    record s { sessions = update s.sessions sid fresh_session (with_setting setting) }
+undone (undos.Setting sid former) s =
+    record s { sessions = update s.sessions sid fresh_session (with_former former) }
 
 -- whether that takes no memory
 abbrev pub can_undo : Undo → State → Bool
 can_undo (undos.Entry p None) s = true
 can_undo (undos.Entry p (Some entry)) s = map.contains_key s.tree p
 can_undo (undos.Session sid) s = true
-can_undo (undos.Setting sid setting) s =
-    map.contains_key s.sessions sid && has_place setting (session_in sid s.sessions)
+can_undo (undos.Setting sid former) s =
+    map.contains_key s.sessions sid && has_place former (session_in sid s.sessions)
 
 -- what was written, if anything, can be undone, and then all is as before
 abbrev pub Undoes : Option Undo → State → State → Type 0

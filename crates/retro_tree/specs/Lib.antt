@@ -21,4 +21,5 @@ pub mod Ask
 pub mod Change
 pub mod Notes
 pub mod Overlay
+pub mod Former
 pub mod Commit

@@ -71,3 +71,8 @@ mark_one p _ _ tree = tree
 abbrev pub marks : PathValue → List (Cell × Value) → Tree → Tree
 marks p [] tree = tree
 marks p (e ∷ es) tree = if cell_below p e.0 then marks p es (mark_one p e.0 e.1 tree) else tree
+
+-- whether the first of these is below the path
+abbrev pub first_below : PathValue → List (Cell × Value) → Bool
+first_below p [] = false
+first_below p (e ∷ es) = cell_below p e.0

@@ -4,8 +4,7 @@ ghost use Rattle.retro_tree.specs.Change.{apply, has_its_session, grows_dir, may
 ghost use Rattle.retro_tree.specs.Lawful.{IsLawful};
 
 use crate::change::Change;
-use crate::session::VALUE_LIMIT;
-use crate::session::setting::Setting;
+use crate::session::{Setting, VALUE_LIMIT};
 use crate::state::State;
 use std::alloc::{AllocError, Global};
 
@@ -21,7 +20,7 @@ impl State {
             Change::Put(path, node) => self.place(path.copy()?, node.copy()?),
             Change::Grow(path, bytes) => self.grow(path, bytes),
             Change::SetVar(sid, name, text) => {
-                let setting = Setting::Var(name.copy()?, Some(text.copy()?));
+                let setting = Setting::Var(name.copy()?, text.copy()?);
                 self.set(alloc, *sid, setting)
             }
             Change::SetCwd(sid, path) => self.set(alloc, *sid, Setting::Cwd(path.copy()?)),

@@ -10,6 +10,10 @@
 //! `State::answer` answers a question, by the cells that `supports` tells and by no other. What
 //! shows a state through its answers is a `View`.
 //!
+//! `Note`s keep what was asked and changed; they act on each cell alone. An `Overlay` holds values
+//! for some cells of a state that a view shows: it answers as the state that has them, takes
+//! changes, and is put into a state whole or not at all.
+//!
 //! `State::is_lawful` is true exactly where the root is a directory, the parent of each other path
 //! is one, nothing stands at `/dev/null` or below it, and the state is within the limits.
 //! `State::allows` is true exactly where a change is lawful, and a lawful change keeps a lawful

@@ -10,6 +10,8 @@ mod answering;
 mod commit;
 mod laying;
 mod listing;
+#[cfg(test)]
+mod tests;
 
 use crate::bytes::Bytes;
 use crate::cell::{Cell, Value};

@@ -2,10 +2,12 @@
 ghost use Rattle.std.specs.Prelude.{◌≡◌, ◌&&◌, ◌↔◌, nat_le, IsTrue, OnOk, OnErr};
 ghost use Rattle.std.specs.Option.{option_copied};
 ghost use Rattle.std.specs.FinMap as map;
+ghost use Rattle.retro_tree.specs.Maps.{update};
 ghost use Rattle.retro_tree.specs.Session.{fresh_session};
+ghost use Rattle.retro_tree.specs.Setting.{with_setting, setting_fits};
 ghost use Rattle.retro_tree.specs.Limits.{AreLawfulSessions, values_fit, are_lawful_sessions};
 
-pub(crate) mod setting;
+pub(crate) mod former;
 
 use crate::path::Path;
 use crate::text::Text;
@@ -59,6 +61,15 @@ impl Vars {
         ensures { option_copied result ≡ map.get self.now name.now }
     {
         self.values.get(name)
+    }
+
+    /// Sets a variable. After want of memory the variables are as before.
+    fn insert(&mut self, name: VarName, value: Text) -> Result<(), AllocError>
+        ensures ok { OnOk result (self.new ≡ map.insert self.old name value) }
+        ensures err { OnErr result (self.new ≡ self.old) }
+    {
+        self.values.insert(name, value)?;
+        Ok(())
     }
 
     /// The variables with their values, in order of names.
@@ -202,6 +213,72 @@ impl Sessions {
         self.sessions.insert(sid, session)?;
         Ok(())
     }
+
+    /// Makes a setting in a session. One that isn't there is made first. Sessions that are known to
+    /// be lawful stay so where the setting is within the limits.
+    pub(crate) fn set(
+        &mut self,
+        alloc: Global,
+        sid: u32,
+        setting: Setting,
+    ) -> Result<(), AllocError>
+        ensures ok { OnOk result
+            (self.new ≡ update self.old sid fresh_session (with_setting setting)) }
+        ensures err { OnErr result (self.new ≡ self.old) }
+    {
+        let stays = self.stays_lawful(sid, &setting);
+        self.write(alloc, sid, setting)?;
+        self.known_lawful = stays;
+        Ok(())
+    }
+
+    /// Whether the sessions are known to be lawful after a setting.
+    #[tactic(auto, using(crate::proofs::Keeping::settings))]
+    fn stays_lawful(&self, sid: u32, setting: &Setting) -> bool
+        ensures { IsTrue result
+            → AreLawfulSessions (update self.now sid fresh_session (with_setting setting.now)) }
+    {
+        self.is_known_lawful() && setting.fits()
+    }
+
+    /// Makes a setting, and forgets whether the sessions are lawful.
+    fn write(&mut self, alloc: Global, sid: u32, setting: Setting) -> Result<(), AllocError>
+        ensures ok { OnOk result
+            (self.new ≡ update self.old sid fresh_session (with_setting setting)) }
+        ensures err { OnErr result (self.new ≡ self.old) }
+    {
+        self.known_lawful = false;
+        if let Some(session) = self.sessions.get_mut(&sid) {
+            return session.set(setting);
+        }
+        let mut session = Session::fresh(alloc);
+        session.set(setting)?;
+        self.insert(sid, session)
+    }
+}
+
+/// What a change sets in a session.
+#[derive(Drop)]
+pub(crate) enum Setting {
+    /// The value of a variable.
+    Var(VarName, Text),
+    /// The directory.
+    Cwd(Path),
+    /// The status.
+    Status(u8),
+}
+
+impl Setting {
+    /// Whether the setting is within the limits. A status is a byte, so it always is.
+    fn fits(&self) -> bool
+        ensures { result ≡ setting_fits self.now }
+    {
+        match self {
+            Setting::Var(_, value) => value.bytes().len() <= VALUE_LIMIT,
+            Setting::Cwd(_) => true,
+            Setting::Status(status) => *status <= u8::MAX,
+        }
+    }
 }
 
 impl Session {
@@ -215,6 +292,19 @@ impl Session {
             vars: Vars::new(alloc),
             status: 0,
         }
+    }
+
+    /// Makes a setting. After want of memory the session is as before.
+    fn set(&mut self, setting: Setting) -> Result<(), AllocError>
+        ensures ok { OnOk result (self.new ≡ with_setting setting self.old) }
+        ensures err { OnErr result (self.new ≡ self.old) }
+    {
+        match setting {
+            Setting::Var(name, value) => self.vars.insert(name, value)?,
+            Setting::Cwd(path) => self.cwd = path,
+            Setting::Status(status) => self.status = status,
+        }
+        Ok(())
     }
 
     /// Whether the status and the values of the variables are within the limits. A status is a

@@ -65,7 +65,7 @@ impl Tree {
 
     /// Puts an entry at a path, in the place of one that is there. Forgets whether the tree is
     /// lawful.
-    pub(crate) fn insert(&mut self, path: Path, entry: Entry) -> Result<(), AllocError>
+    fn insert(&mut self, path: Path, entry: Entry) -> Result<(), AllocError>
         ensures ok { OnOk result (self.new ≡ map.insert self.old path entry) }
         ensures err { OnErr result (self.new ≡ self.old) }
     {
@@ -75,7 +75,7 @@ impl Tree {
     }
 
     /// Takes away what is at a path, where something is. Forgets whether the tree is lawful.
-    pub(crate) fn remove(&mut self, path: &Path)
+    fn remove(&mut self, path: &Path)
         ensures { self.new ≡ map.remove self.old path.now }
     {
         self.known_lawful = false;

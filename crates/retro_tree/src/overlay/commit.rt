@@ -1,6 +1,6 @@
 //! What is laid, put into a state: all of it or nothing.
-ghost use Rattle.std.specs.Prelude.{◌≡◌, ◌||◌, ℕ, [], OnOk, OnErr, false, reverse};
-ghost use Rattle.std.specs.List.{list_any};
+ghost use Rattle.std.specs.Prelude.{◌≡◌, ◌||◌, ℕ, [], OnOk, OnErr, true, false, reverse};
+ghost use Rattle.std.specs.List.{list_any, list_all};
 ghost use Rattle.std.specs.FinMap as map;
 ghost use Rattle.retro_tree.specs.Cell.{value};
 ghost use Rattle.retro_tree.specs.Overlay.{Cells, Overlays};
@@ -18,7 +18,7 @@ use std::collections::btree_map::IntoIter;
 impl Overlay {
     /// Puts all that is laid into a state. What isn't laid is neither copied nor read. After want
     /// of memory the state is as before: what takes memory is written first, and undone then, which
-    /// takes none; removals come last.
+    /// takes none; removals come last, what stands in a directory before the directory.
     ///
     /// # Errors
     ///
@@ -35,7 +35,7 @@ impl Overlay {
         let mut left = Vec::new(alloc);
         match self.write_all(alloc, state, &mut undos, &mut left) {
             Ok(()) => {
-                erase_all(alloc, state, &left);
+                erase_all(alloc, state, left);
                 Ok(())
             }
             Err(error) => {
@@ -135,13 +135,15 @@ fn unwind(alloc: Global, state: &mut State, undos: Vec<Undo>)
     }
 }
 
-/// Takes away what the removals among these say. Takes no memory.
-fn erase_all(alloc: Global, state: &mut State, entries: &[(Cell, Value)])
-    ensures { state.new ≡ put_cells (removals entries.now) state.old }
+/// Takes away what these removals say, from the last to the first: what stands in a directory before
+/// the directory. Takes no memory.
+#[tactic(auto, using(crate::proofs::OverlayCommit::erasing))]
+fn erase_all(alloc: Global, state: &mut State, left: Vec<(Cell, Value)>)
+    requires { list_all (λ e. removes e.1) left.items ≡ true }
+    ensures { state.new ≡ put_cells (reverse left.items) state.old }
 {
-    for (cell, value) in entries {
-        if value.removes() {
-            state.erase(alloc, cell, value);
-        }
+    let mut left = left;
+    while let Some((cell, value)) = left.pop() {
+        state.erase(alloc, &cell, &value);
     }
 }

@@ -3,7 +3,7 @@ ghost use Rattle.std.specs.Prelude.{◌≡◌, IfOk};
 ghost use Rattle.std.specs.FinMap as map;
 ghost use Rattle.retro_tree.specs.Ask.{names_in, listing};
 ghost use Rattle.retro_tree.specs.Tree.{node_in};
-ghost use Rattle.retro_tree.specs.Overlay.{Overlays, cells_from, marked, marks};
+ghost use Rattle.retro_tree.specs.Overlay.{Overlays, cells_from, first_below, marked, marks};
 ghost use Rattle.retro_tree.specs.declared.cell.Cell.TheVariants as Cell;
 ghost use Rattle.retro_tree.specs.declared.state.State.{State};
 
@@ -11,7 +11,7 @@ use super::Overlay;
 use crate::cell::{Cell, Value};
 use crate::listing::Listing;
 use crate::name::Name;
-use crate::node::{Entry, Kind, Node};
+use crate::node::{Kind, Node};
 use crate::path::Path;
 use crate::tree::Tree;
 use crate::view::View;
@@ -36,6 +36,9 @@ impl Overlay {
             → Overlays self.now (V.shown view.now) now → names ≡ names_in path.now now.tree) }
     {
         let below = view.children(alloc, path)?;
+        if !self.lies_below(path)? {
+            return Ok(below);
+        }
         let tree = marked(alloc, path, below.names())?;
         let shown = self.mark(tree, path)?;
         Ok(shown.names(alloc, path)?)
@@ -65,6 +68,18 @@ impl Overlay {
         self.cells.range(cell..)
     }
 
+    /// Whether something is laid at a path or below it.
+    fn lies_below(&self, path: &Path) -> Result<bool, AllocError>
+        ensures { IfOk result (λ lies.
+            lies ≡ first_below path.now (cells_from (Cell.At path.now) self.now)) }
+    {
+        let start = Cell::At(path.copy()?);
+        match self.from(&start).next() {
+            Some((Cell::At(at), _)) => Ok(at.strip_prefix(path).is_some()),
+            _ => Ok(false),
+        }
+    }
+
     /// Marks each child of a path that is laid, and takes away those that are laid as missing.
     fn mark(&self, tree: Tree, path: &Path) -> Result<Tree, AllocError>
         ensures { IfOk result (λ marked.
@@ -80,10 +95,11 @@ impl Overlay {
                 return Ok(tree);
             };
             if let ([_], Value::Node(node)) = (rest, value) {
-                match node {
-                    Node::Missing => tree.remove(at),
-                    Node::Dir | Node::File(_) => tree.insert(at.copy()?, Entry::Dir)?,
-                }
+                let mark = match node {
+                    Node::Missing => Node::Missing,
+                    Node::Dir | Node::File(_) => Node::Dir,
+                };
+                tree.put(at.copy()?, mark)?;
             }
         }
         Ok(tree)
@@ -96,7 +112,7 @@ fn marked(alloc: Global, path: &Path, names: &[Name]) -> Result<Tree, AllocError
 {
     let mut tree = Tree::new(alloc);
     for name in names {
-        tree.insert(path.child(alloc, name)?, Entry::Dir)?;
+        tree.put(path.child(alloc, name)?, Node::Dir)?;
     }
     Ok(tree)
 }

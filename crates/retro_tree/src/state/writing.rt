@@ -1,16 +1,16 @@
 //! Values written into the cells of a state, and how that is undone without memory.
 ghost use Rattle.std.specs.Prelude.{◌≡◌, IfOk, OnOk, OnErr, Some, true, false};
-ghost use Rattle.std.specs.FinMap as map;
-ghost use Rattle.retro_tree.specs.Maps.{update};
-ghost use Rattle.retro_tree.specs.Session.{fresh_session};
-ghost use Rattle.retro_tree.specs.Setting.{with_setting, unsets};
+ghost use Rattle.retro_tree.specs.Node.{is_there};
+ghost use Rattle.retro_tree.specs.State.{put_node};
+ghost use Rattle.retro_tree.specs.Change.{put_setting};
 ghost use Rattle.retro_tree.specs.Commit.{put_cell, removes, undone, can_undo, Undoes};
 
 use super::State;
 use crate::cell::{Cell, Value};
 use crate::node::{Entry, Node};
 use crate::path::Path;
-use crate::session::setting::Setting;
+use crate::session::Setting;
+use crate::session::former::Former;
 use std::alloc::{AllocError, Global};
 
 /// How one value that was written is undone.
@@ -21,7 +21,7 @@ pub(crate) enum Undo {
     /// The session wasn't there.
     Session(u32),
     /// One thing of a session was this.
-    Setting(u32, Setting),
+    Setting(u32, Former),
 }
 
 impl State {
@@ -41,9 +41,9 @@ impl State {
     {
         match cell {
             Cell::At(path) => match value {
-                Value::Node(Node::Dir) => Ok(Some(self.write_entry(path, Entry::Dir)?)),
+                Value::Node(Node::Dir) => Ok(Some(self.write_node(path, Node::Dir)?)),
                 Value::Node(Node::File(bytes)) => {
-                    Ok(Some(self.write_entry(path, Entry::File(bytes))?))
+                    Ok(Some(self.write_node(path, Node::File(bytes))?))
                 }
                 _ => Ok(None),
             },
@@ -53,35 +53,32 @@ impl State {
             },
             Cell::Var(sid, name) => match value {
                 Value::Text(Some(text)) => {
-                    Ok(Some(self.write_setting(alloc, sid, Setting::Var(name, Some(text)))?))
+                    Ok(Some(self.write_setting(alloc, sid, Setting::Var(name, text))?))
                 }
                 _ => Ok(None),
             },
             Cell::Status(sid) => match value {
-                Value::Status(status) => Ok(Some(self.write_setting(
-                    alloc,
-                    sid,
-                    Setting::Status(status),
-                )?)),
+                Value::Status(status) => {
+                    Ok(Some(self.write_setting(alloc, sid, Setting::Status(status))?))
+                }
                 _ => Ok(None),
             },
         }
     }
-    /// Puts an entry at a path, and gives how that is undone.
-    #[tactic(auto, using(crate::proofs::Undoing::undoing))]
-    fn write_entry(&mut self, path: Path, entry: Entry) -> Result<Undo, AllocError>
-        ensures ok { OnOk result
-            (self.new ≡ record self.old { tree = map.insert self.old.tree path entry }) }
+
+    /// Puts a directory or a file at a path, and gives how that is undone.
+    fn write_node(&mut self, path: Path, node: Node) -> Result<Undo, AllocError>
+        requires { is_there node ≡ true }
+        ensures ok { OnOk result (self.new ≡ put_node path node self.old) }
         ensures undo { IfOk result (λ undo. Undoes (Some undo) self.new self.old) }
         ensures err { OnErr result (self.new ≡ self.old) }
     {
         let key = path.copy()?;
-        let before = self.tree.exchange(path, entry)?;
+        let before = self.tree.exchange(path, node)?;
         Ok(Undo::Entry(key, before))
     }
 
-    /// Sets one thing of a session, but for a variable that is taken away, and gives how that is
-    /// undone.
+    /// Makes a setting in a session, and gives how that is undone.
     #[tactic(auto, using(crate::proofs::Undoing::undoing))]
     fn write_setting(
         &mut self,
@@ -89,13 +86,11 @@ impl State {
         sid: u32,
         setting: Setting,
     ) -> Result<Undo, AllocError>
-        requires { unsets setting ≡ false }
-        ensures ok { OnOk result (self.new ≡ record self.old
-            { sessions = update self.old.sessions sid fresh_session (with_setting setting) }) }
+        ensures ok { OnOk result (self.new ≡ put_setting sid setting self.old) }
         ensures undo { IfOk result (λ undo. Undoes (Some undo) self.new self.old) }
         ensures err { OnErr result (self.new ≡ self.old) }
     {
-        match self.sessions.write(alloc, sid, setting)? {
+        match self.sessions.exchange(alloc, sid, setting)? {
             None => Ok(Undo::Session(sid)),
             Some(before) => Ok(Undo::Setting(sid, before)),
         }
@@ -108,11 +103,11 @@ impl State {
     {
         match undo {
             Undo::Entry(path, before) => match before {
-                None => self.tree.remove(&path),
+                None => self.tree.erase(&path),
                 Some(entry) => self.tree.replace(path, entry),
             },
             Undo::Session(sid) => self.sessions.remove(sid),
-            Undo::Setting(sid, setting) => self.sessions.reset(alloc, sid, setting),
+            Undo::Setting(sid, former) => self.sessions.restore(alloc, sid, former),
         }
     }
 
@@ -125,7 +120,7 @@ impl State {
         match cell {
             Cell::At(path) => {
                 if let Value::Node(_) = value {
-                    self.tree.remove(path);
+                    self.tree.erase(path);
                 }
             }
             Cell::Var(sid, name) => {

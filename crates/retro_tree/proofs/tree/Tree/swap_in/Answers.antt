@@ -3,7 +3,7 @@ use Rattle.std.specs.FinMap as map
 use Rattle.retro_tree.specs.Order.{path_total, path_exact}
 use Rattle.retro_tree.proofs.MapLemmas.{made_insert, get_made}
 use Rattle.retro_tree.proofs.OverlayLemmas.{any_err}
-use Rattle.retro_tree.proofs.tree.Tree.exchange.Goals as goal
+use Rattle.retro_tree.proofs.tree.Tree.swap_in.Goals as goal
 
 pub returns-clause-ok : goal.returns-clause-ok
 returns-clause-ok c =

@@ -1,4 +1,4 @@
--- Entries of a finite map put in twice, put back and taken away again; settings put back.
+-- Entries of a finite map put in twice, put back and taken away again; sessions put back.
 use Rattle.std.proofs.Common.{◌≡◌, ℕ, Bool, true, false, cond, List, Option, Some, None, refl, sym, ap, ◌∙◌, nat_cmp}
 use Rattle.std.specs.Option.{is_some, unwrap_or}
 use Rattle.std.specs.Ordering.{eq_by_cmp}
@@ -8,10 +8,11 @@ use Rattle.std.specs.FinMap as map
 use Rattle.std.specs.FinMap.{FinMap, IsAntisymmetric, nat_cmp-IsAntisymmetric, get-insert, get-remove, same_map}
 use Rattle.retro_tree.specs.Order.{text_total, text_exact}
 use Rattle.retro_tree.specs.Session.{fresh_session, session_in}
-use Rattle.retro_tree.specs.Setting.{with_setting, setting_of, without_var}
+use Rattle.retro_tree.specs.Setting.{with_setting}
+use Rattle.retro_tree.specs.Former.{with_former, former_of, var_former}
 use Rattle.retro_tree.specs.declared.session.Session.{Session}
-use Rattle.retro_tree.specs.declared.session.setting.Setting.{Setting}
-use Rattle.retro_tree.specs.declared.session.setting.Setting.TheVariants.{Cwd, Var, Status}
+use Rattle.retro_tree.specs.declared.session.Setting.{Setting}
+use Rattle.retro_tree.specs.declared.session.Setting.TheVariants.{Cwd, Var, Status}
 use Rattle.retro_tree.proofs.Small.{tied}
 use Rattle.retro_tree.proofs.Lookups.{get_inserted}
 
@@ -48,16 +49,6 @@ module _ {K X : Type 0} {R : K → K → Ordering} (total : IsTotalOrder R) (exa
   pub put_back : (m : FinMap R X) (k : K) (x y : X) → map.get m k ≡ Some x → map.insert (map.insert m k y) k x ≡ m
   put_back m k x y is = inserted_twice m k y x ∙ inserted_again m k x is
 
-  -- an entry taken away, and put back
-  pub brought_back : (m : FinMap R X) (k : K) (x : X) → map.get m k ≡ Some x → map.insert (map.remove m k) k x ≡ m
-  brought_back m k x is = same_map total exact _ _ (λ q.
-      get-insert total (map.remove m k) k x q ∙ ap (cond (eq_by_cmp R q k) (Some x)) (get-remove total m k q)
-      ∙ twice (eq_by_cmp R q k) (Some x) None (map.get m q) ∙ back m k q (Some x) is)
-
-  -- nothing taken away
-  pub removed_none : (m : FinMap R X) (k : K) → map.get m k ≡ None → map.remove m k ≡ m
-  removed_none m k is = same_map total exact _ _ (λ q. get-remove total m k q ∙ back m k q None is)
-
   pub key_inserted : (m : FinMap R X) (k : K) (x : X) → map.contains_key (map.insert m k x) k ≡ true
   key_inserted m k x = ap is_some (get_inserted total m k x)
 
@@ -75,19 +66,14 @@ session_there = key_inserted nat_cmp_total nat_cmp-IsAntisymmetric
 pub session_is : (m : FinMap nat_cmp Session) (sid : ℕ) (x : Session) → map.get m sid ≡ Some x → session_in sid m ≡ x
 session_is m sid x is = ap (λ o. unwrap_or o fresh_session) is
 
-pub ruleset settings = (swapped_back, swapped_new, session_there, session_is)
+pub ruleset formers = (swapped_back, swapped_new, session_there, session_is)
 
--- what was set, set back
-pub set_back : (x : Setting) (s : Session) → with_setting (setting_of x s) (with_setting x s) ≡ s
+-- what was set, put back
+pub set_back : (x : Setting) (s : Session) → with_former (former_of x s) (with_setting x s) ≡ s
 set_back (Cwd p) s = refl
 set_back (Status n) s = refl
-set_back (Var name None) s = go (map.get s.vars name) refl
+set_back (Var name text) s = go (map.get s.vars name) refl
   where
-    go : (o : Option (List ℕ)) → map.get s.vars name ≡ o → with_setting (Var name o) (without_var name s) ≡ s
-    go None is = ap (λ vs. record s { vars = vs }) (ap (λ m. map.remove m name) (removed_none text_total text_exact s.vars name is) ∙ removed_none text_total text_exact s.vars name is)
-    go (Some t) is = ap (λ vs. record s { vars = vs }) (brought_back text_total text_exact s.vars name t is)
-set_back (Var name (Some text)) s = go (map.get s.vars name) refl
-  where
-    go : (o : Option (List ℕ)) → map.get s.vars name ≡ o → with_setting (Var name o) (with_setting (Var name (Some text)) s) ≡ s
+    go : (o : Option (List ℕ)) → map.get s.vars name ≡ o → with_former (var_former name o) (with_setting (Var name text) s) ≡ s
     go None is = ap (λ vs. record s { vars = vs }) (removed_again text_total text_exact s.vars name text is)
     go (Some t) is = ap (λ vs. record s { vars = vs }) (put_back text_total text_exact s.vars name t text is)

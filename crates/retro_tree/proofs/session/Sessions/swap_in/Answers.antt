@@ -4,7 +4,7 @@ use Rattle.std.specs.Cmp.{nat_cmp_total}
 use Rattle.std.specs.FinMap.{nat_cmp-IsAntisymmetric}
 use Rattle.retro_tree.proofs.MapLemmas.{made_insert, get_made}
 use Rattle.retro_tree.proofs.OverlayLemmas.{any_err}
-use Rattle.retro_tree.proofs.session.Sessions.exchange.Goals as goal
+use Rattle.retro_tree.proofs.session.Sessions.swap_in.Goals as goal
 
 pub returns-clause-ok : goal.returns-clause-ok
 returns-clause-ok c =
