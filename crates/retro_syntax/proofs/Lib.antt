@@ -8,3 +8,5 @@ pub mod PlainLemmas
 pub mod WritingLemmas
 pub mod QuotingLemmas
 pub mod DepthLemmas
+pub mod PartLemmas
+pub mod SpellingLemmas

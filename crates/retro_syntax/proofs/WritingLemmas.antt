@@ -17,32 +17,32 @@ use Rattle.retro_syntax.proofs.QuotingLemmas.{add_plain_push, add_quoted_push}
 
 -- ---- tests
 
-and_left : (a b : Bool) → (a && b) ≡ true → a ≡ true
+pub and_left : (a b : Bool) → (a && b) ≡ true → a ≡ true
 and_left true b e = refl
 and_left false b e = e
 
-and_right : (a b : Bool) → (a && b) ≡ true → b ≡ true
+pub and_right : (a b : Bool) → (a && b) ≡ true → b ≡ true
 and_right true b e = e
 and_right false b e = cc
 
-or_left : (a b : Bool) → (a || b) ≡ false → a ≡ false
+pub or_left : (a b : Bool) → (a || b) ≡ false → a ≡ false
 or_left true b e = e
 or_left false b e = refl
 
-or_right : (a b : Bool) → (a || b) ≡ false → b ≡ false
+pub or_right : (a b : Bool) → (a || b) ≡ false → b ≡ false
 or_right true b e = cc
 or_right false b e = e
 
-not_true : (a : Bool) → not a ≡ true → a ≡ false
+pub not_true : (a : Bool) → not a ≡ true → a ≡ false
 not_true true e = cc
 not_true false e = refl
 
 -- none of them
-abbrev Outside : List ℕ → ℕ → Type 0
+abbrev pub Outside : List ℕ → ℕ → Type 0
 Outside [] c = Unit {0}
 Outside (d ∷ ds) c = ((c == d) ≡ false) × Outside ds c
 
-outside : (ds : List ℕ) (c : ℕ) → is_among ds c ≡ false → Outside ds c
+pub outside : (ds : List ℕ) (c : ℕ) → is_among ds c ≡ false → Outside ds c
 outside [] c e = tt
 outside (d ∷ ds) c e = (or_left (c == d) (is_among ds c) e, outside ds c (or_right (c == d) (is_among ds c) e))
 
@@ -122,7 +122,7 @@ alone_before followed [] r a u b = b (not_true followed a)
 alone_before followed (c ∷ cs) r a u b =
     no_name c (no_backslash followed c cs (fits c) refl (and_left (fits c || ((c == 36) && stands_alone followed cs)) (are_unquoted followed cs) u)) (not_true (begins_parameter c) a)
 
-abbrev add_all : List T.Piece → List ℕ → List T.Piece
+abbrev pub add_all : List T.Piece → List ℕ → List T.Piece
 add_all ps [] = ps
 add_all ps (c ∷ cs) = add_all (add_plain ps c) cs
 
@@ -153,11 +153,11 @@ unquoted_on ts ps digits followed (c ∷ cs) r u b =
 differs : (f : ℕ → Bool) (c k : ℕ) → f c ≡ true → f k ≡ false → (c == k) ≡ false
 differs f c k h e = ne_eqb c k (λ s. let both : false ≡ true = sym e ∙ subst (λ x. f x ≡ true) s h in cc)
 
-name_is_ascii : (c : ℕ) → (is_ascii_alphanumeric c || (c == 95)) ≡ true → encode_utf8 c ≡ c ∷ []
+pub name_is_ascii : (c : ℕ) → (is_ascii_alphanumeric c || (c == 95)) ≡ true → encode_utf8 c ≡ c ∷ []
 unfolding encode_utf8
 name_is_ascii c e = let low : c < 128 = grind (arith, leb_tells, eqb_tells) in encode_ascii c low
 
-name_begins : (c : ℕ) → begins_name c ≡ true → (is_ascii_alphanumeric c || (c == 95)) ≡ true
+pub name_begins : (c : ℕ) → begins_name c ≡ true → (is_ascii_alphanumeric c || (c == 95)) ≡ true
 name_begins c e = grind (arith, leb_tells, eqb_tells)
 
 step_name : (ts : List T.Token) (ps : List T.Piece) (inside : Bool) (b : ℕ) (n : List ℕ) (c : ℕ) → (is_ascii_alphanumeric c || (c == 95)) ≡ true
@@ -269,7 +269,7 @@ escaped_on ts ps (c ∷ cs) r h =
 
 -- ---- the pieces that grow
 
-add_all_plain : (ps : List T.Piece) (t cs : List ℕ) → add_all (ps ++ T.plain t ∷ []) cs ≡ ps ++ T.plain (t ++ bytes_of cs) ∷ []
+pub add_all_plain : (ps : List T.Piece) (t cs : List ℕ) → add_all (ps ++ T.plain t ∷ []) cs ≡ ps ++ T.plain (t ++ bytes_of cs) ∷ []
 add_all_plain ps t [] = ap (λ u. ps ++ T.plain u ∷ []) (sym (append-nil t))
 add_all_plain ps t (c ∷ cs) =
     ap (λ qs. add_all qs cs) (add_plain_push ps (T.plain t) c) ∙ add_all_plain ps (t ++ encode_utf8 c) cs
@@ -284,7 +284,7 @@ quote_all_quoted ps t (c ∷ cs) =
 -- ---- a part
 
 -- the pieces before the part don't grow by it
-abbrev Ready : Part → List T.Piece → Type 0
+abbrev pub Ready : Part → List T.Piece → Type 0
 Ready (unquoted cs) ps = (c : ℕ) → add_plain ps c ≡ ps ++ T.plain (encode_utf8 c) ∷ []
 Ready (quoted cs ns) ps = (s : List ℕ) → add_quoted ps s ≡ ps ++ T.quoted s ∷ []
 Ready (parameter n) ps = Unit {0}
@@ -338,7 +338,7 @@ quoted_behind ps n (m ∷ ns) s =
     let same = append_assoc ps (T.quoted_parameter n ∷ []) (map T.quoted_parameter (m ∷ ns)) in
     subst (λ qs. add_quoted qs s ≡ qs ++ T.quoted s ∷ []) same (quoted_behind (ps ++ T.quoted_parameter n ∷ []) m ns s)
 
-ready_behind : (p q : Part) (ps : List T.Piece) → are_apart p q ≡ true → Ready q (ps ++ pieces_of p)
+pub ready_behind : (p q : Part) (ps : List T.Piece) → are_apart p q ≡ true → Ready q (ps ++ pieces_of p)
 ready_behind (unquoted cs) (unquoted ds) ps h = cc
 ready_behind (unquoted cs) (quoted ds ms) ps h = λ s. add_quoted_push ps (T.plain (bytes_of cs)) s ∙ sym (append_assoc ps (T.plain (bytes_of cs) ∷ []) (T.quoted s ∷ []))
 ready_behind (unquoted cs) (parameter m) ps h = tt

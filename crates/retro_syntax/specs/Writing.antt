@@ -1,6 +1,6 @@
 -- A writing of tokens that is read as them: quotes around quoted parts, `${name}` for parameters, and
 -- a blank behind each token.
-use Rattle.std.specs.Prelude.{ℕ, Bool, true, false, not, ◌&&◌, ◌||◌, ◌==◌, List, [], ◌∷◌, ◌++◌, map, codes, if◌then◌else◌}
+use Rattle.std.specs.Prelude.{◌≡◌, ℕ, Bool, true, false, not, ◌&&◌, ◌||◌, ◌==◌, List, [], ◌∷◌, ◌++◌, map, codes, if◌then◌else◌}
 use Rattle.std.specs.Char.{encode_utf8}
 use Rattle.std.specs.Str.{bytes_eq}
 use Rattle.retro_syntax.specs.Ascii as ascii
@@ -180,3 +180,9 @@ is_writable (word ps) = begins_no_comment ps && are_parts ps
 abbrev pub are_writable : List Written → Bool
 are_writable [] = true
 are_writable (w ∷ ws) = is_writable w && are_writable ws
+
+-- The tokens are those of something that can be written so.
+pub record HasWriting (ts : List T.Token) : Type 0 where
+  pub tokens : List Written
+  pub writable : are_writable tokens ≡ true
+  pub same : map token_of tokens ≡ ts

@@ -13,7 +13,7 @@ ghost use Rattle.retro_syntax.specs.Lines.{
 };
 ghost use Rattle.retro_syntax.specs.Quoting.{tokens_of};
 ghost use Rattle.retro_syntax.specs.Tree as Tree;
-ghost use Rattle.retro_syntax.specs.Writing.{Written, are_writable, token_of, written};
+ghost use Rattle.retro_syntax.specs.Writing.{HasWriting, Written, are_writable, token_of, written};
 
 use crate::depth::is_shallow;
 use crate::quoting::tokens_of;
@@ -127,8 +127,10 @@ pub fn parsed_is_spelling()
 {}
 
 /// Tokens written with quotes around quoted parts, `${name}` for parameters and a blank behind each
-/// token are read as they were written.
+/// token are read as they were written; and all tokens that a text is read as can be written so.
 pub fn writing_is_read()
-    ensures { (ws : List Written) → are_writable ws ≡ true
+    ensures read { (ws : List Written) → are_writable ws ≡ true
         → tokens_of (written ws) ≡ Some (map token_of ws) }
+    ensures every { (cs : List ℕ) (ts : List Tree.Token) → tokens_of cs ≡ Some ts
+        → HasWriting ts }
 {}
