@@ -17,14 +17,6 @@ fn refusal(alloc: Global, text: &str) -> Option<Refused> {
     }
 }
 
-/// The line's tree, written out; none where the text is refused.
-fn tree(alloc: Global, text: &str) -> Result<Option<String>, AllocError> {
-    match parse(alloc, text) {
-        Ok(line) => Ok(Some(shown(alloc, &line)?)),
-        Err(_) => Ok(None),
-    }
-}
-
 #[test]
 fn texts_are_read_as_their_trees(rt: HostRuntime) -> Result<(), Fail> {
     let alloc = rt.alloc();
@@ -63,7 +55,6 @@ fn texts_are_read_as_their_trees(rt: HostRuntime) -> Result<(), Fail> {
         ("x=1 _y2=a=b z=", "[(x:=1,_y2:=a=b,z:=,)]"),
         ("x=\"a b\"$y'' | a x=1", "[(x:=\"a b\"${y}\"\",)(a,x=1,)]"),
         ("> x=1 2a=b \"x\"=1 \\x=1", "[(>x=1,2a=b,\"x\"=1,\"x\"=1,)]"),
-        ("x=~/a:b y=a\":\"~ z=:\\~ a=:~b", ""),
         (
             "x=~/a:b y=a\":\"~ z=:\\~",
             "[(x:=~/a:b,y:=a\":\"~,z:=:\"~\",)]",
@@ -93,10 +84,9 @@ fn texts_are_read_as_their_trees(rt: HostRuntime) -> Result<(), Fail> {
         ("~ ~a/b é\r", "[(~,~a/b,é\r,)]"),
     ];
     for (text, want) in lines {
-        match tree(alloc, text)? {
-            Some(tree) => assert_eq!(rt; tree.as_str(), want, "at {text}"),
-            None => assert_eq!(rt; "", want, "at {text}"),
-        }
+        assert_eq!(rt; refusal(alloc, text), None, "at {text}");
+        let line = parse(alloc, text)?;
+        assert_eq!(rt; shown(alloc, &line)?.as_str(), want, "at {text}");
     }
     Ok(())
 }
