@@ -149,6 +149,30 @@ fn reports_are_written(rt: HostRuntime) -> Result<(), Fail> {
     Ok(())
 }
 
+/// Adds an output to those before it, as a report has them.
+fn push_output(outputs: &mut String, number: u8, output: &str) -> Result<(), AllocError> {
+    if number > 1 {
+        outputs.push(',')?;
+    }
+    outputs.push('[')?;
+    outputs.push(number.saturating_add(b'0') as char)?;
+    outputs.push_str(",\"")?;
+    outputs.push_str(output)?;
+    outputs.push_str("\"]")
+}
+
+/// The report with these outputs, the first session's status, and the file `f`.
+fn report(alloc: Global, outputs: &str, status: &str, file: &str) -> Result<String, AllocError> {
+    let mut text = String::from_str(alloc, "{\"outputs\":[")?;
+    text.push_str(outputs)?;
+    text.push_str("],\"sessions\":[[1,\"/h\",")?;
+    text.push_str(status)?;
+    text.push_str(BEHIND_STATUS)?;
+    text.push_str(file)?;
+    text.push_str(BEHIND_FILE)?;
+    Ok(text)
+}
+
 /// Each line of the seven, as the last that isn't cancelled: what the lines up to it print, the
 /// status that it leaves, and the file `f`.
 #[test]
@@ -183,25 +207,11 @@ fn lines_print_and_end(rt: HostRuntime) -> Result<(), Fail> {
         ("", "73683a20756e737570706f72746564206c696e650a", "2", ""),
     ];
     let mut outputs = String::new(rt.alloc());
-    let mut number = b'0';
+    let mut number: u8 = 0;
     for (cancel, output, status, file) in rows {
         number = number.saturating_add(1);
-        outputs.push_str(if number == b'1' { "[" } else { ",[" })?;
-        outputs.push(number as char)?;
-        outputs.push_str(",\"")?;
-        outputs.push_str(output)?;
-        outputs.push_str("\"]")?;
-        let mut want = String::from_str(rt.alloc(), "{\"outputs\":[")?;
-        for part in [
-            outputs.as_str(),
-            "],\"sessions\":[[1,\"/h\",",
-            status,
-            BEHIND_STATUS,
-            file,
-            BEHIND_FILE,
-        ] {
-            want.push_str(part)?;
-        }
+        push_output(&mut outputs, number, output)?;
+        let want = report(rt.alloc(), &outputs, status, file)?;
         let (exit, out) = run(&rt, &["replay", "--cancel", cancel], LINES)?;
         assert!(rt; exit == Exit::Done, "{cancel}");
         assert!(rt; out.as_slice() == want.as_bytes(), "{cancel}");
