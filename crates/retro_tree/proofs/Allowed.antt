@@ -58,7 +58,13 @@ whole (changes.SetVar sid name text) s l =
 whole (changes.SetCwd sid p) s l = refl
 whole (changes.SetStatus sid status) s l = le-leb _ _ (changed_session s.sessions sid (with_status status) l.after.sessions).status
 
-pub ruleset lawful_changes = (sound, whole)
+pub its_session : (c : Change) (s : State) → IsLawfulChange c s → has_its_session c s ≡ true
+its_session c s l = l.session
+
+pub state_after : (c : Change) (s : State) → IsLawfulChange c s → IsLawful (apply c s)
+state_after c s l = l.after
+
+pub ruleset lawful_changes = (sound, whole, its_session, state_after)
 
 -- ---- as the code tests
 pub without_session : (c : Change) (s : State) → has_its_session c s ≡ false → IsTrue false ↔ IsLawfulChange c s

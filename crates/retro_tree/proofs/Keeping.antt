@@ -23,8 +23,7 @@ use Rattle.retro_tree.specs.declared.session.Setting.{Setting}
 use Rattle.retro_tree.specs.declared.session.Setting.TheVariants.{Var, Cwd, Status}
 use Rattle.retro_tree.specs.declared.state.State.{State}
 use Rattle.retro_tree.proofs.Small.{some_same, none_some, first_true, both_true}
-use Rattle.retro_tree.proofs.LawLemmas.{same_or_apart_text}
-use Rattle.retro_tree.proofs.Lookups.{get_inserted, get_inserted_apart}
+use Rattle.retro_tree.proofs.Lookups.{one_or_two, get_inserted, get_inserted_apart}
 use Rattle.retro_tree.proofs.WholeLaw.{values_from_test}
 use Rattle.retro_tree.proofs.Standing.{file_stands, growth_stands}
 
@@ -59,7 +58,7 @@ with_lawful_setting (Var name text) t fit l = record { status = l.status; values
         ⊎_elim
         (λ e. subst (λ v. length v ≤ value_limit) (some_same text value (sym (get_inserted text_total t.vars name text) ∙ ap (map.get (map.insert t.vars name text)) (sym e) ∙ is)) (leb-true _ _ fit))
         (λ ne. l.values q value (sym (get_inserted_apart text_total text_exact t.vars name text q ne) ∙ is))
-        (same_or_apart_text q name)
+        (one_or_two text_total text_exact q name)
 with_lawful_setting (Cwd p) t fit l = record { status = l.status; values = l.values }
 with_lawful_setting (Status status) t fit l = record { status = leb-true _ _ fit; values = l.values }
 

@@ -1,5 +1,5 @@
 -- A change of a lawful tree is tested at its own path and below it.
-use Rattle.std.proofs.Common.{◌≡◌, ◌≢◌, ◌⊎◌, ⊎_elim, inl, inr, ℕ, suc, Bool, true, false, not, ◌||◌, List, [], ◌∷◌, length, Option, Some, None, refl, sym, ap, ◌∙◌, arith, nat_eq}
+use Rattle.std.proofs.Common.{◌≡◌, ◌≢◌, ◌⊎◌, ⊎_elim, ℕ, suc, Bool, true, false, not, ◌||◌, List, [], ◌∷◌, length, Option, Some, None, refl, sym, ap, ◌∙◌, arith, nat_eq}
 use Rattle.std.specs.Option.{is_some}
 use Rattle.std.specs.List.{list_any}
 use Rattle.std.specs.Bool.{if◌then◌else◌}
@@ -8,7 +8,7 @@ use Rattle.std.specs.Ordering.{eq_by_cmp, is_eq}
 use Rattle.std.specs.Cmp.{tied_itself}
 use Rattle.std.specs.FinMap as finmap
 use Rattle.std.proofs.lemmas.Bool.{true≢false, false≢true}
-use Rattle.retro_tree.specs.Order.{path_cmp, path_total, path_exact, text_cmp, text_total, text_exact, text_ties}
+use Rattle.retro_tree.specs.Order.{path_cmp, path_total, path_exact, text_exact, text_ties}
 use Rattle.retro_tree.specs.Path.{PathValue, below, only_name, parent_of, is_child}
 use Rattle.retro_tree.specs.Node.{node_of, grown, is_dir}
 use Rattle.retro_tree.specs.Tree.{Tree, node_in, put, has_child}
@@ -17,7 +17,7 @@ use Rattle.retro_tree.specs.declared.node.Entry.{Entry}
 use Rattle.retro_tree.specs.declared.node.Entry.TheVariants.{Dir as DirEntry, File as FileEntry}
 use Rattle.retro_tree.specs.declared.node.Node.{Node}
 use Rattle.retro_tree.specs.declared.node.Node.TheVariants.{Missing, Dir, File}
-use Rattle.retro_tree.proofs.Lookups.{node_put, node_put_apart}
+use Rattle.retro_tree.proofs.Lookups.{node_put, node_put_apart, one_or_two}
 use Rattle.retro_tree.proofs.Small.{tied, first_true, both_true, and_true, or_last, not_true}
 
 -- ---- parents and children
@@ -129,11 +129,7 @@ there_of_key tree q e is = go (finmap.get tree q) e is
     go (Some (FileEntry bytes)) e is = cc
 
 same_or_apart : (q p : PathValue) → (q ≡ p) ⊎ (q ≢ p)
-same_or_apart q p =
-    elim (eq_by_cmp path_cmp q p) as (λ b. eq_by_cmp path_cmp q p ≡ b → (q ≡ p) ⊎ (q ≢ p)) [
-      | true ↦ λ t. inl (path_exact q p (tied _ t))
-      | false ↦ λ t. inr (λ e. true≢false (sym (ap (λ k. eq_by_cmp path_cmp k p) e ∙ ap is_eq (tied_itself path_total p)) ∙ t))
-    ] refl
+same_or_apart = one_or_two path_total path_exact
 
 -- below a path without children nothing stands
 nothing_below : (p q : PathValue) (tree : Tree) → has_child p tree ≡ false → is_child p q ≡ true → node_in q tree ≡ Missing
@@ -225,10 +221,3 @@ law_after p node tree lawful = sym (law_here p node tree) ∙ lawful p
 
 pub growing : (p : PathValue) (bytes : List ℕ) (tree : Tree) → IsLawfulTree tree → may_grow p bytes tree ≡ true → IsLawfulTree (put p (grown bytes (node_in p tree)) tree)
 growing p bytes tree lawful may = lawful_growth p bytes tree lawful (not_true _ (first_true (not (is_dir (node_in p tree))) _ may)) (both_true (not (is_dir (node_in p tree))) _ may)
-
-pub same_or_apart_text : (q p : List ℕ) → (q ≡ p) ⊎ (q ≢ p)
-same_or_apart_text q p =
-    elim (eq_by_cmp text_cmp q p) as (λ b. eq_by_cmp text_cmp q p ≡ b → (q ≡ p) ⊎ (q ≢ p)) [
-      | true ↦ λ t. inl (text_exact q p (tied _ t))
-      | false ↦ λ t. inr (λ e. true≢false (sym (ap (λ k. eq_by_cmp text_cmp k p) e ∙ ap is_eq (tied_itself text_total p)) ∙ t))
-    ] refl

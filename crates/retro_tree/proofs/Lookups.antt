@@ -1,5 +1,6 @@
 -- What the cells of a state hold after a change, and what its answers depend on.
-use Rattle.std.proofs.Common.{◌≡◌, ◌≢◌, ℕ, false, cond, List, Some, None, refl, ap, ◌∙◌, nat_cmp}
+use Rattle.std.proofs.Common.{◌≡◌, ◌≢◌, ◌⊎◌, inl, inr, ℕ, true, false, cond, List, Some, None, refl, sym, ap, ◌∙◌, nat_cmp}
+use Rattle.std.proofs.lemmas.Bool.{true≢false}
 use Rattle.std.specs.Option.{unwrap_or}
 use Rattle.std.specs.Ordering.{eq_by_cmp, is_eq}
 use Rattle.std.specs.Cmp.{IsTotalOrder, nat_cmp_total, tied_itself}
@@ -18,6 +19,7 @@ use Rattle.retro_tree.specs.declared.node.Entry.{Entry}
 use Rattle.retro_tree.specs.declared.node.Entry.TheVariants.{Dir as DirEntry, File as FileEntry}
 use Rattle.retro_tree.specs.declared.node.Node.{Node}
 use Rattle.retro_tree.specs.declared.node.Node.TheVariants.{Missing, Dir, File}
+use Rattle.retro_tree.proofs.Small.{tied}
 
 -- ---- any finite map
 apart : {K : Type 0} {R : K → K → Ordering} → IsAntisymmetric R → (q k : K) → q ≢ k → eq_by_cmp R q k ≡ false
@@ -27,6 +29,14 @@ apart {R = R} exact q k h = go (R q k) refl
     go Less e = refl
     go Equal e = absurd (h (exact q k e))
     go Greater e = refl
+
+-- two keys are one or not
+pub one_or_two : {K : Type 0} {R : K → K → Ordering} → IsTotalOrder R → IsAntisymmetric R → (q k : K) → (q ≡ k) ⊎ (q ≢ k)
+one_or_two {R = R} total exact q k =
+    elim (eq_by_cmp R q k) as (λ b. eq_by_cmp R q k ≡ b → (q ≡ k) ⊎ (q ≢ k)) [
+      | true ↦ λ t. inl (exact q k (tied _ t))
+      | false ↦ λ t. inr (λ e. true≢false (sym (ap (λ x. eq_by_cmp R x k) e ∙ ap is_eq (tied_itself total k)) ∙ t))
+    ] refl
 
 module _ {K X : Type 0} {R : K → K → Ordering} (total : IsTotalOrder R) where
   pub get_inserted : (m : FinMap R X) (k : K) (v : X) → map.get (map.insert m k v) k ≡ Some v

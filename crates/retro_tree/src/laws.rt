@@ -7,7 +7,7 @@ ghost use Rattle.retro_tree.specs.Tree.{Tree};
 ghost use Rattle.retro_tree.specs.State.{put_node, grow_file, put_status, permit_of};
 ghost use Rattle.retro_tree.specs.Limits.{IsWithinLimits, within_limits};
 ghost use Rattle.retro_tree.specs.Lawful.{IsLawful, IsLawfulTree, KeepsTreeLaw, is_lawful, is_lawful_tree};
-ghost use Rattle.retro_tree.specs.Change.{IsLawfulChange, has_its_session, may_make};
+ghost use Rattle.retro_tree.specs.Change.{IsLawfulChange, apply, has_its_session, may_make};
 ghost use Rattle.retro_tree.specs.declared.change.Change.{Change};
 ghost use Rattle.retro_tree.specs.declared.node.Node.TheVariants.{File};
 ghost use Rattle.retro_tree.specs.declared.node.Permit.TheVariants.{Yes};
@@ -72,10 +72,13 @@ pub fn lawful_statuses()
 {}
 
 /// Of a lawful state a change is lawful exactly where its session is there and it passes the test
-/// at its cell and around it.
+/// at its cell and around it, and the state after it is lawful.
 #[tactic(auto, using(crate::proofs::Allowed::lawful_changes))]
 pub fn lawful_changes()
     ensures sound { (c : Change) (s : State) → IsLawful s → has_its_session c s ≡ true
         → may_make c s ≡ true → IsLawfulChange c s }
     ensures whole { (c : Change) (s : State) → IsLawfulChange c s → may_make c s ≡ true }
+    ensures session { (c : Change) (s : State)
+        → IsLawfulChange c s → has_its_session c s ≡ true }
+    ensures after { (c : Change) (s : State) → IsLawfulChange c s → IsLawful (apply c s) }
 {}
