@@ -1,13 +1,12 @@
 -- Parts that were judged to be a script keep what scripts keep.
 use Rattle.std.proofs.Common.{◌≡◌, Bool, true, false, not, List, refl}
-use Rattle.std.specs.Prelude.{Result, Ok, Err, IsTrue, if◌then◌else◌}
+use Rattle.std.specs.Prelude.{Ok, Err, if◌then◌else◌}
 use Rattle.std.specs.List.{list_all}
 use Rattle.retro_tree.specs.Limits.{within_limits}
-use Rattle.retro_tree.specs.Lawful.{IsLawful, is_lawful}
+use Rattle.retro_tree.specs.Lawful.{is_lawful}
 use Rattle.retro_tree.specs.declared.state.State.{State}
 use Rattle.retro_tree.proofs.WholeLaw.{state_from_test}
 use Rattle.retro_keep.specs.declared.script.ScriptLine.{ScriptLine}
-use Rattle.retro_keep.specs.declared.script.ScriptFault.{ScriptFault}
 use Rattle.retro_keep.specs.declared.script.ScriptFault.TheVariants.{NumbersNotRising, UnknownSession, LawlessTree, OverLimit}
 use Rattle.retro_keep.specs.Script.{ScriptValue, rises_from, has_session, script_of, IsScript}
 
