@@ -254,27 +254,19 @@ fn allows_puts(rt: HostRuntime) -> Result<(), Fail> {
     Ok(())
 }
 
-/// The file `/d/f` with a byte, and with one more.
-fn file_put(alloc: Global) -> Result<Change, Fail> {
-    Ok(Change::Put(path(alloc, "/d/f")?, Node::File(bytes(alloc, b"a")?)))
-}
-
-fn file_grown(alloc: Global) -> Result<Change, Fail> {
-    Ok(Change::Grow(path(alloc, "/d/f")?, bytes(alloc, b"b")?))
-}
-
-fn variable_set(alloc: Global) -> Result<Change, Fail> {
-    Ok(Change::SetVar(7, var_name(alloc, "v")?, text(alloc, "n")?))
-}
-
 /// A file `/d/f`, and session 7, all by changes.
 fn by_changes(alloc: Global) -> Result<State, Fail> {
     let mut state = with_dirs(alloc, &["/d", "/d/e"])?;
-    state.apply(alloc, &file_put(alloc)?)?;
-    state.apply(alloc, &file_grown(alloc)?)?;
+    let file = path(alloc, "/d/f")?;
+    state.apply(
+        alloc,
+        &Change::Put(file.copy()?, Node::File(bytes(alloc, b"a")?)),
+    )?;
+    state.apply(alloc, &Change::Grow(file, bytes(alloc, b"b")?))?;
     state.apply(alloc, &Change::SetStatus(7, 3))?;
     state.apply(alloc, &Change::SetCwd(7, path(alloc, "/d")?))?;
-    state.apply(alloc, &variable_set(alloc)?)?;
+    let value = text(alloc, "n")?;
+    state.apply(alloc, &Change::SetVar(7, var_name(alloc, "v")?, value))?;
     Ok(state.copy()?)
 }
 

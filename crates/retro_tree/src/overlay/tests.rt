@@ -20,23 +20,19 @@ fn path(alloc: Global, text: &str) -> Result<Path, Fail> {
     }
 }
 
-/// More bytes for the file `/d/f`.
-fn growth(alloc: Global, more: &str) -> Result<Change, Fail> {
-    Ok(Change::Grow(path(alloc, "/d/f")?, bytes(alloc, more)?))
-}
-
 /// A directory with a file that grows twice, a file that is removed, and a status.
 fn laid(alloc: Global, state: &State) -> Result<Overlay, Fail> {
     let mut overlay = Overlay::new(alloc);
-    overlay.lay(alloc, state, Change::Put(path(alloc, "/d")?, Node::Dir))?;
-    overlay.lay(alloc, state, growth(alloc, "a")?)?;
-    overlay.lay(alloc, state, growth(alloc, "b")?)?;
-    overlay.lay(
-        alloc,
-        state,
+    let changes = [
+        Change::Put(path(alloc, "/d")?, Node::Dir),
+        Change::Grow(path(alloc, "/d/f")?, bytes(alloc, "a")?),
+        Change::Grow(path(alloc, "/d/f")?, bytes(alloc, "b")?),
         Change::Put(path(alloc, "/old")?, Node::Missing),
-    )?;
-    overlay.lay(alloc, state, Change::SetStatus(7, 3))?;
+        Change::SetStatus(7, 3),
+    ];
+    for change in Vec::from_array(alloc, changes)? {
+        overlay.lay(alloc, state, change)?;
+    }
     Ok(overlay)
 }
 
