@@ -12,6 +12,3 @@ mod report;
 mod words;
 
 pub use program::{Exit, run_with};
-
-#[cfg(test)]
-mod tests;

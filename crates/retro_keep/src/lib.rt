@@ -8,6 +8,3 @@
 mod script;
 
 pub use script::{Script, ScriptFault, ScriptLine, are_rising, have_sessions};
-
-#[cfg(test)]
-mod tests;

@@ -16,6 +16,3 @@ mod values;
 pub use fault::{LogFault, Part, Refusal};
 pub use reading::read_script;
 pub use values::{hex_value, sessions_value, tree_value};
-
-#[cfg(test)]
-mod tests;

@@ -13,6 +13,3 @@ mod utilities;
 
 pub use line::{play, step};
 pub use std::alloc::AllocError as NoMem;
-
-#[cfg(test)]
-mod tests;

@@ -42,6 +42,3 @@ pub fn reading_is_spelling()
     ensures spelled { (ts : List Token) (c : Commands) → Spells ts c → commands_of ts ≡ Some c }
     ensures one { (ts : List Token) (c d : Commands) → Spells ts c → Spells ts d → c ≡ d }
 {}
-
-#[cfg(test)]
-mod tests;

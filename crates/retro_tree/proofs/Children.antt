@@ -19,11 +19,8 @@ use Rattle.retro_tree.specs.Tree.{Tree, node_in}
 use Rattle.retro_tree.specs.Ask.{names_in}
 use Rattle.retro_tree.specs.declared.node.Entry.{Entry}
 use Rattle.retro_tree.specs.declared.node.Entry.TheVariants.{Dir as DirEntry, File as FileEntry}
-use Rattle.retro_tree.proofs.Small.{tied, less, both_fst, both_snd, some_same, none_some}
+use Rattle.retro_tree.proofs.Small.{tied, less, both_fst, both_snd, some_same, none_some, same_text}
 use Rattle.retro_tree.proofs.MapLemmas.{in_order}
-
-same_text : (x y : List ℕ) → text_eq x y ≡ true → x ≡ y
-same_text x y e = text_exact x y (tied _ (sym (text_ties x y) ∙ e))
 
 -- a child is its parent's path and its name
 pub child_is : (p q : PathValue) (n : List ℕ) → child_name p q ≡ Some n → q ≡ p ++ n ∷ []

@@ -13,6 +13,7 @@ use Rattle.retro_tree.specs.Path.{PathValue, is_null}
 use Rattle.retro_tree.specs.Node.{file_limit}
 use Rattle.retro_tree.specs.Session.{fresh_session, session_in, value_limit}
 use Rattle.retro_tree.specs.Setting.{with_setting, setting_fits}
+use Rattle.retro_tree.specs.Former.{unset, without_var}
 use Rattle.retro_tree.specs.State.{put_node, grow_file, put_status, permit_of}
 use Rattle.retro_tree.specs.Limits.{IsLawfulSession, AreLawfulSessions, values_fit}
 use Rattle.retro_tree.specs.Lawful.{IsLawful}
@@ -23,7 +24,7 @@ use Rattle.retro_tree.specs.declared.session.Setting.{Setting}
 use Rattle.retro_tree.specs.declared.session.Setting.TheVariants.{Var, Cwd, Status}
 use Rattle.retro_tree.specs.declared.state.State.{State}
 use Rattle.retro_tree.proofs.Small.{some_same, none_some, first_true, both_true}
-use Rattle.retro_tree.proofs.Lookups.{one_or_two, get_inserted, get_inserted_apart}
+use Rattle.retro_tree.proofs.Lookups.{one_or_two, get_inserted, get_inserted_apart, get_removed, get_removed_apart}
 use Rattle.retro_tree.proofs.WholeLaw.{values_from_test}
 use Rattle.retro_tree.proofs.Standing.{file_stands, growth_stands}
 
@@ -79,6 +80,24 @@ added m sid new l fit =
       status = leb-true _ _ (first_true (nat_le new.status 255) _ fit);
       values = values_from_test new.vars (both_true (nat_le new.status 255) _ fit);
     })
+
+without_lawful : (t : Session) (name : List ℕ) → IsLawfulSession t → IsLawfulSession (without_var name t)
+without_lawful t name l = record { status = l.status; values = values }
+  where
+    values : (q value : List ℕ) → map.get (map.remove t.vars name) q ≡ Some value → length value ≤ value_limit
+    values q value is =
+        ⊎_elim
+        (λ e. absurd (none_some value (sym (get_removed text_total t.vars name) ∙ ap (map.get (map.remove t.vars name)) (sym e) ∙ is)))
+        (λ ne. l.values q value (sym (get_removed_apart text_total text_exact t.vars name q ne) ∙ is))
+        (one_or_two text_total text_exact q name)
+
+pub taken_away : (m : map.FinMap nat_cmp Session) (sid : ℕ) (name : List ℕ) → AreLawfulSessions m → AreLawfulSessions (unset (map.get m sid) sid name m)
+unfolding AreLawfulSessions
+taken_away m sid name l = go (map.get m sid) refl
+  where
+    go : (o : Option Session) → map.get m sid ≡ o → AreLawfulSessions (unset o sid name m)
+    go None is = l
+    go (Some t) is = inserted m sid (without_var name t) l (without_lawful t name (l sid t is))
 
 pub lawful_status : (sid status : ℕ) (s : State) → IsLawful s → status ≤ 255 → IsLawful (put_status sid status s)
 lawful_status sid status s l fit = record { tree = l.tree; sessions = settings s.sessions sid (Status status) l.sessions (le-leb _ _ fit) }

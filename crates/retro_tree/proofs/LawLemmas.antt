@@ -8,7 +8,7 @@ use Rattle.std.specs.Ordering.{eq_by_cmp, is_eq}
 use Rattle.std.specs.Cmp.{tied_itself}
 use Rattle.std.specs.FinMap as finmap
 use Rattle.std.proofs.lemmas.Bool.{true≢false, false≢true}
-use Rattle.retro_tree.specs.Order.{path_cmp, path_total, path_exact, text_exact, text_ties}
+use Rattle.retro_tree.specs.Order.{path_cmp, path_total, path_exact}
 use Rattle.retro_tree.specs.Path.{PathValue, below, only_name, parent_of, is_child}
 use Rattle.retro_tree.specs.Node.{node_of, grown, is_dir}
 use Rattle.retro_tree.specs.Tree.{Tree, node_in, put, has_child}
@@ -18,7 +18,7 @@ use Rattle.retro_tree.specs.declared.node.Entry.TheVariants.{Dir as DirEntry, Fi
 use Rattle.retro_tree.specs.declared.node.Node.{Node}
 use Rattle.retro_tree.specs.declared.node.Node.TheVariants.{Missing, Dir, File}
 use Rattle.retro_tree.proofs.Lookups.{node_put, node_put_apart, one_or_two}
-use Rattle.retro_tree.proofs.Small.{tied, first_true, both_true, and_true, or_last, not_true}
+use Rattle.retro_tree.proofs.Small.{tied, first_true, both_true, and_true, or_last, not_true, same_text}
 
 -- ---- parents and children
 below_here : (name : List ℕ) (front path : PathValue) → below (name ∷ front) (name ∷ path) ≡ below front path
@@ -28,9 +28,6 @@ below_here name front path = ap (λ b. if b then below front path else None) (na
 pub child_of_parent : (name : List ℕ) (rest : PathValue) → is_child (parent_of (name ∷ rest)) (name ∷ rest) ≡ true
 child_of_parent name [] = refl
 child_of_parent name (other ∷ rest) = ap (λ o. is_some (only_name o)) (below_here name (parent_of (other ∷ rest)) (other ∷ rest)) ∙ child_of_parent other rest
-
-same_text : (x y : List ℕ) → pointwise nat_eq x y ≡ true → x ≡ y
-same_text x y e = text_exact x y (tied _ (sym (text_ties x y) ∙ e))
 
 not_own_child : (p : PathValue) → is_child p [] ≡ false
 not_own_child [] = refl
@@ -81,7 +78,7 @@ no_child p (k ∷ ks) q h e =
       | false ↦ λ t. no_child p ks q (right_false (is_child p k) _ h) e
     ] refl
 
-some_child : (p : PathValue) (ks : List PathValue) → list_any (is_child p) ks ≡ true → (q : PathValue) × (is_child p q ≡ true) × (list_any (eq_by_cmp path_cmp q) ks ≡ true)
+pub some_child : (p : PathValue) (ks : List PathValue) → list_any (is_child p) ks ≡ true → (q : PathValue) × (is_child p q ≡ true) × (list_any (eq_by_cmp path_cmp q) ks ≡ true)
 some_child p [] h = absurd (false≢true h)
 some_child p (k ∷ ks) h =
     elim (is_child p k) as (λ b. is_child p k ≡ b → (b || list_any (is_child p) ks) ≡ true → (q : PathValue) × (is_child p q ≡ true) × (list_any (eq_by_cmp path_cmp q) (k ∷ ks) ≡ true)) [
@@ -119,7 +116,7 @@ missing_of_no_key tree q e = ap node_of (none (finmap.get tree q) e)
     none None e = refl
     none (Some x) e = absurd (true≢false e)
 
-there_of_key : (tree : Tree) (q : PathValue) → finmap.contains_key tree q ≡ true → node_in q tree ≢ Missing
+pub there_of_key : (tree : Tree) (q : PathValue) → finmap.contains_key tree q ≡ true → node_in q tree ≢ Missing
 unfolding node_in
 there_of_key tree q e is = go (finmap.get tree q) e is
   where

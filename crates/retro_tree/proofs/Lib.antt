@@ -14,10 +14,12 @@ pub mod TreeLaw
 pub mod CellLaw
 pub mod Agree
 pub mod Children
+pub mod Below
 pub mod OverlayLemmas
 pub mod NoteLaws
 pub mod OverlayLaying
 pub mod OverlayListing
+pub mod OverlayAnswers
 pub mod Users
 pub mod FormerLemmas
 pub mod Undoing

@@ -3,7 +3,7 @@ use Rattle.std.proofs.Common.{◌≡◌, true, List, [], ◌∷◌, ◌++◌, re
 use Rattle.std.proofs.lemmas.List.{reverse-append}
 use Rattle.std.specs.List.{list_all}
 use Rattle.retro_tree.specs.declared.cell.Cell.{Cell}
-use Rattle.retro_tree.specs.declared.cell.Value.{Value}
+use Rattle.retro_tree.specs.declared.overlay.laid.Laid.{Laid}
 use Rattle.retro_tree.proofs.Small.{and_true, first_true, both_true}
 use Rattle.retro_tree.specs.Commit.{put_cell, put_cells, removes, undone, can_undo, unwound, CanUnwind}
 use Rattle.retro_tree.specs.declared.state.writing.Undo.{Undo}
@@ -28,21 +28,21 @@ can_first us vs u now more can = subst (λ ws. CanUnwind ws now) (ap reverse mor
 pub ruleset unwinding = (can_more, unwound_more, can_first)
 
 -- ---- removals from the last to the first
-pub erased_first : (es fs : List (Cell × Value)) (e : Cell × Value) (s : State) → fs ≡ es ++ e ∷ [] → put_cells (reverse fs) s ≡ put_cells (reverse es) (put_cell e.0 e.1 s)
+pub erased_first : (es fs : List (Cell × Laid)) (e : Cell × Laid) (s : State) → fs ≡ es ++ e ∷ [] → put_cells (reverse fs) s ≡ put_cells (reverse es) (put_cell e.0 e.1 s)
 erased_first es fs e s more = ap (λ gs. put_cells gs s) (ap reverse more ∙ reverse-append es (e ∷ []))
 
-all_front : (es : List (Cell × Value)) (e : Cell × Value) → list_all (λ f. removes f.1) (es ++ e ∷ []) ≡ true → list_all (λ f. removes f.1) es ≡ true
+all_front : (es : List (Cell × Laid)) (e : Cell × Laid) → list_all (λ f. removes f.1) (es ++ e ∷ []) ≡ true → list_all (λ f. removes f.1) es ≡ true
 all_front [] e h = refl
 all_front (d ∷ es) e h = and_true _ _ (first_true (removes d.1) _ h) (all_front es e (both_true (removes d.1) _ h))
 
-all_last : (es : List (Cell × Value)) (e : Cell × Value) → list_all (λ f. removes f.1) (es ++ e ∷ []) ≡ true → removes e.1 ≡ true
+all_last : (es : List (Cell × Laid)) (e : Cell × Laid) → list_all (λ f. removes f.1) (es ++ e ∷ []) ≡ true → removes e.1 ≡ true
 all_last [] e h = first_true (removes e.1) _ h
 all_last (d ∷ es) e h = all_last es e (both_true (removes d.1) _ h)
 
-pub left_front : (es fs : List (Cell × Value)) (e : Cell × Value) → fs ≡ es ++ e ∷ [] → list_all (λ f. removes f.1) fs ≡ true → list_all (λ f. removes f.1) es ≡ true
+pub left_front : (es fs : List (Cell × Laid)) (e : Cell × Laid) → fs ≡ es ++ e ∷ [] → list_all (λ f. removes f.1) fs ≡ true → list_all (λ f. removes f.1) es ≡ true
 left_front es fs e more h = all_front es e (ap (list_all (λ f. removes f.1)) (sym more) ∙ h)
 
-pub left_last : (es fs : List (Cell × Value)) (e : Cell × Value) → fs ≡ es ++ e ∷ [] → list_all (λ f. removes f.1) fs ≡ true → removes e.1 ≡ true
+pub left_last : (es fs : List (Cell × Laid)) (e : Cell × Laid) → fs ≡ es ++ e ∷ [] → list_all (λ f. removes f.1) fs ≡ true → removes e.1 ≡ true
 left_last es fs e more h = all_last es e (ap (list_all (λ f. removes f.1)) (sym more) ∙ h)
 
 pub ruleset erasing = (erased_first, left_front, left_last)

@@ -1,41 +1,40 @@
 -- Overlays as finite maps: the empty one, and one made of entries.
 use Rattle.std.proofs.Common.{◌≡◌, Bool, true, false, cond, List, [], ◌∷◌, Option, Some, None, refl, sym, ap, subst, ◌∙◌, T, Result, Ok, Err}
 use Rattle.std.specs.Prelude.{OnErr}
-use Rattle.std.specs.Option.{unwrap_or}
 use Rattle.std.specs.Ordering.{eq_by_cmp, is_eq}
 use Rattle.std.specs.FinMap as map
 use Rattle.std.specs.FinMap.{get-insert, get-entries, get-empty, entries_sorted, same_map}
 use Rattle.std.specs.FinMap.Entries.{find, is_sorted, below_all}
 use Rattle.retro_tree.specs.CellOrder.{cell_cmp, cell_total, cell_exact}
 use Rattle.retro_tree.specs.Cell.{value}
-use Rattle.retro_tree.specs.Overlay.{Cells, Overlays}
+use Rattle.retro_tree.specs.Overlay.{Cells, Overlays, shown_at}
 use Rattle.retro_tree.specs.declared.cell.Cell.{Cell}
-use Rattle.retro_tree.specs.declared.cell.Value.{Value}
+use Rattle.retro_tree.specs.declared.overlay.laid.Laid.{Laid}
 use Rattle.retro_tree.specs.declared.state.State.{State}
 use Rattle.retro_tree.proofs.Small.{tied, less, both_fst, both_snd}
 
 pub nothing_laid : (s : State) → Overlays map.empty s s
-nothing_laid s c = sym (ap (λ x. unwrap_or x (value c s)) (get-empty cell_cmp c))
+nothing_laid s c = sym (ap (λ x. shown_at x (value c s)) (get-empty cell_cmp c))
 
 pub any_err : {A E : Type 0} (r : Result A E) (P : Type 0) → P → OnErr r P
 any_err (Ok x) P h = tt
 any_err (Err e) P h = h
 
 -- a cell before each of these is not found among them
-pub none_found : (c : Cell) (es : List (Cell × Value)) → T (below_all cell_cmp c es) → find cell_cmp c es ≡ None
+pub none_found : (c : Cell) (es : List (Cell × Laid)) → T (below_all cell_cmp c es) → find cell_cmp c es ≡ None
 none_found c [] h = refl
 none_found c (e ∷ es) h = ap (λ r. cond (is_eq r) (Some e.1) (find cell_cmp c es)) (less _ (both_fst _ _ h)) ∙ none_found c es (both_snd _ _ h)
 
 -- ---- entries laid one after another
-abbrev pub laid_in_turn : List (Cell × Value) → Cells → Cells
+abbrev pub laid_in_turn : List (Cell × Laid) → Cells → Cells
 laid_in_turn [] laid = laid
 laid_in_turn (e ∷ es) laid = laid_in_turn es (map.insert laid e.0 e.1)
 
-abbrev first_of : Option Value → Option Value → Option Value
+abbrev first_of : Option Laid → Option Laid → Option Laid
 first_of None o = o
 first_of (Some v) o = Some v
 
-found_in_turn : (es : List (Cell × Value)) → T (is_sorted cell_cmp es) → (laid : Cells) (c : Cell) → map.get (laid_in_turn es laid) c ≡ first_of (find cell_cmp c es) (map.get laid c)
+found_in_turn : (es : List (Cell × Laid)) → T (is_sorted cell_cmp es) → (laid : Cells) (c : Cell) → map.get (laid_in_turn es laid) c ≡ first_of (find cell_cmp c es) (map.get laid c)
 found_in_turn [] h laid c = refl
 found_in_turn (e ∷ es) h laid c =
     found_in_turn es (both_snd _ _ h) (map.insert laid e.0 e.1) c
@@ -46,7 +45,7 @@ found_in_turn (e ∷ es) h laid c =
     go true t = ap (λ o. first_of o (Some e.1)) (none_found c es (subst (λ k. T (below_all cell_cmp k es)) (sym (cell_exact c e.0 (tied _ t))) (both_fst _ _ h)))
     go false t = refl
 
-keeps_none : (o : Option Value) → first_of o None ≡ o
+keeps_none : (o : Option Laid) → first_of o None ≡ o
 keeps_none None = refl
 keeps_none (Some v) = refl
 

@@ -14,17 +14,19 @@ use Rattle.std.proofs.lemmas.Bool.{true≢false, false≢true}
 use Rattle.retro_tree.specs.Order.{path_cmp, text_eq, text_exact, text_ties}
 use Rattle.retro_tree.specs.CellOrder.{cell_cmp, cell_total, cell_exact}
 use Rattle.retro_tree.specs.Path.{PathValue, below, child_name, only_name, is_child}
-use Rattle.retro_tree.specs.Node.{is_there}
+use Rattle.retro_tree.specs.Node.{is_there, grown}
 use Rattle.retro_tree.specs.Tree.{Tree, node_in, put}
 use Rattle.retro_tree.specs.Ask.{names_in}
 use Rattle.retro_tree.specs.Cell.{value}
-use Rattle.retro_tree.specs.Overlay.{Cells, Overlays, cells_from, cell_below, first_below, marked, mark, mark_one, marks}
+use Rattle.retro_tree.specs.Overlay.{Cells, Overlays, shown_at, cells_from, cell_below, first_below, marked, mark, mark_of, put_mark, mark_one, marks}
 use Rattle.retro_tree.specs.declared.node.Node.{Node}
 use Rattle.retro_tree.specs.declared.node.Node.TheVariants.{Missing, Dir, File}
 use Rattle.retro_tree.specs.declared.cell.Cell.{Cell}
 use Rattle.retro_tree.specs.declared.cell.Cell.TheVariants as cells
 use Rattle.retro_tree.specs.declared.cell.Value.{Value}
 use Rattle.retro_tree.specs.declared.cell.Value.TheVariants as values
+use Rattle.retro_tree.specs.declared.overlay.laid.Laid.{Laid}
+use Rattle.retro_tree.specs.declared.overlay.laid.Laid.TheVariants.{Whole, More}
 use Rattle.retro_tree.specs.declared.state.State.{State}
 use Rattle.retro_tree.proofs.Small.{tied, less, both_fst, both_snd, some_same}
 use Rattle.retro_tree.proofs.OverlayLemmas.{none_found}
@@ -33,7 +35,7 @@ use Rattle.retro_tree.proofs.Together.{behind, apart_from}
 use Rattle.retro_tree.proofs.Children.{child_name_of, names_listed, there_in, same_children}
 
 -- ---- what is laid below a path stands together, right behind the path's own cell
-abbrev fronted : PathValue → List (Cell × Value) → List (Cell × Value)
+abbrev fronted : PathValue → List (Cell × Laid) → List (Cell × Laid)
 fronted p [] = []
 fronted p (e ∷ es) = if cell_below p e.0 then e ∷ fronted p es else []
 
@@ -52,13 +54,13 @@ apart_cell p (cells.Cwd sid) (cells.At m) h none e = cc
 apart_cell p (cells.Var sid name) (cells.At m) h none e = cc
 apart_cell p (cells.Status sid) (cells.At m) h none e = cc
 
-none_after : (p : PathValue) (c : Cell) (es : List (Cell × Value)) → is_le (cell_cmp (cells.At p) c) ≡ true → cell_below p c ≡ false → T (below_all cell_cmp c es) → filter (λ e. cell_below p e.0) es ≡ []
+none_after : (p : PathValue) (c : Cell) (es : List (Cell × Laid)) → is_le (cell_cmp (cells.At p) c) ≡ true → cell_below p c ≡ false → T (below_all cell_cmp c es) → filter (λ e. cell_below p e.0) es ≡ []
 none_after p c [] h none s = refl
 none_after p c (e ∷ es) h none s =
     ap (λ b. cond b (e ∷ filter (λ f. cell_below p f.0) es) (filter (λ f. cell_below p f.0) es)) (apart_cell p c e.0 h none (less _ (both_fst _ _ s)))
     ∙ none_after p c es h none (both_snd _ _ s)
 
-laid_together : (p : PathValue) (es : List (Cell × Value)) → T (is_sorted cell_cmp es) → fronted p (filter (λ e. is_le (cell_cmp (cells.At p) e.0)) es) ≡ filter (λ e. cell_below p e.0) es
+laid_together : (p : PathValue) (es : List (Cell × Laid)) → T (is_sorted cell_cmp es) → fronted p (filter (λ e. is_le (cell_cmp (cells.At p) e.0)) es) ≡ filter (λ e. cell_below p e.0) es
 laid_together p [] s = refl
 laid_together p (e ∷ es) s =
     let from = filter (λ f. is_le (cell_cmp (cells.At p) f.0)) es in
@@ -74,11 +76,11 @@ laid_together p (e ∷ es) s =
     ] refl
 
 -- ---- marks
-abbrev marks_all : PathValue → List (Cell × Value) → Tree → Tree
+abbrev marks_all : PathValue → List (Cell × Laid) → Tree → Tree
 marks_all p [] t = t
 marks_all p (e ∷ es) t = marks_all p es (mark_one p e.0 e.1 t)
 
-marks_fronted : (p : PathValue) (es : List (Cell × Value)) (t : Tree) → marks p es t ≡ marks_all p (fronted p es) t
+marks_fronted : (p : PathValue) (es : List (Cell × Laid)) (t : Tree) → marks p es t ≡ marks_all p (fronted p es) t
 marks_fronted p [] t = refl
 marks_fronted p (e ∷ es) t =
     elim (cell_below p e.0) as (λ b. (if b then marks p es (mark_one p e.0 e.1 t) else t) ≡ marks_all p (if b then e ∷ fronted p es else []) t) [
@@ -90,6 +92,11 @@ there_mark : (n : Node) → is_there (mark n) ≡ is_there n
 there_mark Missing = refl
 there_mark Dir = refl
 there_mark (File bytes) = refl
+
+there_grown : (bytes : List ℕ) (n : Node) → is_there (grown bytes n) ≡ true
+there_grown bytes Missing = refl
+there_grown bytes Dir = refl
+there_grown bytes (File old) = refl
 
 same_child : (p : PathValue) (n m : List ℕ) → p ++ n ∷ [] ≡ p ++ m ∷ [] → n ≡ m
 same_child p n m e = some_same n m (sym (child_name_of p n) ∙ ap (child_name p) e ∙ child_name_of p m)
@@ -111,33 +118,32 @@ there_marked p n (m ∷ ns) t =
       | false ↦ λ e. ap (λ x. list_any (text_eq n) ns || is_there x) (node_put_apart (p ++ m ∷ []) (p ++ n ∷ []) Dir t (λ s. true≢false (sym (ap (λ k. text_eq k m) (same_child p n m s) ∙ nat_list_eq_equiv.refl m) ∙ e)))
     ] refl
 
-abbrev laid_mark : Option Value → Node → Node
+abbrev laid_mark : Option Laid → Node → Node
 laid_mark None n = n
-laid_mark (Some (values.Node node)) n = mark node
-laid_mark (Some (values.Cwd q)) n = n
-laid_mark (Some (values.Text t)) n = n
-laid_mark (Some (values.Status k)) n = n
+laid_mark (Some l) n = unwrap_or (mark_of l) n
 
-mark_here : (p q : PathValue) (v : Value) (t : Tree) → is_child p q ≡ true → node_in q (mark_one p (cells.At q) v t) ≡ laid_mark (Some v) (node_in q t)
-mark_here p q (values.Node node) t e = ap (λ b. node_in q (if b then put q (mark node) t else t)) e ∙ node_put q (mark node) t
-mark_here p q (values.Cwd r) t e = refl
-mark_here p q (values.Text x) t e = refl
-mark_here p q (values.Status k) t e = refl
+node_marked : (q : PathValue) (o : Option Node) (t : Tree) → node_in q (put_mark q o t) ≡ unwrap_or o (node_in q t)
+node_marked q None t = refl
+node_marked q (Some node) t = node_put q node t
 
-mark_there : (p q : PathValue) (c : Cell) (v : Value) (t : Tree) → cells.At q ≢ c → node_in q (mark_one p c v t) ≡ node_in q t
-mark_there p q (cells.At r) (values.Node node) t ne = go (is_child p r)
+mark_here : (p q : PathValue) (l : Laid) (t : Tree) → is_child p q ≡ true → node_in q (mark_one p (cells.At q) l t) ≡ laid_mark (Some l) (node_in q t)
+mark_here p q l t e = ap (λ b. node_in q (if b then put_mark q (mark_of l) t else t)) e ∙ node_marked q (mark_of l) t
+
+marked_apart : (q r : PathValue) (o : Option Node) (t : Tree) → q ≢ r → node_in q (put_mark r o t) ≡ node_in q t
+marked_apart q r None t ne = refl
+marked_apart q r (Some node) t ne = node_put_apart r q node t ne
+
+mark_there : (p q : PathValue) (c : Cell) (l : Laid) (t : Tree) → cells.At q ≢ c → node_in q (mark_one p c l t) ≡ node_in q t
+mark_there p q (cells.At r) l t ne = go (is_child p r)
   where
-    go : (b : Bool) → node_in q (if b then put r (mark node) t else t) ≡ node_in q t
-    go true = node_put_apart r q (mark node) t (λ e. ne (ap cells.At e))
+    go : (b : Bool) → node_in q (if b then put_mark r (mark_of l) t else t) ≡ node_in q t
+    go true = marked_apart q r (mark_of l) t (λ e. ne (ap cells.At e))
     go false = refl
-mark_there p q (cells.At r) (values.Cwd x) t ne = refl
-mark_there p q (cells.At r) (values.Text x) t ne = refl
-mark_there p q (cells.At r) (values.Status k) t ne = refl
-mark_there p q (cells.Cwd sid) v t ne = refl
-mark_there p q (cells.Var sid x) v t ne = refl
-mark_there p q (cells.Status sid) v t ne = refl
+mark_there p q (cells.Cwd sid) l t ne = refl
+mark_there p q (cells.Var sid x) l t ne = refl
+mark_there p q (cells.Status sid) l t ne = refl
 
-node_marks : (p q : PathValue) → is_child p q ≡ true → (es : List (Cell × Value)) → T (is_sorted cell_cmp es) → (t : Tree) → node_in q (marks_all p es t) ≡ laid_mark (find cell_cmp (cells.At q) es) (node_in q t)
+node_marks : (p q : PathValue) → is_child p q ≡ true → (es : List (Cell × Laid)) → T (is_sorted cell_cmp es) → (t : Tree) → node_in q (marks_all p es t) ≡ laid_mark (find cell_cmp (cells.At q) es) (node_in q t)
 node_marks p q child [] h t = refl
 node_marks p q child (e ∷ es) h t =
     node_marks p q child es (both_snd _ _ h) (mark_one p e.0 e.1 t)
@@ -179,22 +185,25 @@ listed p laid under now h n =
     ap is_there (child_marks p q laid (marked p (names_in p under.tree) finmap.empty) (ap is_some (child_name_of p n)))
     ∙ go (finmap.get laid (cells.At q)) refl
   where
-    go : (x : Option Value) → finmap.get laid (cells.At (p ++ n ∷ [])) ≡ x → is_there (laid_mark x (node_in (p ++ n ∷ []) (marked p (names_in p under.tree) finmap.empty))) ≡ is_there (node_in (p ++ n ∷ []) now.tree)
+    go : (x : Option Laid) → finmap.get laid (cells.At (p ++ n ∷ [])) ≡ x → is_there (laid_mark x (node_in (p ++ n ∷ []) (marked p (names_in p under.tree) finmap.empty))) ≡ is_there (node_in (p ++ n ∷ []) now.tree)
     go None e =
         there_marked p n (names_in p under.tree) finmap.empty
         ∙ ap (λ b. list_any (text_eq n) (names_in p under.tree) || b) (none_there (p ++ n ∷ []))
         ∙ or_false _
         ∙ names_listed p n under.tree ∙ sym (there_in _ under.tree)
-        ∙ ap (λ v. is_there (node_held v)) (sym (h (cells.At (p ++ n ∷ [])) ∙ ap (λ x. unwrap_or x (value (cells.At (p ++ n ∷ [])) under)) e))
-    go (Some v) e =
-        let here : values.Node (node_in (p ++ n ∷ []) now.tree) ≡ v = h (cells.At (p ++ n ∷ [])) ∙ ap (λ x. unwrap_or x (value (cells.At (p ++ n ∷ [])) under)) e in
-        ap (λ w. is_there (laid_mark (Some w) (node_in (p ++ n ∷ []) (marked p (names_in p under.tree) finmap.empty)))) (sym here) ∙ there_mark (node_in (p ++ n ∷ []) now.tree)
+        ∙ ap (λ v. is_there (node_held v)) (sym (h (cells.At (p ++ n ∷ [])) ∙ ap (λ x. shown_at x (value (cells.At (p ++ n ∷ [])) under)) e))
+    go (Some (Whole v)) e =
+        let here : values.Node (node_in (p ++ n ∷ []) now.tree) ≡ v = h (cells.At (p ++ n ∷ [])) ∙ ap (λ x. shown_at x (value (cells.At (p ++ n ∷ [])) under)) e in
+        ap (λ w. is_there (laid_mark (Some (Whole w)) (node_in (p ++ n ∷ []) (marked p (names_in p under.tree) finmap.empty)))) (sym here) ∙ there_mark (node_in (p ++ n ∷ []) now.tree)
+    go (Some (More bytes)) e =
+        sym (ap (λ v. is_there (node_held v)) (h (cells.At (p ++ n ∷ [])) ∙ ap (λ x. shown_at x (value (cells.At (p ++ n ∷ [])) under)) e)
+        ∙ there_grown bytes (node_in (p ++ n ∷ []) under.tree))
 
 -- the small tree has the names of the children
 pub listed_over : (p : PathValue) (laid : Cells) (under now : State) → Overlays laid under now → names_in p (marks p (cells_from (cells.At p) laid) (marked p (names_in p under.tree) finmap.empty)) ≡ names_in p now.tree
 listed_over p laid under now h = same_children p _ _ (listed p laid under now h)
 
-marks_none : (p : PathValue) (es : List (Cell × Value)) (t : Tree) → first_below p es ≡ false → marks p es t ≡ t
+marks_none : (p : PathValue) (es : List (Cell × Laid)) (t : Tree) → first_below p es ≡ false → marks p es t ≡ t
 marks_none p [] t h = refl
 marks_none p (e ∷ es) t h = ap (λ b. if b then marks p es (mark_one p e.0 e.1 t) else t) h
 

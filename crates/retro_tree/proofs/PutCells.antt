@@ -1,4 +1,4 @@
--- What values that are put into cells leave in each cell, and which sessions they make.
+-- What is left in each cell by what is put into cells, and which sessions that makes.
 use Rattle.std.proofs.Common.{◌≡◌, ◌≢◌, ℕ, Bool, true, false, not, ◌||◌, ◌&&◌, cond, List, [], ◌∷◌, ◌++◌, reverse, Option, Some, None, refl, sym, ap, subst, ◌∙◌, nat_cmp, T, ⊎_elim}
 use Rattle.std.specs.Bool.{if◌then◌else◌}
 use Rattle.std.specs.Option.{is_some, unwrap_or}
@@ -16,14 +16,16 @@ use Rattle.retro_tree.specs.Maps.{update}
 use Rattle.retro_tree.specs.Session.{fresh_session, session_in}
 use Rattle.retro_tree.specs.Former.{without_var, unset}
 use Rattle.retro_tree.specs.Cell.{value}
-use Rattle.retro_tree.specs.Change.{apply}
+use Rattle.retro_tree.specs.Change.{apply, value_grown}
 use Rattle.retro_tree.specs.Notes.{cell_eq}
-use Rattle.retro_tree.specs.Overlay.{Cells, Overlays}
+use Rattle.retro_tree.specs.Overlay.{Cells, Overlays, shown_at}
 use Rattle.retro_tree.specs.Commit.{put_text, put_cell, put_cells, removes, removals, writes, makes, committed}
 use Rattle.retro_tree.specs.declared.cell.Cell.{Cell}
 use Rattle.retro_tree.specs.declared.cell.Cell.TheVariants as cells
 use Rattle.retro_tree.specs.declared.cell.Value.{Value}
 use Rattle.retro_tree.specs.declared.cell.Value.TheVariants as values
+use Rattle.retro_tree.specs.declared.overlay.laid.Laid.{Laid}
+use Rattle.retro_tree.specs.declared.overlay.laid.Laid.TheVariants.{Whole, More}
 use Rattle.retro_tree.specs.declared.change.Change.TheVariants as changes
 use Rattle.retro_tree.specs.declared.session.Session.{Session}
 use Rattle.retro_tree.specs.declared.state.State.{State}
@@ -83,32 +85,37 @@ value_unset sid name s d = by_session (finmap.get s.sessions sid) refl
     by_session (Some x) is = ap (λ m. value d (record s { sessions = m })) (unset_updates s.sessions sid name x is) ∙ updated_without sid name s d
 
 -- ---- each cell
-abbrev pub held : Cell → Value → Value → Value
-held (cells.At p) (values.Node node) old = values.Node node
-held (cells.Cwd sid) (values.Cwd q) old = values.Cwd q
-held (cells.Var sid name) (values.Text text) old = values.Text text
-held (cells.Status sid) (values.Status n) old = values.Status n
+abbrev pub held : Cell → Laid → Value → Value
+held (cells.At p) (Whole (values.Node node)) old = values.Node node
+held (cells.At p) (More bytes) old = value_grown bytes old
+held (cells.Cwd sid) (Whole (values.Cwd q)) old = values.Cwd q
+held (cells.Var sid name) (Whole (values.Text text)) old = values.Text text
+held (cells.Status sid) (Whole (values.Status n)) old = values.Status n
 held _ _ old = old
 
-pub value_put : (c : Cell) (v : Value) (s : State) (d : Cell) → value d (put_cell c v s) ≡ if cell_eq c d then held c v (value d s) else value d s
+pub value_put : (c : Cell) (l : Laid) (s : State) (d : Cell) → value d (put_cell c l s) ≡ if cell_eq c d then held c l (value d s) else value d s
 unfolding put_cell apply
-value_put (cells.At p) (values.Node node) s d = value_applied (changes.Put p node) d s
-value_put (cells.At p) (values.Cwd q) s d = same_if (cell_eq (cells.At p) d) (value d s)
-value_put (cells.At p) (values.Text text) s d = same_if (cell_eq (cells.At p) d) (value d s)
-value_put (cells.At p) (values.Status n) s d = same_if (cell_eq (cells.At p) d) (value d s)
-value_put (cells.Cwd sid) (values.Node node) s d = same_if (cell_eq (cells.Cwd sid) d) (value d s)
-value_put (cells.Cwd sid) (values.Cwd q) s d = value_applied (changes.SetCwd sid q) d s
-value_put (cells.Cwd sid) (values.Text text) s d = same_if (cell_eq (cells.Cwd sid) d) (value d s)
-value_put (cells.Cwd sid) (values.Status n) s d = same_if (cell_eq (cells.Cwd sid) d) (value d s)
-value_put (cells.Var sid name) (values.Node node) s d = same_if (cell_eq (cells.Var sid name) d) (value d s)
-value_put (cells.Var sid name) (values.Cwd q) s d = same_if (cell_eq (cells.Var sid name) d) (value d s)
-value_put (cells.Var sid name) (values.Text None) s d = value_unset sid name s d
-value_put (cells.Var sid name) (values.Text (Some text)) s d = value_applied (changes.SetVar sid name text) d s
-value_put (cells.Var sid name) (values.Status n) s d = same_if (cell_eq (cells.Var sid name) d) (value d s)
-value_put (cells.Status sid) (values.Node node) s d = same_if (cell_eq (cells.Status sid) d) (value d s)
-value_put (cells.Status sid) (values.Cwd q) s d = same_if (cell_eq (cells.Status sid) d) (value d s)
-value_put (cells.Status sid) (values.Text text) s d = same_if (cell_eq (cells.Status sid) d) (value d s)
-value_put (cells.Status sid) (values.Status n) s d = value_applied (changes.SetStatus sid n) d s
+value_put (cells.At p) (Whole (values.Node node)) s d = value_applied (changes.Put p node) d s
+value_put (cells.At p) (Whole (values.Cwd q)) s d = same_if (cell_eq (cells.At p) d) (value d s)
+value_put (cells.At p) (Whole (values.Text text)) s d = same_if (cell_eq (cells.At p) d) (value d s)
+value_put (cells.At p) (Whole (values.Status n)) s d = same_if (cell_eq (cells.At p) d) (value d s)
+value_put (cells.At p) (More bytes) s d = value_applied (changes.Grow p bytes) d s
+value_put (cells.Cwd sid) (Whole (values.Node node)) s d = same_if (cell_eq (cells.Cwd sid) d) (value d s)
+value_put (cells.Cwd sid) (Whole (values.Cwd q)) s d = value_applied (changes.SetCwd sid q) d s
+value_put (cells.Cwd sid) (Whole (values.Text text)) s d = same_if (cell_eq (cells.Cwd sid) d) (value d s)
+value_put (cells.Cwd sid) (Whole (values.Status n)) s d = same_if (cell_eq (cells.Cwd sid) d) (value d s)
+value_put (cells.Cwd sid) (More bytes) s d = same_if (cell_eq (cells.Cwd sid) d) (value d s)
+value_put (cells.Var sid name) (Whole (values.Node node)) s d = same_if (cell_eq (cells.Var sid name) d) (value d s)
+value_put (cells.Var sid name) (Whole (values.Cwd q)) s d = same_if (cell_eq (cells.Var sid name) d) (value d s)
+value_put (cells.Var sid name) (Whole (values.Text None)) s d = value_unset sid name s d
+value_put (cells.Var sid name) (Whole (values.Text (Some text))) s d = value_applied (changes.SetVar sid name text) d s
+value_put (cells.Var sid name) (Whole (values.Status n)) s d = same_if (cell_eq (cells.Var sid name) d) (value d s)
+value_put (cells.Var sid name) (More bytes) s d = same_if (cell_eq (cells.Var sid name) d) (value d s)
+value_put (cells.Status sid) (Whole (values.Node node)) s d = same_if (cell_eq (cells.Status sid) d) (value d s)
+value_put (cells.Status sid) (Whole (values.Cwd q)) s d = same_if (cell_eq (cells.Status sid) d) (value d s)
+value_put (cells.Status sid) (Whole (values.Text text)) s d = same_if (cell_eq (cells.Status sid) d) (value d s)
+value_put (cells.Status sid) (Whole (values.Status n)) s d = value_applied (changes.SetStatus sid n) d s
+value_put (cells.Status sid) (More bytes) s d = same_if (cell_eq (cells.Status sid) d) (value d s)
 
 -- ---- the sessions
 pub key_updated : (m : FinMap nat_cmp Session) (sid : ℕ) (x : Session) (k : ℕ) → finmap.contains_key (finmap.insert m sid x) k ≡ (eq_by_cmp nat_cmp k sid || finmap.contains_key m k)
@@ -126,25 +133,29 @@ key_unset m sid name k (Some x) is = key_updated m sid (without_var name x) k �
     go true e = sym (ap (finmap.contains_key m) (nat_cmp-IsAntisymmetric k sid (tied _ e)) ∙ ap is_some is)
     go false e = refl
 
-pub key_put : (c : Cell) (v : Value) (s : State) (k : ℕ) → finmap.contains_key (put_cell c v s).sessions k ≡ (makes k c v || finmap.contains_key s.sessions k)
+pub key_put : (c : Cell) (l : Laid) (s : State) (k : ℕ) → finmap.contains_key (put_cell c l s).sessions k ≡ (makes k c l || finmap.contains_key s.sessions k)
 unfolding put_cell
-key_put (cells.At p) (values.Node node) s k = refl
-key_put (cells.At p) (values.Cwd q) s k = refl
-key_put (cells.At p) (values.Text text) s k = refl
-key_put (cells.At p) (values.Status n) s k = refl
-key_put (cells.Cwd sid) (values.Node node) s k = refl
-key_put (cells.Cwd sid) (values.Cwd q) s k = key_updated s.sessions sid _ k
-key_put (cells.Cwd sid) (values.Text text) s k = refl
-key_put (cells.Cwd sid) (values.Status n) s k = refl
-key_put (cells.Var sid name) (values.Node node) s k = refl
-key_put (cells.Var sid name) (values.Cwd q) s k = refl
-key_put (cells.Var sid name) (values.Text None) s k = key_unset s.sessions sid name k (finmap.get s.sessions sid) refl
-key_put (cells.Var sid name) (values.Text (Some text)) s k = key_updated s.sessions sid _ k
-key_put (cells.Var sid name) (values.Status n) s k = refl
-key_put (cells.Status sid) (values.Node node) s k = refl
-key_put (cells.Status sid) (values.Cwd q) s k = refl
-key_put (cells.Status sid) (values.Text text) s k = refl
-key_put (cells.Status sid) (values.Status n) s k = key_updated s.sessions sid _ k
+key_put (cells.At p) (Whole (values.Node node)) s k = refl
+key_put (cells.At p) (Whole (values.Cwd q)) s k = refl
+key_put (cells.At p) (Whole (values.Text text)) s k = refl
+key_put (cells.At p) (Whole (values.Status n)) s k = refl
+key_put (cells.At p) (More bytes) s k = refl
+key_put (cells.Cwd sid) (Whole (values.Node node)) s k = refl
+key_put (cells.Cwd sid) (Whole (values.Cwd q)) s k = key_updated s.sessions sid _ k
+key_put (cells.Cwd sid) (Whole (values.Text text)) s k = refl
+key_put (cells.Cwd sid) (Whole (values.Status n)) s k = refl
+key_put (cells.Cwd sid) (More bytes) s k = refl
+key_put (cells.Var sid name) (Whole (values.Node node)) s k = refl
+key_put (cells.Var sid name) (Whole (values.Cwd q)) s k = refl
+key_put (cells.Var sid name) (Whole (values.Text None)) s k = key_unset s.sessions sid name k (finmap.get s.sessions sid) refl
+key_put (cells.Var sid name) (Whole (values.Text (Some text))) s k = key_updated s.sessions sid _ k
+key_put (cells.Var sid name) (Whole (values.Status n)) s k = refl
+key_put (cells.Var sid name) (More bytes) s k = refl
+key_put (cells.Status sid) (Whole (values.Node node)) s k = refl
+key_put (cells.Status sid) (Whole (values.Cwd q)) s k = refl
+key_put (cells.Status sid) (Whole (values.Text text)) s k = refl
+key_put (cells.Status sid) (Whole (values.Status n)) s k = key_updated s.sessions sid _ k
+key_put (cells.Status sid) (More bytes) s k = refl
 
 -- ---- two cells
 crossed : {A : Type 0} (a b : Bool) (f g : A → A) (x : A) → (a ≡ true → b ≡ true → ⊥) → (if a then f (if b then g x else x) else (if b then g x else x)) ≡ (if b then g (if a then f x else x) else (if a then f x else x))
@@ -159,7 +170,7 @@ or_swapped true false c = refl
 or_swapped false true c = refl
 or_swapped false false c = refl
 
-pub puts_swapped : (c d : Cell) (v w : Value) (s : State) → cell_eq c d ≡ false → put_cell c v (put_cell d w s) ≡ put_cell d w (put_cell c v s)
+pub puts_swapped : (c d : Cell) (v w : Laid) (s : State) → cell_eq c d ≡ false → put_cell c v (put_cell d w s) ≡ put_cell d w (put_cell c v s)
 puts_swapped c d v w s apart =
     same_state _ _
     (λ q. value_put c v (put_cell d w s) q ∙ ap (λ x. if cell_eq c q then held c v x else x) (value_put d w s q)
@@ -174,13 +185,13 @@ both : (a b : Bool) → T a → T b → T (a && b)
 both true b p q = q
 both false b p q = p
 
-put_past : (c : Cell) (v : Value) (es : List (Cell × Value)) (s : State) → T (below_all cell_cmp c es) → put_cells es (put_cell c v s) ≡ put_cell c v (put_cells es s)
+put_past : (c : Cell) (v : Laid) (es : List (Cell × Laid)) (s : State) → T (below_all cell_cmp c es) → put_cells es (put_cell c v s) ≡ put_cell c v (put_cells es s)
 put_past c v [] s h = refl
 put_past c v (e ∷ es) s h =
     ap (put_cells es) (puts_swapped e.0 c e.1 v s ((eq_by_cmp_equiv cell_total).symm e.0 c ∙ ap is_eq (less _ (both_fst _ _ h))))
     ∙ put_past c v es (put_cell e.0 e.1 s) (both_snd _ _ h)
 
-below_filtered : (c : Cell) (p : Cell × Value → Bool) (es : List (Cell × Value)) → T (below_all cell_cmp c es) → T (below_all cell_cmp c (filter p es))
+below_filtered : (c : Cell) (p : Cell × Laid → Bool) (es : List (Cell × Laid)) → T (below_all cell_cmp c es) → T (below_all cell_cmp c (filter p es))
 below_filtered c p [] h = tt
 below_filtered c p (e ∷ es) h =
     let rest = below_filtered c p es (both_snd _ _ h) in
@@ -189,7 +200,7 @@ below_filtered c p (e ∷ es) h =
       | false ↦ rest
     ]
 
-is_sorted-where : (p : Cell × Value → Bool) (es : List (Cell × Value)) → T (is_sorted cell_cmp es) → T (is_sorted cell_cmp (filter p es))
+is_sorted-where : (p : Cell × Laid → Bool) (es : List (Cell × Laid)) → T (is_sorted cell_cmp es) → T (is_sorted cell_cmp (filter p es))
 is_sorted-where p [] h = tt
 is_sorted-where p (e ∷ es) h =
     let rest = is_sorted-where p es (both_snd _ _ h) in
@@ -199,7 +210,7 @@ is_sorted-where p (e ∷ es) h =
     ]
 
 -- the writes first, and then the removals
-in_parts : (es : List (Cell × Value)) → T (is_sorted cell_cmp es) → (s : State) → put_cells (removals es) (put_cells (writes es) s) ≡ put_cells es s
+in_parts : (es : List (Cell × Laid)) → T (is_sorted cell_cmp es) → (s : State) → put_cells (removals es) (put_cells (writes es) s) ≡ put_cells es s
 in_parts [] h s = refl
 in_parts (e ∷ es) h s =
     elim (removes e.1) as (λ b. put_cells (cond b (e ∷ removals es) (removals es)) (put_cells (cond (not b) (e ∷ writes es) (writes es)) s) ≡ put_cells es (put_cell e.0 e.1 s)) [
@@ -208,18 +219,18 @@ in_parts (e ∷ es) h s =
     ]
 
 -- from the last to the first
-puts_append : (xs ys : List (Cell × Value)) (s : State) → put_cells (xs ++ ys) s ≡ put_cells ys (put_cells xs s)
+puts_append : (xs ys : List (Cell × Laid)) (s : State) → put_cells (xs ++ ys) s ≡ put_cells ys (put_cells xs s)
 puts_append [] ys s = refl
 puts_append (x ∷ xs) ys s = puts_append xs ys (put_cell x.0 x.1 s)
 
-reversed : (es : List (Cell × Value)) → T (is_sorted cell_cmp es) → (s : State) → put_cells (reverse es) s ≡ put_cells es s
+reversed : (es : List (Cell × Laid)) → T (is_sorted cell_cmp es) → (s : State) → put_cells (reverse es) s ≡ put_cells es s
 reversed [] h s = refl
 reversed (e ∷ es) h s =
     ap (λ fs. put_cells fs s) (reverse-append (e ∷ []) es) ∙ puts_append (reverse es) (e ∷ []) s
     ∙ ap (put_cell e.0 e.1) (reversed es (both_snd _ _ h) s)
     ∙ sym (put_past e.0 e.1 es s (both_fst _ _ h))
 
-pub all_removals : (es : List (Cell × Value)) → list_all (λ e. removes e.1) (removals es) ≡ true
+pub all_removals : (es : List (Cell × Laid)) → list_all (λ e. removes e.1) (removals es) ≡ true
 all_removals [] = refl
 all_removals (e ∷ es) =
     elim (removes e.1) as (λ b. removes e.1 ≡ b → list_all (λ f. removes f.1) (cond b (e ∷ removals es) (removals es)) ≡ true) [
@@ -233,50 +244,60 @@ parted laid s =
     ∙ in_parts (finmap.entries laid) (entries_sorted laid) s
 
 -- ---- the state that is shown
-held_own : (c : Cell) (s : State) (old : Value) → held c (value c s) old ≡ value c s
+held_own : (c : Cell) (s : State) (old : Value) → held c (Whole (value c s)) old ≡ value c s
 unfolding value
 held_own (cells.At p) s old = refl
 held_own (cells.Cwd sid) s old = refl
 held_own (cells.Var sid name) s old = refl
 held_own (cells.Status sid) s old = refl
 
-found_first : (e : Cell × Value) (es : List (Cell × Value)) → find cell_cmp e.0 (e ∷ es) ≡ Some e.1
+-- where a cell of a state shows what is laid over it, that is what it holds once that is put into it
+held_shown : (c : Cell) (l : Laid) (s now : State) → value c now ≡ shown_at (Some l) (value c s) → held c l (value c s) ≡ value c now
+unfolding value
+held_shown c (Whole v) s now h = ap (λ w. held c (Whole w) (value c s)) (sym h) ∙ held_own c now (value c s)
+held_shown (cells.At p) (More bytes) s now h = sym h
+held_shown (cells.Cwd sid) (More bytes) s now h = sym h
+held_shown (cells.Var sid name) (More bytes) s now h = sym h
+held_shown (cells.Status sid) (More bytes) s now h = sym h
+
+found_first : (e : Cell × Laid) (es : List (Cell × Laid)) → find cell_cmp e.0 (e ∷ es) ≡ Some e.1
 found_first e es = ap (λ r. cond (is_eq r) (Some e.1) (find cell_cmp e.0 es)) (tied_itself cell_total e.0)
 
-found_later : (c : Cell) (e : Cell × Value) (es : List (Cell × Value)) → cell_eq e.0 c ≡ false → find cell_cmp c (e ∷ es) ≡ find cell_cmp c es
+found_later : (c : Cell) (e : Cell × Laid) (es : List (Cell × Laid)) → cell_eq e.0 c ≡ false → find cell_cmp c (e ∷ es) ≡ find cell_cmp c es
 found_later c e es apart = ap (λ b. cond b (Some e.1) (find cell_cmp c es)) ((eq_by_cmp_equiv cell_total).symm c e.0 ∙ apart)
 
-settled : (now : State) (es : List (Cell × Value)) → T (is_sorted cell_cmp es) → ((c : Cell) (v : Value) → find cell_cmp c es ≡ Some v → value c now ≡ v) → (s : State) → ((c : Cell) → find cell_cmp c es ≡ None → value c s ≡ value c now) → (c : Cell) → value c (put_cells es s) ≡ value c now
-settled now [] h own s other c = other c refl
-settled now (e ∷ es) h own s other c = settled now es (both_snd _ _ h) later (put_cell e.0 e.1 s) now_other c
+settled : (now : State) (es : List (Cell × Laid)) → T (is_sorted cell_cmp es) → (s : State) → ((c : Cell) (l : Laid) → find cell_cmp c es ≡ Some l → value c now ≡ shown_at (Some l) (value c s)) → ((c : Cell) → find cell_cmp c es ≡ None → value c s ≡ value c now) → (c : Cell) → value c (put_cells es s) ≡ value c now
+settled now [] h s own other c = other c refl
+settled now (e ∷ es) h s own other c = settled now es (both_snd _ _ h) (put_cell e.0 e.1 s) later now_other c
   where
-    here : value e.0 now ≡ e.1
-    here = own e.0 e.1 (found_first e es)
-
     not_found : (d : Cell) → cell_eq e.0 d ≡ true → find cell_cmp d es ≡ None
     not_found d t = none_found d es (subst (λ k. T (below_all cell_cmp k es)) (same_cells e.0 d t) (both_fst _ _ h))
 
-    later : (d : Cell) (v : Value) → find cell_cmp d es ≡ Some v → value d now ≡ v
-    later d v is = go (cell_eq e.0 d) refl
+    later : (d : Cell) (l : Laid) → find cell_cmp d es ≡ Some l → value d now ≡ shown_at (Some l) (value d (put_cell e.0 e.1 s))
+    later d l is = go (cell_eq e.0 d) refl ∙ ap (shown_at (Some l)) (sym (value_put e.0 e.1 s d))
       where
-        go : (b : Bool) → cell_eq e.0 d ≡ b → value d now ≡ v
-        go true t = absurd (none_some v (sym (not_found d t) ∙ is))
-        go false t = own d v (found_later d e es t ∙ is)
+        go : (b : Bool) → cell_eq e.0 d ≡ b → value d now ≡ shown_at (Some l) (if b then held e.0 e.1 (value d s) else value d s)
+        go true t = absurd (none_some l (sym (not_found d t) ∙ is))
+        go false t = own d l (found_later d e es t ∙ is)
 
     now_other : (d : Cell) → find cell_cmp d es ≡ None → value d (put_cell e.0 e.1 s) ≡ value d now
     now_other d is = value_put e.0 e.1 s d ∙ go (cell_eq e.0 d) refl
       where
         go : (b : Bool) → cell_eq e.0 d ≡ b → if b then held e.0 e.1 (value d s) else value d s ≡ value d now
-        go true t = ap (λ v. held e.0 v (value d s)) (sym here) ∙ held_own e.0 now (value d s) ∙ ap (λ k. value k now) (same_cells e.0 d t)
+        go true t =
+            let same = same_cells e.0 d t in
+            ap (λ k. held e.0 e.1 (value k s)) (sym same)
+            ∙ held_shown e.0 e.1 s now (own e.0 e.1 (found_first e es))
+            ∙ ap (λ k. value k now) same
         go false t = other d (found_later d e es t ∙ is)
 
 pub cells_shown : (laid : Cells) (s now : State) → Overlays laid s now → (c : Cell) → value c (committed laid s) ≡ value c now
 cells_shown laid s now h =
-    settled now (finmap.entries laid) (entries_sorted laid)
-    (λ c v is. h c ∙ ap (λ o. unwrap_or o (value c s)) (get-entries laid c ∙ is)) s
-    (λ c is. sym (h c ∙ ap (λ o. unwrap_or o (value c s)) (get-entries laid c ∙ is)))
+    settled now (finmap.entries laid) (entries_sorted laid) s
+    (λ c l is. h c ∙ ap (λ o. shown_at o (value c s)) (get-entries laid c ∙ is))
+    (λ c is. sym (h c ∙ ap (λ o. shown_at o (value c s)) (get-entries laid c ∙ is)))
 
-pub sessions_made : (es : List (Cell × Value)) (s : State) (k : ℕ) → finmap.contains_key (put_cells es s).sessions k ≡ (list_any (λ e. makes k e.0 e.1) es || finmap.contains_key s.sessions k)
+pub sessions_made : (es : List (Cell × Laid)) (s : State) (k : ℕ) → finmap.contains_key (put_cells es s).sessions k ≡ (list_any (λ e. makes k e.0 e.1) es || finmap.contains_key s.sessions k)
 sessions_made [] s k = refl
 sessions_made (e ∷ es) s k =
     sessions_made es (put_cell e.0 e.1 s) k ∙ ap (λ b. list_any (λ f. makes k f.0 f.1) es || b) (key_put e.0 e.1 s k)

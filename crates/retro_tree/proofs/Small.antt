@@ -1,10 +1,11 @@
 -- Small laws of tests, orders and options.
-use Rattle.std.proofs.Common.{◌≡◌, Bool, true, false, not, ◌&&◌, ◌||◌, Some, None, refl, ap, T}
+use Rattle.std.proofs.Common.{◌≡◌, ℕ, Bool, true, false, not, ◌&&◌, ◌||◌, List, Some, None, refl, sym, ap, ◌∙◌, T}
 use Rattle.std.specs.Option.{is_some, unwrap_or}
 use Rattle.std.specs.Ordering.{is_eq, is_lt}
 use Rattle.std.specs.declared.cmp.Ordering.{Ordering}
 use Rattle.std.specs.declared.cmp.Ordering.TheVariants.{Less, Equal, Greater}
 use Rattle.std.proofs.lemmas.Bool.{false≢true}
+use Rattle.retro_tree.specs.Order.{text_eq, text_exact, text_ties}
 
 pub tied : (r : Ordering) → is_eq r ≡ true → r ≡ Equal
 tied Less e = absurd (false≢true e)
@@ -53,3 +54,7 @@ or_last false b e = e
 pub not_true : (b : Bool) → not b ≡ true → b ≡ false
 not_true true e = absurd (false≢true e)
 not_true false e = refl
+
+-- texts that are found equal are one
+pub same_text : (x y : List ℕ) → text_eq x y ≡ true → x ≡ y
+same_text x y e = text_exact x y (tied _ (sym (text_ties x y) ∙ e))

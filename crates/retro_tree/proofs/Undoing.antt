@@ -1,20 +1,25 @@
 -- What was written into a state, undone.
-use Rattle.std.proofs.Common.{◌≡◌, ℕ, true, List, Option, Some, None, refl, sym, ap, subst, ◌∙◌}
+use Rattle.std.proofs.Common.{◌≡◌, ℕ, Bool, true, false, List, ◌++◌, take, Option, Some, None, refl, sym, ap, subst, ◌∙◌}
 use Rattle.std.specs.Option.{is_some, option_map, unwrap_or}
 use Rattle.std.specs.Cmp.{nat_cmp_total}
 use Rattle.std.specs.FinMap as map
 use Rattle.std.specs.FinMap.{nat_cmp-IsAntisymmetric}
 use Rattle.std.proofs.lemmas.Bool.{false≢true}
+use Rattle.std.proofs.Math.Seq.{take-append_seam}
 use Rattle.retro_tree.specs.Order.{path_total, path_exact, text_total}
 use Rattle.retro_tree.specs.Maps.{update}
 use Rattle.retro_tree.specs.Path.{PathValue}
-use Rattle.retro_tree.specs.Node.{is_there}
-use Rattle.retro_tree.specs.Tree.{Tree, put}
+use Rattle.retro_tree.specs.Node.{is_there, node_of, grown, kind_of, size_of}
+use Rattle.retro_tree.specs.Tree.{Tree, put, node_in}
 use Rattle.retro_tree.specs.Session.{fresh_session, session_in}
+use Rattle.retro_tree.specs.State.{put_node, grow_file}
 use Rattle.retro_tree.specs.Setting.{with_setting}
 use Rattle.retro_tree.specs.Former.{with_former, former_of, var_former, has_place}
-use Rattle.retro_tree.specs.Commit.{undone, can_undo, Undoes}
+use Rattle.retro_tree.specs.Commit.{undone, can_undo, Undoes, cut_at}
 use Rattle.retro_tree.specs.declared.node.Entry.{Entry}
+use Rattle.retro_tree.specs.declared.node.Entry.TheVariants.{Dir as DirEntry, File as FileEntry}
+use Rattle.retro_tree.specs.declared.node.Kind.{Kind}
+use Rattle.retro_tree.specs.declared.node.Kind.TheVariants as kinds
 use Rattle.retro_tree.specs.declared.session.Session.{Session}
 use Rattle.retro_tree.specs.declared.session.Setting.{Setting}
 use Rattle.retro_tree.specs.declared.session.Setting.TheVariants.{Cwd, Var, Status}
@@ -26,7 +31,7 @@ use Rattle.retro_tree.specs.declared.state.writing.Undo.TheVariants as undos
 use Rattle.retro_tree.specs.declared.state.State.{State}
 use Rattle.retro_tree.proofs.Small.{and_true}
 use Rattle.retro_tree.proofs.Lookups.{get_inserted, session_updated}
-use Rattle.retro_tree.proofs.FormerLemmas.{removed_again, put_back, key_inserted, set_back}
+use Rattle.retro_tree.proofs.FormerLemmas.{removed_again, inserted_again, put_back, key_inserted, set_back}
 
 pub entry_undone : (p : PathValue) (entry : Entry) (s : State) (before : Option Entry) → before ≡ map.get s.tree p → Undoes (Some (undos.Entry p before)) (record s { tree = map.insert s.tree p entry }) s
 entry_undone p entry s None is = (refl, ap (λ t. record s { tree = t }) (removed_again path_total path_exact s.tree p entry (sym is)))
@@ -82,5 +87,58 @@ new_undone sid x s is = set_undone sid x s None is
 
 pub old_undone : (sid : ℕ) (x : Setting) (s : State) (before : Former) → Some before ≡ option_map (former_of x) (map.get s.sessions sid) → Undoes (Some (undos.Setting sid before)) (record s { sessions = update s.sessions sid fresh_session (with_setting x) }) s
 old_undone sid x s before is = set_undone sid x s (Some before) is
+
+-- ---- growths
+abbrev is_missing : Kind → Bool
+is_missing kinds.Missing = true
+is_missing kinds.Dir = false
+is_missing kinds.File = false
+
+abbrev is_dir : Kind → Bool
+is_dir kinds.Missing = false
+is_dir kinds.Dir = true
+is_dir kinds.File = false
+
+abbrev is_file : Kind → Bool
+is_file kinds.Missing = false
+is_file kinds.Dir = false
+is_file kinds.File = true
+
+-- a directory doesn't grow
+pub dir_stays : (p : PathValue) (bytes : List ℕ) (s : State) → kind_of (node_in p s.tree) ≡ kinds.Dir → grow_file p bytes s ≡ s
+unfolding node_in
+dir_stays p bytes s is = go (map.get s.tree p) refl is
+  where
+    go : (o : Option Entry) → map.get s.tree p ≡ o → kind_of (node_of o) ≡ kinds.Dir → record s { tree = put p (grown bytes (node_of o)) s.tree } ≡ s
+    go None e k = absurd (false≢true (ap is_dir k))
+    go (Some DirEntry) e k = ap (λ t. record s { tree = t }) (inserted_again path_total path_exact s.tree p DirEntry e)
+    go (Some (FileEntry old)) e k = absurd (false≢true (ap is_dir k))
+
+-- a missing file is made
+pub missing_made : (p : PathValue) (bytes : List ℕ) (s : State) → kind_of (node_in p s.tree) ≡ kinds.Missing → grow_file p bytes s ≡ put_node p (File bytes) s
+missing_made p bytes s is = ap (λ n. put_node p n s) (go (node_in p s.tree) is)
+  where
+    go : (n : Node) → kind_of n ≡ kinds.Missing → grown bytes n ≡ File bytes
+    go Missing e = refl
+    go Dir e = absurd (false≢true (ap is_missing e))
+    go (File old) e = absurd (false≢true (ap is_missing e))
+
+-- a file is cut to the length that it had
+pub growth_undone : (p : PathValue) (bytes : List ℕ) (n : ℕ) (s : State) → kind_of (node_in p s.tree) ≡ kinds.File → n ≡ size_of (node_in p s.tree) → undone (undos.Length p n) (grow_file p bytes s) ≡ s
+unfolding node_in
+growth_undone p bytes n s file is = go (map.get s.tree p) refl file is
+  where
+    go : (o : Option Entry) → map.get s.tree p ≡ o → kind_of (node_of o) ≡ kinds.File → n ≡ size_of (node_of o) → undone (undos.Length p n) (record s { tree = put p (grown bytes (node_of o)) s.tree }) ≡ s
+    go None e k size = absurd (false≢true (ap is_file k))
+    go (Some DirEntry) e k size = absurd (false≢true (ap is_file k))
+    go (Some (FileEntry old)) e k size =
+        let new = map.insert s.tree p (FileEntry (old ++ bytes)) in
+        ap (λ t. record s { tree = t }) (
+        ap (λ o. cut_at p n o new) (get_inserted path_total s.tree p (FileEntry (old ++ bytes)))
+        ∙ ap (λ m. map.insert new p (FileEntry (take m (old ++ bytes)))) size
+        ∙ ap (λ bs. map.insert new p (FileEntry bs)) (take-append_seam old bytes)
+        ∙ put_back path_total path_exact s.tree p (FileEntry old) (FileEntry (old ++ bytes)) e)
+
+pub ruleset growing = (dir_stays, missing_made, growth_undone)
 
 pub ruleset undoing = (new_undone, old_undone)

@@ -10,11 +10,11 @@ use Rattle.std.specs.declared.cmp.Ordering.TheVariants.{Less, Equal, Greater}
 use Rattle.retro_tree.specs.Order.{text_cmp, path_exact, text_exact}
 use Rattle.retro_tree.specs.declared.cell.Cell.{Cell}
 use Rattle.retro_tree.specs.declared.cell.Cell.TheVariants as cells
-use Rattle.retro_tree.specs.declared.cell.Value.{Value}
+use Rattle.retro_tree.specs.declared.overlay.laid.Laid.{Laid}
 use Rattle.retro_tree.specs.contracts.cell.CellOrd.TheImpl as cell_ord
 use Rattle.retro_tree.specs.contracts.cell.CellOrd.TheImpl.Laws as cell_laws
 use Rattle.retro_tree.specs.contracts.cell.Cell as cell_type
-use Rattle.retro_tree.specs.contracts.cell.Value as value_type
+use Rattle.retro_tree.specs.contracts.overlay.laid.Laid as laid_type
 
 abbrev pub cell_cmp : Cell → Cell → Ordering
 cell_cmp = (cell_ord.ghosts).cmp
@@ -25,8 +25,8 @@ cell_total = cell_laws.total-law
 abbrev pub coded_cell : Coded Cell
 coded_cell = (cell_type.the_row).coded
 
-abbrev pub coded_value : Coded Value
-coded_value = (value_type.the_row).coded
+abbrev pub coded_laid : Coded Laid
+coded_laid = (laid_type.the_row).coded
 
 both_equal : (a b : Ordering) → ordering_then a b ≡ Equal → (a ≡ Equal) × (b ≡ Equal)
 both_equal Less b e = (e, cc)

@@ -1,5 +1,5 @@
 -- What stands at a path, how it grows, and whether it may be written to.
-use Rattle.std.specs.Prelude.{ℕ, ◌+◌, Bool, true, false, nat_lt, if◌then◌else◌, List, ◌++◌, length, Option, Some, None}
+use Rattle.std.specs.Prelude.{ℕ, ◌+◌, Bool, true, false, nat_lt, if◌then◌else◌, List, ◌++◌, length, take, Option, Some, None}
 use Rattle.retro_tree.specs.declared.node.Entry.{Entry}
 use Rattle.retro_tree.specs.declared.node.Entry.TheVariants.{Dir as DirEntry, File as FileEntry}
 use Rattle.retro_tree.specs.declared.node.Node.{Node}
@@ -56,6 +56,17 @@ grown bytes (File old) = File (old ++ bytes)
 abbrev pub entry_grown : List ℕ → Entry → Entry
 entry_grown bytes DirEntry = DirEntry
 entry_grown bytes (FileEntry old) = FileEntry (old ++ bytes)
+
+-- a file cut to so many bytes, where it has more; a directory stays
+abbrev pub entry_cut : ℕ → Entry → Entry
+entry_cut n DirEntry = DirEntry
+entry_cut n (FileEntry bytes) = FileEntry (take n bytes)
+
+-- the kind of a node after growth
+abbrev pub kind_grown : Kind → Kind
+kind_grown kinds.Missing = kinds.File
+kind_grown kinds.Dir = kinds.Dir
+kind_grown kinds.File = kinds.File
 
 -- whether a file of so many bytes may stand under a parent
 abbrev pub permit_under : Node → ℕ → Permit

@@ -1,5 +1,5 @@
 //! The bytes of a file.
-ghost use Rattle.std.specs.Prelude.{◌≡◌, ◌==◌, ◌++◌, [], IfOk, OnOk, OnErr, length};
+ghost use Rattle.std.specs.Prelude.{◌≡◌, ◌==◌, ◌++◌, [], IfOk, OnOk, OnErr, length, take};
 
 use std::alloc::{AllocError, Global};
 use std::marker::Model;
@@ -34,6 +34,13 @@ impl Bytes {
         ensures err { OnErr result (self.new ≡ self.old) }
     {
         self.items.extend_from_slice(more)
+    }
+
+    /// Leaves so many bytes, where there are more. Takes no memory.
+    pub fn truncate(&mut self, length: usize)
+        ensures { self.new ≡ take length self.old }
+    {
+        self.items.truncate(length);
     }
 
     /// How many bytes there are.

@@ -40,9 +40,9 @@ impl State {
             return Ok(false);
         }
         if self.is_known_lawful() {
-            return Ok(self.may_make(change)?);
+            return self.may_make(change);
         }
-        Ok(self.is_lawful_after(alloc, change)?)
+        self.is_lawful_after(alloc, change)
     }
 
     /// Whether the session of a change is there. A change of the tree needs none.

@@ -40,8 +40,6 @@ mod path;
 mod resolving;
 mod session;
 mod state;
-#[cfg(test)]
-mod tests;
 mod text;
 mod tree;
 mod user;
@@ -67,7 +65,7 @@ pub use note::{Note, Notes};
 pub use note_laws::{
     allowed_notes_keep_the_law, notes_act_on_each_cell, notes_hold_by_their_cells, notes_in_turn,
 };
-pub use overlay::{Overlay, overlays_last};
+pub use overlay::{Laid, Overlay, overlays_last};
 pub use path::Path;
 pub use resolving::{Resolved, resolve};
 pub use session::{Session, Sessions, VALUE_LIMIT, Vars};

@@ -1,6 +1,6 @@
 //! What stands at a path, and whether it may be written to.
 ghost use Rattle.std.specs.Prelude.{◌≡◌, IfOk, OnOk, OnErr, Some, nat_le};
-ghost use Rattle.retro_tree.specs.Node.{entry_grown, node_of, size_of, file_limit};
+ghost use Rattle.retro_tree.specs.Node.{entry_grown, entry_cut, node_of, size_of, file_limit};
 
 use crate::bytes::Bytes;
 use std::alloc::AllocError;
@@ -73,6 +73,16 @@ impl Entry {
         match self {
             Entry::Dir => Ok(()),
             Entry::File(old) => old.extend(bytes.as_slice()),
+        }
+    }
+
+    /// Cuts a file to so many bytes, where it has more. A directory stays. Takes no memory.
+    pub(crate) fn cut(&mut self, length: usize)
+        ensures { self.new ≡ entry_cut length self.old }
+    {
+        match self {
+            Entry::Dir => (),
+            Entry::File(bytes) => bytes.truncate(length),
         }
     }
 

@@ -1,42 +1,47 @@
-//! Values laid over the cells of a state.
-ghost use Rattle.std.specs.Prelude.{◌≡◌, ◌↔◌, IfOk, IsTrue, OnOk, OnErr, is_some};
+//! What is laid over the cells of a state: values, and growths.
+ghost use Rattle.std.specs.Prelude.{◌≡◌, ◌≢◌, ◌↔◌, IfOk, IsTrue, OnOk, OnErr, is_some};
 ghost use Rattle.std.specs.Option.{option_copied};
 ghost use Rattle.std.specs.FinMap as map;
-ghost use Rattle.retro_tree.specs.Change.{value_grown};
+ghost use Rattle.retro_tree.specs.Cell.{value as value_at};
 ghost use Rattle.retro_tree.specs.Overlay.{Overlays, grown_at};
+ghost use Rattle.retro_tree.specs.declared.cell.Cell.{Cell as StateCell};
+ghost use Rattle.retro_tree.specs.declared.overlay.laid.Laid.TheVariants as Laid;
 ghost use Rattle.retro_tree.specs.declared.state.State.{State};
 
 mod answering;
+mod asking;
 mod commit;
+mod laid;
 mod laying;
 mod listing;
-#[cfg(test)]
-mod tests;
+mod nodes;
 
 use crate::bytes::Bytes;
 use crate::cell::{Cell, Value};
-use crate::node::Node;
 pub use commit::overlays_last;
+pub use laid::Laid;
 use std::alloc::{AllocError, Global};
 use std::collections::BTreeMap;
 use std::collections::btree_map::Iter;
 use std::marker::Model;
 
-/// Values laid over some cells of a state. Together with a view of the state it shows the state
-/// that has these values in these cells, and in each other cell what the view's state has there.
+/// Values and growths laid over some cells of a state. Together with a view of the state it shows
+/// the state that has these values in these cells, that is grown so where a growth is laid, and that
+/// has in each other cell what the view's state has there. A growth holds the bytes that it adds,
+/// and nothing of the file below.
 #[derive(Drop)]
 pub struct Overlay {
-    cells: BTreeMap<Cell, Value>,
+    cells: BTreeMap<Cell, Laid>,
 }
 
 impl Model for Overlay {
     ghost use Rattle.std.specs.FinMap as map;
-    ghost use Rattle.retro_tree.specs.CellOrder.{cell_cmp, coded_cell, coded_value};
-    ghost use Rattle.retro_tree.specs.declared.cell.Value.{Value as CellValue};
+    ghost use Rattle.retro_tree.specs.CellOrder.{cell_cmp, coded_cell, coded_laid};
+    ghost use Rattle.retro_tree.specs.declared.overlay.laid.Laid.{Laid};
 
-    ghost Value = { map.FinMap cell_cmp CellValue };
+    ghost Value = { map.FinMap cell_cmp Laid };
 
-    ghost coded = { map.code coded_cell coded_value };
+    ghost coded = { map.code coded_cell coded_laid };
 
     ghost view = { λ a. map.from_entries a.cells.entries };
 }
@@ -54,35 +59,56 @@ impl Overlay {
     }
 
     /// What is laid over a cell, where something is.
-    pub fn get(&self, cell: &Cell) -> Option<&Value>
+    pub fn get(&self, cell: &Cell) -> Option<&Laid>
         ensures { option_copied result ≡ map.get self.now cell.now }
     {
         self.cells.get(cell)
     }
 
-    /// Lays a value over a cell, in the place of one that is laid. After want of memory the
-    /// overlay is as before.
+    /// Lays a value over a cell, in the place of what is laid: a state is shown that has this value
+    /// there, and elsewhere what was shown. After want of memory the overlay is as before.
     ///
     /// # Errors
     ///
     /// Where memory is wanting.
+    #[tactic(auto, using(crate::proofs::OverlayLaying::shows_laid))]
     pub fn insert(&mut self, cell: Cell, value: Value) -> Result<(), AllocError>
-        ensures ok { OnOk result (self.new ≡ map.insert self.old cell value) }
+        ensures ok { OnOk result (self.new ≡ map.insert self.old cell (Laid.Whole value)) }
+        ensures shows { OnOk result ((below now next : State)
+            → Overlays self.old below now
+            → value_at cell next ≡ value
+            → ((c : StateCell) → c ≢ cell → value_at c next ≡ value_at c now)
+            → Overlays self.new below next) }
         ensures err { OnErr result (self.new ≡ self.old) }
     {
-        self.cells.insert(cell, value)?;
+        self.lay_over(cell, Laid::Whole(value))
+    }
+
+    /// Lays a value or a growth over a cell, in the place of what is laid. After want of memory the
+    /// overlay is as before.
+    fn lay_over(&mut self, cell: Cell, laid: Laid) -> Result<(), AllocError>
+        ensures ok { OnOk result (self.new ≡ map.insert self.old cell laid) }
+        ensures err { OnErr result (self.new ≡ self.old) }
+    {
+        self.cells.insert(cell, laid)?;
         Ok(())
     }
 
-    /// Takes away what is laid over a cell, where something is. Takes no memory.
+    /// Takes away what is laid over a cell, where something is: a state is shown that has there what
+    /// the state below has. Takes no memory.
     pub fn remove(&mut self, cell: &Cell)
-        ensures { self.new ≡ map.remove self.old cell.now }
+        ensures value { self.new ≡ map.remove self.old cell.now }
+        ensures shows { (below now next : State)
+            → Overlays self.old below now
+            → value_at cell.now next ≡ value_at cell.now below
+            → ((c : StateCell) → c ≢ cell.now → value_at c next ≡ value_at c now)
+            → Overlays self.new below next }
     {
         self.cells.remove(cell);
     }
 
     /// What is laid, in order of cells.
-    pub fn iter(&self) -> Iter<'_, Cell, Value>
+    pub fn iter(&self) -> Iter<'_, Cell, Laid>
         ensures { result ≡ map.entries self.now }
     {
         self.cells.iter()
@@ -111,14 +137,15 @@ impl Overlay {
         ensures { IfOk result (λ copy. copy ≡ self.now) }
     {
         let mut copy = Overlay::new(alloc);
-        for (cell, value) in self.iter() {
-            copy.insert(cell.copy()?, value.copy()?)?;
+        for (cell, laid) in self.iter() {
+            copy.lay_over(cell.copy()?, laid.copy()?)?;
         }
         Ok(copy)
     }
 
-    /// Adds bytes at the end of what is laid over a cell, in place. False where nothing is laid.
-    /// After want of memory the overlay is as before.
+    /// Adds bytes at the end of what is laid over a cell, in place. A value grows as its cell would,
+    /// and a growth has these bytes behind its own. False where nothing is laid. After want of memory
+    /// the overlay is as before.
     ///
     /// # Errors
     ///
@@ -129,28 +156,10 @@ impl Overlay {
             (self.new ≡ grown_at cell.now bytes.now (map.get self.old cell.now) self.old) }
         ensures err { OnErr result (self.new ≡ self.old) }
     {
-        if let Some(value) = self.cells.get_mut(cell) {
-            value.grow(bytes)?;
+        if let Some(laid) = self.cells.get_mut(cell) {
+            laid.grow(bytes)?;
             return Ok(true);
         }
         Ok(false)
-    }
-}
-
-impl Value {
-    /// Adds bytes at the end of a file, in place. A missing file is made, and what is no node
-    /// stays. After want of memory the value is as before.
-    pub(crate) fn grow(&mut self, bytes: &Bytes) -> Result<(), AllocError>
-        ensures ok { OnOk result (self.new ≡ value_grown bytes.now self.old) }
-        ensures err { OnErr result (self.new ≡ self.old) }
-    {
-        if let Value::Node(node) = self {
-            match node {
-                Node::Missing => *node = Node::File(bytes.copy()?),
-                Node::Dir => (),
-                Node::File(old) => old.extend(bytes.as_slice())?,
-            }
-        }
-        Ok(())
     }
 }

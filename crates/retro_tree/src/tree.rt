@@ -220,7 +220,7 @@ impl Tree {
 
     /// How many bytes the file at a path has, or 0 where none is.
     #[tactic(auto, unfolding(crate::specs::Tree::node_in))]
-    fn size(&self, path: &Path) -> usize
+    pub(crate) fn size(&self, path: &Path) -> usize
         ensures { result ≡ size_of (node_in path.now self.now) }
     {
         match self.get(path) {

@@ -2,42 +2,40 @@
 ghost use Rattle.std.specs.Prelude.{◌≡◌, IfOk};
 ghost use Rattle.std.specs.Option.{option_copied};
 ghost use Rattle.std.specs.FinMap as map;
-ghost use Rattle.retro_tree.specs.Node.{kind_of, permit_at};
+ghost use Rattle.retro_tree.specs.Node.{kind_of};
 ghost use Rattle.retro_tree.specs.Tree.{node_in};
 ghost use Rattle.retro_tree.specs.Session.{session_in};
 ghost use Rattle.retro_tree.specs.State.{permit_of};
 ghost use Rattle.retro_tree.specs.User.{user_in, passwd};
 ghost use Rattle.retro_tree.specs.Cell.{value};
 ghost use Rattle.retro_tree.specs.Ask.{answer};
-ghost use Rattle.retro_tree.specs.Overlay.{Overlays, laid_node};
+ghost use Rattle.retro_tree.specs.Overlay.{Overlays};
 ghost use Rattle.retro_tree.specs.declared.cell.Cell.TheVariants as Cell;
 ghost use Rattle.retro_tree.specs.declared.state.State.{State};
 
-use super::Overlay;
+use super::asking::{kind_below, node_below, permit_below, user_below};
+use super::nodes::{permit, user_of, with_more};
+use super::{Laid, Overlay};
 use crate::ask::{Answer, Ask, User};
 use crate::cell::{Cell, Value};
-use crate::node::{FILE_LIMIT, Kind, Node, Permit};
+use crate::node::{Kind, Node, Permit};
 use crate::path::Path;
 use crate::text::Text;
-use crate::user::find_user;
 use crate::var_name::VarName;
 use crate::view::View;
 use std::alloc::{AllocError, Global};
 
 impl Overlay {
-    /// The node that is laid over a path, where one is.
-    fn node(&self, path: &Path) -> Result<Option<&Node>, AllocError>
-        ensures { IfOk result (λ node.
-            option_copied node ≡ laid_node (map.get self.now (Cell.At path.now))) }
+    /// What is laid over a path, where something is.
+    fn at(&self, path: &Path) -> Result<Option<&Laid>, AllocError>
+        ensures { IfOk result (λ laid.
+            option_copied laid ≡ map.get self.now (Cell.At path.now)) }
     {
-        match self.get(&Cell::At(path.copy()?)) {
-            Some(Value::Node(node)) => Ok(Some(node)),
-            _ => Ok(None),
-        }
+        Ok(self.get(&Cell::At(path.copy()?)))
     }
 
     /// What is at a path of the shown state, copied.
-    #[tactic(auto, unfolding(crate::specs::Ask::answer, crate::specs::Cell::value))]
+    #[tactic(auto, unfolding(crate::specs::Cell::value))]
     pub(super) fn shown_node<V: View>(
         &self,
         alloc: Global,
@@ -47,17 +45,19 @@ impl Overlay {
         ensures { IfOk result (λ node. (now : State)
             → Overlays self.now (V.shown view.now) now → node ≡ node_in path.now now.tree) }
     {
-        if let Some(node) = self.node(path)? {
-            return Ok(node.copy()?);
-        }
-        match view.answer(alloc, &Ask::Bytes(path.copy()?))? {
-            Answer::Bytes(node) => Ok(node),
-            _ => unreachable!(),
+        match self.at(path)? {
+            Some(Laid::Whole(Value::Node(node))) => Ok(node.copy()?),
+            Some(Laid::More(bytes)) => {
+                let mut node = node_below(alloc, view, path)?;
+                node.grow(bytes)?;
+                Ok(node)
+            }
+            Some(Laid::Whole(_)) | None => node_below(alloc, view, path),
         }
     }
 
     /// Which kind of node is at a path of the shown state.
-    #[tactic(auto, unfolding(crate::specs::Ask::answer, crate::specs::Cell::value))]
+    #[tactic(auto, using(crate::proofs::OverlayAnswers::kind_after), unfolding(crate::specs::Cell::value))]
     pub(super) fn shown_kind<V: View>(
         &self,
         alloc: Global,
@@ -67,18 +67,17 @@ impl Overlay {
         ensures { IfOk result (λ kind. (now : State)
             → Overlays self.now (V.shown view.now) now → kind ≡ kind_of (node_in path.now now.tree)) }
     {
-        if let Some(node) = self.node(path)? {
-            return Ok(node.kind());
-        }
-        match view.answer(alloc, &Ask::Kind(path.copy()?))? {
-            Answer::Kind(kind) => Ok(kind),
-            _ => unreachable!(),
+        match self.at(path)? {
+            Some(Laid::Whole(Value::Node(node))) => Ok(node.kind()),
+            Some(Laid::More(_)) => Ok(kind_below(alloc, view, path)?.grown()),
+            Some(Laid::Whole(_)) | None => kind_below(alloc, view, path),
         }
     }
 
-    /// Whether so many bytes more may be written to the file at a path of the shown state. What is
-    /// laid over the path or its parent is read in place.
-    #[tactic(auto, unfolding(crate::specs::Ask::answer, crate::specs::Cell::value))]
+    /// Whether so many bytes more may be written to the file at a path of the shown state. Of the
+    /// parent only the kind is asked. What is laid over the path is read in place, and where it is a
+    /// growth its bytes are counted among those that are to be written.
+    #[tactic(auto, using(crate::proofs::OverlayAnswers::permits), unfolding(crate::specs::Cell::value))]
     fn shown_permit<V: View>(
         &self,
         alloc: Global,
@@ -90,18 +89,22 @@ impl Overlay {
             → Overlays self.now (V.shown view.now) now → permit ≡ permit_of path.now more now) }
     {
         let parent = path.parent(alloc)?;
-        if let Some(node) = self.node(path)? {
-            let above = self.shown_node(alloc, view, &parent)?;
-            return Ok(permit(node, &above, more));
+        let laid = self.at(path)?;
+        if self.at(&parent)?.is_none() {
+            match laid {
+                Some(Laid::Whole(_)) => (),
+                Some(Laid::More(bytes)) => {
+                    return permit_below(alloc, view, path, with_more(bytes, more));
+                }
+                None => return permit_below(alloc, view, path, more),
+            }
         }
-        if let Some(above) = self.node(&parent)? {
-            let node = self.shown_node(alloc, view, path)?;
-            return Ok(permit(&node, above, more));
+        let above = self.shown_kind(alloc, view, &parent)?;
+        if let Some(Laid::Whole(Value::Node(node))) = laid {
+            return Ok(permit(node, above, more));
         }
-        match view.answer(alloc, &Ask::CanWrite(path.copy()?, more))? {
-            Answer::CanWrite(permit) => Ok(permit),
-            _ => unreachable!(),
-        }
+        let node = self.shown_node(alloc, view, path)?;
+        Ok(permit(&node, above, more))
     }
 
     /// The value of a variable in the shown state, where it is set, copied.
@@ -117,7 +120,7 @@ impl Overlay {
             → Overlays self.now (V.shown view.now) now
             → text ≡ map.get (session_in sid now.sessions).vars name.now) }
     {
-        if let Some(Value::Text(text)) = self.get(&Cell::Var(sid, name.copy()?)) {
+        if let Some(Laid::Whole(Value::Text(text))) = self.get(&Cell::Var(sid, name.copy()?)) {
             return Ok(text.clone()?);
         }
         match view.answer(alloc, &Ask::VarOf(sid, name.copy()?))? {
@@ -133,7 +136,7 @@ impl Overlay {
             → Overlays self.now (V.shown view.now) now
             → cwd ≡ (session_in sid now.sessions).cwd) }
     {
-        if let Some(Value::Cwd(path)) = self.get(&Cell::Cwd(sid)) {
+        if let Some(Laid::Whole(Value::Cwd(path))) = self.get(&Cell::Cwd(sid)) {
             return Ok(path.copy()?);
         }
         match view.answer(alloc, &Ask::CwdOf(sid))? {
@@ -149,7 +152,7 @@ impl Overlay {
             → Overlays self.now (V.shown view.now) now
             → status ≡ (session_in sid now.sessions).status) }
     {
-        if let Some(Value::Status(status)) = self.get(&Cell::Status(sid)) {
+        if let Some(Laid::Whole(Value::Status(status))) = self.get(&Cell::Status(sid)) {
             return Ok(*status);
         }
         match view.answer(alloc, &Ask::StatusOf(sid))? {
@@ -171,13 +174,13 @@ impl Overlay {
             → user ≡ user_in name.now (node_in passwd now.tree)) }
     {
         let path = Path::passwd(alloc)?;
-        match self.node(&path)? {
-            Some(Node::File(bytes)) => Ok(find_user(alloc, name, bytes.as_slice())?),
-            Some(Node::Missing | Node::Dir) => Ok(None),
-            None => match view.answer(alloc, &Ask::User(name.copy()?))? {
-                Answer::User(user) => Ok(user),
-                _ => unreachable!(),
-            },
+        match self.at(&path)? {
+            Some(Laid::Whole(Value::Node(node))) => user_of(alloc, name, node),
+            Some(Laid::More(_)) => {
+                let node = self.shown_node(alloc, view, &path)?;
+                user_of(alloc, name, &node)
+            }
+            Some(Laid::Whole(_)) | None => user_below(alloc, view, name),
         }
     }
 
@@ -220,42 +223,6 @@ impl Overlay {
             Cell::Cwd(sid) => Ok(Value::Cwd(self.shown_cwd(alloc, view, *sid)?)),
             Cell::Var(sid, name) => Ok(Value::Text(self.shown_var(alloc, view, *sid, name)?)),
             Cell::Status(sid) => Ok(Value::Status(self.shown_status(alloc, view, *sid)?)),
-        }
-    }
-}
-
-/// Whether so many bytes more may be written to a node, by the node of its parent.
-fn permit(node: &Node, above: &Node, more: u32) -> Permit
-    ensures { result ≡ permit_at node.now above.now more }
-{
-    let size = match node {
-        Node::Dir => return Permit::IsDir,
-        Node::Missing => 0,
-        Node::File(bytes) => bytes.len() as u64,
-    };
-    match above {
-        Node::Missing => Permit::NoParent,
-        Node::File(_) => Permit::NotDir,
-        Node::Dir => {
-            let more = u64::from(more);
-            if more > FILE_LIMIT || size > FILE_LIMIT - more {
-                Permit::TooLarge
-            } else {
-                Permit::Yes
-            }
-        }
-    }
-}
-
-impl Node {
-    /// Of which kind it is.
-    fn kind(&self) -> Kind
-        ensures { result ≡ kind_of self.now }
-    {
-        match self {
-            Node::Missing => Kind::Missing,
-            Node::Dir => Kind::Dir,
-            Node::File(_) => Kind::File,
         }
     }
 }

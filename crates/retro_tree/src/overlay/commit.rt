@@ -8,17 +8,18 @@ ghost use Rattle.retro_tree.specs.Commit.{committed, makes, put_cell, put_cells,
 ghost use Rattle.retro_tree.specs.declared.cell.Cell.{Cell as StateCell};
 ghost use Rattle.retro_tree.specs.declared.state.State.{State as StateValue};
 
-use super::Overlay;
-use crate::cell::{Cell, Value};
+use super::{Laid, Overlay};
+use crate::cell::Cell;
 use crate::state::State;
 use crate::state::writing::Undo;
 use std::alloc::{AllocError, Global};
 use std::collections::btree_map::IntoIter;
 
 impl Overlay {
-    /// Puts all that is laid into a state. What isn't laid is neither copied nor read. After want
-    /// of memory the state is as before: what takes memory is written first, and undone then, which
-    /// takes none; removals come last, what stands in a directory before the directory.
+    /// Puts all that is laid into a state. A file grows in place, and what isn't laid is neither
+    /// copied nor read. After want of memory the state is as before: what takes memory is written
+    /// first, and undone then, which takes none; removals come last, what stands in a directory
+    /// before the directory.
     ///
     /// # Errors
     ///
@@ -31,11 +32,13 @@ impl Overlay {
             → (c : StateCell) → value c state.new ≡ value c now) }
         ensures err { OnErr result (state.new ≡ state.old) }
     {
+        let was_known = state.is_known_lawful();
         let mut undos = Vec::new(alloc);
         let mut left = Vec::new(alloc);
         match self.write_all(alloc, state, &mut undos, &mut left) {
             Ok(()) => {
                 erase_all(alloc, state, left);
+                know_again(alloc, state, was_known);
                 Ok(())
             }
             Err(error) => {
@@ -46,7 +49,7 @@ impl Overlay {
     }
 
     /// What is laid, in order of cells, given away.
-    fn into_entries(self) -> IntoIter<Cell, Value>
+    fn into_entries(self) -> IntoIter<Cell, Laid>
         ensures { result ≡ map.entries self }
     {
         self.cells.into_iter()
@@ -59,7 +62,7 @@ impl Overlay {
         alloc: Global,
         state: &mut State,
         undos: &mut Vec<Undo>,
-        left: &mut Vec<(Cell, Value)>,
+        left: &mut Vec<(Cell, Laid)>,
     ) -> Result<(), AllocError>
         requires undos { undos.old.items ≡ [] }
         requires left { left.old.items ≡ [] }
@@ -68,11 +71,11 @@ impl Overlay {
         ensures ok { OnOk result (state.new ≡ put_cells (writes (map.entries self)) state.old) }
         ensures left { OnOk result (left.new.items ≡ removals (map.entries self)) }
     {
-        for (cell, value) in self.into_entries() {
-            if value.removes() {
-                left.push((cell, value))?;
+        for (cell, laid) in self.into_entries() {
+            if laid.removes() {
+                left.push((cell, laid))?;
             } else {
-                write_one(alloc, state, undos, cell, value)?;
+                write_one(alloc, state, undos, cell, laid)?;
             }
         }
         Ok(())
@@ -98,23 +101,23 @@ pub fn overlays_last()
         → committed laid s ≡ now }
 {}
 
-/// Writes one value, which is no removal, into a state, with how it is undone.
+/// Writes what is laid over one cell, which is no removal, into a state, with how it is undone.
 #[tactic(auto, using(crate::proofs::OverlayCommit::unwinding))]
 fn write_one(
     alloc: Global,
     state: &mut State,
     undos: &mut Vec<Undo>,
     cell: Cell,
-    value: Value,
+    laid: Laid,
 ) -> Result<(), AllocError>
-    requires value { removes value ≡ false }
+    requires laid { removes laid ≡ false }
     requires can { CanUnwind (reverse undos.old.items) state.old }
     ensures can { CanUnwind (reverse undos.new.items) state.new }
     ensures unwound { unwound (reverse undos.new.items) state.new
         ≡ unwound (reverse undos.old.items) state.old }
-    ensures ok { OnOk result (state.new ≡ put_cell cell value state.old) }
+    ensures ok { OnOk result (state.new ≡ put_cell cell laid state.old) }
 {
-    let Some(undo) = state.write(alloc, cell, value)? else {
+    let Some(undo) = state.write(alloc, cell, laid)? else {
         return Ok(());
     };
     if let Err(failed) = undos.push(undo) {
@@ -138,12 +141,22 @@ fn unwind(alloc: Global, state: &mut State, undos: Vec<Undo>)
 /// Takes away what these removals say, from the last to the first: what stands in a directory before
 /// the directory. Takes no memory.
 #[tactic(auto, using(crate::proofs::OverlayCommit::erasing))]
-fn erase_all(alloc: Global, state: &mut State, left: Vec<(Cell, Value)>)
+fn erase_all(alloc: Global, state: &mut State, left: Vec<(Cell, Laid)>)
     requires { list_all (λ e. removes e.1) left.items ≡ true }
     ensures { state.new ≡ put_cells (reverse left.items) state.old }
 {
     let mut left = left;
-    while let Some((cell, value)) = left.pop() {
-        state.erase(alloc, &cell, &value);
+    while let Some((cell, laid)) = left.pop() {
+        state.erase(alloc, &cell, &laid);
+    }
+}
+
+/// Finds out whether a state is lawful that was known to be so, where a write made before the
+/// removals let that be forgotten. It changes nothing else, and without memory not even that.
+fn know_again(alloc: Global, state: &mut State, was_known: bool)
+    ensures { state.new ≡ state.old }
+{
+    if was_known && !state.is_known_lawful() {
+        let _ = state.judge(alloc);
     }
 }

@@ -1,5 +1,5 @@
-//! Changes laid over a view.
-ghost use Rattle.std.specs.Prelude.{◌≡◌, ◌||◌, OnOk, OnErr};
+//! Changes laid.
+ghost use Rattle.std.specs.Prelude.{◌≡◌, ◌≢◌, ◌||◌, OnOk, OnErr};
 ghost use Rattle.std.specs.FinMap as map;
 ghost use Rattle.retro_tree.specs.Change.{apply, cell_of};
 ghost use Rattle.retro_tree.specs.Notes.{cell_eq};
@@ -9,43 +9,40 @@ ghost use Rattle.retro_tree.specs.declared.cell.Cell.{Cell as StateCell};
 ghost use Rattle.retro_tree.specs.declared.change.Change.TheVariants as Change;
 ghost use Rattle.retro_tree.specs.declared.state.State.{State};
 
-use super::Overlay;
+use super::{Laid, Overlay};
 use crate::bytes::Bytes;
 use crate::cell::{Cell, Value};
 use crate::change::Change;
 use crate::path::Path;
-use crate::view::View;
-use std::alloc::{AllocError, Global};
+use std::alloc::AllocError;
 
 impl Overlay {
-    /// Lays a change over the view: the state that was shown is shown as the change leaves it, and
-    /// what the overlay would leave of the view's state is so too. A file that is laid already
-    /// grows in place. After want of memory the overlay is as before.
+    /// Lays a change: over each state, what was shown is shown as the change leaves it, and what the
+    /// overlay would leave of a state is so too. What is laid over each other cell stays. A growth
+    /// takes the time of its own bytes: nothing of the file is read or copied. After want of memory
+    /// the overlay is as before.
     ///
     /// # Errors
     ///
     /// Where memory is wanting.
     #[tactic(auto, using(crate::proofs::OverlayLaying::laying, crate::proofs::OverlayLasting::lasting))]
-    pub fn lay<V: View>(
-        &mut self,
-        alloc: Global,
-        view: &V,
-        change: Change,
-    ) -> Result<(), AllocError>
-        ensures ok { OnOk result ((now : State)
-            → Overlays self.old (V.shown view.now) now
-            → Overlays self.new (V.shown view.now) (apply change now)) }
-        ensures lasts { OnOk result ((now : State)
-            → Overlays self.old (V.shown view.now) now
-            → committed self.old (V.shown view.now) ≡ now
-            → committed self.new (V.shown view.now) ≡ apply change now) }
+    pub fn lay(&mut self, change: Change) -> Result<(), AllocError>
+        ensures ok { OnOk result ((below now : State)
+            → Overlays self.old below now
+            → Overlays self.new below (apply change now)) }
+        ensures lasts { OnOk result ((below now : State)
+            → Overlays self.old below now
+            → committed self.old below ≡ now
+            → committed self.new below ≡ apply change now) }
         ensures cells { OnOk result ((c : StateCell) → map.contains_key self.new c
             ≡ (cell_eq (cell_of change) c || map.contains_key self.old c)) }
+        ensures others { OnOk result ((c : StateCell) → c ≢ cell_of change
+            → map.get self.new c ≡ map.get self.old c) }
         ensures err { OnErr result (self.new ≡ self.old) }
     {
         match change {
             Change::Put(path, node) => self.insert(Cell::At(path), Value::Node(node))?,
-            Change::Grow(path, bytes) => self.lay_growth(alloc, view, path, &bytes)?,
+            Change::Grow(path, bytes) => self.lay_growth(path, bytes)?,
             Change::SetVar(sid, name, text) => {
                 self.insert(Cell::Var(sid, name), Value::Text(Some(text)))?
             }
@@ -57,33 +54,26 @@ impl Overlay {
         Ok(())
     }
 
-    /// Lays a growth over the view. What isn't laid yet is copied out of the view once.
+    /// Lays a growth. Where something is laid, that grows in place; else the growth is laid as such.
     #[tactic(auto, using(crate::proofs::OverlayLaying::laying, crate::proofs::OverlayLasting::lasting))]
-    fn lay_growth<V: View>(
-        &mut self,
-        alloc: Global,
-        view: &V,
-        path: Path,
-        bytes: &Bytes,
-    ) -> Result<(), AllocError>
-        ensures ok { OnOk result ((now : State)
-            → Overlays self.old (V.shown view.now) now
-            → Overlays self.new (V.shown view.now) (apply (Change.Grow path bytes.now) now)) }
-        ensures lasts { OnOk result ((now : State)
-            → Overlays self.old (V.shown view.now) now
-            → committed self.old (V.shown view.now) ≡ now
-            → committed self.new (V.shown view.now) ≡ apply (Change.Grow path bytes.now) now) }
+    fn lay_growth(&mut self, path: Path, bytes: Bytes) -> Result<(), AllocError>
+        ensures ok { OnOk result ((below now : State)
+            → Overlays self.old below now
+            → Overlays self.new below (apply (Change.Grow path bytes) now)) }
+        ensures lasts { OnOk result ((below now : State)
+            → Overlays self.old below now
+            → committed self.old below ≡ now
+            → committed self.new below ≡ apply (Change.Grow path bytes) now) }
         ensures cells { OnOk result ((c : StateCell) → map.contains_key self.new c
-            ≡ (cell_eq (cell_of (Change.Grow path bytes.now)) c || map.contains_key self.old c)) }
+            ≡ (cell_eq (cell_of (Change.Grow path bytes)) c || map.contains_key self.old c)) }
+        ensures others { OnOk result ((c : StateCell) → c ≢ cell_of (Change.Grow path bytes)
+            → map.get self.new c ≡ map.get self.old c) }
         ensures err { OnErr result (self.new ≡ self.old) }
     {
-        let cell = Cell::At(path.copy()?);
-        if self.grow(&cell, bytes)? {
+        let cell = Cell::At(path);
+        if self.grow(&cell, &bytes)? {
             return Ok(());
         }
-        let mut value = Value::Node(self.shown_node(alloc, view, &path)?);
-        value.grow(bytes)?;
-        self.insert(cell, value)?;
-        Ok(())
+        self.lay_over(cell, Laid::More(bytes))
     }
 }

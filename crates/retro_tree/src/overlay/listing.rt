@@ -3,11 +3,11 @@ ghost use Rattle.std.specs.Prelude.{◌≡◌, IfOk};
 ghost use Rattle.std.specs.FinMap as map;
 ghost use Rattle.retro_tree.specs.Ask.{names_in, listing};
 ghost use Rattle.retro_tree.specs.Tree.{node_in};
-ghost use Rattle.retro_tree.specs.Overlay.{Overlays, cells_from, first_below, marked, marks};
+ghost use Rattle.retro_tree.specs.Overlay.{Overlays, cells_from, first_below, mark_of, marked, marks};
 ghost use Rattle.retro_tree.specs.declared.cell.Cell.TheVariants as Cell;
 ghost use Rattle.retro_tree.specs.declared.state.State.{State};
 
-use super::Overlay;
+use super::{Laid, Overlay};
 use crate::cell::{Cell, Value};
 use crate::listing::Listing;
 use crate::name::Name;
@@ -62,7 +62,7 @@ impl Overlay {
     }
 
     /// What is laid over a cell and behind it, in order of cells.
-    fn from(&self, cell: &Cell) -> Range<'_, Cell, Value>
+    fn from(&self, cell: &Cell) -> Range<'_, Cell, Laid>
         ensures { result ≡ cells_from cell.now self.now }
     {
         self.cells.range(cell..)
@@ -87,22 +87,32 @@ impl Overlay {
     {
         let mut tree = tree;
         let start = Cell::At(path.copy()?);
-        for (cell, value) in self.from(&start) {
+        for (cell, laid) in self.from(&start) {
             let Cell::At(at) = cell else {
                 return Ok(tree);
             };
             let Some(rest) = at.strip_prefix(path) else {
                 return Ok(tree);
             };
-            if let ([_], Value::Node(node)) = (rest, value) {
-                let mark = match node {
-                    Node::Missing => Node::Missing,
-                    Node::Dir | Node::File(_) => Node::Dir,
-                };
+            if let ([_], Some(mark)) = (rest, laid.mark()) {
                 tree.put(at.copy()?, mark)?;
             }
         }
         Ok(tree)
+    }
+}
+
+impl Laid {
+    /// What it says of a child: one that is missing, or as a directory one that is there, as also
+    /// one that grew is.
+    fn mark(&self) -> Option<Node>
+        ensures { result ≡ mark_of self.now }
+    {
+        match self {
+            Laid::Whole(Value::Node(Node::Missing)) => Some(Node::Missing),
+            Laid::Whole(Value::Node(Node::Dir | Node::File(_))) | Laid::More(_) => Some(Node::Dir),
+            Laid::Whole(Value::Cwd(_) | Value::Text(_) | Value::Status(_)) => None,
+        }
     }
 }
 

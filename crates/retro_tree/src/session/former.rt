@@ -1,10 +1,11 @@
 //! What one thing of a session was before it was set, and how it is put back without memory.
-ghost use Rattle.std.specs.Prelude.{◌≡◌, IfOk, OnOk, OnErr, Some, None, true};
+ghost use Rattle.std.specs.Prelude.{◌≡◌, IsTrue, IfOk, OnOk, OnErr, Some, None, true};
 ghost use Rattle.std.specs.Option.{option_map};
 ghost use Rattle.std.specs.FinMap as map;
 ghost use Rattle.retro_tree.specs.Maps.{update};
 ghost use Rattle.retro_tree.specs.Session.{fresh_session, session_in};
 ghost use Rattle.retro_tree.specs.Setting.{with_setting};
+ghost use Rattle.retro_tree.specs.Limits.{AreLawfulSessions};
 ghost use Rattle.retro_tree.specs.Former.{with_former, former_of, has_place, unset};
 
 use super::{Session, Sessions, Setting, Vars};
@@ -187,16 +188,27 @@ impl Sessions {
         self.swap(sid, session);
     }
 
-    /// Takes a variable of a session away, in place, where the session is there. Takes no memory,
-    /// and forgets whether the sessions are lawful.
+    /// Takes a variable of a session away, in place, where the session is there. Takes no memory.
+    /// Sessions that are known to be lawful stay so.
     #[tactic(auto, using(crate::proofs::FormerLemmas::formers))]
     pub(crate) fn unset(&mut self, alloc: Global, sid: u32, name: &VarName)
         ensures { self.new ≡ unset (map.get self.old sid) sid name.now self.old }
     {
+        let stays = self.stays_lawful_without(sid, name);
         if self.get(sid).is_some() {
             let mut session = self.swap(sid, Session::fresh(alloc));
             session.vars.remove(name);
             self.swap(sid, session);
         }
+        self.known_lawful = stays;
+    }
+
+    /// Whether the sessions are known to be lawful after a variable of one of them is taken away.
+    #[tactic(auto, using(crate::proofs::Keeping::taken_away))]
+    fn stays_lawful_without(&self, sid: u32, name: &VarName) -> bool
+        ensures { IsTrue result
+            → AreLawfulSessions (unset (map.get self.now sid) sid name.now self.now) }
+    {
+        self.is_known_lawful()
     }
 }

@@ -1,23 +1,28 @@
-//! Values written into the cells of a state, and how that is undone without memory.
+//! What is laid, written into the cells of a state, and how that is undone without memory.
 ghost use Rattle.std.specs.Prelude.{◌≡◌, IfOk, OnOk, OnErr, Some, true, false};
 ghost use Rattle.retro_tree.specs.Node.{is_there};
-ghost use Rattle.retro_tree.specs.State.{put_node};
+ghost use Rattle.retro_tree.specs.State.{put_node, grow_file};
 ghost use Rattle.retro_tree.specs.Change.{put_setting};
 ghost use Rattle.retro_tree.specs.Commit.{put_cell, removes, undone, can_undo, Undoes};
+ghost use Rattle.retro_tree.specs.declared.overlay.laid.Laid.TheVariants as Laid;
 
 use super::State;
+use crate::bytes::Bytes;
 use crate::cell::{Cell, Value};
-use crate::node::{Entry, Node};
+use crate::node::{Entry, Kind, Node};
+use crate::overlay::Laid;
 use crate::path::Path;
 use crate::session::Setting;
 use crate::session::former::Former;
 use std::alloc::{AllocError, Global};
 
-/// How one value that was written is undone.
+/// How one write is undone.
 #[derive(Drop)]
 pub(crate) enum Undo {
     /// At a path there was this entry, or none.
     Entry(Path, Option<Entry>),
+    /// The file at a path had so many bytes.
+    Length(Path, usize),
     /// The session wasn't there.
     Session(u32),
     /// One thing of a session was this.
@@ -25,17 +30,37 @@ pub(crate) enum Undo {
 }
 
 impl State {
-    /// Writes a value into a cell, but for removals, and gives how that is undone, where something
-    /// changed. After want of memory the state is as before.
+    /// Writes what is laid over a cell into it, but for removals, and gives how that is undone,
+    /// where something changed. After want of memory the state is as before.
     #[tactic(auto, unfolding(crate::specs::Commit::put_cell))]
     pub(crate) fn write(
         &mut self,
         alloc: Global,
         cell: Cell,
+        laid: Laid,
+    ) -> Result<Option<Undo>, AllocError>
+        requires { removes laid ≡ false }
+        ensures ok { OnOk result (self.new ≡ put_cell cell laid self.old) }
+        ensures undo { IfOk result (λ undo. Undoes undo self.new self.old) }
+        ensures err { OnErr result (self.new ≡ self.old) }
+    {
+        match (cell, laid) {
+            (cell, Laid::Whole(value)) => self.write_value(alloc, cell, value),
+            (Cell::At(path), Laid::More(bytes)) => self.write_growth(path, bytes),
+            (Cell::Cwd(_) | Cell::Var(..) | Cell::Status(_), Laid::More(_)) => Ok(None),
+        }
+    }
+
+    /// The same of a value.
+    #[tactic(auto, unfolding(crate::specs::Commit::put_cell))]
+    fn write_value(
+        &mut self,
+        alloc: Global,
+        cell: Cell,
         value: Value,
     ) -> Result<Option<Undo>, AllocError>
-        requires { removes value ≡ false }
-        ensures ok { OnOk result (self.new ≡ put_cell cell value self.old) }
+        requires { removes (Laid.Whole value) ≡ false }
+        ensures ok { OnOk result (self.new ≡ put_cell cell (Laid.Whole value) self.old) }
         ensures undo { IfOk result (λ undo. Undoes undo self.new self.old) }
         ensures err { OnErr result (self.new ≡ self.old) }
     {
@@ -63,6 +88,25 @@ impl State {
                 }
                 _ => Ok(None),
             },
+        }
+    }
+
+    /// Adds bytes at the end of the file at a path, in place, and gives how that is undone, where
+    /// something changed. A missing file is made of the bytes themselves, and a directory stays.
+    #[tactic(auto, using(crate::proofs::Undoing::growing))]
+    fn write_growth(&mut self, path: Path, bytes: Bytes) -> Result<Option<Undo>, AllocError>
+        ensures ok { OnOk result (self.new ≡ grow_file path bytes self.old) }
+        ensures undo { IfOk result (λ undo. Undoes undo self.new self.old) }
+        ensures err { OnErr result (self.new ≡ self.old) }
+    {
+        match self.tree.kind(&path) {
+            Kind::Missing => Ok(Some(self.write_node(path, Node::File(bytes))?)),
+            Kind::Dir => Ok(None),
+            Kind::File => {
+                let length = self.tree.size(&path);
+                self.tree.grow(&path, &bytes)?;
+                Ok(Some(Undo::Length(path, length)))
+            }
         }
     }
 
@@ -106,6 +150,7 @@ impl State {
                 None => self.tree.erase(&path),
                 Some(entry) => self.tree.replace(path, entry),
             },
+            Undo::Length(path, length) => self.tree.cut(&path, length),
             Undo::Session(sid) => self.sessions.remove(sid),
             Undo::Setting(sid, former) => self.sessions.restore(alloc, sid, former),
         }
@@ -113,31 +158,22 @@ impl State {
 
     /// Takes away what is in a cell, as a removal says. Takes no memory.
     #[tactic(auto, unfolding(crate::specs::Commit::put_cell))]
-    pub(crate) fn erase(&mut self, alloc: Global, cell: &Cell, value: &Value)
-        requires { removes value.now ≡ true }
-        ensures { self.new ≡ put_cell cell.now value.now self.old }
+    pub(crate) fn erase(&mut self, alloc: Global, cell: &Cell, laid: &Laid)
+        requires { removes laid.now ≡ true }
+        ensures { self.new ≡ put_cell cell.now laid.now self.old }
     {
         match cell {
             Cell::At(path) => {
-                if let Value::Node(_) = value {
+                if let Laid::Whole(Value::Node(_)) = laid {
                     self.tree.erase(path);
                 }
             }
             Cell::Var(sid, name) => {
-                if let Value::Text(_) = value {
+                if let Laid::Whole(Value::Text(_)) = laid {
                     self.sessions.unset(alloc, *sid, name);
                 }
             }
             Cell::Cwd(_) | Cell::Status(_) => (),
         }
-    }
-}
-
-impl Value {
-    /// Whether it says that nothing is in the cell.
-    pub(crate) fn removes(&self) -> bool
-        ensures { result ≡ removes self.now }
-    {
-        matches!(self, Value::Node(Node::Missing) | Value::Text(None))
     }
 }

@@ -4,6 +4,7 @@ ghost use Rattle.std.specs.FinMap as map;
 ghost use Rattle.retro_tree.specs.Node.{is_there};
 ghost use Rattle.retro_tree.specs.Tree.{put};
 ghost use Rattle.retro_tree.specs.Lawful.{IsLawfulTree, may_put};
+ghost use Rattle.retro_tree.specs.Commit.{cut_at};
 ghost use Rattle.retro_tree.specs.declared.node.Node.TheVariants.{Missing};
 
 use super::Tree;
@@ -52,6 +53,17 @@ impl Tree {
         match self.swap_in(path, entry) {
             Ok(_) => (),
             Err(_) => unreachable!(),
+        }
+    }
+
+    /// Cuts the file at a path, where one is, to so many bytes. Takes no memory, and forgets whether
+    /// the tree is lawful.
+    pub(crate) fn cut(&mut self, path: &Path, length: usize)
+        ensures { self.new ≡ cut_at path.now length (map.get self.old path.now) self.old }
+    {
+        self.known_lawful = false;
+        if let Some(entry) = self.entries.get_mut(path) {
+            entry.cut(length);
         }
     }
 

@@ -8,7 +8,7 @@ use Rattle.retro_tree.proofs.overlay.Overlay.commit.Goals as goal
 
 pub returns-in-Ok-clause-ok : goal.returns-in-Ok-clause-ok
 returns-in-Ok-clause-ok c =
-    c.erase_all.ensures
+    c.know_again.ensures ∙ c.erase_all.ensures
     ∙ (λ i. put_cells (reverse (c.in-Ok.ensures.left i)) (c.in-Ok.ensures.ok i))
     ∙ parted c.args.self c.args.state.now
 

@@ -1,10 +1,10 @@
-use Rattle.std.proofs.Common.{ap, ◌∙◌}
-use Rattle.std.specs.FinMap as map
-use Rattle.retro_tree.specs.CellOrder.{cell_total, cell_exact}
-use Rattle.retro_tree.proofs.MapLemmas.{made_insert}
+use Rattle.std.proofs.Common.{sym, subst}
+use Rattle.retro_tree.specs.Overlay.{Overlays}
+use Rattle.retro_tree.proofs.Results.{on_ok}
+use Rattle.retro_tree.proofs.OverlayLaying.{shows_laid}
 use Rattle.retro_tree.proofs.overlay.Overlay.insert.Goals as goal
 
-pub returns-clause-ok : goal.returns-clause-ok
-returns-clause-ok c =
-    made_insert cell_total cell_exact c.self.inside.cells.entries c.insert.new.self.entries c.args.cell c.args.value c.in_ok-insert.ensures.updates.0
-    ∙ ap (λ m. map.insert m c.args.cell c.args.value) c.self.view_is
+pub returns-clause-shows : goal.returns-clause-shows
+returns-clause-shows c =
+    on_ok c.lay_over.result _ _ (λ is below now next h here there.
+    subst (λ m. Overlays m below next) (sym is) (shows_laid c.args.self.now c.args.cell c.args.value below now next h here there)) c.lay_over.ensures.ok

@@ -1,10 +1,16 @@
-use Rattle.std.proofs.Common.{ap, ◌∙◌}
+use Rattle.std.proofs.Common.{ap, sym, subst, ◌∙◌}
 use Rattle.std.specs.FinMap as map
 use Rattle.retro_tree.specs.CellOrder.{cell_total, cell_exact}
+use Rattle.retro_tree.specs.Overlay.{Overlays}
 use Rattle.retro_tree.proofs.MapLemmas.{made_remove}
+use Rattle.retro_tree.proofs.OverlayLaying.{shows_removed}
 use Rattle.retro_tree.proofs.overlay.Overlay.remove.Goals as goal
 
-pub returns : goal.returns
-returns c =
+pub returns-clause-value : goal.returns-clause-value
+returns-clause-value c =
     made_remove cell_total cell_exact c.self.inside.cells.entries c.remove.new.self.entries c.args.cell.now c.remove.ensures.updates.0
     ∙ ap (λ m. map.remove m c.args.cell.now) c.self.view_is
+
+pub returns-clause-shows : goal.returns-clause-shows
+returns-clause-shows c below now next h here there =
+    subst (λ m. Overlays m below next) (sym (returns-clause-value c)) (shows_removed c.args.self.now c.args.cell.now below now next h here there)

@@ -1,0 +1,71 @@
+-- What is answered over what is laid.
+use Rattle.std.proofs.Common.{◌≡◌, ℕ, ◌+◌, nat_lt, List, ◌++◌, length, Some, None, refl, sym, ap, ◌∙◌, arith, length-append}
+use Rattle.std.specs.Prelude.{min, if◌then◌else◌}
+use Rattle.std.specs.FinMap as map
+use Rattle.retro_tree.specs.Path.{PathValue, parent_of}
+use Rattle.retro_tree.specs.Node.{grown, kind_of, kind_grown, file_limit, permit_at, permit_under}
+use Rattle.retro_tree.specs.Tree.{node_in}
+use Rattle.retro_tree.specs.State.{permit_of}
+use Rattle.retro_tree.specs.Cell.{value}
+use Rattle.retro_tree.specs.Overlay.{Cells, Overlays, shown_at}
+use Rattle.retro_tree.specs.declared.node.Node.{Node}
+use Rattle.retro_tree.specs.declared.node.Node.TheVariants.{Missing, Dir, File}
+use Rattle.retro_tree.specs.declared.node.Permit.TheVariants.{Yes, TooLarge}
+use Rattle.retro_tree.specs.declared.cell.Cell.TheVariants as cells
+use Rattle.retro_tree.specs.declared.cell.Value.{Value}
+use Rattle.retro_tree.specs.declared.cell.Value.TheVariants as values
+use Rattle.retro_tree.specs.declared.overlay.laid.Laid.TheVariants.{Whole, More}
+use Rattle.retro_tree.specs.declared.state.State.{State}
+
+pub kind_after : (bytes : List ℕ) (node : Node) → kind_of (grown bytes node) ≡ kind_grown (kind_of node)
+kind_after bytes Missing = refl
+kind_after bytes Dir = refl
+kind_after bytes (File old) = refl
+
+-- ---- permits
+same_under : (parent : Node) (a b : ℕ) → nat_lt file_limit a ≡ nat_lt file_limit b → permit_under parent a ≡ permit_under parent b
+same_under Missing a b is = refl
+same_under (File bytes) a b is = refl
+same_under Dir a b is = ap (λ t. if t then TooLarge else Yes) is
+
+-- the greatest number stands for all that are over the limit
+over_least : (b : ℕ) → nat_lt file_limit (min b 4294967295) ≡ nat_lt file_limit b
+over_least b = grind arith
+
+over_all : (old bytes : List ℕ) (n : ℕ) → nat_lt file_limit (length old + min (length bytes + n) 4294967295) ≡ nat_lt file_limit (length (old ++ bytes) + n)
+over_all old bytes n = grind (arith, length-append)
+
+-- a growth that is laid counts among the bytes that are to be written
+permit_grown : (node parent : Node) (bytes : List ℕ) (n : ℕ) → permit_at node parent (min (length bytes + n) 4294967295) ≡ permit_at (grown bytes node) parent n
+permit_grown Dir parent bytes n = refl
+permit_grown Missing parent bytes n = same_under parent _ _ (over_least (length bytes + n))
+permit_grown (File old) parent bytes n = same_under parent _ _ (over_all old bytes n)
+
+abbrev node_held : Value → Node
+node_held (values.Node node) = node
+node_held (values.Cwd p) = Missing
+node_held (values.Text t) = Missing
+node_held (values.Status n) = Missing
+
+node_kept : (p : PathValue) (laid : Cells) (below now : State) → Overlays laid below now → map.get laid (cells.At p) ≡ None → node_in p now.tree ≡ node_in p below.tree
+unfolding value
+node_kept p laid below now h none = ap node_held (h (cells.At p) ∙ ap (λ x. shown_at x (value (cells.At p) below)) none)
+
+node_more : (p : PathValue) (bytes : List ℕ) (laid : Cells) (below now : State) → Overlays laid below now → map.get laid (cells.At p) ≡ Some (More bytes) → node_in p now.tree ≡ grown bytes (node_in p below.tree)
+unfolding value
+node_more p bytes laid below now h more = ap node_held (h (cells.At p) ∙ ap (λ x. shown_at x (value (cells.At p) below)) more)
+
+pub node_whole : (p : PathValue) (node : Node) (laid : Cells) (below now : State) → Overlays laid below now → map.get laid (cells.At p) ≡ Some (Whole (values.Node node)) → node ≡ node_in p now.tree
+unfolding value
+node_whole p node laid below now h whole = sym (ap node_held (h (cells.At p) ∙ ap (λ x. shown_at x (value (cells.At p) below)) whole))
+
+pub permit_kept : (p : PathValue) (n : ℕ) (laid : Cells) (below now : State) → Overlays laid below now → map.get laid (cells.At p) ≡ None → map.get laid (cells.At (parent_of p)) ≡ None → permit_of p n below ≡ permit_of p n now
+permit_kept p n laid below now h none above =
+    sym (λ i. permit_at (node_kept p laid below now h none i) (node_kept (parent_of p) laid below now h above i) n)
+
+pub permit_more : (p : PathValue) (bytes : List ℕ) (n : ℕ) (laid : Cells) (below now : State) → Overlays laid below now → map.get laid (cells.At p) ≡ Some (More bytes) → map.get laid (cells.At (parent_of p)) ≡ None → permit_of p (min (length bytes + n) 4294967295) below ≡ permit_of p n now
+permit_more p bytes n laid below now h more above =
+    permit_grown (node_in p below.tree) (node_in (parent_of p) below.tree) bytes n
+    ∙ sym (λ i. permit_at (node_more p bytes laid below now h more i) (node_kept (parent_of p) laid below now h above i) n)
+
+pub ruleset permits = (permit_kept, permit_more, node_whole)
