@@ -10,6 +10,10 @@ use serde_json::{Value, json};
 use std::alloc::Global;
 
 /// Bytes as a text of lower-case hexadecimal digits.
+///
+/// # Errors
+///
+/// `NoMem` where memory is wanting.
 pub fn hex_value(alloc: Global, bytes: &[u8]) -> Result<Value, NoMem>
     ensures { IfOk result (λ v. view v ≡ hex_data bytes.now) }
 {
@@ -54,6 +58,10 @@ fn row_value(alloc: Global, path: &Path, entry: &Entry) -> Result<Value, NoMem>
 
 /// The tree of a state: a list of directories `["/d"]` and files `["/f","hex"]` without the root,
 /// in the order of paths as lists of names.
+///
+/// # Errors
+///
+/// `NoMem` where memory is wanting.
 #[tactic(auto, unfolding(crate::specs::Values::tree_data))]
 pub fn tree_value(alloc: Global, state: &State) -> Result<Value, NoMem>
     ensures { IfOk result (λ v. view v ≡ tree_data state.now.tree) }
@@ -90,6 +98,10 @@ fn session_value(alloc: Global, sid: u32, session: &Session) -> Result<Value, No
 
 /// The sessions of a state: a list of `[sid,cwd,status,[[name,value],..]]`, in the order of
 /// numbers and of names.
+///
+/// # Errors
+///
+/// `NoMem` where memory is wanting.
 #[tactic(auto, unfolding(crate::specs::Values::sessions_data))]
 pub fn sessions_value(alloc: Global, state: &State) -> Result<Value, NoMem>
     ensures { IfOk result (λ v. view v ≡ sessions_data state.now.sessions) }

@@ -8,8 +8,8 @@ use Rattle.retro_tree.specs.Path.{is_null}
 use Rattle.retro_tree.specs.Name.{AllNames}
 use Rattle.retro_tree.specs.declared.state.State.{State}
 use Rattle.retro_tree.specs.declared.node.Node.TheVariants as nodes
-use Rattle.retro_tree.specs.declared.resolving.Resolved.{Resolved}
-use Rattle.retro_tree.specs.declared.resolving.Resolved.TheVariants as resolved
+use Rattle.retro_tree.specs.Resolving.{Resolved}
+use Rattle.retro_tree.specs.Resolving as resolved
 use Rattle.retro_syntax.specs.Plain.{PlainItem, word, truncate, append}
 use Rattle.retro_shell.specs.Diagnostics.{refusal, fault_text}
 use Rattle.retro_shell.specs.declared.diagnostics.Reason.{Reason}

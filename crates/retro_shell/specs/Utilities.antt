@@ -10,8 +10,8 @@ use Rattle.retro_tree.specs.Path.{is_null}
 use Rattle.retro_tree.specs.declared.state.State.{State}
 use Rattle.retro_tree.specs.declared.node.Node.{Node}
 use Rattle.retro_tree.specs.declared.node.Node.TheVariants as nodes
-use Rattle.retro_tree.specs.declared.resolving.Resolved.{Resolved}
-use Rattle.retro_tree.specs.declared.resolving.Resolved.TheVariants as resolved
+use Rattle.retro_tree.specs.Resolving.{Resolved}
+use Rattle.retro_tree.specs.Resolving as resolved
 use Rattle.retro_shell.specs.Diagnostics.{fault_text, not_found_text}
 use Rattle.retro_shell.specs.declared.diagnostics.Reason.{Reason}
 use Rattle.retro_shell.specs.declared.diagnostics.Reason.TheVariants as reasons

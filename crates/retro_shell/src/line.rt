@@ -75,6 +75,10 @@ fn run(
 /// A text outside the grammar prints `sh: unsupported line` and has status 2, and so does a line
 /// that is more than a list of plain commands; a blank one changes nothing. The only error is want
 /// of memory, and the state is then spent.
+///
+/// # Errors
+///
+/// `NoMem` where memory is wanting.
 #[tactic(auto, unfolding(crate::specs::Line::line))]
 pub fn step(alloc: Global, state: State, sid: u32, text: &str) -> Result<(State, Bytes), NoMem>
     requires lawful { IsLawful state }
@@ -97,6 +101,10 @@ pub fn step(alloc: Global, state: State, sid: u32, text: &str) -> Result<(State,
 
 /// Runs a line of a session: a new state, and the text that the terminal gets. The lent state
 /// stays as it was. The same as [`step`] on a copy.
+///
+/// # Errors
+///
+/// `NoMem` where memory is wanting.
 pub fn play(alloc: Global, state: &State, sid: u32, text: &str) -> Result<(State, Bytes), NoMem>
     requires lawful { IsLawful state.now }
     requires session { IsTrue (map.contains_key state.now.sessions sid) }

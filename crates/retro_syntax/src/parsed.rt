@@ -31,7 +31,7 @@ impl Parsed {
     ///
     /// # Errors
     ///
-    /// `AllocError` where memory is wanting.
+    /// `NoMem` where memory is wanting.
     pub fn of(alloc: Global, text: String) -> Result<Parsed, AllocError>
         ensures { IfOk result (λ p. p ≡ string_bytes text) }
     {

@@ -186,7 +186,7 @@ fn plain_list<'a>(
 ///
 /// # Errors
 ///
-/// `AllocError` where memory is wanting.
+/// `NoMem` where memory is wanting.
 pub fn plain_commands<'a>(
     alloc: Global,
     line: &'a Line,

@@ -11,11 +11,11 @@ use Rattle.std.specs.Cmp.{nat_cmp_total, nat_eq_equiv}
 use Rattle.std.specs.FinMap.{nat_cmp-IsAntisymmetric}
 use Rattle.std.specs.Cmp.Lexicographic.{nat_list_eq_equiv}
 use Rattle.retro_tree.specs.Order.{path_cmp, path_eq, path_total, path_exact, path_equiv, text_eq, text_total, text_exact}
-use Rattle.retro_tree.specs.Path.{PathValue, parent_of, child_name, is_child}
+use Rattle.retro_tree.specs.Path.{PathValue, parent_of, child_name, is_child, passwd}
 use Rattle.retro_tree.specs.Node.{node_of, kind_of, permit_at}
 use Rattle.retro_tree.specs.Tree.{Tree, node_in}
 use Rattle.retro_tree.specs.Session.{fresh_session, session_in}
-use Rattle.retro_tree.specs.User.{user_in, passwd}
+use Rattle.retro_tree.specs.User.{user_in}
 use Rattle.retro_tree.specs.Cell.{value}
 use Rattle.retro_tree.specs.Ask.{names_in, listing, answer, supports}
 use Rattle.retro_tree.specs.declared.session.Session.{Session}

@@ -1,4 +1,4 @@
--- Entries of a finite map put in twice, put back and taken away again; sessions put back.
+-- Entries of a finite map put in twice, put back and taken away again; settings put back.
 use Rattle.std.proofs.Common.{◌≡◌, ℕ, Bool, true, false, cond, List, Option, Some, None, refl, sym, ap, ◌∙◌, nat_cmp}
 use Rattle.std.specs.Option.{is_some, unwrap_or}
 use Rattle.std.specs.Ordering.{eq_by_cmp}
@@ -53,20 +53,8 @@ module _ {K X : Type 0} {R : K → K → Ordering} (total : IsTotalOrder R) (exa
   key_inserted m k x = ap is_some (get_inserted total m k x)
 
 -- ---- sessions
--- a session swapped out and back
-pub swapped_back : (m : FinMap nat_cmp Session) (sid : ℕ) (x y : Session) → map.get m sid ≡ Some x → map.insert (map.insert m sid y) sid x ≡ m
-swapped_back = put_back nat_cmp_total nat_cmp-IsAntisymmetric
-
-pub swapped_new : (m : FinMap nat_cmp Session) (sid : ℕ) (x y : Session) → map.insert (map.insert m sid y) sid x ≡ map.insert m sid x
-swapped_new m sid x y = inserted_twice nat_cmp_total nat_cmp-IsAntisymmetric m sid y x
-
-pub session_there : (m : FinMap nat_cmp Session) (sid : ℕ) (x : Session) → map.contains_key (map.insert m sid x) sid ≡ true
-session_there = key_inserted nat_cmp_total nat_cmp-IsAntisymmetric
-
 pub session_is : (m : FinMap nat_cmp Session) (sid : ℕ) (x : Session) → map.get m sid ≡ Some x → session_in sid m ≡ x
 session_is m sid x is = ap (λ o. unwrap_or o fresh_session) is
-
-pub ruleset formers = (swapped_back, swapped_new, session_there, session_is)
 
 -- what was set, put back
 pub set_back : (x : Setting) (s : Session) → with_former (former_of x s) (with_setting x s) ≡ s

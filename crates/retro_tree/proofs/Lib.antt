@@ -1,10 +1,8 @@
 pub mod Small
-pub mod Parents
 pub mod Entries
 pub mod MapLemmas
 pub mod Lookups
 pub mod Results
-pub mod Fronts
 pub mod Together
 pub mod LawLemmas
 pub mod WholeLaw

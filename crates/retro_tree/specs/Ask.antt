@@ -3,12 +3,12 @@ use Rattle.std.specs.Prelude.{ℕ, ◌==◌, Bool, false, ◌&&◌, ◌||◌, Li
 use Rattle.std.specs.List.{filter_map}
 use Rattle.std.specs.FinMap as map
 use Rattle.retro_tree.specs.Order.{path_eq, text_eq}
-use Rattle.retro_tree.specs.Path.{PathValue, parent_of, child_name, is_child}
+use Rattle.retro_tree.specs.Path.{PathValue, parent_of, child_name, is_child, passwd}
 use Rattle.retro_tree.specs.Node.{kind_of}
 use Rattle.retro_tree.specs.Tree.{Tree, node_in}
 use Rattle.retro_tree.specs.Session.{session_in}
 use Rattle.retro_tree.specs.State.{permit_of}
-use Rattle.retro_tree.specs.User.{user_in, passwd}
+use Rattle.retro_tree.specs.User.{user_in}
 use Rattle.retro_tree.specs.declared.node.Node.{Node}
 use Rattle.retro_tree.specs.declared.node.Node.TheVariants.{Missing, Dir, File}
 use Rattle.retro_tree.specs.declared.cell.Cell.{Cell}

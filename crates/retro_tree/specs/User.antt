@@ -1,11 +1,10 @@
 -- The password file: which number and home it has for a login name (own form, after the file's
 -- usual one).
-use Rattle.std.specs.Prelude.{ℕ, ◌==◌, Bool, not, ◌&&◌, nat_le, List, [], ◌∷◌, length, Option, Some, None, option_map, if◌then◌else◌, codes}
+use Rattle.std.specs.Prelude.{ℕ, ◌==◌, Bool, not, ◌&&◌, nat_le, List, [], ◌∷◌, length, Option, Some, None, option_map, if◌then◌else◌}
 use Rattle.std.specs.List.{list_any, slice_split, filter_map}
 use Rattle.std.specs.Str.{is_utf8, all_ascii_digits}
 use Rattle.std.specs.Str.Parse.{digits_value}
 use Rattle.retro_tree.specs.Order.{text_eq}
-use Rattle.retro_tree.specs.Path.{PathValue}
 use Rattle.retro_tree.specs.declared.node.Node.{Node}
 use Rattle.retro_tree.specs.declared.node.Node.TheVariants.{Missing, Dir, File}
 use Rattle.retro_tree.specs.declared.ask.User.{User}
@@ -58,7 +57,3 @@ abbrev pub user_in : List ℕ → Node → Option User
 user_in name Missing = None
 user_in name Dir = None
 user_in name (File bytes) = find_user name bytes
-
--- /etc/passwd
-unfoldable pub passwd : PathValue
-passwd = codes "etc" ∷ codes "passwd" ∷ []

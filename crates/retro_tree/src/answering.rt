@@ -3,24 +3,26 @@ ghost use Rattle.std.specs.Prelude.{◌≡◌, IfOk};
 ghost use Rattle.std.specs.FinMap as map;
 ghost use Rattle.retro_tree.specs.Tree.{node_in};
 ghost use Rattle.retro_tree.specs.Session.{session_in};
-ghost use Rattle.retro_tree.specs.User.{user_in, passwd};
+ghost use Rattle.retro_tree.specs.User.{user_in};
+ghost use Rattle.retro_tree.specs.Path.{passwd};
 ghost use Rattle.retro_tree.specs.Cell.{value};
 ghost use Rattle.retro_tree.specs.Ask.{names_in, listing, answer};
 
 use crate::ask::{Answer, Ask, User};
 use crate::cell::{Cell, Value};
-use crate::listing::Listing;
 use crate::node::{Entry, Kind};
-use crate::path::Path;
 use crate::state::State;
-use crate::text::Text;
 use crate::user::find_user;
-use crate::var_name::VarName;
 use crate::view::View;
+use retro_path::{Listing, Path, Text, VarName};
 use std::alloc::{AllocError, Global};
 
 impl State {
     /// What the state answers to a question.
+    ///
+    /// # Errors
+    ///
+    /// `NoMem` where memory is wanting.
     #[tactic(auto, unfolding(crate::specs::Ask::answer))]
     pub fn answer(&self, alloc: Global, ask: &Ask) -> Result<Answer, AllocError>
         ensures { IfOk result (λ a. a ≡ answer ask.now self.now) }
@@ -41,6 +43,10 @@ impl State {
 
     /// What a cell holds. A session that isn't there is at the root, without variables, with status
     /// 0.
+    ///
+    /// # Errors
+    ///
+    /// `NoMem` where memory is wanting.
     #[tactic(auto, unfolding(crate::specs::Cell::value))]
     pub fn value(&self, alloc: Global, cell: &Cell) -> Result<Value, AllocError>
         ensures { IfOk result (λ v. v ≡ value cell.now self.now) }

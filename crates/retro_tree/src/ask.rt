@@ -3,11 +3,8 @@ ghost use Rattle.std.specs.Prelude.{◌≡◌, IfOk};
 ghost use Rattle.retro_tree.specs.Ask.{supports};
 
 use crate::cell::Cell;
-use crate::listing::Listing;
 use crate::node::{Kind, Node, Permit};
-use crate::path::Path;
-use crate::text::Text;
-use crate::var_name::VarName;
+use retro_path::{Listing, Path, Text, VarName};
 use std::alloc::AllocError;
 
 /// A question to a state. A session that isn't there has the root as its directory, no variables
@@ -64,6 +61,10 @@ pub struct User {
 
 impl Ask {
     /// The same question once more.
+    ///
+    /// # Errors
+    ///
+    /// `NoMem` where memory is wanting.
     pub fn copy(&self) -> Result<Ask, AllocError>
         ensures { IfOk result (λ copy. copy ≡ self.now) }
     {
@@ -73,6 +74,10 @@ impl Ask {
 
 impl Answer {
     /// The same answer once more.
+    ///
+    /// # Errors
+    ///
+    /// `NoMem` where memory is wanting.
     pub fn copy(&self) -> Result<Answer, AllocError>
         ensures { IfOk result (λ copy. copy ≡ self.now) }
     {

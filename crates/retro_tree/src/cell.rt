@@ -3,9 +3,7 @@ ghost use Rattle.std.specs.Prelude.{◌≡◌, IfOk};
 ghost use Rattle.retro_tree.specs.CellOrder.{cell_cmp};
 
 use crate::node::Node;
-use crate::path::Path;
-use crate::text::Text;
-use crate::var_name::VarName;
+use retro_path::{Path, Text, VarName};
 use std::alloc::AllocError;
 use std::cmp::Ordering;
 
@@ -45,6 +43,10 @@ impl Cell {
     }
 
     /// The same cell once more.
+    ///
+    /// # Errors
+    ///
+    /// `NoMem` where memory is wanting.
     pub fn copy(&self) -> Result<Cell, AllocError>
         ensures { IfOk result (λ copy. copy ≡ self.now) }
     {
@@ -54,6 +56,10 @@ impl Cell {
 
 impl Value {
     /// The same value once more.
+    ///
+    /// # Errors
+    ///
+    /// `NoMem` where memory is wanting.
     pub fn copy(&self) -> Result<Value, AllocError>
         ensures { IfOk result (λ copy. copy ≡ self.now) }
     {

@@ -1,11 +1,8 @@
 //! Changes of a state.
 ghost use Rattle.std.specs.Prelude.{◌≡◌, IfOk};
 
-use crate::bytes::Bytes;
 use crate::node::Node;
-use crate::path::Path;
-use crate::text::Text;
-use crate::var_name::VarName;
+use retro_path::{Bytes, Path, Text, VarName};
 use std::alloc::AllocError;
 
 /// One write to one cell of a state. A session that isn't there is made: at the root, without
@@ -26,6 +23,10 @@ pub enum Change {
 
 impl Change {
     /// The same change once more.
+    ///
+    /// # Errors
+    ///
+    /// `NoMem` where memory is wanting.
     pub fn copy(&self) -> Result<Change, AllocError>
         ensures { IfOk result (λ copy. copy ≡ self.now) }
     {

@@ -11,6 +11,10 @@ use std::alloc::{AllocError, Global};
 impl State {
     /// Makes a change. A session that isn't there is made first: at the root, without variables,
     /// with status 0. A file grows in place. After want of memory the state is as before.
+    ///
+    /// # Errors
+    ///
+    /// `NoMem` where memory is wanting.
     #[tactic(auto, unfolding(crate::specs::Change::apply))]
     pub fn apply(&mut self, alloc: Global, change: &Change) -> Result<(), AllocError>
         ensures ok { OnOk result (self.new ≡ apply change.now self.old) }
@@ -32,6 +36,10 @@ impl State {
     /// it is lawful. Where the state is known to be lawful, by `judge` and lawful changes from then
     /// on, this looks at no more than the path of the change, its parent and what stands first
     /// behind it. Else it makes the change in a copy, and tests all of that.
+    ///
+    /// # Errors
+    ///
+    /// `NoMem` where memory is wanting.
     #[tactic(auto, using(crate::proofs::Allowed::allowed))]
     pub fn allows(&self, alloc: Global, change: &Change) -> Result<bool, AllocError>
         ensures { IfOk result (λ may. IsTrue may ↔ IsLawfulChange change.now self.now) }

@@ -19,35 +19,28 @@
 //! `State::allows` is true exactly where a change is lawful, and a lawful change keeps a lawful
 //! state lawful. A write that `State::permit` allows, anywhere but at `/dev/null`, is one.
 //!
-//! `resolve` gives the path that a text names from a directory, by the text alone.
+//! Texts, names and paths, and `resolve`, are those of `retro_path`, handed out here too, so that
+//! whoever works with states needs this crate alone.
 #![tactic(auto)]
 
 mod answering;
 mod ask;
-mod bytes;
 mod cell;
 mod cell_laws;
 mod change;
 mod changing;
 mod laws;
-mod listing;
-mod name;
 mod node;
 mod note;
 mod note_laws;
 mod overlay;
-mod path;
-mod resolving;
 mod session;
 mod state;
-mod text;
 mod tree;
 mod user;
-mod var_name;
 mod view;
 
 pub use ask::{Answer, Ask, User, supports};
-pub use bytes::Bytes;
 pub use cell::{Cell, Value};
 pub use cell_laws::{
     answers_depend_on_cells, cells_make_the_state, changes_write_one_cell,
@@ -58,21 +51,16 @@ pub use laws::{
     lawful_changes, lawful_files, lawful_growths, lawful_states_are_within_limits,
     lawful_states_pass, lawful_statuses, lawful_trees, lawful_trees_pass,
 };
-pub use listing::Listing;
-pub use name::{NAME_LIMIT, Name};
 pub use node::{Entry, FILE_LIMIT, Kind, Node, Permit};
 pub use note::{Note, Notes};
 pub use note_laws::{
     allowed_notes_keep_the_law, notes_act_on_each_cell, notes_hold_by_their_cells, notes_in_turn,
 };
 pub use overlay::{Laid, Overlay, overlays_last};
-pub use path::Path;
-pub use resolving::{Resolved, resolve};
+pub use retro_path::{Bytes, Listing, NAME_LIMIT, Name, Path, Resolved, Text, VarName, resolve};
 pub use session::{Session, Sessions, VALUE_LIMIT, Vars};
 pub use state::State;
-pub use text::Text;
 pub use tree::Tree;
-pub use var_name::VarName;
 pub use view::View;
 
 /// Memory was wanted and refused.

@@ -1,8 +1,9 @@
 //! What stands at a path, and whether it may be written to.
 ghost use Rattle.std.specs.Prelude.{◌≡◌, IfOk, OnOk, OnErr, Some, nat_le};
-ghost use Rattle.retro_tree.specs.Node.{entry_grown, entry_cut, node_of, size_of, file_limit};
+ghost use Rattle.retro_tree.specs.Node.{entry_grown, entry_cut, node_of, kind_of, size_of, permit_at, file_limit};
+ghost use Rattle.retro_tree.specs.declared.node.Node.{Node as NodeValue};
 
-use crate::bytes::Bytes;
+use retro_path::Bytes;
 use std::alloc::AllocError;
 
 /// The greatest size of a file, in bytes.
@@ -56,10 +57,38 @@ pub enum Entry {
 
 impl Node {
     /// The same node once more.
+    ///
+    /// # Errors
+    ///
+    /// `NoMem` where memory is wanting.
     pub fn copy(&self) -> Result<Node, AllocError>
         ensures { IfOk result (λ copy. copy ≡ self.now) }
     {
         self.clone()
+    }
+}
+
+impl Permit {
+    /// Whether so many bytes more may be written to what is of a kind and a size, by the kind of its
+    /// parent.
+    pub(crate) fn of(kind: Kind, size: usize, parent: Kind, more: u64) -> Permit
+        ensures { (node above : NodeValue) → kind ≡ kind_of node → size ≡ size_of node
+            → parent ≡ kind_of above → result ≡ permit_at node above more }
+    {
+        if kind == Kind::Dir {
+            return Permit::IsDir;
+        }
+        match parent {
+            Kind::Missing => Permit::NoParent,
+            Kind::File => Permit::NotDir,
+            Kind::Dir => {
+                if more > FILE_LIMIT || size as u64 > FILE_LIMIT - more {
+                    Permit::TooLarge
+                } else {
+                    Permit::Yes
+                }
+            }
+        }
     }
 }
 

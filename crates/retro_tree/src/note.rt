@@ -48,6 +48,10 @@ impl Notes {
     }
 
     /// Adds a note at the end. After want of memory the notes are as before.
+    ///
+    /// # Errors
+    ///
+    /// `NoMem` where memory is wanting.
     pub fn push(&mut self, note: Note) -> Result<(), AllocError>
         ensures ok { OnOk result (self.new ≡ self.old ++ note ∷ []) }
         ensures err { OnErr result (self.new ≡ self.old) }
@@ -72,6 +76,10 @@ impl Notes {
     }
 
     /// The same notes once more.
+    ///
+    /// # Errors
+    ///
+    /// `NoMem` where memory is wanting.
     pub fn copy(&self, alloc: Global) -> Result<Notes, AllocError>
         ensures { IfOk result (λ copy. copy ≡ self.now) }
     {
@@ -85,6 +93,10 @@ impl Notes {
 
 impl Note {
     /// The same note once more.
+    ///
+    /// # Errors
+    ///
+    /// `NoMem` where memory is wanting.
     pub fn copy(&self) -> Result<Note, AllocError>
         ensures { IfOk result (λ copy. copy ≡ self.now) }
     {

@@ -16,10 +16,10 @@ mod laying;
 mod listing;
 mod nodes;
 
-use crate::bytes::Bytes;
 use crate::cell::{Cell, Value};
 pub use commit::overlays_last;
 pub use laid::Laid;
+use retro_path::Bytes;
 use std::alloc::{AllocError, Global};
 use std::collections::BTreeMap;
 use std::collections::btree_map::Iter;
@@ -70,7 +70,7 @@ impl Overlay {
     ///
     /// # Errors
     ///
-    /// Where memory is wanting.
+    /// `NoMem` where memory is wanting.
     #[tactic(auto, using(crate::proofs::OverlayLaying::shows_laid))]
     pub fn insert(&mut self, cell: Cell, value: Value) -> Result<(), AllocError>
         ensures ok { OnOk result (self.new ≡ map.insert self.old cell (Laid.Whole value)) }
@@ -132,7 +132,7 @@ impl Overlay {
     ///
     /// # Errors
     ///
-    /// Where memory is wanting.
+    /// `NoMem` where memory is wanting.
     pub fn copy(&self, alloc: Global) -> Result<Overlay, AllocError>
         ensures { IfOk result (λ copy. copy ≡ self.now) }
     {
@@ -149,7 +149,7 @@ impl Overlay {
     ///
     /// # Errors
     ///
-    /// Where memory is wanting.
+    /// `NoMem` where memory is wanting.
     pub fn grow(&mut self, cell: &Cell, bytes: &Bytes) -> Result<bool, AllocError>
         ensures done { IfOk result (λ done. done ≡ is_some (map.get self.old cell.now)) }
         ensures ok { OnOk result

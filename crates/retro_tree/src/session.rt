@@ -1,21 +1,22 @@
 //! The sessions of a state.
-ghost use Rattle.std.specs.Prelude.{◌≡◌, ◌&&◌, ◌↔◌, nat_le, IsTrue, OnOk, OnErr};
-ghost use Rattle.std.specs.Option.{option_copied};
+ghost use Rattle.std.specs.Prelude.{◌≡◌, ◌&&◌, ◌↔◌, nat_le, IsTrue, IfOk, OnOk, OnErr, None};
+ghost use Rattle.std.specs.Option.{option_copied, option_map};
 ghost use Rattle.std.specs.FinMap as map;
 ghost use Rattle.retro_tree.specs.Maps.{update};
 ghost use Rattle.retro_tree.specs.Session.{fresh_session};
 ghost use Rattle.retro_tree.specs.Setting.{with_setting, setting_fits};
+ghost use Rattle.retro_tree.specs.Former.{former_of};
 ghost use Rattle.retro_tree.specs.Limits.{AreLawfulSessions, values_fit, are_lawful_sessions};
 
 pub(crate) mod former;
 
-use crate::path::Path;
-use crate::text::Text;
-use crate::var_name::VarName;
+use former::Former;
+use retro_path::{Path, Text, VarName};
 use std::alloc::{AllocError, Global};
 use std::collections::BTreeMap;
 use std::collections::btree_map::Iter;
 use std::marker::Model;
+use std::mem::replace;
 
 /// The greatest size of the value of a variable, in bytes.
 pub const VALUE_LIMIT: usize = 65_536;
@@ -63,13 +64,15 @@ impl Vars {
         self.values.get(name)
     }
 
-    /// Sets a variable. After want of memory the variables are as before.
-    fn insert(&mut self, name: VarName, value: Text) -> Result<(), AllocError>
+    /// Sets a variable, and gives its value before. After want of memory, which a variable that is
+    /// set doesn't need, the variables are as before.
+    fn insert(&mut self, name: VarName, value: Text) -> Result<Option<Text>, AllocError>
+        ensures before { IfOk result (λ before. before ≡ map.get self.old name) }
         ensures ok { OnOk result (self.new ≡ map.insert self.old name value) }
         ensures err { OnErr result (self.new ≡ self.old) }
+        ensures absent { OnErr result (map.get self.old name ≡ None) }
     {
-        self.values.insert(name, value)?;
-        Ok(())
+        Ok(self.values.insert(name, value)?)
     }
 
     /// The variables with their values, in order of names.
@@ -214,22 +217,25 @@ impl Sessions {
         Ok(())
     }
 
-    /// Makes a setting in a session. One that isn't there is made first. Sessions that are known to
-    /// be lawful stay so where the setting is within the limits.
+    /// Makes a setting in a session, in place, and gives what was there. A session that isn't there is
+    /// made, and then nothing is given. Sessions that are known to be lawful stay so where the setting
+    /// is within the limits. After want of memory the sessions are as before.
     pub(crate) fn set(
         &mut self,
         alloc: Global,
         sid: u32,
         setting: Setting,
-    ) -> Result<(), AllocError>
+    ) -> Result<Option<Former>, AllocError>
+        ensures before { IfOk result (λ before.
+            before ≡ option_map (former_of setting) (map.get self.old sid)) }
         ensures ok { OnOk result
             (self.new ≡ update self.old sid fresh_session (with_setting setting)) }
         ensures err { OnErr result (self.new ≡ self.old) }
     {
         let stays = self.stays_lawful(sid, &setting);
-        self.write(alloc, sid, setting)?;
+        let before = self.write(alloc, sid, setting)?;
         self.known_lawful = stays;
-        Ok(())
+        Ok(before)
     }
 
     /// Whether the sessions are known to be lawful after a setting.
@@ -241,19 +247,27 @@ impl Sessions {
         self.is_known_lawful() && setting.fits()
     }
 
-    /// Makes a setting, and forgets whether the sessions are lawful.
-    fn write(&mut self, alloc: Global, sid: u32, setting: Setting) -> Result<(), AllocError>
+    /// The same, and forgets whether the sessions are lawful.
+    fn write(
+        &mut self,
+        alloc: Global,
+        sid: u32,
+        setting: Setting,
+    ) -> Result<Option<Former>, AllocError>
+        ensures before { IfOk result (λ before.
+            before ≡ option_map (former_of setting) (map.get self.old sid)) }
         ensures ok { OnOk result
             (self.new ≡ update self.old sid fresh_session (with_setting setting)) }
         ensures err { OnErr result (self.new ≡ self.old) }
     {
         self.known_lawful = false;
         if let Some(session) = self.sessions.get_mut(&sid) {
-            return session.set(setting);
+            return Ok(Some(session.set(setting)?));
         }
         let mut session = Session::fresh(alloc);
         session.set(setting)?;
-        self.insert(sid, session)
+        self.insert(sid, session)?;
+        Ok(None)
     }
 }
 
@@ -294,17 +308,26 @@ impl Session {
         }
     }
 
-    /// Makes a setting. After want of memory the session is as before.
-    fn set(&mut self, setting: Setting) -> Result<(), AllocError>
+    /// Makes a setting, and gives what was there. After want of memory the session is as before.
+    fn set(&mut self, setting: Setting) -> Result<Former, AllocError>
+        ensures before { IfOk result (λ before. before ≡ former_of setting self.old) }
         ensures ok { OnOk result (self.new ≡ with_setting setting self.old) }
         ensures err { OnErr result (self.new ≡ self.old) }
     {
         match setting {
-            Setting::Var(name, value) => self.vars.insert(name, value)?,
-            Setting::Cwd(path) => self.cwd = path,
-            Setting::Status(status) => self.status = status,
+            Setting::Var(name, value) => {
+                let key = name.copy()?;
+                match self.vars.insert(key, value)? {
+                    Some(before) => Ok(Former::Was(Setting::Var(name, before))),
+                    None => Ok(Former::Unset(name)),
+                }
+            }
+            Setting::Cwd(cwd) => Ok(Former::Was(Setting::Cwd(replace(&mut self.cwd, cwd)))),
+            Setting::Status(status) => {
+                let before = replace(&mut self.status, status);
+                Ok(Former::Was(Setting::Status(before)))
+            }
         }
-        Ok(())
     }
 
     /// Whether the status and the values of the variables are within the limits. A status is a

@@ -13,14 +13,10 @@ ghost use Rattle.retro_tree.specs.Change.{put_setting};
 
 pub(crate) mod writing;
 
-use crate::bytes::Bytes;
-use crate::listing::Listing;
 use crate::node::{Kind, Node, Permit};
-use crate::path::Path;
 use crate::session::{Session, Sessions, Setting, Vars};
-use crate::text::Text;
 use crate::tree::Tree;
-use crate::var_name::VarName;
+use retro_path::{Bytes, Listing, Path, Text, VarName};
 use std::alloc::{AllocError, Global};
 use std::collections::BTreeMap;
 
@@ -33,6 +29,10 @@ pub struct State {
 
 impl State {
     /// The root alone, without sessions.
+    ///
+    /// # Errors
+    ///
+    /// `NoMem` where memory is wanting.
     #[tactic(auto, unfolding(crate::specs::State::empty_state))]
     pub fn empty(alloc: Global) -> Result<State, AllocError>
         ensures { IfOk result (λ state. state ≡ empty_state) }
@@ -47,6 +47,10 @@ impl State {
     }
 
     /// The same state once more.
+    ///
+    /// # Errors
+    ///
+    /// `NoMem` where memory is wanting.
     pub fn copy(&self) -> Result<State, AllocError>
         ensures { IfOk result (λ copy. copy ≡ self.now) }
     {
@@ -68,6 +72,10 @@ impl State {
     }
 
     /// Puts a node at a path, where Missing removes. After want of memory the state is as before.
+    ///
+    /// # Errors
+    ///
+    /// `NoMem` where memory is wanting.
     pub fn place(&mut self, path: Path, node: Node) -> Result<(), AllocError>
         ensures ok { OnOk result (self.new ≡ put_node path node self.old) }
         ensures err { OnErr result (self.new ≡ self.old) }
@@ -77,6 +85,10 @@ impl State {
 
     /// Adds bytes at the end of a file, in place. A missing file is made, and a directory stays.
     /// After want of memory the state is as before.
+    ///
+    /// # Errors
+    ///
+    /// `NoMem` where memory is wanting.
     pub fn grow(&mut self, path: &Path, bytes: &Bytes) -> Result<(), AllocError>
         ensures ok { OnOk result (self.new ≡ grow_file path.now bytes.now self.old) }
         ensures err { OnErr result (self.new ≡ self.old) }
@@ -86,6 +98,10 @@ impl State {
 
     /// Adds a session, or puts it in the place of the one with its number. After want of memory
     /// the state is as before.
+    ///
+    /// # Errors
+    ///
+    /// `NoMem` where memory is wanting.
     pub fn add_session(
         &mut self,
         sid: u32,
@@ -108,6 +124,10 @@ impl State {
 
     /// Sets the status of a session. One that isn't there is made first: at the root, without
     /// variables. After want of memory the state is as before.
+    ///
+    /// # Errors
+    ///
+    /// `NoMem` where memory is wanting.
     pub fn set_status(&mut self, alloc: Global, sid: u32, status: u8) -> Result<(), AllocError>
         ensures ok { OnOk result (self.new ≡ put_status sid status self.old) }
         ensures err { OnErr result (self.new ≡ self.old) }
@@ -126,7 +146,8 @@ impl State {
         ensures ok { OnOk result (self.new ≡ put_setting sid setting self.old) }
         ensures err { OnErr result (self.new ≡ self.old) }
     {
-        self.sessions.set(alloc, sid, setting)
+        self.sessions.set(alloc, sid, setting)?;
+        Ok(())
     }
 
     /// Which kind of node is at a path.
@@ -137,6 +158,10 @@ impl State {
     }
 
     /// What is at a path, copied.
+    ///
+    /// # Errors
+    ///
+    /// `NoMem` where memory is wanting.
     pub fn node(&self, path: &Path) -> Result<Node, AllocError>
         ensures { IfOk result (λ node. node ≡ node_in path.now self.now.tree) }
     {
@@ -152,6 +177,10 @@ impl State {
 
     /// The names of what stands right below a path, in byte order, whatever stands at the path
     /// itself. Takes the time of what stands below it.
+    ///
+    /// # Errors
+    ///
+    /// `NoMem` where memory is wanting.
     pub fn names(&self, alloc: Global, path: &Path) -> Result<Listing, AllocError>
         ensures { IfOk result (λ names. names ≡ names_in path.now self.now.tree) }
     {
@@ -159,6 +188,10 @@ impl State {
     }
 
     /// Whether so many bytes more may be written to the file at a path.
+    ///
+    /// # Errors
+    ///
+    /// `NoMem` where memory is wanting.
     pub fn permit(&self, alloc: Global, path: &Path, more: u64) -> Result<Permit, AllocError>
         ensures { IfOk result (λ permit. permit ≡ permit_of path.now more self.now) }
     {
@@ -167,6 +200,10 @@ impl State {
     }
 
     /// The directory of a session, which is the root where the session isn't there.
+    ///
+    /// # Errors
+    ///
+    /// `NoMem` where memory is wanting.
     #[tactic(auto, unfolding(crate::specs::Session::fresh_session))]
     pub fn cwd(&self, alloc: Global, sid: u32) -> Result<Path, AllocError>
         ensures { IfOk result (λ cwd. cwd ≡ (session_in sid self.now.sessions).cwd) }
@@ -201,6 +238,10 @@ impl State {
 
     /// Whether the state is lawful: the root is a directory, as is the parent of each other path,
     /// nothing stands at `/dev/null` or below it, and the state is within the limits.
+    ///
+    /// # Errors
+    ///
+    /// `NoMem` where memory is wanting.
     pub fn is_lawful(&self, alloc: Global) -> Result<bool, AllocError>
         ensures value { IfOk result (λ lawful. lawful ≡ is_lawful self.now) }
         ensures exact { IfOk result (λ lawful. IsTrue lawful ↔ IsLawful self.now) }
@@ -211,6 +252,10 @@ impl State {
     /// Whether the state is lawful, which it remembers: from then on, as long as each change is
     /// lawful, `allows` looks at no more than what is around a change. A state that was made from
     /// an empty one by lawful changes knows it without this.
+    ///
+    /// # Errors
+    ///
+    /// `NoMem` where memory is wanting.
     pub fn judge(&mut self, alloc: Global) -> Result<bool, AllocError>
         ensures exact { IfOk result (λ lawful. IsTrue lawful ↔ IsLawful self.old) }
         ensures same { self.new ≡ self.old }

@@ -11,10 +11,8 @@ ghost use Rattle.retro_tree.specs.Lawful.{IsLawfulTree, may_put, may_grow, is_la
 
 mod exchange;
 
-use crate::bytes::Bytes;
-use crate::listing::Listing;
 use crate::node::{Entry, FILE_LIMIT, Kind, Node, Permit};
-use crate::path::Path;
+use retro_path::{Bytes, Listing, Path};
 use std::alloc::{AllocError, Global};
 use std::collections::BTreeMap;
 use std::collections::btree_map::{Iter, Range};
@@ -63,15 +61,16 @@ impl Tree {
         self.entries.get(path)
     }
 
-    /// Puts an entry at a path, in the place of one that is there. Forgets whether the tree is
-    /// lawful.
-    fn insert(&mut self, path: Path, entry: Entry) -> Result<(), AllocError>
+    /// Puts an entry at a path, and gives the one before. Forgets whether the tree is lawful. After
+    /// want of memory, which a path that has an entry doesn't need, the tree is as before.
+    fn insert(&mut self, path: Path, entry: Entry) -> Result<Option<Entry>, AllocError>
+        ensures before { IfOk result (λ before. before ≡ map.get self.old path) }
         ensures ok { OnOk result (self.new ≡ map.insert self.old path entry) }
         ensures err { OnErr result (self.new ≡ self.old) }
+        ensures absent { OnErr result (map.get self.old path ≡ None) }
     {
         self.known_lawful = false;
-        self.entries.insert(path, entry)?;
-        Ok(())
+        Ok(self.entries.insert(path, entry)?)
     }
 
     /// Takes away what is at a path, where something is. Forgets whether the tree is lawful.
@@ -99,14 +98,16 @@ impl Tree {
         ensures ok { OnOk result (self.new ≡ put path node self.old) }
         ensures err { OnErr result (self.new ≡ self.old) }
     {
-        match node {
+        let entry = match node {
             Node::Missing => {
                 self.remove(&path);
-                Ok(())
+                return Ok(());
             }
-            Node::Dir => self.insert(path, Entry::Dir),
-            Node::File(bytes) => self.insert(path, Entry::File(bytes)),
-        }
+            Node::Dir => Entry::Dir,
+            Node::File(bytes) => Entry::File(bytes),
+        };
+        self.insert(path, entry)?;
+        Ok(())
     }
 
     /// Whether the tree is known to be lawful after a node is put at a path.
@@ -137,6 +138,10 @@ impl Tree {
 
     /// The names of what stands right below a path, in byte order, whatever stands at the path
     /// itself. Takes the time of what stands below it.
+    ///
+    /// # Errors
+    ///
+    /// `NoMem` where memory is wanting.
     pub fn names(&self, alloc: Global, path: &Path) -> Result<Listing, AllocError>
         ensures { IfOk result (λ names. names ≡ names_in path.now self.now) }
     {
@@ -169,6 +174,10 @@ impl Tree {
     }
 
     /// The same tree once more.
+    ///
+    /// # Errors
+    ///
+    /// `NoMem` where memory is wanting.
     pub fn copy(&self) -> Result<Tree, AllocError>
         ensures { IfOk result (λ copy. copy ≡ self.now) }
     {
@@ -176,6 +185,10 @@ impl Tree {
     }
 
     /// What is at a path, copied.
+    ///
+    /// # Errors
+    ///
+    /// `NoMem` where memory is wanting.
     #[tactic(auto, unfolding(crate::specs::Tree::node_in))]
     pub fn node(&self, path: &Path) -> Result<Node, AllocError>
         ensures { IfOk result (λ node. node ≡ node_in path.now self.now) }
@@ -235,20 +248,7 @@ impl Tree {
         ensures { result ≡
             permit_at (node_in path.now self.now) (node_in parent.now self.now) more }
     {
-        if self.kind(path) == Kind::Dir {
-            return Permit::IsDir;
-        }
-        match self.kind(parent) {
-            Kind::Missing => Permit::NoParent,
-            Kind::File => Permit::NotDir,
-            Kind::Dir => {
-                if more > FILE_LIMIT || self.size(path) as u64 > FILE_LIMIT - more {
-                    Permit::TooLarge
-                } else {
-                    Permit::Yes
-                }
-            }
-        }
+        Permit::of(self.kind(path), self.size(path), self.kind(parent), more)
     }
 
     /// Adds bytes at the end of a file, in place. A missing file is made, and a directory stays. A
@@ -277,7 +277,8 @@ impl Tree {
         }
         let path = path.copy()?;
         let bytes = bytes.copy()?;
-        self.insert(path, Entry::File(bytes))
+        self.insert(path, Entry::File(bytes))?;
+        Ok(())
     }
 
     /// Whether the tree is known to be lawful after bytes are added to a file.
@@ -368,6 +369,10 @@ impl Tree {
 
     /// Whether the tree is lawful: the root is a directory, as is the parent of each other path,
     /// nothing stands at `/dev/null` or below it, and each file is within the limit.
+    ///
+    /// # Errors
+    ///
+    /// `NoMem` where memory is wanting.
     #[tactic(auto, unfolding(crate::specs::Lawful::is_lawful_tree))]
     pub fn is_lawful(&self, alloc: Global) -> Result<bool, AllocError>
         ensures { IfOk result (λ lawful. lawful ≡ is_lawful_tree self.now) }

@@ -5,7 +5,7 @@ ghost use Rattle.std.specs.Char.{is_ascii_digit};
 ghost use Rattle.retro_tree.specs.User.{plain_text, user_number, named, entry_by, entry_of_line, find_user};
 
 use crate::ask::User;
-use crate::text::Text;
+use retro_path::Text;
 use std::alloc::{AllocError, Global};
 use std::str;
 

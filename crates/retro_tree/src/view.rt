@@ -4,8 +4,7 @@ ghost use Rattle.retro_tree.specs.Ask.{answer, names_in};
 ghost use Rattle.retro_tree.specs.declared.state.State.{State};
 
 use crate::ask::{Answer, Ask};
-use crate::listing::Listing;
-use crate::path::Path;
+use retro_path::{Listing, Path};
 use std::alloc::{AllocError, Global};
 
 /// Something that shows one state, and answers every question as that state does.
@@ -17,7 +16,7 @@ pub trait View {
     ///
     /// # Errors
     ///
-    /// Where memory is wanting.
+    /// `NoMem` where memory is wanting.
     fn answer(&self, alloc: Global, ask: &Ask) -> Result<Answer, AllocError>
         ensures { IfOk result (λ a. a ≡ answer ask.now (shown self.now)) };
 
@@ -26,7 +25,7 @@ pub trait View {
     ///
     /// # Errors
     ///
-    /// Where memory is wanting.
+    /// `NoMem` where memory is wanting.
     fn children(&self, alloc: Global, path: &Path) -> Result<Listing, AllocError>
         ensures { IfOk result (λ names. names ≡ names_in path.now (shown self.now).tree) };
 }

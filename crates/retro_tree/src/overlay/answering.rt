@@ -6,7 +6,8 @@ ghost use Rattle.retro_tree.specs.Node.{kind_of};
 ghost use Rattle.retro_tree.specs.Tree.{node_in};
 ghost use Rattle.retro_tree.specs.Session.{session_in};
 ghost use Rattle.retro_tree.specs.State.{permit_of};
-ghost use Rattle.retro_tree.specs.User.{user_in, passwd};
+ghost use Rattle.retro_tree.specs.User.{user_in};
+ghost use Rattle.retro_tree.specs.Path.{passwd};
 ghost use Rattle.retro_tree.specs.Cell.{value};
 ghost use Rattle.retro_tree.specs.Ask.{answer};
 ghost use Rattle.retro_tree.specs.Overlay.{Overlays};
@@ -14,15 +15,13 @@ ghost use Rattle.retro_tree.specs.declared.cell.Cell.TheVariants as Cell;
 ghost use Rattle.retro_tree.specs.declared.state.State.{State};
 
 use super::asking::{kind_below, node_below, permit_below, user_below};
-use super::nodes::{permit, user_of, with_more};
+use super::nodes::{user_of, with_more};
 use super::{Laid, Overlay};
 use crate::ask::{Answer, Ask, User};
 use crate::cell::{Cell, Value};
 use crate::node::{Kind, Node, Permit};
-use crate::path::Path;
-use crate::text::Text;
-use crate::var_name::VarName;
 use crate::view::View;
+use retro_path::{Path, Text, VarName};
 use std::alloc::{AllocError, Global};
 
 impl Overlay {
@@ -100,11 +99,12 @@ impl Overlay {
             }
         }
         let above = self.shown_kind(alloc, view, &parent)?;
+        let more = u64::from(more);
         if let Some(Laid::Whole(Value::Node(node))) = laid {
-            return Ok(permit(node, above, more));
+            return Ok(Permit::of(node.kind(), node.size(), above, more));
         }
         let node = self.shown_node(alloc, view, path)?;
-        Ok(permit(&node, above, more))
+        Ok(Permit::of(node.kind(), node.size(), above, more))
     }
 
     /// The value of a variable in the shown state, where it is set, copied.
@@ -188,7 +188,7 @@ impl Overlay {
     ///
     /// # Errors
     ///
-    /// Where memory is wanting.
+    /// `NoMem` where memory is wanting.
     #[tactic(auto, unfolding(crate::specs::Ask::answer))]
     pub fn answer<V: View>(&self, alloc: Global, view: &V, ask: &Ask) -> Result<Answer, AllocError>
         ensures { IfOk result (λ a. (now : State)
@@ -212,7 +212,7 @@ impl Overlay {
     ///
     /// # Errors
     ///
-    /// Where memory is wanting.
+    /// `NoMem` where memory is wanting.
     #[tactic(auto, unfolding(crate::specs::Cell::value))]
     pub fn value<V: View>(&self, alloc: Global, view: &V, cell: &Cell) -> Result<Value, AllocError>
         ensures { IfOk result (λ held. (now : State)

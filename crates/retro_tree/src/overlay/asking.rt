@@ -3,13 +3,13 @@ ghost use Rattle.std.specs.Prelude.{◌≡◌, IfOk};
 ghost use Rattle.retro_tree.specs.Node.{kind_of};
 ghost use Rattle.retro_tree.specs.Tree.{node_in};
 ghost use Rattle.retro_tree.specs.State.{permit_of};
-ghost use Rattle.retro_tree.specs.User.{user_in, passwd};
+ghost use Rattle.retro_tree.specs.User.{user_in};
+ghost use Rattle.retro_tree.specs.Path.{passwd};
 
 use crate::ask::{Answer, Ask, User};
 use crate::node::{Kind, Node, Permit};
-use crate::path::Path;
-use crate::text::Text;
 use crate::view::View;
+use retro_path::{Path, Text};
 use std::alloc::{AllocError, Global};
 
 /// What is at a path below.

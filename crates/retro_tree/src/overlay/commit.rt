@@ -23,7 +23,7 @@ impl Overlay {
     ///
     /// # Errors
     ///
-    /// Where memory is wanting.
+    /// `NoMem` where memory is wanting.
     #[tactic(auto, using(crate::proofs::PutCells::cells_shown))]
     pub fn commit(self, alloc: Global, state: &mut State) -> Result<(), AllocError>
         ensures ok { OnOk result (state.new ≡ committed self state.old) }
@@ -37,12 +37,12 @@ impl Overlay {
         let mut left = Vec::new(alloc);
         match self.write_all(alloc, state, &mut undos, &mut left) {
             Ok(()) => {
-                erase_all(alloc, state, left);
+                erase_all(state, left);
                 know_again(alloc, state, was_known);
                 Ok(())
             }
             Err(error) => {
-                unwind(alloc, state, undos);
+                unwind(state, undos);
                 Err(error)
             }
         }
@@ -121,33 +121,33 @@ fn write_one(
         return Ok(());
     };
     if let Err(failed) = undos.push(undo) {
-        state.undo(alloc, failed.value);
+        state.undo(failed.value);
         return Err(AllocError);
     }
     Ok(())
 }
 
 /// Undoes what was written, from the last to the first. Takes no memory.
-fn unwind(alloc: Global, state: &mut State, undos: Vec<Undo>)
+fn unwind(state: &mut State, undos: Vec<Undo>)
     requires { CanUnwind (reverse undos.items) state.old }
     ensures { state.new ≡ unwound (reverse undos.items) state.old }
 {
     let mut undos = undos;
     while let Some(undo) = undos.pop() {
-        state.undo(alloc, undo);
+        state.undo(undo);
     }
 }
 
 /// Takes away what these removals say, from the last to the first: what stands in a directory before
 /// the directory. Takes no memory.
 #[tactic(auto, using(crate::proofs::OverlayCommit::erasing))]
-fn erase_all(alloc: Global, state: &mut State, left: Vec<(Cell, Laid)>)
+fn erase_all(state: &mut State, left: Vec<(Cell, Laid)>)
     requires { list_all (λ e. removes e.1) left.items ≡ true }
     ensures { state.new ≡ put_cells (reverse left.items) state.old }
 {
     let mut left = left;
     while let Some((cell, laid)) = left.pop() {
-        state.erase(alloc, &cell, &laid);
+        state.erase(&cell, &laid);
     }
 }
 

@@ -5,9 +5,9 @@ ghost use Rattle.retro_tree.specs.Node.{grown};
 ghost use Rattle.retro_tree.specs.Commit.{removes};
 ghost use Rattle.retro_tree.specs.Overlay.{laid_grown};
 
-use crate::bytes::Bytes;
 use crate::cell::Value;
 use crate::node::Node;
+use retro_path::Bytes;
 use std::alloc::AllocError;
 
 /// What is laid over a cell.
@@ -21,6 +21,10 @@ pub enum Laid {
 
 impl Laid {
     /// The same once more.
+    ///
+    /// # Errors
+    ///
+    /// `NoMem` where memory is wanting.
     pub fn copy(&self) -> Result<Laid, AllocError>
         ensures { IfOk result (λ copy. copy ≡ self.now) }
     {

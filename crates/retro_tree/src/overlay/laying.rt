@@ -10,10 +10,9 @@ ghost use Rattle.retro_tree.specs.declared.change.Change.TheVariants as Change;
 ghost use Rattle.retro_tree.specs.declared.state.State.{State};
 
 use super::{Laid, Overlay};
-use crate::bytes::Bytes;
 use crate::cell::{Cell, Value};
 use crate::change::Change;
-use crate::path::Path;
+use retro_path::{Bytes, Path};
 use std::alloc::AllocError;
 
 impl Overlay {
@@ -24,7 +23,7 @@ impl Overlay {
     ///
     /// # Errors
     ///
-    /// Where memory is wanting.
+    /// `NoMem` where memory is wanting.
     #[tactic(auto, using(crate::proofs::OverlayLaying::laying, crate::proofs::OverlayLasting::lasting))]
     pub fn lay(&mut self, change: Change) -> Result<(), AllocError>
         ensures ok { OnOk result ((below now : State)

@@ -9,12 +9,10 @@ ghost use Rattle.retro_tree.specs.declared.state.State.{State};
 
 use super::{Laid, Overlay};
 use crate::cell::{Cell, Value};
-use crate::listing::Listing;
-use crate::name::Name;
 use crate::node::{Kind, Node};
-use crate::path::Path;
 use crate::tree::Tree;
 use crate::view::View;
+use retro_path::{Listing, Name, Path};
 use std::alloc::{AllocError, Global};
 use std::collections::btree_map::Range;
 
@@ -25,7 +23,7 @@ impl Overlay {
     ///
     /// # Errors
     ///
-    /// Where memory is wanting.
+    /// `NoMem` where memory is wanting.
     pub fn children<V: View>(
         &self,
         alloc: Global,

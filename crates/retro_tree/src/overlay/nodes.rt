@@ -1,39 +1,13 @@
-//! Nodes that are laid: their kinds, whether they may be written to, and the users that they name.
+//! Nodes that are laid: their kinds and sizes, and the users that they name.
 ghost use Rattle.std.specs.Prelude.{◌≡◌, ◌+◌, IfOk, length, min};
-ghost use Rattle.retro_tree.specs.Node.{kind_of, kind_grown, permit_at};
-ghost use Rattle.retro_tree.specs.declared.node.Node.{Node as NodeValue};
+ghost use Rattle.retro_tree.specs.Node.{kind_of, kind_grown, size_of};
 ghost use Rattle.retro_tree.specs.User.{user_in};
 
 use crate::ask::User;
-use crate::bytes::Bytes;
-use crate::node::{FILE_LIMIT, Kind, Node, Permit};
-use crate::text::Text;
+use crate::node::{Kind, Node};
 use crate::user::find_user;
+use retro_path::{Bytes, Text};
 use std::alloc::{AllocError, Global};
-
-/// Whether so many bytes more may be written to a node, by the kind of its parent.
-pub(super) fn permit(node: &Node, above: Kind, more: u32) -> Permit
-    ensures { (parent : NodeValue)
-        → above ≡ kind_of parent → result ≡ permit_at node.now parent more }
-{
-    let size = match node {
-        Node::Dir => return Permit::IsDir,
-        Node::Missing => 0,
-        Node::File(bytes) => bytes.len() as u64,
-    };
-    match above {
-        Kind::Missing => Permit::NoParent,
-        Kind::File => Permit::NotDir,
-        Kind::Dir => {
-            let more = u64::from(more);
-            if more > FILE_LIMIT || size > FILE_LIMIT - more {
-                Permit::TooLarge
-            } else {
-                Permit::Yes
-            }
-        }
-    }
-}
 
 /// How many bytes these and so many more are, or the greatest number where they are more, which is
 /// over the limit of a file too.
@@ -65,6 +39,16 @@ impl Node {
             Node::Missing => Kind::Missing,
             Node::Dir => Kind::Dir,
             Node::File(_) => Kind::File,
+        }
+    }
+
+    /// How many bytes a file has; 0 of what is no file.
+    pub(super) fn size(&self) -> usize
+        ensures { result ≡ size_of self.now }
+    {
+        match self {
+            Node::Missing | Node::Dir => 0,
+            Node::File(bytes) => bytes.len(),
         }
     }
 }

@@ -7,13 +7,12 @@ ghost use Rattle.retro_tree.specs.Commit.{put_cell, removes, undone, can_undo, U
 ghost use Rattle.retro_tree.specs.declared.overlay.laid.Laid.TheVariants as Laid;
 
 use super::State;
-use crate::bytes::Bytes;
 use crate::cell::{Cell, Value};
 use crate::node::{Entry, Kind, Node};
 use crate::overlay::Laid;
-use crate::path::Path;
 use crate::session::Setting;
 use crate::session::former::Former;
+use retro_path::{Bytes, Path};
 use std::alloc::{AllocError, Global};
 
 /// How one write is undone.
@@ -134,14 +133,14 @@ impl State {
         ensures undo { IfOk result (λ undo. Undoes (Some undo) self.new self.old) }
         ensures err { OnErr result (self.new ≡ self.old) }
     {
-        match self.sessions.exchange(alloc, sid, setting)? {
+        match self.sessions.set(alloc, sid, setting)? {
             None => Ok(Undo::Session(sid)),
             Some(before) => Ok(Undo::Setting(sid, before)),
         }
     }
 
     /// Undoes what was written. Takes no memory.
-    pub(crate) fn undo(&mut self, alloc: Global, undo: Undo)
+    pub(crate) fn undo(&mut self, undo: Undo)
         requires { can_undo undo self.old ≡ true }
         ensures { self.new ≡ undone undo self.old }
     {
@@ -152,13 +151,13 @@ impl State {
             },
             Undo::Length(path, length) => self.tree.cut(&path, length),
             Undo::Session(sid) => self.sessions.remove(sid),
-            Undo::Setting(sid, former) => self.sessions.restore(alloc, sid, former),
+            Undo::Setting(sid, former) => self.sessions.restore(sid, former),
         }
     }
 
     /// Takes away what is in a cell, as a removal says. Takes no memory.
     #[tactic(auto, unfolding(crate::specs::Commit::put_cell))]
-    pub(crate) fn erase(&mut self, alloc: Global, cell: &Cell, laid: &Laid)
+    pub(crate) fn erase(&mut self, cell: &Cell, laid: &Laid)
         requires { removes laid.now ≡ true }
         ensures { self.new ≡ put_cell cell.now laid.now self.old }
     {
@@ -170,7 +169,7 @@ impl State {
             }
             Cell::Var(sid, name) => {
                 if let Laid::Whole(Value::Text(_)) = laid {
-                    self.sessions.unset(alloc, *sid, name);
+                    self.sessions.unset(*sid, name);
                 }
             }
             Cell::Cwd(_) | Cell::Status(_) => (),

@@ -9,7 +9,7 @@ ghost use Rattle.retro_tree.specs.declared.node.Node.TheVariants.{Missing};
 
 use super::Tree;
 use crate::node::{Entry, Node};
-use crate::path::Path;
+use retro_path::Path;
 use std::alloc::AllocError;
 
 impl Tree {
@@ -27,21 +27,9 @@ impl Tree {
             Node::Dir => Entry::Dir,
             Node::File(bytes) => Entry::File(bytes),
         };
-        let before = self.swap_in(path, entry)?;
+        let before = self.insert(path, entry)?;
         self.known_lawful = stays;
         Ok(before)
-    }
-
-    /// Puts an entry at a path, and gives the one before. Forgets whether the tree is lawful. After
-    /// want of memory, which a path that has an entry doesn't need, the tree is as before.
-    fn swap_in(&mut self, path: Path, entry: Entry) -> Result<Option<Entry>, AllocError>
-        ensures before { IfOk result (λ before. before ≡ map.get self.old path) }
-        ensures ok { OnOk result (self.new ≡ map.insert self.old path entry) }
-        ensures err { OnErr result (self.new ≡ self.old) }
-        ensures absent { OnErr result (map.get self.old path ≡ None) }
-    {
-        self.known_lawful = false;
-        Ok(self.entries.insert(path, entry)?)
     }
 
     /// Puts an entry at a path that has one. Takes no memory, and forgets whether the tree is
@@ -50,7 +38,7 @@ impl Tree {
         requires { map.contains_key self.old path ≡ true }
         ensures { self.new ≡ map.insert self.old path entry }
     {
-        match self.swap_in(path, entry) {
+        match self.insert(path, entry) {
             Ok(_) => (),
             Err(_) => unreachable!(),
         }

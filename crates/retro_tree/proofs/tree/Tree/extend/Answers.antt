@@ -39,6 +39,6 @@ returns-clause-ok c =
     let none = sym c.get_mut.ensures.value ∙ ap option_copied_mut c.in_default.is in
     let same = ap (λ n. the_view (record { entries = n; known_lawful = false })) c.get_mut.follows.holds-at-none ∙ c.self.view_is in
     let absent = ap (λ m. map.get m p) (sym c.self.view_is) ∙ get_made path_total es p ∙ none in
-    on_ok c.insert.result _ _ (λ is. is
+    c.in_ok-insert.ensures.ok
     ∙ (λ i. map.insert (same i) (c.in_ok-path.ensures i) (FileEntry (c.in_ok-bytes.ensures i)))
-    ∙ sym (put_new p c.args.bytes.now c.args.self.now absent)) c.insert.ensures.ok
+    ∙ sym (put_new p c.args.bytes.now c.args.self.now absent)

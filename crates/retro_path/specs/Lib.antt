@@ -1,0 +1,5 @@
+pub mod Order
+pub mod Name
+pub mod VarName
+pub mod Path
+pub mod Resolving

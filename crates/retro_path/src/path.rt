@@ -1,0 +1,294 @@
+//! Paths: the names from the root down to a file or directory.
+ghost use Rattle.std.specs.Prelude.{◌≡◌, ◌++◌, ◌∷◌, [], IfOk, OnOk, OnErr, MatchOption, string_bytes, false, length, ◌-◌, take, map, option_map};
+ghost use Rattle.std.specs.List.{list_all};
+ghost use Rattle.std.specs.Option.{option_copied};
+ghost use Rattle.retro_path.specs.Order.{path_eq};
+ghost use Rattle.retro_path.specs.Name.{is_name, AllNames};
+ghost use Rattle.retro_path.specs.Path.{parent_of, last_of, may_stand, is_null, is_root, below, is_child, passwd};
+ghost use Rattle.retro_path.specs.Resolving.{step};
+
+use crate::name::Name;
+use std::alloc::{AllocError, Global};
+use std::cmp::Ordering;
+use std::marker::Model;
+
+/// The names from the root down to a file or directory. The root has none.
+#[derive(Drop, Clone)]
+pub struct Path {
+    names: Vec<Name>,
+}
+
+impl Model for Path {
+    ghost use Rattle.std.specs.Prelude.{List, ℕ};
+
+    ghost Value = { List (List ℕ) };
+
+    ghost use Rattle.retro_path.specs.Name.{AllNames};
+
+    ghost view = { λ a. a.names.items };
+
+    ghost invariant = { λ a. AllNames a.names.items };
+}
+
+impl Path {
+    /// The path of the root, which has no names.
+    pub fn root(alloc: Global) -> Path
+        ensures { result ≡ [] }
+    {
+        Path {
+            names: Vec::new(alloc),
+        }
+    }
+
+    /// The path of these names, from the root down, where each may be one: 1 to 255 bytes,
+    /// without slash, not `.` or `..`. Takes the time of their length.
+    ///
+    /// # Errors
+    ///
+    /// `NoMem` where memory is wanting.
+    pub fn of(alloc: Global, texts: Vec<String>) -> Result<Option<Path>, AllocError>
+        ensures { IfOk result (λ found. MatchOption found
+            (list_all is_name (map string_bytes texts.items) ≡ false)
+            (λ path. path ≡ map string_bytes texts.items)) }
+    {
+        let mut names = Vec::new(alloc);
+        for text in texts {
+            match Name::of(text) {
+                Some(name) => names.push(name)?,
+                None => return Ok(None),
+            }
+        }
+        Ok(Some(Path { names }))
+    }
+
+    /// The names, from the root down.
+    pub fn names(&self) -> &[Name]
+        ensures value { result.now ≡ self.now }
+        ensures names { AllNames self.now }
+    {
+        self.names.as_slice()
+    }
+
+    /// The last name, which the root alone hasn't.
+    #[tactic(auto, using(crate::proofs::Parents::get_last))]
+    pub fn last(&self) -> Option<&Name>
+        ensures { option_copied result ≡ last_of self.now }
+    {
+        self.names.last()
+    }
+
+    /// The directory of this path. The root is its own.
+    ///
+    /// # Errors
+    ///
+    /// `NoMem` where memory is wanting.
+    #[tactic(auto, using(crate::proofs::Parents::take_is_parent))]
+    pub fn parent(&self, alloc: Global) -> Result<Path, AllocError>
+        ensures { IfOk result (λ parent. parent ≡ parent_of self.now) }
+    {
+        let count = self.names.len().saturating_sub(1);
+        let (front, _last) = self.names.as_slice().split_at(count);
+        Path::of_names(alloc, front)
+    }
+
+    /// The directory of this path, by the path itself. Takes no memory.
+    #[tactic(auto, using(crate::proofs::Parents::take_is_parent))]
+    pub fn into_parent(self) -> Path
+        ensures { result ≡ parent_of self }
+    {
+        let mut path = self;
+        path.names.pop();
+        path
+    }
+
+    /// The path of a name in this directory.
+    ///
+    /// # Errors
+    ///
+    /// `NoMem` where memory is wanting.
+    pub fn child(&self, alloc: Global, name: &Name) -> Result<Path, AllocError>
+        ensures { IfOk result (λ child. child ≡ self.now ++ name.now ∷ []) }
+    {
+        let mut child = Path::of_names(alloc, self.names.as_slice())?;
+        child.names.push(name.copy()?)?;
+        Ok(child)
+    }
+
+    /// The names below a front of this path, or none where it isn't one.
+    #[tactic(auto, using(crate::proofs::Fronts::fronts))]
+    pub fn strip_prefix(&self, front: &Path) -> Option<&[Name]>
+        ensures { option_map (λ rest. rest.now) result ≡ below front.now self.now }
+    {
+        let count = front.names.len();
+        if count > self.names.len() {
+            return None;
+        }
+        let (start, rest) = self.names.as_slice().split_at(count);
+        if start == front.names.as_slice() {
+            Some(rest)
+        } else {
+            None
+        }
+    }
+
+    /// Whether this is a child of a directory: its path and one name more.
+    pub fn is_child_of(&self, parent: &Path) -> bool
+        ensures { result ≡ is_child parent.now self.now }
+    {
+        matches!(self.strip_prefix(parent), Some([_]))
+    }
+
+    /// Whether this is the directory of a path, where the root is its own.
+    #[tactic(auto, using(crate::proofs::Parents::take_is_parent))]
+    pub fn is_parent_of(&self, path: &Path) -> bool
+        ensures { result ≡ path_eq (parent_of path.now) self.now }
+    {
+        let count = path.names.len().saturating_sub(1);
+        let (front, _last) = path.names.as_slice().split_at(count);
+        front == self.names.as_slice()
+    }
+
+    /// The path of the password file, `/etc/passwd`.
+    #[tactic(auto, unfolding(crate::specs::Path::passwd, crate::specs::Name::is_name))]
+    pub fn passwd(alloc: Global) -> Result<Path, AllocError>
+        ensures { IfOk result (λ path. path ≡ passwd) }
+    {
+        let mut names = Vec::new(alloc);
+        if let Some(name) = Name::of(String::from_str(alloc, "etc")?) {
+            names.push(name)?;
+        }
+        if let Some(name) = Name::of(String::from_str(alloc, "passwd")?) {
+            names.push(name)?;
+        }
+        Ok(Path { names })
+    }
+
+    /// Whether this is the path of the password file.
+    #[tactic(auto, unfolding(crate::specs::Path::passwd))]
+    pub fn is_passwd(&self) -> bool
+        ensures { result ≡ path_eq passwd self.now }
+    {
+        match self.names.as_slice() {
+            [first, second] => first.as_str() == "etc" && second.as_str() == "passwd",
+            _ => false,
+        }
+    }
+
+    /// The path of names that are given.
+    fn of_names(alloc: Global, given: &[Name]) -> Result<Path, AllocError>
+        ensures { IfOk result (λ path. path ≡ given.now) }
+    {
+        let mut names = Vec::with_capacity(alloc, given.len())?;
+        for name in given {
+            names.push(name.copy()?)?;
+        }
+        Ok(Path { names })
+    }
+
+    /// Goes down to a name, or up at two dots. An empty part and a dot stay. After want of memory
+    /// the path is as before.
+    #[tactic(auto, unfolding(crate::specs::Resolving::step), using(crate::proofs::Parents::take_is_parent))]
+    pub(crate) fn enter(&mut self, alloc: Global, part: &str) -> Result<(), AllocError>
+        ensures ok { OnOk result (self.new ≡ step self.old part.now) }
+        ensures err { OnErr result (self.new ≡ self.old) }
+    {
+        if part == ".." {
+            self.names.pop();
+            return Ok(());
+        }
+        let text = String::from_str(alloc, part)?;
+        if let Some(name) = Name::of(text) {
+            self.names.push(name)?;
+        }
+        Ok(())
+    }
+
+    /// Whether this is the root.
+    pub fn is_root(&self) -> bool
+        ensures { result ≡ is_root self.now }
+    {
+        self.names.is_empty()
+    }
+
+    /// Whether something may stand here: not at `/dev/null` or below it.
+    #[tactic(auto, unfolding(crate::specs::Path::may_stand))]
+    pub fn may_stand(&self) -> bool
+        ensures { result ≡ may_stand self.now }
+    {
+        match self.names.as_slice() {
+            [first, second, ..] => !(first.as_str() == "dev" && second.as_str() == "null"),
+            _ => true,
+        }
+    }
+
+    /// Whether this is `/dev/null`.
+    #[tactic(auto, unfolding(crate::specs::Path::is_null))]
+    pub fn is_null(&self) -> bool
+        ensures value { result ≡ is_null self.now }
+        ensures names { AllNames self.now }
+    {
+        match self.names.as_slice() {
+            [first, second] => first.as_str() == "dev" && second.as_str() == "null",
+            _ => false,
+        }
+    }
+
+    /// The same path once more.
+    ///
+    /// # Errors
+    ///
+    /// `NoMem` where memory is wanting.
+    pub fn copy(&self) -> Result<Path, AllocError>
+        ensures { IfOk result (λ copy. copy ≡ self.now) }
+    {
+        self.clone()
+    }
+}
+
+impl PartialEq for Path {
+    ghost use Rattle.retro_path.specs.Order.{path_eq, path_per};
+
+    ghost eq = { path_eq };
+
+    ghost laws = { path_per };
+
+    fn eq(&self, other: &Path) -> bool {
+        self.names.as_slice() == other.names.as_slice()
+    }
+}
+
+impl Eq for Path {
+    ghost use Rattle.retro_path.specs.Order.{path_equiv};
+
+    ghost laws = { path_equiv };
+}
+
+impl PartialOrd for Path {
+    ghost use Rattle.std.specs.Ordering.{as_partial_cmp};
+    ghost use Rattle.retro_path.specs.Order.{path_cmp, path_partial};
+
+    ghost partial_cmp = { as_partial_cmp path_cmp };
+
+    ghost laws = { path_partial };
+
+    fn partial_cmp(&self, other: &Path) -> Option<Ordering> {
+        Some(self.cmp(other))
+    }
+}
+
+impl Ord for Path {
+    ghost use Rattle.std.specs.Prelude.{refl};
+    ghost use Rattle.retro_path.specs.Order.{path_cmp, path_total, path_ties};
+
+    ghost cmp = { path_cmp };
+
+    ghost total = { path_total };
+
+    ghost matches_partial_cmp = { λ x y. refl };
+
+    ghost matches_eq = { path_ties };
+
+    fn cmp(&self, other: &Path) -> Ordering {
+        self.names.as_slice().cmp(&other.names.as_slice())
+    }
+}

@@ -1,0 +1,109 @@
+//! The name of a variable.
+ghost use Rattle.std.specs.Prelude.{◌≡◌, IfOk, IsTrue, MatchOption, false};
+ghost use Rattle.std.specs.List.{list_all};
+ghost use Rattle.retro_path.specs.VarName.{starts_name, continues_name, is_shell_name, is_var_name};
+
+use crate::text::Text;
+use std::alloc::{AllocError, Global};
+use std::cmp::Ordering;
+use std::marker::Model;
+
+/// The name of a variable that a line may assign: a letter or an underscore, then letters, digits
+/// and underscores, of ASCII (POSIX.1-2017 XBD 3.235). IFS, PWD, OLDPWD and CDPATH are none.
+#[derive(Drop, Clone, PartialEq, Eq, PartialOrd, Ord)]
+pub struct VarName {
+    text: Text,
+}
+
+impl Model for VarName {
+    ghost use Rattle.std.specs.Prelude.{List, ℕ, IsTrue};
+    ghost use Rattle.retro_path.specs.VarName.{is_var_name};
+
+    ghost Value = { List ℕ };
+
+    ghost view = { λ a. a.text };
+
+    ghost invariant = { λ a. IsTrue (is_var_name a.text) };
+
+    ghost inverse = { λ v. record { text = v } };
+}
+
+/// Whether a byte may be the first of a name.
+fn starts_name(byte: u8) -> bool
+    ensures { result ≡ starts_name byte }
+{
+    byte.is_ascii_alphabetic() || byte == b'_'
+}
+
+/// Whether a byte may follow in a name.
+fn continues_name(byte: u8) -> bool
+    ensures { result ≡ continues_name byte }
+{
+    byte.is_ascii_alphanumeric() || byte == b'_'
+}
+
+/// Whether each byte may follow in a name.
+fn all_continue(bytes: &[u8]) -> bool
+    ensures { result ≡ list_all continues_name bytes.now }
+{
+    bytes.iter().all(|byte| continues_name(*byte))
+}
+
+/// Whether bytes are a name in the shell's grammar.
+#[tactic(auto, unfolding(crate::specs::VarName::is_shell_name))]
+fn is_shell_name(bytes: &[u8]) -> bool
+    ensures { result ≡ is_shell_name bytes.now }
+{
+    match bytes {
+        [] => false,
+        [first, rest @ ..] => { starts_name(*first) && all_continue(rest) }
+    }
+}
+
+/// Whether a line may assign a variable of this name.
+#[tactic(auto, unfolding(crate::specs::VarName::is_var_name))]
+fn is_var_name(text: &str) -> bool
+    ensures { result ≡ is_var_name text.now }
+{
+    is_shell_name(text.as_bytes())
+        && !(text == "IFS" || text == "PWD" || text == "OLDPWD" || text == "CDPATH")
+}
+
+impl VarName {
+    /// The name that a text is, where a line may assign it.
+    ///
+    /// # Errors
+    ///
+    /// `NoMem` where memory is wanting.
+    pub fn of(alloc: Global, text: &str) -> Result<Option<VarName>, AllocError>
+        ensures { IfOk result (λ found. MatchOption found
+            (is_var_name text.now ≡ false)
+            (λ name. (name ≡ text.now) × IsTrue (is_var_name name))) }
+    {
+        if !is_var_name(text) {
+            return Ok(None);
+        }
+        Ok(Some(VarName {
+            text: Text::of(String::from_str(alloc, text)?),
+        }))
+    }
+
+    /// The name as a text.
+    pub fn as_str(&self) -> &str
+        ensures value { result.now ≡ self.now }
+        ensures name { IsTrue (is_var_name self.now) }
+    {
+        self.text.as_str()
+    }
+
+    /// The same name once more.
+    ///
+    /// # Errors
+    ///
+    /// `NoMem` where memory is wanting.
+    pub fn copy(&self) -> Result<VarName, AllocError>
+        ensures { IfOk result (λ copy. copy ≡ self.now) }
+    {
+        self.clone()
+    }
+}

@@ -1,9 +1,0 @@
-use Rattle.std.proofs.Common.{◌≡◌, ◌++◌, map, string_bytes}
-use Rattle.retro_tree.specs.Name.{AllNames}
-use Rattle.retro_tree.proofs.path.Path.of.Given as goal
-
-abbrev pub invariant-loop-text : goal.invariant-loop-text
-invariant-loop-text l = record {
-  names : AllNames l.names.items;
-  all : l.names.items ++ map string_bytes l.text-iterator.rest.items ≡ map string_bytes l.fn.texts.items;
-}
