@@ -1,2 +1,3 @@
 pub mod Parents
 pub mod Fronts
+pub mod Alike

@@ -1,5 +1,5 @@
 -- The path that a text names from a directory: by the text alone, unlike XBD 4.13.
-use Rattle.std.specs.Prelude.{ℕ, ◌==◌, Bool, nat_lt, if◌then◌else◌, List, [], ◌∷◌, ◌++◌, length, codes}
+use Rattle.std.specs.Prelude.{ℕ, ◌==◌, Bool, false, not, ◌&&◌, nat_lt, if◌then◌else◌, List, [], ◌∷◌, ◌++◌, length, codes}
 use Rattle.std.specs.List.{list_any, slice_split}
 use Rattle.retro_path.specs.Order.{text_eq}
 use Rattle.retro_path.specs.Name.{is_name, name_limit}
@@ -37,3 +37,9 @@ resolve_parts at parts = if list_any is_long parts then LongName else Is (walk a
 abbrev pub resolve : PathValue → List ℕ → Resolved
 resolve cwd [] = Empty
 resolve cwd (b ∷ text) = resolve_parts (start_of cwd (b ∷ text)) (parts_of (b ∷ text))
+
+-- whether the path that a text names depends on the directory: not that of an empty text, of one
+-- that begins with a slash, or of one with a part that is too long
+unfoldable pub is_relative : List ℕ → Bool
+is_relative [] = false
+is_relative (b ∷ text) = not (b == 47) && not (list_any is_long (parts_of (b ∷ text)))

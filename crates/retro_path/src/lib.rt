@@ -22,7 +22,7 @@ pub use bytes::Bytes;
 pub use listing::Listing;
 pub use name::{NAME_LIMIT, Name};
 pub use path::Path;
-pub use resolving::{Resolved, resolve};
+pub use resolving::{Resolved, is_relative, named_alike, resolve};
 pub use text::Text;
 pub use var_name::VarName;
 

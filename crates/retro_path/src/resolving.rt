@@ -1,7 +1,8 @@
 //! The path that a text names.
-ghost use Rattle.std.specs.Prelude.{◌≡◌, IfOk, map};
+ghost use Rattle.std.specs.Prelude.{◌≡◌, IfOk, map, false, List, ℕ};
 ghost use Rattle.std.specs.List.{list_any};
-ghost use Rattle.retro_path.specs.Resolving.{parts_of, walk, is_long, start_of, resolve, resolve_parts};
+ghost use Rattle.retro_path.specs.Path.{PathValue};
+ghost use Rattle.retro_path.specs.Resolving.{parts_of, walk, is_long, start_of, resolve, resolve_parts, is_relative};
 
 use crate::name::NAME_LIMIT;
 use crate::path::Path;
@@ -79,3 +80,29 @@ pub fn resolve(alloc: Global, cwd: &Path, text: &str) -> Result<Resolved, AllocE
     let start = start_of(alloc, cwd, text)?;
     Ok(Resolved::Is(walk(alloc, start, parts.as_slice())?))
 }
+
+/// Whether the path that a text names depends on the directory: not that of an empty text, of one
+/// that begins with a slash, or of one with a part that is too long.
+///
+/// # Errors
+///
+/// `NoMem` where memory is wanting.
+#[tactic(auto, unfolding(crate::specs::Resolving::is_relative))]
+pub fn is_relative(alloc: Global, text: &str) -> Result<bool, AllocError>
+    ensures { IfOk result (λ relative. relative ≡ is_relative text.now) }
+{
+    match text.as_bytes() {
+        [] | [b'/', ..] => Ok(false),
+        [_, ..] => {
+            let parts = parts_of(alloc, text)?;
+            Ok(!has_long(parts.as_slice()))
+        }
+    }
+}
+
+/// A text whose path doesn't depend on the directory names the same from each.
+#[tactic(auto, using(crate::proofs::Alike::named_alike))]
+pub fn named_alike()
+    ensures { (p q : PathValue) (text : List ℕ)
+        → is_relative text ≡ false → resolve p text ≡ resolve q text }
+{}

@@ -1,5 +1,5 @@
 //! The name of a variable.
-ghost use Rattle.std.specs.Prelude.{◌≡◌, IfOk, IsTrue, MatchOption, false};
+ghost use Rattle.std.specs.Prelude.{◌≡◌, IfOk, IsTrue, MatchOption, false, codes};
 ghost use Rattle.std.specs.List.{list_all};
 ghost use Rattle.retro_path.specs.VarName.{starts_name, continues_name, is_shell_name, is_var_name};
 
@@ -86,6 +86,20 @@ impl VarName {
         Ok(Some(VarName {
             text: Text::of(String::from_str(alloc, text)?),
         }))
+    }
+
+    /// The name `HOME`.
+    ///
+    /// # Errors
+    ///
+    /// `NoMem` where memory is wanting.
+    #[tactic(auto, unfolding(crate::specs::VarName::is_var_name, crate::specs::VarName::is_shell_name))]
+    pub fn home(alloc: Global) -> Result<VarName, AllocError>
+        ensures { IfOk result (λ name. name ≡ codes "HOME") }
+    {
+        Ok(VarName {
+            text: Text::of(String::from_str(alloc, "HOME")?),
+        })
     }
 
     /// The name as a text.

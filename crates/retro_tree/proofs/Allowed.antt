@@ -64,7 +64,7 @@ its_session c s l = l.session
 pub state_after : (c : Change) (s : State) → IsLawfulChange c s → IsLawful (apply c s)
 state_after c s l = l.after
 
-pub ruleset lawful_changes = (sound, whole, its_session, state_after)
+pub ruleset lawful_changes = (sound, kept, whole, its_session, state_after)
 
 -- ---- as the code tests
 pub without_session : (c : Change) (s : State) → has_its_session c s ≡ false → IsTrue false ↔ IsLawfulChange c s

@@ -25,4 +25,8 @@ pub mod Erasing
 pub mod OverlayCommit
 pub mod PutCells
 pub mod OverlayLasting
+pub mod Fitting
+pub mod Sames
+pub mod MayMake
 pub mod Allowed
+pub mod Alike

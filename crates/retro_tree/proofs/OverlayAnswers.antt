@@ -23,13 +23,13 @@ kind_after bytes Dir = refl
 kind_after bytes (File old) = refl
 
 -- ---- permits
-same_under : (parent : Node) (a b : ℕ) → nat_lt file_limit a ≡ nat_lt file_limit b → permit_under parent a ≡ permit_under parent b
+pub same_under : (parent : Node) (a b : ℕ) → nat_lt file_limit a ≡ nat_lt file_limit b → permit_under parent a ≡ permit_under parent b
 same_under Missing a b is = refl
 same_under (File bytes) a b is = refl
 same_under Dir a b is = ap (λ t. if t then TooLarge else Yes) is
 
 -- the greatest number stands for all that are over the limit
-over_least : (b : ℕ) → nat_lt file_limit (min b 4294967295) ≡ nat_lt file_limit b
+pub over_least : (b : ℕ) → nat_lt file_limit (min b 4294967295) ≡ nat_lt file_limit b
 over_least b = grind arith
 
 over_all : (old bytes : List ℕ) (n : ℕ) → nat_lt file_limit (length old + min (length bytes + n) 4294967295) ≡ nat_lt file_limit (length (old ++ bytes) + n)

@@ -1,19 +1,20 @@
 -- What an overlay leaves of a state, once a change is laid.
-use Rattle.std.proofs.Common.{◌≡◌, ℕ, Bool, true, false, ◌||◌, List, [], ◌∷◌, Option, Some, None, refl, sym, ap, ◌∙◌, nat_cmp}
+use Rattle.std.proofs.Common.{◌≡◌, ℕ, Bool, true, false, ◌||◌, List, [], ◌∷◌, length, Option, Some, None, refl, sym, ap, ◌∙◌, nat_cmp}
 use Rattle.std.specs.Option.{is_some}
 use Rattle.std.specs.Ordering.{eq_by_cmp}
 use Rattle.std.specs.List.{list_any}
 use Rattle.std.specs.FinMap as map
-use Rattle.std.specs.FinMap.{entries-insert}
+use Rattle.std.specs.FinMap.{entries-insert, len-entries, len-empty}
 use Rattle.std.specs.FinMap.Entries.{put, by_order}
 use Rattle.std.specs.declared.cmp.Ordering.TheVariants.{Less, Equal, Greater}
+use Rattle.std.proofs.Math.Nat.{suc-ne-zero}
 use Rattle.std.proofs.lemmas.Bool.{false≢true}
 use Rattle.retro_tree.specs.CellOrder.{cell_cmp, cell_total, cell_exact}
 use Rattle.retro_tree.specs.Path.{PathValue}
 use Rattle.retro_tree.specs.Cell.{value}
 use Rattle.retro_tree.specs.Change.{apply, cell_of, written}
 use Rattle.retro_tree.specs.Overlay.{Cells, Overlays, shown_at, laid_grown, grown_at}
-use Rattle.retro_tree.specs.Commit.{makes, committed}
+use Rattle.retro_tree.specs.Commit.{makes, committed, put_cells}
 use Rattle.retro_tree.specs.declared.node.Node.{Node}
 use Rattle.retro_tree.specs.declared.cell.Cell.{Cell}
 use Rattle.retro_tree.specs.declared.cell.Cell.TheVariants as cells
@@ -56,14 +57,14 @@ any_put p c v h (e ∷ es) =
 
 -- ---- sessions
 -- whether a change makes a session, where it isn't there
-abbrev sets : ℕ → Change → Bool
+abbrev pub sets : ℕ → Change → Bool
 sets k (changes.Put p node) = false
 sets k (changes.Grow p bytes) = false
 sets k (changes.SetVar sid name text) = eq_by_cmp nat_cmp k sid
 sets k (changes.SetCwd sid q) = eq_by_cmp nat_cmp k sid
 sets k (changes.SetStatus sid n) = eq_by_cmp nat_cmp k sid
 
-key_changed : (change : Change) (s : State) (k : ℕ) → map.contains_key (apply change s).sessions k ≡ (sets k change || map.contains_key s.sessions k)
+pub key_changed : (change : Change) (s : State) (k : ℕ) → map.contains_key (apply change s).sessions k ≡ (sets k change || map.contains_key s.sessions k)
 unfolding apply
 key_changed (changes.Put p node) s k = refl
 key_changed (changes.Grow p bytes) s k = refl
@@ -134,5 +135,16 @@ lasts_grown p bytes laid below now h there same = go (map.get laid (cells.At p))
 -- a growth of what lay below
 pub lasts_first : (p : PathValue) (bytes : List ℕ) (laid : Cells) (below now : State) → Overlays laid below now → is_some (map.get laid (cells.At p)) ≡ false → committed laid below ≡ now → committed (map.insert laid (cells.At p) (More bytes)) below ≡ apply (changes.Grow p bytes) now
 lasts_first p bytes laid below now h none same = lasts_by (changes.Grow p bytes) (More bytes) laid below now h (first_shown p bytes laid below now h none) (λ k. refl) same
+
+no_items : (es : List (Cell × Laid)) → length es ≡ 0 → es ≡ []
+no_items [] e = refl
+no_items (x ∷ es) e = absurd (suc-ne-zero (length es) e)
+
+abbrev no_cells : Cells
+no_cells = map.empty
+
+-- nothing laid leaves each state as it is
+pub lasts_none : (s : State) → committed map.empty s ≡ s
+lasts_none s = ap (λ es. put_cells es s) (no_items (map.entries no_cells) (sym (len-entries no_cells) ∙ len-empty cell_cmp Laid))
 
 pub ruleset lasting = (lasts_put, lasts_var, lasts_cwd, lasts_status, lasts_grown, lasts_first)

@@ -31,7 +31,7 @@ pub get_laid : (laid : Cells) (k : Cell) (w : Laid) (c : Cell) → map.get (map.
 get_laid laid k w c = get-insert cell_total laid k w c ∙ ap (λ b. cond b (Some w) (map.get laid c)) ((eq_by_cmp_equiv cell_total).symm c k)
 
 -- and once that is taken away
-get_taken : (laid : Cells) (k c : Cell) → map.get (map.remove laid k) c ≡ if cell_eq k c then None else map.get laid c
+pub get_taken : (laid : Cells) (k c : Cell) → map.get (map.remove laid k) c ≡ if cell_eq k c then None else map.get laid c
 get_taken laid k c = get-remove cell_total laid k c ∙ ap (λ b. cond b None (map.get laid c)) ((eq_by_cmp_equiv cell_total).symm c k)
 
 -- what is laid over another cell stays

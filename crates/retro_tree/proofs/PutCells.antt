@@ -260,10 +260,10 @@ held_shown (cells.Cwd sid) (More bytes) s now h = sym h
 held_shown (cells.Var sid name) (More bytes) s now h = sym h
 held_shown (cells.Status sid) (More bytes) s now h = sym h
 
-found_first : (e : Cell × Laid) (es : List (Cell × Laid)) → find cell_cmp e.0 (e ∷ es) ≡ Some e.1
+pub found_first : (e : Cell × Laid) (es : List (Cell × Laid)) → find cell_cmp e.0 (e ∷ es) ≡ Some e.1
 found_first e es = ap (λ r. cond (is_eq r) (Some e.1) (find cell_cmp e.0 es)) (tied_itself cell_total e.0)
 
-found_later : (c : Cell) (e : Cell × Laid) (es : List (Cell × Laid)) → cell_eq e.0 c ≡ false → find cell_cmp c (e ∷ es) ≡ find cell_cmp c es
+pub found_later : (c : Cell) (e : Cell × Laid) (es : List (Cell × Laid)) → cell_eq e.0 c ≡ false → find cell_cmp c (e ∷ es) ≡ find cell_cmp c es
 found_later c e es apart = ap (λ b. cond b (Some e.1) (find cell_cmp c es)) ((eq_by_cmp_equiv cell_total).symm c e.0 ∙ apart)
 
 settled : (now : State) (es : List (Cell × Laid)) → T (is_sorted cell_cmp es) → (s : State) → ((c : Cell) (l : Laid) → find cell_cmp c es ≡ Some l → value c now ≡ shown_at (Some l) (value c s)) → ((c : Cell) → find cell_cmp c es ≡ None → value c s ≡ value c now) → (c : Cell) → value c (put_cells es s) ≡ value c now

@@ -51,7 +51,7 @@ above_null (x ∷ []) h k = too_short _
 above_null (x ∷ y ∷ []) h k = sym (at_end (pointwise nat_eq (codes "dev") x) (pointwise nat_eq (codes "null") y)) ∙ k
 above_null (x ∷ y ∷ z ∷ r) h k = same_branch (pointwise nat_eq (codes "dev") x) (pointwise nat_eq (codes "null") y) (z ∷ r) (parent_of (z ∷ r)) ∙ h
 
-stands_under : (q : PathValue) (t : Tree) → IsLawfulTree t → AllNames q → is_null q ≡ false → node_in (parent_of q) t ≡ Dir → may_stand q ≡ true
+pub stands_under : (q : PathValue) (t : Tree) → IsLawfulTree t → AllNames q → is_null q ≡ false → node_in (parent_of q) t ≡ Dir → may_stand q ≡ true
 unfolding may_stand
 stands_under q t l names apart up = and_true _ _ (ap not (above_null q (dir_stands (parent_of q) t l up) apart)) names
 
@@ -64,7 +64,7 @@ permit_above (File b) Missing n e = cc
 permit_above (File b) Dir n e = refl
 permit_above (File b) (File c) n e = cc
 
-permit_no_dir : (node above : Node) (n : ℕ) → permit_at node above n ≡ permits.Yes → is_dir node ≡ false
+pub permit_no_dir : (node above : Node) (n : ℕ) → permit_at node above n ≡ permits.Yes → is_dir node ≡ false
 permit_no_dir Missing above n e = refl
 permit_no_dir Dir above n e = cc
 permit_no_dir (File b) above n e = refl

@@ -1,5 +1,5 @@
 -- What is laid over the cells of a state: values, and growths.
-use Rattle.std.specs.Prelude.{◌≡◌, ℕ, Bool, false, if◌then◌else◌, List, [], ◌∷◌, ◌++◌, Option, Some, None, is_some}
+use Rattle.std.specs.Prelude.{◌≡◌, ℕ, Bool, true, false, if◌then◌else◌, List, [], ◌∷◌, ◌++◌, Option, Some, None, is_some}
 use Rattle.std.specs.List.{filter}
 use Rattle.std.specs.Ordering.{is_le}
 use Rattle.std.specs.FinMap as map
@@ -31,6 +31,19 @@ shown_at (Some (More bytes)) below = value_grown bytes below
 -- now has what is laid where something is, and what the state below has elsewhere
 abbrev pub Overlays : Cells → State → State → Type 0
 Overlays laid below now = (c : Cell) → value c now ≡ shown_at (map.get laid c) (value c below)
+
+-- whether what is laid is of its cell's kind
+abbrev pub is_of : Cell → Laid → Bool
+is_of (cells.At p) (Whole (values.Node node)) = true
+is_of (cells.At p) (More bytes) = true
+is_of (cells.Cwd sid) (Whole (values.Cwd q)) = true
+is_of (cells.Var sid name) (Whole (values.Text t)) = true
+is_of (cells.Status sid) (Whole (values.Status n)) = true
+is_of _ _ = false
+
+-- over each cell, what is laid is of its kind
+unfoldable pub Fits : Cells → Type 0
+Fits laid = (c : Cell) (l : Laid) → map.get laid c ≡ Some l → is_of c l ≡ true
 
 -- what is laid, grown by some bytes
 abbrev pub laid_grown : List ℕ → Laid → Laid

@@ -1,15 +1,18 @@
 //! Laws of lawful states, as contracts of functions that do nothing.
-ghost use Rattle.std.specs.Prelude.{◌≡◌, ◌≤◌, IsTrue, true, false, ℕ, List, [], length};
+ghost use Rattle.std.specs.Prelude.{◌≡◌, ◌≤◌, IsTrue, true, false, ℕ, List, [], length, min};
 ghost use Rattle.retro_tree.specs.Name.{AllNames};
-ghost use Rattle.retro_tree.specs.Path.{PathValue, is_null};
-ghost use Rattle.retro_tree.specs.Node.{file_limit};
-ghost use Rattle.retro_tree.specs.Tree.{Tree};
+ghost use Rattle.std.specs.FinMap as map;
+ghost use Rattle.retro_tree.specs.Path.{PathValue, is_null, is_root, parent_of};
+ghost use Rattle.retro_tree.specs.Node.{file_limit, is_dir};
+ghost use Rattle.retro_tree.specs.Tree.{Tree, node_in};
+ghost use Rattle.retro_tree.specs.Ask.{names_in};
 ghost use Rattle.retro_tree.specs.State.{put_node, grow_file, put_status, permit_of};
 ghost use Rattle.retro_tree.specs.Limits.{IsWithinLimits, within_limits};
 ghost use Rattle.retro_tree.specs.Lawful.{IsLawful, IsLawfulTree, KeepsTreeLaw, is_lawful, is_lawful_tree};
 ghost use Rattle.retro_tree.specs.Change.{IsLawfulChange, apply, has_its_session, may_make};
 ghost use Rattle.retro_tree.specs.declared.change.Change.{Change};
-ghost use Rattle.retro_tree.specs.declared.node.Node.TheVariants.{File};
+ghost use Rattle.retro_tree.specs.declared.change.Change.TheVariants.{Put, Grow};
+ghost use Rattle.retro_tree.specs.declared.node.Node.TheVariants.{Missing, Dir, File};
 ghost use Rattle.retro_tree.specs.declared.node.Permit.TheVariants.{Yes};
 ghost use Rattle.retro_tree.specs.declared.state.State.{State};
 
@@ -78,7 +81,58 @@ pub fn lawful_changes()
     ensures sound { (c : Change) (s : State) → IsLawful s → has_its_session c s ≡ true
         → may_make c s ≡ true → IsLawfulChange c s }
     ensures whole { (c : Change) (s : State) → IsLawfulChange c s → may_make c s ≡ true }
+    ensures kept { (c : Change) (s : State) → IsLawful s → may_make c s ≡ true
+        → IsLawful (apply c s) }
     ensures session { (c : Change) (s : State)
         → IsLawfulChange c s → has_its_session c s ≡ true }
     ensures after { (c : Change) (s : State) → IsLawfulChange c s → IsLawful (apply c s) }
+{}
+
+/// A file within the limit, or an empty one, passes the test at a path that may be written to, and so
+/// does a growth by as many bytes as may be written.
+#[tactic(auto, using(crate::proofs::MayMake::may_making))]
+pub fn tested_files()
+    ensures put { (p : PathValue) (bytes : List ℕ) (n : ℕ) (s : State)
+        → IsLawful s → AllNames p → is_null p ≡ false → permit_of p n s ≡ Yes
+        → length bytes ≤ file_limit → may_make (Put p (File bytes)) s ≡ true }
+    ensures emptied { (p : PathValue) (n : ℕ) (s : State)
+        → IsLawful s → AllNames p → is_null p ≡ false → permit_of p n s ≡ Yes
+        → may_make (Put p (File [])) s ≡ true }
+    ensures grown { (p : PathValue) (bytes : List ℕ) (s : State)
+        → IsLawful s → AllNames p → is_null p ≡ false → permit_of p (length bytes) s ≡ Yes
+        → may_make (Grow p bytes) s ≡ true }
+{}
+
+/// A directory passes the test where the parent is one, but at `/dev/null`.
+#[tactic(auto, using(crate::proofs::MayMake::may_making))]
+pub fn tested_directories()
+    ensures { (p : PathValue) (s : State)
+        → IsLawful s → AllNames p → is_null p ≡ false → node_in (parent_of p) s.tree ≡ Dir
+        → may_make (Put p Dir) s ≡ true }
+{}
+
+/// A removal passes the test where the path isn't the root and has no children, as what is no
+/// directory has none.
+#[tactic(auto, using(crate::proofs::MayMake::may_making))]
+pub fn tested_removals()
+    ensures childless { (p : PathValue) (s : State)
+        → IsLawful s → is_root p ≡ false → names_in p s.tree ≡ []
+        → may_make (Put p Missing) s ≡ true }
+    ensures file { (p : PathValue) (s : State)
+        → IsLawful s → is_dir (node_in p s.tree) ≡ false → names_in p s.tree ≡ [] }
+{}
+
+/// A session that is there stays there under each change.
+#[tactic(auto, using(crate::proofs::MayMake::session_stays))]
+pub fn sessions_stay()
+    ensures { (c : Change) (s : State) (sid : ℕ)
+        → map.contains_key s.sessions sid ≡ true
+        → map.contains_key (apply c s).sessions sid ≡ true }
+{}
+
+/// The greatest number that can be asked for stands for all that are over the limit of a file.
+#[tactic(auto, using(crate::proofs::MayMake::permit_clamped))]
+pub fn permits_are_clamped()
+    ensures { (p : PathValue) (n : ℕ) (s : State)
+        → permit_of p (min n 4294967295) s ≡ permit_of p n s }
 {}

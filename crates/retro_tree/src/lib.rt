@@ -34,6 +34,7 @@ mod node;
 mod note;
 mod note_laws;
 mod overlay;
+mod same;
 mod session;
 mod state;
 mod tree;
@@ -49,15 +50,19 @@ pub use cell_laws::{
 pub use change::Change;
 pub use laws::{
     lawful_changes, lawful_files, lawful_growths, lawful_states_are_within_limits,
-    lawful_states_pass, lawful_statuses, lawful_trees, lawful_trees_pass,
+    lawful_states_pass, lawful_statuses, lawful_trees, lawful_trees_pass, permits_are_clamped,
+    sessions_stay, tested_directories, tested_files, tested_removals,
 };
 pub use node::{Entry, FILE_LIMIT, Kind, Node, Permit};
 pub use note::{Note, Notes};
 pub use note_laws::{
     allowed_notes_keep_the_law, notes_act_on_each_cell, notes_hold_by_their_cells, notes_in_turn,
 };
-pub use overlay::{Laid, Overlay, overlays_last};
-pub use retro_path::{Bytes, Listing, NAME_LIMIT, Name, Path, Resolved, Text, VarName, resolve};
+pub use overlay::{Laid, Overlay, overlays_last, overlays_show_a_state};
+pub use retro_path::{
+    Bytes, Listing, NAME_LIMIT, Name, Path, Resolved, Text, VarName, is_relative, named_alike,
+    resolve,
+};
 pub use session::{Session, Sessions, VALUE_LIMIT, Vars};
 pub use state::State;
 pub use tree::Tree;

@@ -1,9 +1,10 @@
 //! What is laid over the cells of a state: values, and growths.
-ghost use Rattle.std.specs.Prelude.{◌≡◌, ◌≢◌, ◌↔◌, IfOk, IsTrue, OnOk, OnErr, is_some};
+ghost use Rattle.std.specs.Prelude.{◌≡◌, ◌≢◌, ◌↔◌, IfOk, IsTrue, OnOk, OnErr, is_some, true};
 ghost use Rattle.std.specs.Option.{option_copied};
 ghost use Rattle.std.specs.FinMap as map;
 ghost use Rattle.retro_tree.specs.Cell.{value as value_at};
-ghost use Rattle.retro_tree.specs.Overlay.{Overlays, grown_at};
+ghost use Rattle.retro_tree.specs.Overlay.{Overlays, Fits, is_of, grown_at};
+ghost use Rattle.retro_tree.specs.Commit.{committed};
 ghost use Rattle.retro_tree.specs.declared.cell.Cell.{Cell as StateCell};
 ghost use Rattle.retro_tree.specs.declared.overlay.laid.Laid.TheVariants as Laid;
 ghost use Rattle.retro_tree.specs.declared.state.State.{State};
@@ -17,7 +18,7 @@ mod listing;
 mod nodes;
 
 use crate::cell::{Cell, Value};
-pub use commit::overlays_last;
+pub use commit::{overlays_last, overlays_show_a_state};
 pub use laid::Laid;
 use retro_path::Bytes;
 use std::alloc::{AllocError, Global};
@@ -48,10 +49,12 @@ impl Model for Overlay {
 
 impl Overlay {
     /// Nothing is laid: each state is shown as it is. Takes no memory.
-    #[tactic(auto, using(crate::proofs::OverlayLemmas::nothing_laid))]
+    #[tactic(auto, using(crate::proofs::OverlayLemmas::nothing_laid, crate::proofs::OverlayLasting::lasts_none, crate::proofs::Fitting::fits_none))]
     pub fn new(alloc: Global) -> Overlay
         ensures value { result ≡ map.empty }
         ensures shows { (s : State) → Overlays result s s }
+        ensures lasts { (s : State) → committed result s ≡ s }
+        ensures fits { Fits result }
     {
         Overlay {
             cells: BTreeMap::new(alloc),
@@ -71,7 +74,7 @@ impl Overlay {
     /// # Errors
     ///
     /// `NoMem` where memory is wanting.
-    #[tactic(auto, using(crate::proofs::OverlayLaying::shows_laid))]
+    #[tactic(auto, using(crate::proofs::OverlayLaying::shows_laid, crate::proofs::Fitting::fitting))]
     pub fn insert(&mut self, cell: Cell, value: Value) -> Result<(), AllocError>
         ensures ok { OnOk result (self.new ≡ map.insert self.old cell (Laid.Whole value)) }
         ensures shows { OnOk result ((below now next : State)
@@ -79,6 +82,8 @@ impl Overlay {
             → value_at cell next ≡ value
             → ((c : StateCell) → c ≢ cell → value_at c next ≡ value_at c now)
             → Overlays self.new below next) }
+        ensures fits { OnOk result
+            (is_of cell (Laid.Whole value) ≡ true → Fits self.old → Fits self.new) }
         ensures err { OnErr result (self.new ≡ self.old) }
     {
         self.lay_over(cell, Laid::Whole(value))
@@ -96,6 +101,7 @@ impl Overlay {
 
     /// Takes away what is laid over a cell, where something is: a state is shown that has there what
     /// the state below has. Takes no memory.
+    #[tactic(auto, using(crate::proofs::Fitting::fits_removed))]
     pub fn remove(&mut self, cell: &Cell)
         ensures value { self.new ≡ map.remove self.old cell.now }
         ensures shows { (below now next : State)
@@ -103,6 +109,7 @@ impl Overlay {
             → value_at cell.now next ≡ value_at cell.now below
             → ((c : StateCell) → c ≢ cell.now → value_at c next ≡ value_at c now)
             → Overlays self.new below next }
+        ensures fits { Fits self.old → Fits self.new }
     {
         self.cells.remove(cell);
     }
@@ -154,6 +161,7 @@ impl Overlay {
         ensures done { IfOk result (λ done. done ≡ is_some (map.get self.old cell.now)) }
         ensures ok { OnOk result
             (self.new ≡ grown_at cell.now bytes.now (map.get self.old cell.now) self.old) }
+        ensures fits { OnOk result (Fits self.old → Fits self.new) }
         ensures err { OnErr result (self.new ≡ self.old) }
     {
         if let Some(laid) = self.cells.get_mut(cell) {

@@ -3,7 +3,7 @@ ghost use Rattle.std.specs.Prelude.{◌≡◌, ◌||◌, ℕ, [], OnOk, OnErr, t
 ghost use Rattle.std.specs.List.{list_any, list_all};
 ghost use Rattle.std.specs.FinMap as map;
 ghost use Rattle.retro_tree.specs.Cell.{value};
-ghost use Rattle.retro_tree.specs.Overlay.{Cells, Overlays};
+ghost use Rattle.retro_tree.specs.Overlay.{Cells, Overlays, Fits};
 ghost use Rattle.retro_tree.specs.Commit.{committed, makes, put_cell, put_cells, removes, removals, writes, unwound, CanUnwind};
 ghost use Rattle.retro_tree.specs.declared.cell.Cell.{Cell as StateCell};
 ghost use Rattle.retro_tree.specs.declared.state.State.{State as StateValue};
@@ -99,6 +99,12 @@ pub fn overlays_last()
         ≡ (list_any (λ e. makes sid e.0 e.1) (map.entries laid)
         || map.contains_key s.sessions sid))
         → committed laid s ≡ now }
+{}
+
+/// An overlay in which each value is of its cell's kind shows what it leaves of a state.
+#[tactic(auto, using(crate::proofs::Fitting::fits_shows))]
+pub fn overlays_show_a_state()
+    ensures { (laid : Cells) (s : StateValue) → Fits laid → Overlays laid s (committed laid s) }
 {}
 
 /// Writes what is laid over one cell, which is no removal, into a state, with how it is undone.

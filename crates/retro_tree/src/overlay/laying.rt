@@ -3,7 +3,7 @@ ghost use Rattle.std.specs.Prelude.{◌≡◌, ◌≢◌, ◌||◌, OnOk, OnErr}
 ghost use Rattle.std.specs.FinMap as map;
 ghost use Rattle.retro_tree.specs.Change.{apply, cell_of};
 ghost use Rattle.retro_tree.specs.Notes.{cell_eq};
-ghost use Rattle.retro_tree.specs.Overlay.{Overlays};
+ghost use Rattle.retro_tree.specs.Overlay.{Overlays, Fits};
 ghost use Rattle.retro_tree.specs.Commit.{committed};
 ghost use Rattle.retro_tree.specs.declared.cell.Cell.{Cell as StateCell};
 ghost use Rattle.retro_tree.specs.declared.change.Change.TheVariants as Change;
@@ -24,7 +24,7 @@ impl Overlay {
     /// # Errors
     ///
     /// `NoMem` where memory is wanting.
-    #[tactic(auto, using(crate::proofs::OverlayLaying::laying, crate::proofs::OverlayLasting::lasting))]
+    #[tactic(auto, using(crate::proofs::OverlayLaying::laying, crate::proofs::OverlayLasting::lasting, crate::proofs::Fitting::fitting))]
     pub fn lay(&mut self, change: Change) -> Result<(), AllocError>
         ensures ok { OnOk result ((below now : State)
             → Overlays self.old below now
@@ -37,6 +37,7 @@ impl Overlay {
             ≡ (cell_eq (cell_of change) c || map.contains_key self.old c)) }
         ensures others { OnOk result ((c : StateCell) → c ≢ cell_of change
             → map.get self.new c ≡ map.get self.old c) }
+        ensures fits { OnOk result (Fits self.old → Fits self.new) }
         ensures err { OnErr result (self.new ≡ self.old) }
     {
         match change {
@@ -54,7 +55,7 @@ impl Overlay {
     }
 
     /// Lays a growth. Where something is laid, that grows in place; else the growth is laid as such.
-    #[tactic(auto, using(crate::proofs::OverlayLaying::laying, crate::proofs::OverlayLasting::lasting))]
+    #[tactic(auto, using(crate::proofs::OverlayLaying::laying, crate::proofs::OverlayLasting::lasting, crate::proofs::Fitting::fitting))]
     fn lay_growth(&mut self, path: Path, bytes: Bytes) -> Result<(), AllocError>
         ensures ok { OnOk result ((below now : State)
             → Overlays self.old below now
@@ -67,6 +68,7 @@ impl Overlay {
             ≡ (cell_eq (cell_of (Change.Grow path bytes)) c || map.contains_key self.old c)) }
         ensures others { OnOk result ((c : StateCell) → c ≢ cell_of (Change.Grow path bytes)
             → map.get self.new c ≡ map.get self.old c) }
+        ensures fits { OnOk result (Fits self.old → Fits self.new) }
         ensures err { OnErr result (self.new ≡ self.old) }
     {
         let cell = Cell::At(path);

@@ -1,8 +1,9 @@
 use Rattle.std.proofs.Common.{ap, sym, subst, ◌∙◌}
 use Rattle.std.specs.FinMap as map
 use Rattle.retro_tree.specs.CellOrder.{cell_total, cell_exact}
-use Rattle.retro_tree.specs.Overlay.{Overlays}
+use Rattle.retro_tree.specs.Overlay.{Overlays, Fits}
 use Rattle.retro_tree.proofs.MapLemmas.{made_remove}
+use Rattle.retro_tree.proofs.Fitting.{fits_removed}
 use Rattle.retro_tree.proofs.OverlayLaying.{shows_removed}
 use Rattle.retro_tree.proofs.overlay.Overlay.remove.Goals as goal
 
@@ -14,3 +15,6 @@ returns-clause-value c =
 pub returns-clause-shows : goal.returns-clause-shows
 returns-clause-shows c below now next h here there =
     subst (λ m. Overlays m below next) (sym (returns-clause-value c)) (shows_removed c.args.self.now c.args.cell.now below now next h here there)
+
+pub returns-clause-fits : goal.returns-clause-fits
+returns-clause-fits c fit = subst Fits (sym (returns-clause-value c)) (fits_removed c.args.self.now c.args.cell.now fit)
