@@ -3,3 +3,4 @@ pub mod Name
 pub mod VarName
 pub mod Path
 pub mod Resolving
+pub mod OutOfMemory

@@ -23,3 +23,4 @@ pub mod Notes
 pub mod Overlay
 pub mod Former
 pub mod Commit
+pub mod OutOfMemory
