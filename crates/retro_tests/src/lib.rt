@@ -1,29 +1,24 @@
-//! Worked values of every layer: what paths, states, lines, scripts, documents and the program answer.
+//! Worked values of every layer, as tables of rows: a call, what it is given, and what it returns.
 //!
-//! Nothing stands here but tests and what they are given, and they use public items alone.
+//! This crate has nothing but tests, which use public items alone. What rows want comes from the
+//! profile of the shell, the formats and the limits, never from the program's own output.
 #![tactic(auto)]
 
 #[cfg(test)]
-mod alike;
-#[cfg(test)]
-mod answers;
-#[cfg(test)]
 mod documents;
 #[cfg(test)]
-mod given;
+mod edges;
 #[cfg(test)]
-mod lines;
-#[cfg(test)]
-mod names;
-#[cfg(test)]
-mod overlays;
+mod paths;
 #[cfg(test)]
 mod programs;
 #[cfg(test)]
-mod scripts;
-#[cfg(test)]
-mod shells;
-#[cfg(test)]
-mod shown;
+mod rows;
 #[cfg(test)]
 mod states;
+#[cfg(test)]
+mod tables;
+#[cfg(test)]
+mod trees;
+#[cfg(test)]
+mod values;

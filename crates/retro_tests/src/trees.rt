@@ -1,10 +1,11 @@
-//! Trees written out, for tests: lists in `[ ]`, each with its `;`, and simple commands in `( )`.
-
-use retro_syntax::Line;
+//! Lines, and the trees that they are read as: lists in `[ ]`, simple commands in `( )`.
+use crate::rows::text;
 use retro_syntax::tree::{
     AndOr, Assignment, Command, Commands, Connector, Direction, Item, Piece, Pipeline, Simple, Word,
 };
+use retro_syntax::{Line, Parsed, PlainItem, Refused, TildePrefix, parse, plain_commands};
 use std::alloc::{AllocError, Global};
+use std::test::Fail;
 
 /// Quoted pieces stand in double quotes, and parameters in `${ }`.
 fn show_word(out: &mut String, word: &Word) -> Result<(), AllocError> {
@@ -19,15 +20,10 @@ fn show_word(out: &mut String, word: &Word) -> Result<(), AllocError> {
     Ok(())
 }
 
-fn show_between(
-    out: &mut String,
-    before: &str,
-    text: &str,
-    behind: &str,
-) -> Result<(), AllocError> {
+fn show_between(out: &mut String, before: &str, text: &str, after: &str) -> Result<(), AllocError> {
     out.push_str(before)?;
     out.push_str(text)?;
-    out.push_str(behind)
+    out.push_str(after)
 }
 
 fn show_item(out: &mut String, item: &Item) -> Result<(), AllocError> {
@@ -151,11 +147,66 @@ fn show_list(
     out.push_str(if list.closed { ";]" } else { "]" })
 }
 
-/// The tree of a line; a blank one is empty.
-pub fn shown(alloc: Global, line: &Line) -> Result<String, AllocError> {
+/// The tree of a text, nothing for a blank line, or the number of its refusal.
+pub fn tree(alloc: Global, given: &str) -> Result<String, Fail> {
+    let parsed = Parsed::of(alloc, text(alloc, given)?)?;
+    if parsed.text() != given {
+        return Err("another text")?;
+    }
+    match parsed.refused() {
+        Some(Refused::Unsupported) => return text(alloc, "5"),
+        Some(Refused::TooLong) => return text(alloc, "6"),
+        Some(Refused::TooDeep) => return text(alloc, "7"),
+        Some(Refused::NoMem) => return Err("out of memory")?,
+        None => (),
+    }
     let mut out = String::new(alloc);
-    if let Some(commands) = &line.commands {
+    if let Some(commands) = &parsed.line().ok_or("no line")?.commands {
         show_list(&mut out, "", commands, 40)?;
+    }
+    Ok(out)
+}
+
+/// The tilde prefix of a line's first word or first value, where it has one.
+fn first_tilde_prefix(line: &Line) -> Option<TildePrefix<'_>> {
+    let commands = line.commands.as_ref()?;
+    match &commands.last.last.command {
+        Command::Pipe(stages) => match stages.first()? {
+            Simple::Assignments(assignments) => assignments.first()?.tilde_prefix(),
+            Simple::Command(items) => match items.first()? {
+                Item::Argument(word) => word.tilde_prefix(),
+                Item::Redirect(_, word) => word.tilde_prefix(),
+            },
+        },
+        Command::If(_) | Command::IfElse(_, _) | Command::For(_) => None,
+    }
+}
+
+/// The login name and the rest of the first tilde prefix of a text's line, or `none`.
+pub fn tilde(alloc: Global, given: &str) -> Result<String, Fail> {
+    let line = parse(alloc, given)?;
+    match first_tilde_prefix(&line) {
+        Some(prefix) => Ok(format!(in alloc; "{}|{}", prefix.login, prefix.rest)?),
+        None => text(alloc, "none"),
+    }
+}
+
+/// The parts of the plain commands of a text, or `none` where its line isn't a list of such.
+pub fn plain(alloc: Global, given: &str) -> Result<String, Fail> {
+    let line = parse(alloc, given)?;
+    let Some(commands) = plain_commands(alloc, &line)? else {
+        return text(alloc, "none");
+    };
+    let mut out = String::new(alloc);
+    for command in &commands {
+        for item in &command.items {
+            match item {
+                PlainItem::Word(word) => show_between(&mut out, " ", word, "")?,
+                PlainItem::Truncate(word) => show_between(&mut out, " >", word, "")?,
+                PlainItem::Append(word) => show_between(&mut out, " >>", word, "")?,
+            }
+        }
+        out.push(';')?;
     }
     Ok(out)
 }

@@ -1,5 +1,5 @@
 use Rattle.std.proofs.Common.{◌+◌, ◌*◌, ℕ}
-use Rattle.retro_tests.proofs.shown.+shown.Given as goal
+use Rattle.retro_tests.proofs.trees.+shown.Given as goal
 
 abbrev pub decreases-show_command : goal.decreases-show_command
 decreases-show_command l = 8 * l.room
