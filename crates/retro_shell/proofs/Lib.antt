@@ -1,4 +1,4 @@
 pub mod Joining
 pub mod Statuses
-pub mod Running
-pub mod Doings
+pub mod RunSteps
+pub mod CatSteps

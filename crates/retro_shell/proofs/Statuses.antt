@@ -1,4 +1,4 @@
--- A status that is set leaves the same sessions there.
+-- Setting a status of a session that exists leaves the same sessions.
 use Rattle.std.proofs.Common.{◌≡◌, ◌≢◌, ℕ, IsTrue, sym, ap, ◌∙◌, ⊎_elim}
 use Rattle.std.proofs.lemmas.Bool.{cases_eq}
 use Rattle.std.specs.Option.{is_some}
@@ -13,14 +13,17 @@ use Rattle.retro_tree.proofs.Lookups.{get_inserted, get_inserted_apart}
 use Rattle.retro_tree.proofs.Keeping.{lawful_status}
 use Rattle.retro_shell.specs.Line.{HasSameSessions}
 
-kept : (m : map.FinMap nat_cmp Session) (sid n : ℕ) (session : Session) → IsTrue (map.contains_key m sid) → map.contains_key (map.insert m sid session) n ≡ map.contains_key m n
-kept m sid n session there =
+key_after_insert : (m : map.FinMap nat_cmp Session) (sid n : ℕ) (session : Session) → IsTrue (map.contains_key m sid)
+    → map.contains_key (map.insert m sid session) n ≡ map.contains_key m n
+key_after_insert m sid n session there =
     ⊎_elim
-    (λ (e : n ≡ sid). ap (λ k. map.contains_key (map.insert m sid session) k) e ∙ ap is_some (get_inserted nat_cmp_total m sid session) ∙ sym there ∙ ap (map.contains_key m) (sym e))
+    (λ (e : n ≡ sid). ap (λ k. map.contains_key (map.insert m sid session) k) e
+    ∙ ap is_some (get_inserted nat_cmp_total m sid session) ∙ sym there ∙ ap (map.contains_key m) (sym e))
     (λ (ne : n ≢ sid). ap is_some (get_inserted_apart nat_cmp_total nat_cmp-IsAntisymmetric m sid session n ne))
     (cases_eq n sid)
 
-pub same_sessions : (sid status : ℕ) (s : State) → IsTrue (map.contains_key s.sessions sid) → HasSameSessions s (put_status sid status s)
-same_sessions sid status s there = record { same = λ n. kept s.sessions sid n _ there }
+pub same_sessions : (sid status : ℕ) (s : State) → IsTrue (map.contains_key s.sessions sid)
+    → HasSameSessions s (put_status sid status s)
+same_sessions sid status s there = record { same = λ n. key_after_insert s.sessions sid n _ there }
 
-pub ruleset ending = (lawful_status, same_sessions)
+pub ruleset status_laws = (lawful_status, same_sessions)

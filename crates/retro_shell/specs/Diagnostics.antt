@@ -1,11 +1,11 @@
--- The texts that a line prints about its own faults.
+-- The texts of diagnostics.
 use Rattle.std.specs.Prelude.{ℕ, List, [], ◌∷◌, ◌++◌, Option, Some, None, codes}
 use Rattle.retro_tree.specs.declared.node.Permit.{Permit}
 use Rattle.retro_tree.specs.declared.node.Permit.TheVariants.{Yes, NoParent, NotDir, IsDir, TooLarge}
 use Rattle.retro_shell.specs.declared.diagnostics.Reason.{Reason}
 use Rattle.retro_shell.specs.declared.diagnostics.Reason.TheVariants as reasons
 
--- a reason in words
+-- the text of a reason
 abbrev pub reason_text : Reason → List ℕ
 reason_text reasons.NoSuchFile = codes "No such file or directory"
 reason_text reasons.NotDirectory = codes "Not a directory"
@@ -13,7 +13,7 @@ reason_text reasons.IsDirectory = codes "Is a directory"
 reason_text reasons.TooLarge = codes "File too large"
 reason_text reasons.NameTooLong = codes "File name too long"
 
--- why a write isn't permitted, where it isn't
+-- the reason why a write isn't permitted, or None
 abbrev pub refusal : Permit → Option Reason
 refusal Yes = None
 refusal NoParent = Some reasons.NoSuchFile
@@ -25,6 +25,6 @@ refusal TooLarge = Some reasons.TooLarge
 unfoldable pub fault_text : List ℕ → List ℕ → Reason → List ℕ
 fault_text speaker word reason = speaker ++ codes ": " ++ word ++ codes ": " ++ reason_text reason ++ 10 ∷ []
 
--- what the shell prints of a name that is no command's
+-- the diagnostic of a name that is no command's
 unfoldable pub not_found_text : List ℕ → List ℕ
 not_found_text name = codes "sh: " ++ name ++ codes ": not found" ++ 10 ∷ []

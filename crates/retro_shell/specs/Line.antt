@@ -1,4 +1,4 @@
--- What a line means: the state after it, and what the terminal gets.
+-- What a line means: the state after it, and the text that the terminal gets (XCU 2.9).
 use Rattle.std.specs.Prelude.{ℕ, ◌≡◌, List, [], ◌∷◌, ◌++◌, Option, Some, None, option_and_then, codes}
 use Rattle.std.specs.FinMap as map
 use Rattle.retro_tree.specs.State.{put_status}
@@ -8,21 +8,21 @@ use Rattle.retro_syntax.specs.Lines.{parsed}
 use Rattle.retro_shell.specs.Redirections.{Printed}
 use Rattle.retro_shell.specs.Commands.{run}
 
--- the status is set last
-abbrev pub ended : ℕ → State × Printed → State × List ℕ
-ended sid (s, printed) = (put_status sid printed.status s, printed.text)
+-- the state and the text after a line's last command: the session's status is set last
+abbrev pub line_end : ℕ → State × Printed → State × List ℕ
+line_end sid (s, printed) = (put_status sid printed.status s, printed.text)
 
--- a text outside the grammar, or whose line is more than a list of plain commands; a blank line; a
--- list of commands
+-- the meaning of the plain commands of a line: None for a text outside the grammar or a line that is more
+-- than a list of plain commands, and no commands for a blank line
 abbrev pub meaning : ℕ → Option (List (List PlainItem)) → State → State × List ℕ
 meaning sid None s = (put_status sid 2 s, codes "sh: unsupported line" ++ 10 ∷ [])
 meaning sid (Some []) s = (s, [])
-meaning sid (Some (items ∷ commands)) s = ended sid (run sid items commands s)
+meaning sid (Some (items ∷ commands)) s = line_end sid (run sid items commands s)
 
--- the state after a line of a session, and what the terminal gets
+-- the state after a line of a session, and the text that the terminal gets
 unfoldable pub line : ℕ → List ℕ → State → State × List ℕ
 line sid text s = meaning sid (option_and_then plain_commands (parsed text)) s
 
--- the same sessions are there
+-- two states have the same sessions, by their numbers
 pub record HasSameSessions (old new : State) : Type 0 where
   pub same : (sid : ℕ) → map.contains_key new.sessions sid ≡ map.contains_key old.sessions sid

@@ -1,5 +1,6 @@
--- Redirections of output (XCU 2.7), and where a command's output goes.
-use Rattle.std.specs.Prelude.{ℕ, ◌≡◌, ◌==◌, false, List, [], ◌∷◌, ◌++◌, length, Option, Some, None, codes, if◌then◌else◌}
+-- Redirections of output (XCU 2.7), and the target that a command's output goes to.
+use Rattle.std.specs.Prelude.{ℕ, ◌≡◌, ◌==◌, false, List, [], ◌∷◌, ◌++◌, length, Option, Some, None, codes}
+use Rattle.std.specs.Prelude.{if◌then◌else◌}
 use Rattle.retro_tree.specs.Path.{PathValue}
 use Rattle.retro_tree.specs.State.{put_node, grow_file, permit_of}
 use Rattle.retro_tree.specs.Session.{session_in}
@@ -20,87 +21,87 @@ use Rattle.retro_shell.specs.declared.redirection.Mode.{Mode}
 use Rattle.retro_shell.specs.declared.redirection.Mode.TheVariants.{Truncate, Append}
 use Rattle.retro_shell.specs.declared.redirection.Target.{Target as TargetValue}
 use Rattle.retro_shell.specs.declared.redirection.Target.TheVariants as targets
-use Rattle.retro_shell.specs.declared.redirection.Opened.{Opened as OpenedValue}
-use Rattle.retro_shell.specs.declared.redirection.Opened.TheVariants as openings
+use Rattle.retro_shell.specs.declared.redirection.Opening.{Opening as OpenedValue}
+use Rattle.retro_shell.specs.declared.redirection.Opening.TheVariants as openings
 
 abbrev pub Printed : Type 0
 Printed = PrintedValue
 
--- where output goes: the terminal, nowhere, or the file that a word names
+-- the target of output: the terminal, /dev/null, or the file that a word names
 pub data Target : Type 0 where
   terminal : Target
   null : Target
   file : List ℕ → PathValue → Target
 
--- how redirections end: ready, or failed at a word
-pub data Opened : Type 0 where
-  ready : Target → Opened
-  failed : List ℕ → Reason → Opened
+-- the result of redirections: a target, or the word that failed with the reason
+pub data Opening : Type 0 where
+  ready : Target → Opening
+  failed : List ℕ → Reason → Opening
 
 abbrev pub target_view : TargetValue → Target
 target_view targets.Terminal = terminal
 target_view targets.Null = null
 target_view (targets.File name p) = file name.now p
 
-abbrev pub opened_view : OpenedValue → Opened
-opened_view (openings.Ready target) = ready (target_view target)
-opened_view (openings.Failed name reason) = failed name.now reason
+abbrev pub opening_view : OpenedValue → Opening
+opening_view (openings.Ready target) = ready (target_view target)
+opening_view (openings.Failed name reason) = failed name.now reason
 
--- a target's path is one at which a file may stand
+-- a target's path is one that may hold a file
 abbrev pub IsFit : Target → Type 0
 IsFit terminal = Unit {0}
 IsFit null = Unit {0}
 IsFit (file name p) = (is_null p ≡ false) × AllNames p
 
-abbrev pub HasFitTarget : Opened → Type 0
+abbrev pub HasFitTarget : Opening → Type 0
 HasFitTarget (ready target) = IsFit target
 HasFitTarget (failed name reason) = Unit {0}
 
--- a file as it is opened: `>` empties it, `>>` leaves it; either makes a missing one
-abbrev pub prepared : Mode → PathValue → State → State
-prepared Truncate p s = put_node p (nodes.File []) s
-prepared Append p s = grow_file p [] s
+-- the state after a file is opened: `>` empties it, `>>` leaves it, and either creates a missing one
+abbrev pub open_effect : Mode → PathValue → State → State
+open_effect Truncate p s = put_node p (nodes.File []) s
+open_effect Append p s = grow_file p [] s
 
-abbrev pub opened_by : Option Reason → Mode → List ℕ → PathValue → State → State × Opened
-opened_by None mode name p s = (prepared mode p s, ready (file name p))
-opened_by (Some reason) mode name p s = (s, failed name reason)
+abbrev pub opening_by_reason : Option Reason → Mode → List ℕ → PathValue → State → State × Opening
+opening_by_reason None mode name p s = (open_effect mode p s, ready (file name p))
+opening_by_reason (Some reason) mode name p s = (s, failed name reason)
 
-abbrev pub opened_at : Mode → List ℕ → Resolved → State → State × Opened
-opened_at mode name resolved.Empty s = (s, failed name reasons.NoSuchFile)
-opened_at mode name resolved.LongName s = (s, failed name reasons.NameTooLong)
-opened_at mode name (resolved.Is p) s =
-    if is_null p then (s, ready null) else opened_by (refusal (permit_of p 0 s)) mode name p s
+abbrev pub opening_at : Mode → List ℕ → Resolved → State → State × Opening
+opening_at mode name resolved.Empty s = (s, failed name reasons.NoSuchFile)
+opening_at mode name resolved.LongName s = (s, failed name reasons.NameTooLong)
+opening_at mode name (resolved.Is p) s =
+    if is_null p then (s, ready null) else opening_by_reason (refusal (permit_of p 0 s)) mode name p s
 
--- the file that a word names opened for output; /dev/null swallows
-unfoldable pub opened_file : Mode → ℕ → List ℕ → State → State × Opened
-opened_file mode sid name s = opened_at mode name (resolve (session_in sid s.sessions).cwd name) s
+-- opening the file that a word names for output; /dev/null discards what is written
+unfoldable pub file_opening : Mode → ℕ → List ℕ → State → State × Opening
+file_opening mode sid name s = opening_at mode name (resolve (session_in sid s.sessions).cwd name) s
 
--- an item's redirection, if it is one, in the place of an earlier target
-abbrev pub opened : ℕ → PlainItem → Target → State → State × Opened
-opened sid (word text) target s = (s, ready target)
-opened sid (truncate name) target s = opened_file Truncate sid name s
-opened sid (append name) target s = opened_file Append sid name s
+-- the target after an item: that of its redirection, or the earlier one where the item is a word
+abbrev pub item_opening : ℕ → PlainItem → Target → State → State × Opening
+item_opening sid (word text) target s = (s, ready target)
+item_opening sid (truncate name) target s = file_opening Truncate sid name s
+item_opening sid (append name) target s = file_opening Append sid name s
 
-abbrev pub where_ready : State × Opened → (Target → State → State × Opened) → State × Opened
+abbrev pub where_ready : State × Opening → (Target → State → State × Opening) → State × Opening
 where_ready (s, ready target) more = more target s
 where_ready (s, failed name reason) more = (s, failed name reason)
 
--- the redirections from the left, up to the first that fails; the last target counts
-abbrev pub redirected : ℕ → List PlainItem → Target → State → State × Opened
-redirected sid [] target s = (s, ready target)
-redirected sid (item ∷ items) target s = where_ready (opened sid item target s) (redirected sid items)
+-- the redirections from left to right, up to the first that fails; the last target counts
+abbrev pub redirections : ℕ → List PlainItem → Target → State → State × Opening
+redirections sid [] target s = (s, ready target)
+redirections sid (item ∷ items) target s = where_ready (item_opening sid item target s) (redirections sid items)
 
-abbrev pub printed : List ℕ → ℕ → Printed
-printed text status = record { text = text; status = status }
+abbrev pub make_printed : List ℕ → ℕ → Printed
+make_printed text status = record { text = text; status = status }
 
-abbrev pub written : Option Reason → List ℕ → PathValue → Done → State → State × Printed
-written None name p done s = (grow_file p done.out s, printed done.err done.status)
-written (Some reason) name p done s = (s, printed (done.err ++ fault_text (codes "sh") name reason) 1)
+abbrev pub file_write : Option Reason → List ℕ → PathValue → Done → State → State × Printed
+file_write None name p done s = (grow_file p done.out s, make_printed done.err done.status)
+file_write (Some reason) name p done s = (s, make_printed (done.err ++ fault_text (codes "sh") name reason) 1)
 
--- output goes to its target, diagnostics to the terminal; output that can't be written is lost whole
-unfoldable pub delivered : Target → Done → State → State × Printed
-delivered terminal done s = (s, printed (done.out ++ done.err) done.status)
-delivered null done s = (s, printed done.err done.status)
-delivered (file name p) done s =
-    if length done.out == 0 then (s, printed done.err done.status)
-    else written (refusal (permit_of p (length done.out) s)) name p done s
+-- output goes to its target and diagnostics to the terminal; output that can't be written is lost as a whole
+unfoldable pub delivery : Target → Done → State → State × Printed
+delivery terminal done s = (s, make_printed (done.out ++ done.err) done.status)
+delivery null done s = (s, make_printed done.err done.status)
+delivery (file name p) done s =
+    if length done.out == 0 then (s, make_printed done.err done.status)
+    else file_write (refusal (permit_of p (length done.out) s)) name p done s

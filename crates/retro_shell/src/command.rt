@@ -5,15 +5,16 @@ ghost use Rattle.retro_syntax.specs.PlainViews.{plain_item_view, plain_command_v
 ghost use Rattle.retro_shell.specs.Commands.{fields, command, run};
 
 use crate::diagnostics::push_fault;
-use crate::redirection::{Opened, Printed, deliver, redirect};
+use crate::redirection::{Opening, Printed, deliver, redirect};
 use crate::utilities::utility;
 use retro_syntax::{PlainCommand, PlainItem};
 use retro_tree::{Bytes, NoMem, State};
 use std::alloc::Global;
 
-/// The fields of a command: its words, redirections left out.
+/// Returns the fields of a command: its words, without its redirections.
 fn fields<'a>(alloc: Global, items: &[PlainItem<'a>]) -> Result<Vec<&'a str>, NoMem>
-    ensures { IfOk result (λ f. map (λ word. word.now) f.items ≡ fields (map plain_item_view items.now)) }
+    ensures { IfOk result (λ f.
+        map (λ word. word.now) f.items ≡ fields (map plain_item_view items.now)) }
 {
     let mut fields = Vec::new(alloc);
     for item in items {
@@ -24,7 +25,7 @@ fn fields<'a>(alloc: Global, items: &[PlainItem<'a>]) -> Result<Vec<&'a str>, No
     Ok(fields)
 }
 
-/// Runs a simple command: redirections first, then the utility, then its output.
+/// Runs a simple command: makes its redirections, runs its utility, and delivers its output.
 #[tactic(auto, unfolding(crate::specs::Commands::command))]
 fn run_command(
     alloc: Global,
@@ -39,11 +40,11 @@ fn run_command(
 {
     let fields = fields(alloc, &plain.items)?;
     match redirect(alloc, state, sid, &plain.items)? {
-        Opened::Ready(target) => {
+        Opening::Ready(target) => {
             let done = utility(alloc, state, sid, &fields)?;
             Ok(deliver(alloc, state, done, target)?)
         }
-        Opened::Failed(word, reason) => {
+        Opening::Failed(word, reason) => {
             let mut text = Bytes::new(alloc);
             push_fault(&mut text, "sh", word, reason)?;
             Ok(Printed { text, status: 1 })
@@ -51,8 +52,8 @@ fn run_command(
     }
 }
 
-/// Runs a command and those behind it, one after the other; the status is the last one's.
-#[tactic(auto, using(crate::proofs::Running::running))]
+/// Runs a command and those that follow it, in order. The status is the last one's.
+#[tactic(auto, using(crate::proofs::RunSteps::run_steps))]
 pub(crate) fn run_commands(
     alloc: Global,
     state: &mut State,

@@ -1,11 +1,11 @@
-//! The texts that a line prints about its own faults.
+//! The texts of diagnostics.
 ghost use Rattle.std.specs.Prelude.{◌≡◌, ◌++◌, OnOk};
 ghost use Rattle.retro_shell.specs.Diagnostics.{reason_text, refusal, fault_text};
 
 use retro_tree::{Bytes, NoMem, Permit};
 use std::alloc::Global;
 
-/// Why a path can't be read or written.
+/// The reason why a path can't be read or written.
 #[derive(Clone, Copy, Debug, PartialEq, Eq)]
 pub(crate) enum Reason {
     NoSuchFile,
@@ -16,7 +16,7 @@ pub(crate) enum Reason {
 }
 
 impl Reason {
-    /// The reason in words, as diagnostics end.
+    /// Returns the text of the reason, with which a diagnostic ends.
     pub fn text(self) -> &'static str
         ensures { result.now ≡ reason_text self }
     {
@@ -30,7 +30,7 @@ impl Reason {
     }
 }
 
-/// Why a write isn't permitted, where it isn't.
+/// Returns the reason why a write isn't permitted, or `None` if it is.
 pub(crate) fn refusal(permit: Permit) -> Option<Reason>
     ensures { result ≡ refusal permit }
 {
@@ -43,7 +43,7 @@ pub(crate) fn refusal(permit: Permit) -> Option<Reason>
     }
 }
 
-/// Adds `SPEAKER: WORD: REASON` and a newline.
+/// Appends `SPEAKER: WORD: REASON` and a newline.
 #[tactic(auto, unfolding(crate::specs::Diagnostics::fault_text))]
 pub(crate) fn push_fault(
     text: &mut Bytes,

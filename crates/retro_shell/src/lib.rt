@@ -1,8 +1,10 @@
-//! Running a line: what its commands leave of a state, and what the terminal gets.
+//! Runs a line of a session: the state after it, and the text that the terminal gets.
 //!
-//! A line's meaning is a definition on whole states (`specs/Line.antt`); [`step`] and [`play`] are
-//! the plain program whose contract it is. [`play`] leaves the lent state as it was and answers a
-//! new one; [`step`] changes an owned state in place, with no copy of it.
+//! The meaning of a line is a definition on whole states (`specs/Line.antt`). [`step`] and [`play`]
+//! are proved to return what it says. [`play`] takes a state by reference and returns a new one;
+//! [`step`] takes a state by value and changes it in place.
+//!
+//! The only error is a failed allocation, `NoMem`.
 #![tactic(auto)]
 
 mod command;

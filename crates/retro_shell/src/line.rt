@@ -1,4 +1,4 @@
-//! What a line does to a state, and what it prints.
+//! Running a line on a state.
 ghost use Rattle.std.specs.Prelude.{◌≡◌, None, Some, IfOk, IsTrue, map as map_list};
 ghost use Rattle.std.specs.FinMap as map;
 ghost use Rattle.retro_tree.specs.Lawful.{IsLawful};
@@ -12,9 +12,9 @@ use retro_syntax::{PlainCommand, Refused, parse, plain_commands};
 use retro_tree::{Bytes, NoMem, State};
 use std::alloc::Global;
 
-/// The state and the text at a line's end, where its status is set.
-#[tactic(auto, using(crate::proofs::Statuses::ending))]
-fn ended(
+/// Ends a line: sets the session's status, and returns the state and the text.
+#[tactic(auto, using(crate::proofs::Statuses::status_laws))]
+fn end_line(
     alloc: Global,
     state: State,
     sid: u32,
@@ -32,8 +32,8 @@ fn ended(
     Ok((state, text))
 }
 
-/// The end of a line outside the grammar: a diagnostic, and status 2.
-fn refused(alloc: Global, state: State, sid: u32) -> Result<(State, Bytes), NoMem>
+/// Ends a line outside the grammar with a diagnostic and status 2.
+fn refuse_line(alloc: Global, state: State, sid: u32) -> Result<(State, Bytes), NoMem>
     requires lawful { IsLawful state }
     requires session { IsTrue (map.contains_key state.sessions sid) }
     ensures means { IfOk result (λ after. after ≡ meaning sid None state) }
@@ -42,10 +42,10 @@ fn refused(alloc: Global, state: State, sid: u32) -> Result<(State, Bytes), NoMe
 {
     let mut text = Bytes::new(alloc);
     text.extend(b"sh: unsupported line\n")?;
-    Ok(ended(alloc, state, sid, 2, text)?)
+    Ok(end_line(alloc, state, sid, 2, text)?)
 }
 
-/// Runs the commands of a line, of which there are none in a blank one.
+/// Runs the commands of a line. A blank line has none.
 fn run(
     alloc: Global,
     state: State,
@@ -64,21 +64,20 @@ fn run(
         [first, rest @ ..] => {
             let mut state = state;
             let Printed { text, status } = run_commands(alloc, &mut state, sid, first, rest)?;
-            Ok(ended(alloc, state, sid, status, text)?)
+            Ok(end_line(alloc, state, sid, status, text)?)
         }
     }
 }
 
-/// Runs a line of a session on an owned state, changed in place: the state after it, and the text
-/// that the terminal gets.
+/// Runs a line of a session in place: returns the state after it, and the text that the terminal
+/// gets.
 ///
 /// A text outside the grammar prints `sh: unsupported line` and has status 2, and so does a line
-/// that is more than a list of plain commands; a blank one changes nothing. The only error is want
-/// of memory, and the state is then spent.
+/// that is more than a list of plain commands. A blank line changes nothing.
 ///
 /// # Errors
 ///
-/// `NoMem` where memory is wanting.
+/// `NoMem` if allocation fails. The state is then lost.
 #[tactic(auto, unfolding(crate::specs::Line::line))]
 pub fn step(alloc: Global, state: State, sid: u32, text: &str) -> Result<(State, Bytes), NoMem>
     requires lawful { IsLawful state }
@@ -89,22 +88,21 @@ pub fn step(alloc: Global, state: State, sid: u32, text: &str) -> Result<(State,
 {
     match parse(alloc, text) {
         Ok(line) => match plain_commands(alloc, &line)? {
-            None => Ok(refused(alloc, state, sid)?),
+            None => Ok(refuse_line(alloc, state, sid)?),
             Some(commands) => Ok(run(alloc, state, sid, &commands)?),
         },
-        Err(Refused::Unsupported) => Ok(refused(alloc, state, sid)?),
-        Err(Refused::TooLong) => Ok(refused(alloc, state, sid)?),
-        Err(Refused::TooDeep) => Ok(refused(alloc, state, sid)?),
+        Err(Refused::Unsupported) => Ok(refuse_line(alloc, state, sid)?),
+        Err(Refused::TooLong) => Ok(refuse_line(alloc, state, sid)?),
+        Err(Refused::TooDeep) => Ok(refuse_line(alloc, state, sid)?),
         Err(Refused::NoMem) => Err(NoMem),
     }
 }
 
-/// Runs a line of a session: a new state, and the text that the terminal gets. The lent state
-/// stays as it was. The same as [`step`] on a copy.
+/// Runs a line of a session as [`step`] does, on a copy of the state.
 ///
 /// # Errors
 ///
-/// `NoMem` where memory is wanting.
+/// `NoMem` if allocation fails.
 pub fn play(alloc: Global, state: &State, sid: u32, text: &str) -> Result<(State, Bytes), NoMem>
     requires lawful { IsLawful state.now }
     requires session { IsTrue (map.contains_key state.now.sessions sid) }

@@ -1,8 +1,10 @@
-//! Redirections of output (XCU 2.7), and where a command's output goes.
+//! Redirections of output (XCU 2.7), and the target that a command's output goes to.
 ghost use Rattle.std.specs.Prelude.{◌≡◌, IfOk, OnOk, map};
 ghost use Rattle.retro_tree.specs.Lawful.{IsLawful};
 ghost use Rattle.retro_syntax.specs.PlainViews.{plain_item_view};
-ghost use Rattle.retro_shell.specs.Redirections.{terminal, target_view, opened_view, opened, opened_file, redirected, delivered, prepared, IsFit, HasFitTarget};
+ghost use Rattle.retro_shell.specs.Redirections.{terminal, target_view, opening_view, item_opening};
+ghost use Rattle.retro_shell.specs.Redirections.{file_opening, redirections, delivery, open_effect};
+ghost use Rattle.retro_shell.specs.Redirections.{IsFit, HasFitTarget};
 
 use crate::diagnostics::{Reason, push_fault, refusal};
 use crate::utilities::Done;
@@ -10,41 +12,41 @@ use retro_syntax::PlainItem;
 use retro_tree::{Bytes, NoMem, Node, Path, Resolved, State, resolve};
 use std::alloc::Global;
 
-/// Where a command's output goes.
+/// The target of a command's output.
 #[derive(Drop)]
 pub(crate) enum Target<'a> {
     Terminal,
-    /// `/dev/null`, which swallows it.
+    /// `/dev/null`, which discards it.
     Null,
-    /// A file, with the word that named it.
+    /// The file at a path, and the word that named it.
     File(&'a str, Path),
 }
 
-/// How the redirections of a command ended.
+/// The result of a command's redirections.
 #[derive(Drop)]
-pub(crate) enum Opened<'a> {
+pub(crate) enum Opening<'a> {
     Ready(Target<'a>),
-    /// The word that couldn't be opened, and why.
+    /// The word of the file that can't be opened, and the reason.
     Failed(&'a str, Reason),
 }
 
-/// What is done to a file as it is opened.
+/// What opening does to a file.
 #[derive(Clone, Copy, Debug, PartialEq, Eq)]
 pub(crate) enum Mode {
     Truncate,
     Append,
 }
 
-/// What the terminal gets, and a status.
+/// The text that the terminal gets, and a status.
 #[derive(Drop)]
 pub(crate) struct Printed {
     pub text: Bytes,
     pub status: u8,
 }
 
-/// Empties the file at a path, or makes it where it's missing.
+/// Creates the file at a path if it is missing. `Truncate` empties it.
 fn prepare(alloc: Global, state: &mut State, path: &Path, mode: Mode) -> Result<(), NoMem>
-    ensures { OnOk result (state.new ≡ prepared mode path.now state.old) }
+    ensures { OnOk result (state.new ≡ open_effect mode path.now state.old) }
 {
     match mode {
         Mode::Truncate => state.place(path.copy()?, Node::File(Bytes::new(alloc))),
@@ -53,85 +55,86 @@ fn prepare(alloc: Global, state: &mut State, path: &Path, mode: Mode) -> Result<
 }
 
 /// Opens the file that a word names for output.
-#[tactic(auto, unfolding(crate::specs::Redirections::opened_file), using(retro_tree::proofs::Keeping::keeping))]
+#[tactic(auto, unfolding(crate::specs::Redirections::file_opening), using(retro_tree::proofs::Keeping::keeping))]
 fn open_file<'a>(
     alloc: Global,
     state: &mut State,
     sid: u32,
     word: &'a str,
     mode: Mode,
-) -> Result<Opened<'a>, NoMem>
+) -> Result<Opening<'a>, NoMem>
     ensures means { IfOk result (λ o.
-        (state.new, opened_view o) ≡ opened_file mode sid word.entry.now state.old) }
-    ensures fits { IfOk result (λ o. HasFitTarget (opened_view o)) }
+        (state.new, opening_view o) ≡ file_opening mode sid word.entry.now state.old) }
+    ensures fits { IfOk result (λ o. HasFitTarget (opening_view o)) }
     ensures lawful { OnOk result (IsLawful state.old → IsLawful state.new) }
     ensures sessions { OnOk result (state.new.sessions ≡ state.old.sessions) }
 {
     let cwd = state.cwd(alloc, sid)?;
     let path = match resolve(alloc, &cwd, word)? {
         Resolved::Is(path) => path,
-        Resolved::Empty => return Ok(Opened::Failed(word, Reason::NoSuchFile)),
-        Resolved::LongName => return Ok(Opened::Failed(word, Reason::NameTooLong)),
+        Resolved::Empty => return Ok(Opening::Failed(word, Reason::NoSuchFile)),
+        Resolved::LongName => return Ok(Opening::Failed(word, Reason::NameTooLong)),
     };
     if path.is_null() {
-        return Ok(Opened::Ready(Target::Null));
+        return Ok(Opening::Ready(Target::Null));
     }
     match refusal(state.permit(alloc, &path, 0)?) {
-        Some(reason) => Ok(Opened::Failed(word, reason)),
+        Some(reason) => Ok(Opening::Failed(word, reason)),
         None => {
             prepare(alloc, state, &path, mode)?;
-            Ok(Opened::Ready(Target::File(word, path)))
+            Ok(Opening::Ready(Target::File(word, path)))
         }
     }
 }
 
-/// Makes the redirection of an item, if it is one, in the place of an earlier target.
+/// Makes the redirection of an item, if it is one. Returns its target, or else the earlier one.
 fn open<'a>(
     alloc: Global,
     state: &mut State,
     sid: u32,
     item: &PlainItem<'a>,
     target: Target<'a>,
-) -> Result<Opened<'a>, NoMem>
+) -> Result<Opening<'a>, NoMem>
     requires { IsFit (target_view target) }
-    ensures means { IfOk result (λ o. (state.new, opened_view o)
-        ≡ opened sid (plain_item_view item.now) (target_view target.entry) state.old) }
-    ensures fits { IfOk result (λ o. HasFitTarget (opened_view o)) }
+    ensures means { IfOk result (λ o. (state.new, opening_view o)
+        ≡ item_opening sid (plain_item_view item.now) (target_view target.entry) state.old) }
+    ensures fits { IfOk result (λ o. HasFitTarget (opening_view o)) }
     ensures lawful { OnOk result (IsLawful state.old → IsLawful state.new) }
     ensures sessions { OnOk result (state.new.sessions ≡ state.old.sessions) }
 {
     match item {
-        PlainItem::Word(_) => Ok(Opened::Ready(target)),
+        PlainItem::Word(_) => Ok(Opening::Ready(target)),
         PlainItem::Truncate(word) => Ok(open_file(alloc, state, sid, word, Mode::Truncate)?),
         PlainItem::Append(word) => Ok(open_file(alloc, state, sid, word, Mode::Append)?),
     }
 }
 
-/// Makes the redirections of a command from the left, up to the first that fails.
+/// Makes the redirections of a command from left to right, up to the first that fails.
 pub(crate) fn redirect<'a>(
     alloc: Global,
     state: &mut State,
     sid: u32,
     items: &[PlainItem<'a>],
-) -> Result<Opened<'a>, NoMem>
+) -> Result<Opening<'a>, NoMem>
     ensures means { IfOk result (λ o.
-        (state.new, opened_view o) ≡ redirected sid (map plain_item_view items.now) terminal state.old) }
-    ensures fits { IfOk result (λ o. HasFitTarget (opened_view o)) }
+        (state.new, opening_view o)
+        ≡ redirections sid (map plain_item_view items.now) terminal state.old) }
+    ensures fits { IfOk result (λ o. HasFitTarget (opening_view o)) }
     ensures lawful { OnOk result (IsLawful state.old → IsLawful state.new) }
     ensures sessions { OnOk result (state.new.sessions ≡ state.old.sessions) }
 {
     let mut target = Target::Terminal;
     for item in items {
         match open(alloc, state, sid, item, target)? {
-            Opened::Ready(next) => target = next,
-            Opened::Failed(word, reason) => return Ok(Opened::Failed(word, reason)),
+            Opening::Ready(next) => target = next,
+            Opening::Failed(word, reason) => return Ok(Opening::Failed(word, reason)),
         }
     }
-    Ok(Opened::Ready(target))
+    Ok(Opening::Ready(target))
 }
 
-/// Delivers what a command left: its output to its target, the rest to the terminal.
-#[tactic(auto, unfolding(crate::specs::Redirections::delivered), using(retro_tree::proofs::Keeping::keeping))]
+/// Delivers a command's output to its target, and its diagnostics to the terminal.
+#[tactic(auto, unfolding(crate::specs::Redirections::delivery), using(retro_tree::proofs::Keeping::keeping))]
 pub(crate) fn deliver(
     alloc: Global,
     state: &mut State,
@@ -140,7 +143,7 @@ pub(crate) fn deliver(
 ) -> Result<Printed, NoMem>
     requires { IsFit (target_view target) }
     ensures means { IfOk result (λ p.
-        (state.new, p) ≡ delivered (target_view target.entry) done state.old) }
+        (state.new, p) ≡ delivery (target_view target.entry) done state.old) }
     ensures lawful { OnOk result (IsLawful state.old → IsLawful state.new) }
     ensures sessions { OnOk result (state.new.sessions ≡ state.old.sessions) }
 {

@@ -2,13 +2,16 @@
 ghost use Rattle.std.specs.Prelude.{◌≡◌, ◌==◌, ◌++◌, ◌∷◌, IfOk, OnOk, List, ℕ, map, Some, None};
 ghost use Rattle.std.specs.List.{list_all};
 ghost use Rattle.std.specs.Option.{option_map};
-ghost use Rattle.retro_shell.specs.Utilities.{nothing_done, echo, joined, spaced, cat, cat_operands, is_option, has_only_u, reading, cat_one, both_done, cat_all, contents_view, texts_of, utility, usage, not_found};
+ghost use Rattle.retro_shell.specs.Utilities.{nothing_done, echo, join_operands, spaced_text, cat};
+ghost use Rattle.retro_shell.specs.Utilities.{cat_operands, is_option, has_only_u, reading};
+ghost use Rattle.retro_shell.specs.Utilities.{cat_one, both_done, cat_all, contents_view, texts_of};
+ghost use Rattle.retro_shell.specs.Utilities.{utility, usage, not_found};
 
 use crate::diagnostics::{Reason, push_fault};
 use retro_tree::{Bytes, Entry, NoMem, Resolved, State, resolve};
 use std::alloc::Global;
 
-/// What a utility leaves: its output, its diagnostics and its status.
+/// The result of a utility: its output, its diagnostics and its status.
 #[derive(Drop)]
 pub(crate) struct Done {
     pub out: Bytes,
@@ -17,7 +20,7 @@ pub(crate) struct Done {
 }
 
 impl Done {
-    /// No output, no diagnostics, and this status.
+    /// Returns a result without output and diagnostics, with this status.
     pub(crate) fn nothing(alloc: Global, status: u8) -> Done
         ensures { result ≡ nothing_done status }
     {
@@ -29,9 +32,9 @@ impl Done {
     }
 }
 
-/// Adds the operands, each after a space.
+/// Appends the operands, each preceded by a space.
 fn push_spaced(text: &mut Bytes, operands: &[&str]) -> Result<(), NoMem>
-    ensures { OnOk result (text.new ≡ text.old ++ spaced (map (λ o. o.now) operands.now)) }
+    ensures { OnOk result (text.new ≡ text.old ++ spaced_text (map (λ o. o.now) operands.now)) }
 {
     for operand in operands {
         text.extend(b" ")?;
@@ -40,10 +43,10 @@ fn push_spaced(text: &mut Bytes, operands: &[&str]) -> Result<(), NoMem>
     Ok(())
 }
 
-/// The operands, of which there is a first, with a space between each two.
+/// Joins a first operand and the rest with spaces.
 #[tactic(auto, using(crate::proofs::Joining::joins))]
-fn joined_from(alloc: Global, first: &str, rest: &[&str]) -> Result<Bytes, NoMem>
-    ensures { IfOk result (λ text. text ≡ joined (first.now ∷ map (λ o. o.now) rest.now)) }
+fn join_nonempty(alloc: Global, first: &str, rest: &[&str]) -> Result<Bytes, NoMem>
+    ensures { IfOk result (λ text. text ≡ join_operands (first.now ∷ map (λ o. o.now) rest.now)) }
 {
     let mut text = Bytes::new(alloc);
     text.extend(first.as_bytes())?;
@@ -51,17 +54,17 @@ fn joined_from(alloc: Global, first: &str, rest: &[&str]) -> Result<Bytes, NoMem
     Ok(text)
 }
 
-/// The operands with a space between each two.
-fn joined(alloc: Global, operands: &[&str]) -> Result<Bytes, NoMem>
-    ensures { IfOk result (λ text. text ≡ joined (map (λ o. o.now) operands.now)) }
+/// Joins the operands with spaces.
+fn join_operands(alloc: Global, operands: &[&str]) -> Result<Bytes, NoMem>
+    ensures { IfOk result (λ text. text ≡ join_operands (map (λ o. o.now) operands.now)) }
 {
     match operands {
         [] => Ok(Bytes::new(alloc)),
-        [first, rest @ ..] => Ok(joined_from(alloc, first, rest)?),
+        [first, rest @ ..] => Ok(join_nonempty(alloc, first, rest)?),
     }
 }
 
-/// `echo` (XCU echo): the operands and a newline, which a first operand `-n` drops.
+/// `echo` (XCU echo): the operands and a newline. A first operand `-n` omits the newline.
 #[tactic(auto, unfolding(crate::specs::Utilities::echo))]
 fn echo(alloc: Global, operands: &[&str]) -> Result<Done, NoMem>
     ensures { IfOk result (λ done. done ≡ echo (map (λ o. o.now) operands.now)) }
@@ -69,22 +72,22 @@ fn echo(alloc: Global, operands: &[&str]) -> Result<Done, NoMem>
     let mut done = Done::nothing(alloc, 0);
     if let [first, rest @ ..] = operands {
         if *first == "-n" {
-            done.out = joined(alloc, rest)?;
+            done.out = join_operands(alloc, rest)?;
             return Ok(done);
         }
     }
-    done.out = joined(alloc, operands)?;
+    done.out = join_operands(alloc, operands)?;
     done.out.extend(b"\n")?;
     Ok(done)
 }
 
-/// What an operand gives to read.
+/// The bytes of an operand, or the reason why it can't be read.
 enum Contents<'a> {
     Bytes(&'a [u8]),
     Fault(Reason),
 }
 
-/// What an operand gives to read: a file's bytes, and none of `/dev/null`.
+/// Returns the bytes of the file that an operand names. `/dev/null` is empty.
 #[tactic(auto, unfolding(crate::specs::Utilities::reading, retro_tree::specs::Tree::node_in))]
 fn reading<'a>(
     alloc: Global,
@@ -110,8 +113,9 @@ fn reading<'a>(
     }
 }
 
-/// Adds what an operand of `cat` gives, or its fault. `-` is standard input, which is empty.
-#[tactic(auto, unfolding(crate::specs::Utilities::cat_one), using(crate::proofs::Doings::one_operand))]
+/// Appends the bytes of an operand of `cat`, or its diagnostic. `-` is standard input, which is
+/// empty.
+#[tactic(auto, unfolding(crate::specs::Utilities::cat_one), using(crate::proofs::CatSteps::one_operand))]
 fn cat_one(
     alloc: Global,
     state: &State,
@@ -134,7 +138,7 @@ fn cat_one(
     }
 }
 
-/// Whether a field is an option: a dash and something more.
+/// Returns whether a field is an option: a dash and at least one more character.
 fn is_option(field: &str) -> bool
     ensures { result ≡ is_option field.now }
 {
@@ -150,7 +154,7 @@ fn are_all_u(letters: &[u8]) -> bool
     letters.iter().all(|letter| *letter == b'u')
 }
 
-/// Whether each letter of an option is `u`.
+/// Returns whether each letter of an option is `u`.
 fn has_only_u(field: &str) -> bool
     ensures { result ≡ has_only_u field.now }
 {
@@ -160,7 +164,7 @@ fn has_only_u(field: &str) -> bool
     }
 }
 
-/// The operands after `cat`'s options (XBD 12.2), or none where an option isn't `-u`.
+/// Returns the operands after `cat`'s options (XBD 12.2), or `None` if an option isn't `-u`.
 fn cat_operands<'a>(fields: &'a [&'a str]) -> Option<&'a [&'a str]>
     ensures { option_map texts_of result ≡ cat_operands (map (λ f. f.now) fields.entry.now) }
 {
@@ -180,8 +184,8 @@ fn cat_operands<'a>(fields: &'a [&'a str]) -> Option<&'a [&'a str]>
     Some(rest)
 }
 
-/// What `cat` makes of all operands in turn.
-#[tactic(auto, using(crate::proofs::Doings::doing))]
+/// Runs `cat` over all operands in turn.
+#[tactic(auto, using(crate::proofs::CatSteps::cat_steps))]
 fn cat_all(alloc: Global, state: &State, sid: u32, operands: &[&str]) -> Result<Done, NoMem>
     ensures { IfOk result (λ done. done ≡ cat_all sid state.now (map (λ o. o.now) operands.now)) }
 {
@@ -203,7 +207,7 @@ fn cat(alloc: Global, state: &State, sid: u32, fields: &[&str]) -> Result<Done, 
     }
 }
 
-/// What a utility prints that is used outside its forms.
+/// Returns the result of operands or options that a utility doesn't take.
 fn usage(alloc: Global, name: &str) -> Result<Done, NoMem>
     ensures { IfOk result (λ done. done ≡ usage name.now) }
 {
@@ -213,7 +217,7 @@ fn usage(alloc: Global, name: &str) -> Result<Done, NoMem>
     Ok(done)
 }
 
-/// What the shell prints of a name that is no utility's.
+/// Returns the result of a name that is no utility's.
 #[tactic(auto, unfolding(crate::specs::Diagnostics::not_found_text))]
 fn not_found(alloc: Global, name: &str) -> Result<Done, NoMem>
     ensures { IfOk result (λ done. done ≡ not_found name.now) }
@@ -226,7 +230,8 @@ fn not_found(alloc: Global, name: &str) -> Result<Done, NoMem>
     Ok(done)
 }
 
-/// The utility that the first field names, over the fields after it (XCU 2.9.1.1).
+/// Runs the utility that the first field names, with the other fields as operands
+/// (XCU 2.9.1.1).
 #[tactic(auto, unfolding(crate::specs::Utilities::utility))]
 pub(crate) fn utility(
     alloc: Global,

@@ -1,8 +1,10 @@
--- What the loop keeps.
+-- The invariant of the loop.
 use Rattle.std.proofs.Common.{◌≡◌, ◌++◌, map, drop}
 use Rattle.retro_shell.specs.Commands.{fields}
 use Rattle.retro_syntax.specs.PlainViews.{plain_item_view}
 use Rattle.retro_shell.proofs.command.fields.Given as goal
 
 abbrev pub invariant-loop-item : goal.invariant-loop-item
-invariant-loop-item l = map (λ word. word.now) l.fields.items ++ fields (map plain_item_view (drop l.item-index l.items)) ≡ fields (map plain_item_view l.items)
+invariant-loop-item l =
+    map (λ word. word.now) l.fields.items ++ fields (map plain_item_view (drop l.item-index l.items))
+    ≡ fields (map plain_item_view l.items)

@@ -1,4 +1,4 @@
--- What the loop keeps.
+-- The invariant of the loop.
 use Rattle.std.proofs.Common.{◌≡◌, map, length}
 use Rattle.retro_shell.specs.Utilities.{cat_operands}
 use Rattle.retro_shell.proofs.utilities.cat_operands.Given as goal
