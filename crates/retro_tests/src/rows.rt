@@ -3,7 +3,7 @@ use crate::documents::{parts, script, script_part, written};
 use crate::paths::{joined_path, parent_and_child, remainder, resolved, variable};
 use crate::programs::{run, shell};
 use crate::states::{allows, lawfulness, played, state_answer};
-use crate::tables::{DOCUMENTS, PATHS, PROGRAMS, SHELL, STATES, TREES};
+use crate::tables::{DOCUMENTS, EXPANSIONS, PATHS, PROGRAMS, SHELL, STATES, TREES};
 use crate::trees::{plain, tilde, tree};
 use retro_tree::{Name, is_relative};
 use std::alloc::{AllocError, Global};
@@ -111,7 +111,7 @@ fn rows(alloc: Global, table: &str) -> Result<Vec<String>, AllocError> {
 
 #[test]
 fn rows_hold(rt: HostRuntime) -> Result<(), Fail> {
-    for table in [PATHS, TREES, STATES, SHELL, DOCUMENTS, PROGRAMS] {
+    for table in [PATHS, TREES, EXPANSIONS, STATES, SHELL, DOCUMENTS, PROGRAMS] {
         for row in &rows(rt.alloc(), table)? {
             let (returned, wanted) = outcome(&rt, row)?;
             assert_eq!(rt; returned, wanted, "{row}");

@@ -94,7 +94,6 @@ tree: until a; do b; done => 5
 tree: case a in esac => 5
 tree: f() { a; } => 5
 tree: a << b => 5
-tree: $((1)) => 5
 tree: x=1 a => 5
 tree: x=1 > f => 5
 tree: if a; then b; fi > f => 5
@@ -111,8 +110,6 @@ tree: IFS=a => 5
 tree: x=1 PWD=a => 5
 tree: OLDPWD= => 5
 tree: CDPATH="a" => 5
-tree: a $IFS => 5
-tree: a "${PWD}" => 5
 tree: for IFS in a; do b; done => 5
 tree: a%(NL)b => 5
 tree: a%(NL) => 5
@@ -151,7 +148,6 @@ tree: "a\ => 5
 tree: a%(NUL) => 5
 tree: '%(NUL)' => 5
 tree: # %(NUL) => 5
-tree: ${x => 5
 tree: "$ => 5
 tree: 2\%(NL)>f => 5
 tree: elif => 5
@@ -188,6 +184,99 @@ plain: a | b => none
 plain: ! a => none
 plain: a < f => none
 plain: a && b => none"##;
+
+/// Each form of an expansion that the profile leaves out: as a word, in double quotes, as a value,
+/// after a redirection, and as a word of a `for`.
+pub const EXPANSIONS: &str = r##"tree: a $(a) => 5
+tree: a "$(a)" => 5
+tree: x=$(a) => 5
+tree: > $(a) => 5
+tree: for i in $(a); do a; done => 5
+tree: a $((1)) => 5
+tree: a "$((1))" => 5
+tree: x=$((1)) => 5
+tree: > $((1)) => 5
+tree: for i in $((1)); do a; done => 5
+tree: a $1 => 5
+tree: a "$1" => 5
+tree: x=$1 => 5
+tree: > $1 => 5
+tree: for i in $1; do a; done => 5
+tree: a $@ => 5
+tree: a "$@" => 5
+tree: x=$@ => 5
+tree: > $@ => 5
+tree: for i in $@; do a; done => 5
+tree: a $* => 5
+tree: a "$*" => 5
+tree: x=$* => 5
+tree: > $* => 5
+tree: for i in $*; do a; done => 5
+tree: a $# => 5
+tree: a "$#" => 5
+tree: x=$# => 5
+tree: > $# => 5
+tree: for i in $#; do a; done => 5
+tree: a $- => 5
+tree: a "$-" => 5
+tree: x=$- => 5
+tree: > $- => 5
+tree: for i in $-; do a; done => 5
+tree: a $$ => 5
+tree: a "$$" => 5
+tree: x=$$ => 5
+tree: > $$ => 5
+tree: for i in $$; do a; done => 5
+tree: a $! => 5
+tree: a "$!" => 5
+tree: x=$! => 5
+tree: > $! => 5
+tree: for i in $!; do a; done => 5
+tree: a ${1} => 5
+tree: a "${1}" => 5
+tree: x=${1} => 5
+tree: > ${1} => 5
+tree: for i in ${1}; do a; done => 5
+tree: a ${} => 5
+tree: a "${}" => 5
+tree: x=${} => 5
+tree: > ${} => 5
+tree: for i in ${}; do a; done => 5
+tree: a ${x:-w} => 5
+tree: a "${x:-w}" => 5
+tree: x=${x:-w} => 5
+tree: > ${x:-w} => 5
+tree: for i in ${x:-w}; do a; done => 5
+tree: a ${x => 5
+tree: a "${x" => 5
+tree: x=${x => 5
+tree: > ${x => 5
+tree: for i in ${x; do a; done => 5
+tree: a `a` => 5
+tree: a "`a`" => 5
+tree: x=`a` => 5
+tree: > `a` => 5
+tree: for i in `a`; do a; done => 5
+tree: a $IFS => 5
+tree: a "$IFS" => 5
+tree: x=$IFS => 5
+tree: > $IFS => 5
+tree: for i in $IFS; do a; done => 5
+tree: a ${PWD} => 5
+tree: a "${PWD}" => 5
+tree: x=${PWD} => 5
+tree: > ${PWD} => 5
+tree: for i in ${PWD}; do a; done => 5
+tree: a $OLDPWD => 5
+tree: a "$OLDPWD" => 5
+tree: x=$OLDPWD => 5
+tree: > $OLDPWD => 5
+tree: for i in $OLDPWD; do a; done => 5
+tree: a ${CDPATH} => 5
+tree: a "${CDPATH}" => 5
+tree: x=${CDPATH} => 5
+tree: > ${CDPATH} => 5
+tree: for i in ${CDPATH}; do a; done => 5"##;
 
 /// What states and overlays answer, which changes are lawful, and which states.
 pub const STATES: &str = r##"state: put /d dir :: kind /d => Dir
