@@ -6,7 +6,6 @@ use Rattle.std.specs.List.{list_any}
 use Rattle.std.proofs.lemmas.Bool.{true≢false}
 use Rattle.retro_path.specs.Path.{PathValue}
 use Rattle.retro_path.specs.Resolving.{parts_of, walk, is_long, is_relative, resolve}
-use Rattle.retro_path.specs.declared.resolving.Resolved.{Resolved}
 use Rattle.retro_path.specs.declared.resolving.Resolved.TheVariants.{Is, LongName}
 
 pub named_alike : (p q : PathValue) (text : List ℕ) → is_relative text ≡ false → resolve p text ≡ resolve q text

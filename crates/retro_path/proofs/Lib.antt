@@ -1,3 +1,4 @@
 pub mod Parents
 pub mod Fronts
 pub mod Alike
+pub mod Prefixes

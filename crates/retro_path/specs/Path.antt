@@ -1,5 +1,5 @@
 -- Paths as lists of names: their parents, what is below them, /dev/null and /etc/passwd.
-use Rattle.std.specs.Prelude.{ℕ, Bool, true, false, not, ◌&&◌, if◌then◌else◌, List, [], ◌∷◌, Option, Some, None, is_some, codes}
+use Rattle.std.specs.Prelude.{ℕ, Bool, true, false, not, ◌&&◌, if◌then◌else◌, List, [], ◌∷◌, Option, Some, None, is_some, codes, map}
 use Rattle.std.specs.List.{list_all}
 use Rattle.retro_path.specs.Order.{text_eq}
 use Rattle.retro_path.specs.Name.{is_name}
@@ -7,6 +7,10 @@ use Rattle.retro_path.specs.Name.{is_name}
 -- a path is a list of names, a name a list of bytes
 abbrev pub PathValue : Type 0
 PathValue = List (List ℕ)
+
+-- every length is less than this, 2^64
+abbrev pub usize_bound : ℕ
+usize_bound = 18446744073709551616
 
 abbrev pub is_root : PathValue → Bool
 is_root [] = true
@@ -23,6 +27,11 @@ abbrev pub last_of : PathValue → Option (List ℕ)
 last_of [] = None
 last_of (name ∷ []) = Some name
 last_of (name ∷ other ∷ rest) = last_of (other ∷ rest)
+
+-- the prefixes of a path but the root, from the shortest to the path itself
+abbrev pub prefixes_of : PathValue → List PathValue
+prefixes_of [] = []
+prefixes_of (name ∷ rest) = (name ∷ []) ∷ map (λ prefix. name ∷ prefix) (prefixes_of rest)
 
 -- the names below a front, where it is one
 abbrev pub below : PathValue → PathValue → Option PathValue

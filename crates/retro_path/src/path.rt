@@ -1,10 +1,10 @@
 //! Paths: the names from the root down to a file or directory.
-ghost use Rattle.std.specs.Prelude.{◌≡◌, ◌++◌, ◌∷◌, [], IfOk, OnOk, OnErr, MatchOption, string_bytes, false, length, ◌-◌, take, map, option_map};
+ghost use Rattle.std.specs.Prelude.{◌≡◌, ◌++◌, ◌∷◌, [], IfOk, OnOk, OnErr, MatchOption, string_bytes, false, length, ◌-◌, take, map, option_map, ◌<◌};
 ghost use Rattle.std.specs.List.{list_all};
 ghost use Rattle.std.specs.Option.{option_copied};
 ghost use Rattle.retro_path.specs.Order.{path_eq};
 ghost use Rattle.retro_path.specs.Name.{is_name, AllNames};
-ghost use Rattle.retro_path.specs.Path.{parent_of, last_of, may_stand, is_null, is_root, below, is_child, passwd};
+ghost use Rattle.retro_path.specs.Path.{parent_of, last_of, prefixes_of, usize_bound, may_stand, is_null, is_root, below, is_child, passwd};
 ghost use Rattle.retro_path.specs.Resolving.{step};
 
 use crate::name::Name;
@@ -107,11 +107,35 @@ impl Path {
     ///
     /// `NoMem` where memory is wanting.
     pub fn child(&self, alloc: Global, name: &Name) -> Result<Path, AllocError>
-        ensures { IfOk result (λ child. child ≡ self.now ++ name.now ∷ []) }
+        ensures value { IfOk result (λ child. child ≡ self.now ++ name.now ∷ []) }
+        ensures length { IfOk result (λ child. length child < usize_bound) }
     {
         let mut child = Path::of_names(alloc, self.names.as_slice())?;
-        child.names.push(name.copy()?)?;
+        child.push(name.copy()?)?;
         Ok(child)
+    }
+
+    /// Adds a name at the end.
+    fn push(&mut self, name: Name) -> Result<(), AllocError>
+        ensures ok { OnOk result (self.new ≡ self.old ++ name ∷ []) }
+        ensures length { OnOk result (length self.new < usize_bound) }
+        ensures err { OnErr result (self.new ≡ self.old) }
+    {
+        self.names.push(name)?;
+        Ok(())
+    }
+
+    /// Returns the prefixes of this path but the root, from the shortest to the path itself.
+    pub fn prefixes(&self, alloc: Global) -> Result<Vec<Path>, AllocError>
+        ensures { IfOk result (λ prefixes. prefixes.items ≡ prefixes_of self.now) }
+    {
+        let mut prefix = Path::root(alloc);
+        let mut prefixes = Vec::with_capacity(alloc, self.names.len())?;
+        for name in &self.names {
+            prefix.push(name.copy()?)?;
+            prefixes.push(prefix.copy()?)?;
+        }
+        Ok(prefixes)
     }
 
     /// The names below a front of this path, or none where it isn't one.
@@ -198,7 +222,7 @@ impl Path {
         }
         let text = String::from_str(alloc, part)?;
         if let Some(name) = Name::of(text) {
-            self.names.push(name)?;
+            self.push(name)?;
         }
         Ok(())
     }
