@@ -8,7 +8,7 @@ use Rattle.std.proofs.lemmas.Bool.{false≢true}
 use Rattle.retro_tree.specs.CellOrder.{cell_cmp}
 use Rattle.retro_tree.specs.Cell.{value}
 use Rattle.retro_tree.specs.Notes.{cell_eq}
-use Rattle.retro_tree.specs.Overlay.{Cells, Overlays, shown_at, is_of, Fits, laid_grown, grown_at}
+use Rattle.retro_tree.specs.Overlay.{Cells, Overlays, shown_at, is_of, Fits, laid_grown, grown_at, replaced_at}
 use Rattle.retro_tree.specs.Commit.{put_cell, put_cells, committed}
 use Rattle.retro_tree.specs.declared.cell.Cell.{Cell}
 use Rattle.retro_tree.specs.declared.cell.Cell.TheVariants as cells
@@ -133,5 +133,12 @@ fits_grown laid k bytes fit = go (map.get laid k) refl
     go : (x : Option Laid) → map.get laid k ≡ x → Fits (grown_at k bytes x laid)
     go None e = fit
     go (Some l) e = fits_laid laid k (laid_grown bytes l) (of_grown k bytes l ∙ of_laid laid k l fit e) fit
+
+pub fits_replaced : (laid : Cells) (k : Cell) (w : Laid) → is_of k w ≡ true → Fits laid → Fits (replaced_at k w (map.get laid k) laid)
+fits_replaced laid k w of fit = go (map.get laid k)
+  where
+    go : (x : Option Laid) → Fits (replaced_at k w x laid)
+    go None = fit
+    go (Some l) = fits_laid laid k w of fit
 
 pub ruleset fitting = (fits_none, fits_laid, fits_removed, fits_grown)

@@ -28,5 +28,8 @@ pub mod OverlayLasting
 pub mod Fitting
 pub mod Sames
 pub mod MayMake
+pub mod KeptSessions
+pub mod ValueEntries
+pub mod ExactOverlays
 pub mod Allowed
 pub mod Alike

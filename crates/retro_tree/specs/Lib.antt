@@ -21,6 +21,7 @@ pub mod Ask
 pub mod Change
 pub mod Notes
 pub mod Overlay
+pub mod Exact
 pub mod Former
 pub mod Commit
 pub mod OutOfMemory

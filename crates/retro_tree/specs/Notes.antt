@@ -1,7 +1,8 @@
 -- Notes, in the order in which they were made, and what they mean on states.
-use Rattle.std.specs.Prelude.{◌≡◌, Bool, false, ◌||◌, if◌then◌else◌, List, [], ◌∷◌}
+use Rattle.std.specs.Prelude.{◌≡◌, Bool, true, false, ◌||◌, if◌then◌else◌, List, [], ◌∷◌}
 use Rattle.std.specs.Ordering.{eq_by_cmp}
 use Rattle.retro_tree.specs.CellOrder.{cell_cmp}
+use Rattle.retro_tree.specs.Cell.{value}
 use Rattle.retro_tree.specs.Ask.{answer, supports}
 use Rattle.retro_tree.specs.Change.{apply, cell_of, written, IsLawfulChange}
 use Rattle.retro_tree.specs.declared.cell.Cell.{Cell}
@@ -43,6 +44,10 @@ abbrev pub changes : List Note → Cell → Bool
 changes [] c = false
 changes (Asked a r ∷ notes) c = changes notes c
 changes (Made change ∷ notes) c = cell_eq (cell_of change) c || changes notes c
+
+-- two states agree on the cells of the notes
+abbrev pub AgreeOn : List Note → State → State → Type 0
+AgreeOn notes s t = (c : Cell) → touches notes c ≡ true → value c s ≡ value c t
 
 -- what the notes make of what one cell holds
 abbrev pub effects : List Note → Cell → Value → Value

@@ -45,6 +45,15 @@ is_of _ _ = false
 unfoldable pub Fits : Cells → Type 0
 Fits laid = (c : Cell) (l : Laid) → map.get laid c ≡ Some l → is_of c l ≡ true
 
+-- whether what is laid is a value, and no growth
+abbrev pub is_whole : Laid → Bool
+is_whole (Whole v) = true
+is_whole (More bytes) = false
+
+-- all that is laid is values
+unfoldable pub AllValues : Cells → Type 0
+AllValues laid = (c : Cell) (l : Laid) → map.get laid c ≡ Some l → is_whole l ≡ true
+
 -- what is laid, grown by some bytes
 abbrev pub laid_grown : List ℕ → Laid → Laid
 laid_grown bytes (Whole v) = Whole (value_grown bytes v)
@@ -54,6 +63,11 @@ laid_grown bytes (More old) = More (old ++ bytes)
 abbrev pub grown_at : Cell → List ℕ → Option Laid → Cells → Cells
 grown_at c bytes None laid = laid
 grown_at c bytes (Some l) laid = map.insert laid c (laid_grown bytes l)
+
+-- an entry in the place of a cell's entry, where it has one
+abbrev pub replaced_at : Cell → Laid → Option Laid → Cells → Cells
+replaced_at c l None laid = laid
+replaced_at c l (Some old) laid = map.insert laid c l
 
 -- ---- the children of a path, as a small tree in which each is a directory
 

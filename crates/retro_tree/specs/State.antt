@@ -1,5 +1,5 @@
 -- States: a tree and its sessions, and how they change.
-use Rattle.std.specs.Prelude.{ℕ, List, []}
+use Rattle.std.specs.Prelude.{◌≡◌, ℕ, List, []}
 use Rattle.std.specs.FinMap as map
 use Rattle.retro_tree.specs.Maps.{update}
 use Rattle.retro_tree.specs.Path.{PathValue, parent_of}
@@ -36,3 +36,7 @@ put_status sid status s =
 -- whether n bytes more may be written to a path
 abbrev pub permit_of : PathValue → ℕ → State → Permit
 permit_of p n s = permit_at (node_in p s.tree) (node_in (parent_of p) s.tree) n
+
+-- both states have the same sessions
+abbrev pub SameSessions : State → State → Type 0
+SameSessions s t = (sid : ℕ) → map.contains_key s.sessions sid ≡ map.contains_key t.sessions sid

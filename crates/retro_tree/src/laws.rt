@@ -6,7 +6,7 @@ ghost use Rattle.retro_tree.specs.Path.{PathValue, is_null, is_root, parent_of};
 ghost use Rattle.retro_tree.specs.Node.{file_limit, is_dir};
 ghost use Rattle.retro_tree.specs.Tree.{Tree, node_in};
 ghost use Rattle.retro_tree.specs.Ask.{names_in};
-ghost use Rattle.retro_tree.specs.State.{put_node, grow_file, put_status, permit_of};
+ghost use Rattle.retro_tree.specs.State.{put_node, grow_file, put_status, permit_of, SameSessions};
 ghost use Rattle.retro_tree.specs.Limits.{IsWithinLimits, within_limits};
 ghost use Rattle.retro_tree.specs.Lawful.{IsLawful, IsLawfulTree, KeepsTreeLaw, is_lawful, is_lawful_tree};
 ghost use Rattle.retro_tree.specs.Change.{IsLawfulChange, apply, has_its_session, may_make};
@@ -122,10 +122,12 @@ pub fn tested_removals()
         → IsLawful s → is_dir (node_in p s.tree) ≡ false → names_in p s.tree ≡ [] }
 {}
 
-/// A session that is there stays there under each change.
-#[tactic(auto, using(crate::proofs::MayMake::session_stays))]
+/// A change removes no session. One whose session exists leaves the same sessions.
+#[tactic(auto, using(crate::proofs::MayMake::session_stays, crate::proofs::KeptSessions::change_keeps_sessions))]
 pub fn sessions_stay()
-    ensures { (c : Change) (s : State) (sid : ℕ)
+    ensures same { (c : Change) (s : State)
+        → has_its_session c s ≡ true → SameSessions (apply c s) s }
+    ensures kept { (c : Change) (s : State) (sid : ℕ)
         → map.contains_key s.sessions sid ≡ true
         → map.contains_key (apply c s).sessions sid ≡ true }
 {}

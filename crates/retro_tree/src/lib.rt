@@ -29,6 +29,7 @@ mod cell;
 mod cell_laws;
 mod change;
 mod changing;
+mod exact_laws;
 mod laws;
 mod node;
 mod note;
@@ -48,6 +49,10 @@ pub use cell_laws::{
     listings_name_the_children,
 };
 pub use change::Change;
+pub use exact_laws::{
+    exact_overlays, exact_overlays_make_the_state, lines_keep_overlays_exact,
+    overlays_follow_the_state,
+};
 pub use laws::{
     lawful_changes, lawful_files, lawful_growths, lawful_states_are_within_limits,
     lawful_states_pass, lawful_statuses, lawful_trees, lawful_trees_pass, permits_are_clamped,
@@ -56,7 +61,8 @@ pub use laws::{
 pub use node::{Entry, FILE_LIMIT, Kind, Node, Permit};
 pub use note::{Note, Notes};
 pub use note_laws::{
-    allowed_notes_keep_the_law, notes_act_on_each_cell, notes_hold_by_their_cells, notes_in_turn,
+    allowed_notes_keep_the_law, allowed_notes_keep_the_sessions, notes_act_on_each_cell,
+    notes_hold_by_their_cells, notes_in_turn,
 };
 pub use overlay::{Laid, Overlay, overlays_last, overlays_show_a_state};
 pub use retro_path::{

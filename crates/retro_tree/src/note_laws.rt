@@ -1,6 +1,7 @@
 //! Laws of notes, as contracts of functions that do nothing.
 ghost use Rattle.std.specs.Prelude.{◌≡◌, ◌↔◌, ◌++◌, ◌||◌, true, false, List};
 ghost use Rattle.retro_tree.specs.Cell.{value};
+ghost use Rattle.retro_tree.specs.State.{SameSessions};
 ghost use Rattle.retro_tree.specs.Lawful.{IsLawful};
 ghost use Rattle.retro_tree.specs.Notes.{after, Holds, AllAllowed, touches, changes, effects};
 ghost use Rattle.retro_tree.specs.declared.cell.Cell.{Cell};
@@ -36,6 +37,13 @@ pub fn notes_hold_by_their_cells()
 pub fn allowed_notes_keep_the_law()
     ensures { (notes : List Note) (s : State)
         → IsLawful s → AllAllowed notes s → IsLawful (after notes s) }
+{}
+
+/// Notes whose changes are each lawful where they are made leave the same sessions.
+#[tactic(auto, using(crate::proofs::KeptSessions::kept_sessions))]
+pub fn allowed_notes_keep_the_sessions()
+    ensures { (notes : List Note) (s : State)
+        → AllAllowed notes s → SameSessions (after notes s) s }
 {}
 
 /// What notes after notes mean: the later ones start where the earlier ones end.

@@ -1,9 +1,9 @@
 //! What is laid over the cells of a state: values, and growths.
 ghost use Rattle.std.specs.Prelude.{◌≡◌, ◌≢◌, ◌↔◌, IfOk, IsTrue, OnOk, OnErr, is_some, true};
-ghost use Rattle.std.specs.Option.{option_copied};
+ghost use Rattle.std.specs.Option.{option_copied, option_map};
 ghost use Rattle.std.specs.FinMap as map;
 ghost use Rattle.retro_tree.specs.Cell.{value as value_at};
-ghost use Rattle.retro_tree.specs.Overlay.{Overlays, Fits, is_of, grown_at};
+ghost use Rattle.retro_tree.specs.Overlay.{Overlays, Fits, AllValues, is_of, is_whole, grown_at, replaced_at};
 ghost use Rattle.retro_tree.specs.Commit.{committed};
 ghost use Rattle.retro_tree.specs.declared.cell.Cell.{Cell as StateCell};
 ghost use Rattle.retro_tree.specs.declared.overlay.laid.Laid.TheVariants as Laid;
@@ -25,6 +25,7 @@ use std::alloc::{AllocError, Global};
 use std::collections::BTreeMap;
 use std::collections::btree_map::Iter;
 use std::marker::Model;
+use std::mem::replace;
 
 /// Values and growths laid over some cells of a state. Together with a view of the state it shows
 /// the state that has these values in these cells, that is grown so where a growth is laid, and that
@@ -49,12 +50,13 @@ impl Model for Overlay {
 
 impl Overlay {
     /// Nothing is laid: each state is shown as it is. Takes no memory.
-    #[tactic(auto, using(crate::proofs::OverlayLemmas::nothing_laid, crate::proofs::OverlayLasting::lasts_none, crate::proofs::Fitting::fits_none))]
+    #[tactic(auto, using(crate::proofs::OverlayLemmas::nothing_laid, crate::proofs::OverlayLasting::lasts_none, crate::proofs::Fitting::fits_none, crate::proofs::ValueEntries::values))]
     pub fn new(alloc: Global) -> Overlay
         ensures value { result ≡ map.empty }
         ensures shows { (s : State) → Overlays result s s }
         ensures lasts { (s : State) → committed result s ≡ s }
         ensures fits { Fits result }
+        ensures values { AllValues result }
     {
         Overlay {
             cells: BTreeMap::new(alloc),
@@ -68,13 +70,25 @@ impl Overlay {
         self.cells.get(cell)
     }
 
+    /// Returns the value of a cell's entry, or `None` if the cell has no entry. No entry is a growth.
+    pub fn get_value(&self, cell: &Cell) -> Option<&Value>
+        requires { AllValues self.now }
+        ensures { option_map Laid.Whole (option_copied result) ≡ map.get self.now cell.now }
+    {
+        match self.get(cell) {
+            Some(Laid::Whole(value)) => Some(value),
+            Some(Laid::More(_)) => unreachable!(),
+            None => None,
+        }
+    }
+
     /// Lays a value over a cell, in the place of what is laid: a state is shown that has this value
     /// there, and elsewhere what was shown. After want of memory the overlay is as before.
     ///
     /// # Errors
     ///
     /// `NoMem` where memory is wanting.
-    #[tactic(auto, using(crate::proofs::OverlayLaying::shows_laid, crate::proofs::Fitting::fitting))]
+    #[tactic(auto, using(crate::proofs::OverlayLaying::shows_laid, crate::proofs::Fitting::fitting, crate::proofs::ValueEntries::values))]
     pub fn insert(&mut self, cell: Cell, value: Value) -> Result<(), AllocError>
         ensures ok { OnOk result (self.new ≡ map.insert self.old cell (Laid.Whole value)) }
         ensures shows { OnOk result ((below now next : State)
@@ -84,6 +98,7 @@ impl Overlay {
             → Overlays self.new below next) }
         ensures fits { OnOk result
             (is_of cell (Laid.Whole value) ≡ true → Fits self.old → Fits self.new) }
+        ensures values { OnOk result (AllValues self.old → AllValues self.new) }
         ensures err { OnErr result (self.new ≡ self.old) }
     {
         self.lay_over(cell, Laid::Whole(value))
@@ -110,6 +125,7 @@ impl Overlay {
             → ((c : StateCell) → c ≢ cell.now → value_at c next ≡ value_at c now)
             → Overlays self.new below next }
         ensures fits { Fits self.old → Fits self.new }
+        ensures values { AllValues self.old → AllValues self.new }
     {
         self.cells.remove(cell);
     }
@@ -150,6 +166,21 @@ impl Overlay {
         Ok(copy)
     }
 
+    /// Replaces the entry of a cell and returns the previous one, or `None` if the cell has no entry.
+    /// Takes no memory.
+    pub fn replace(&mut self, cell: &Cell, laid: Laid) -> Option<Laid>
+        ensures previous { result ≡ map.get self.old cell.now }
+        ensures new { self.new
+            ≡ replaced_at cell.now laid (map.get self.old cell.now) self.old }
+        ensures fits { is_of cell.now laid ≡ true → Fits self.old → Fits self.new }
+        ensures values { is_whole laid ≡ true → AllValues self.old → AllValues self.new }
+    {
+        if let Some(slot) = self.cells.get_mut(cell) {
+            return Some(replace(slot, laid));
+        }
+        None
+    }
+
     /// Adds bytes at the end of what is laid over a cell, in place. A value grows as its cell would,
     /// and a growth has these bytes behind its own. False where nothing is laid. After want of memory
     /// the overlay is as before.
@@ -162,6 +193,7 @@ impl Overlay {
         ensures ok { OnOk result
             (self.new ≡ grown_at cell.now bytes.now (map.get self.old cell.now) self.old) }
         ensures fits { OnOk result (Fits self.old → Fits self.new) }
+        ensures values { OnOk result (AllValues self.old → AllValues self.new) }
         ensures err { OnErr result (self.new ≡ self.old) }
     {
         if let Some(laid) = self.cells.get_mut(cell) {

@@ -3,11 +3,12 @@ use Rattle.std.specs.Prelude.{IsSome}
 use Rattle.std.specs.Option.{option_copied_mut, is_some}
 use Rattle.std.specs.FinMap as map
 use Rattle.retro_tree.specs.CellOrder.{cell_total, cell_exact}
-use Rattle.retro_tree.specs.Overlay.{Fits, grown_at}
+use Rattle.retro_tree.specs.Overlay.{Fits, AllValues, grown_at}
 use Rattle.retro_tree.specs.contracts.overlay.Overlay.{the_view}
 use Rattle.retro_tree.proofs.MapLemmas.{made_insert, made_same, get_made}
 use Rattle.retro_tree.proofs.OverlayLemmas.{any_err}
 use Rattle.retro_tree.proofs.Fitting.{fits_grown}
+use Rattle.retro_tree.proofs.ValueEntries.{values_grown}
 use Rattle.retro_tree.proofs.overlay.Overlay.grow.Goals as goal
 
 pub returns-in-Some-clause-ok : goal.returns-in-Some-clause-ok
@@ -24,6 +25,9 @@ returns-in-Some-clause-ok c =
 
 pub returns-in-Some-clause-fits : goal.returns-in-Some-clause-fits
 returns-in-Some-clause-fits c fit = subst Fits (sym (returns-in-Some-clause-ok c)) (fits_grown c.args.self.now c.args.cell.now c.args.bytes.now fit)
+
+pub returns-in-Some-clause-values : goal.returns-in-Some-clause-values
+returns-in-Some-clause-values c all = subst AllValues (sym (returns-in-Some-clause-ok c)) (values_grown c.args.self.now c.args.cell.now c.args.bytes.now all)
 
 pub returns-in-Some-clause-done : goal.returns-in-Some-clause-done
 returns-in-Some-clause-done c =

@@ -1,9 +1,10 @@
 use Rattle.std.proofs.Common.{ap, sym, subst, ◌∙◌}
 use Rattle.std.specs.FinMap as map
 use Rattle.retro_tree.specs.CellOrder.{cell_total, cell_exact}
-use Rattle.retro_tree.specs.Overlay.{Overlays, Fits}
+use Rattle.retro_tree.specs.Overlay.{Overlays, Fits, AllValues}
 use Rattle.retro_tree.proofs.MapLemmas.{made_remove}
 use Rattle.retro_tree.proofs.Fitting.{fits_removed}
+use Rattle.retro_tree.proofs.ValueEntries.{values_removed}
 use Rattle.retro_tree.proofs.OverlayLaying.{shows_removed}
 use Rattle.retro_tree.proofs.overlay.Overlay.remove.Goals as goal
 
@@ -18,3 +19,6 @@ returns-clause-shows c below now next h here there =
 
 pub returns-clause-fits : goal.returns-clause-fits
 returns-clause-fits c fit = subst Fits (sym (returns-clause-value c)) (fits_removed c.args.self.now c.args.cell.now fit)
+
+pub returns-clause-values : goal.returns-clause-values
+returns-clause-values c all = subst AllValues (sym (returns-clause-value c)) (values_removed c.args.self.now c.args.cell.now all)
