@@ -1,4 +1,4 @@
--- Texts that name the same path from each directory.
+-- Texts that resolve alike in every directory.
 use Rattle.std.proofs.Common.{◌≡◌, ℕ, Bool, true, false, not, ◌&&◌, List, [], ◌∷◌, refl}
 use Rattle.std.specs.Prelude.{◌==◌}
 use Rattle.std.specs.Bool.{if◌then◌else◌}
@@ -8,10 +8,10 @@ use Rattle.retro_path.specs.Path.{PathValue}
 use Rattle.retro_path.specs.Resolving.{parts_of, walk, is_long, is_relative, resolve}
 use Rattle.retro_path.specs.declared.resolving.Resolved.TheVariants.{Is, LongName}
 
-pub named_alike : (p q : PathValue) (text : List ℕ) → is_relative text ≡ false → resolve p text ≡ resolve q text
+pub resolve_alike : (p q : PathValue) (text : List ℕ) → is_relative text ≡ false → resolve p text ≡ resolve q text
 unfolding is_relative
-named_alike p q [] h = refl
-named_alike p q (b ∷ text) h = go (b == 47) (list_any is_long (parts_of (b ∷ text))) h
+resolve_alike p q [] h = refl
+resolve_alike p q (b ∷ text) h = go (b == 47) (list_any is_long (parts_of (b ∷ text))) h
   where
     go : (x y : Bool) → (not x && not y) ≡ false
         → if y then LongName else Is (walk (if x then [] else p) (parts_of (b ∷ text))) ≡ if y then LongName else Is (walk (if x then [] else q) (parts_of (b ∷ text)))

@@ -1,4 +1,4 @@
 pub mod Parents
-pub mod Fronts
+pub mod StripPrefix
 pub mod Alike
 pub mod Prefixes

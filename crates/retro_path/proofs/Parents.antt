@@ -1,4 +1,4 @@
--- The parent of a path, as the code cuts it.
+-- The parent and the last name of a path, as the code computes them.
 use Rattle.std.proofs.Common.{◌≡◌, ℕ, suc, ◌-◌, List, [], ◌∷◌, length, take, slice_get, refl, ap, ◌∙◌, arith}
 use Rattle.retro_path.specs.Path.{parent_of, last_of}
 
@@ -9,7 +9,6 @@ take_is_parent (name ∷ other ∷ rest) =
     let e : length (name ∷ other ∷ rest) - 1 ≡ suc (length (other ∷ rest) - 1) = omega arith in
     ap (λ n. take n (name ∷ other ∷ rest)) e ∙ ap (λ p. name ∷ p) (take_is_parent (other ∷ rest))
 
--- and its last name
 pub get_last : (p : List (List ℕ)) → slice_get p (length p - 1) ≡ last_of p
 get_last [] = refl
 get_last (name ∷ []) = refl

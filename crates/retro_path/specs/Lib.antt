@@ -1,3 +1,4 @@
+pub mod Ascii
 pub mod Order
 pub mod Name
 pub mod VarName

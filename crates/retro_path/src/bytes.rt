@@ -19,7 +19,7 @@ impl Model for Bytes {
 }
 
 impl Bytes {
-    /// No bytes. Takes no memory.
+    /// Returns an empty sequence. Takes no memory.
     pub fn new(alloc: Global) -> Bytes
         ensures { result ≡ [] }
     {
@@ -28,11 +28,7 @@ impl Bytes {
         }
     }
 
-    /// Adds bytes at the end, in place. After want of memory the bytes are as before.
-    ///
-    /// # Errors
-    ///
-    /// `NoMem` where memory is wanting.
+    /// Appends bytes in place.
     pub fn extend(&mut self, more: &[u8]) -> Result<(), AllocError>
         ensures ok { OnOk result (self.new ≡ self.old ++ more.now) }
         ensures err { OnErr result (self.new ≡ self.old) }
@@ -40,46 +36,42 @@ impl Bytes {
         self.items.extend_from_slice(more)
     }
 
-    /// Leaves so many bytes, where there are more. Takes no memory.
+    /// Shortens to `length` bytes, if there are more. Takes no memory.
     pub fn truncate(&mut self, length: usize)
         ensures { self.new ≡ take length self.old }
     {
         self.items.truncate(length);
     }
 
-    /// How many bytes there are.
+    /// Returns the number of bytes.
     pub fn len(&self) -> usize
         ensures { result ≡ length self.now }
     {
         self.items.len()
     }
 
-    /// Whether there are none.
+    /// Returns whether there are no bytes.
     pub fn is_empty(&self) -> bool
         ensures { result ≡ (length self.now == 0) }
     {
         self.items.is_empty()
     }
 
-    /// The same bytes once more.
-    ///
-    /// # Errors
-    ///
-    /// `NoMem` where memory is wanting.
+    /// Returns a copy.
     pub fn copy(&self) -> Result<Bytes, AllocError>
         ensures { IfOk result (λ copy. copy ≡ self.now) }
     {
         self.clone()
     }
 
-    /// The bytes of a vector. Takes no memory.
+    /// Makes bytes of a vector. Takes no memory.
     pub fn of(items: Vec<u8>) -> Bytes
         ensures { result ≡ items.items }
     {
         Bytes { items }
     }
 
-    /// The vector of the bytes. Takes no memory.
+    /// Returns the vector of the bytes. Takes no memory.
     pub fn into_vec(self) -> Vec<u8>
         ensures { result.items ≡ self }
     {
@@ -87,7 +79,7 @@ impl Bytes {
         items
     }
 
-    /// The bytes as a slice.
+    /// Returns the bytes as a slice.
     pub fn as_slice(&self) -> &[u8]
         ensures { result.now ≡ self.now }
     {

@@ -1,13 +1,13 @@
-//! Texts, names, and the paths that they make.
+//! Texts, names of files and variables, and paths.
 //!
-//! A path is the list of the names from the root down to a file or directory. `Name::of`,
-//! `Path::of` and `VarName::of` give a value exactly where the rule of its type holds, which the type
-//! keeps from then on. In contracts a text and a name are the list of their bytes, and a path and a
-//! listing are lists of such lists; they are ordered by these.
+//! A path is the list of the names from the root to a file or directory. `Name::of`, `Path::of` and
+//! `VarName::of` return a value exactly if the rule of its type holds, and the type keeps the rule
+//! from then on. In contracts a text and a name are the list of their bytes, and a path and a listing
+//! are lists of such lists. Texts, names and paths are ordered as these lists.
 //!
-//! `resolve` gives the path that a text names from a directory, by the text alone.
+//! `resolve` computes the path that a text names from a directory, from the text alone.
 //!
-//! After want of memory, which is `NoMem`, what was lent is as before.
+//! If allocation fails, calls return `NoMem` and leave their arguments unchanged.
 #![tactic(auto)]
 
 mod bytes;
@@ -22,9 +22,9 @@ pub use bytes::Bytes;
 pub use listing::Listing;
 pub use name::{NAME_LIMIT, Name};
 pub use path::Path;
-pub use resolving::{Resolved, is_relative, named_alike, resolve};
+pub use resolving::{Resolved, is_relative, resolve, resolve_ignores_the_directory};
 pub use text::Text;
 pub use var_name::VarName;
 
-/// Memory was wanted and refused.
+/// Allocation failed.
 pub use std::alloc::AllocError as NoMem;

@@ -5,7 +5,7 @@ use crate::name::Name;
 use std::alloc::AllocError;
 use std::marker::Model;
 
-/// The names of the children of a directory. A state gives them in byte order.
+/// The names of the children of a directory. A state lists them in byte order.
 #[derive(Drop, Clone)]
 pub struct Listing {
     names: Vec<Name>,
@@ -20,21 +20,21 @@ impl Model for Listing {
 }
 
 impl Listing {
-    /// The listing of these names.
+    /// Makes a listing of names.
     pub fn of(names: Vec<Name>) -> Listing
         ensures { result ≡ names.items }
     {
         Listing { names }
     }
 
-    /// The names, in their order.
+    /// Returns the names, in order.
     pub fn names(&self) -> &[Name]
         ensures { result.now ≡ self.now }
     {
         self.names.as_slice()
     }
 
-    /// The vector of the names. Takes no memory.
+    /// Returns the vector of the names. Takes no memory.
     pub fn into_vec(self) -> Vec<Name>
         ensures { result.items ≡ self }
     {
@@ -42,11 +42,7 @@ impl Listing {
         names
     }
 
-    /// The same listing once more.
-    ///
-    /// # Errors
-    ///
-    /// `NoMem` where memory is wanting.
+    /// Returns a copy.
     pub fn copy(&self) -> Result<Listing, AllocError>
         ensures { IfOk result (λ copy. copy ≡ self.now) }
     {

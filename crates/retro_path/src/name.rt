@@ -7,10 +7,11 @@ use std::alloc::AllocError;
 use std::cmp::Ordering;
 use std::marker::Model;
 
-/// The greatest length of a name, in bytes.
+/// The maximum length of a name, in bytes.
 pub const NAME_LIMIT: usize = 255;
 
-/// Whether a text may be the name of a file: 1 to 255 bytes, without slash, not `.` or `..`.
+/// Returns whether a text can be the name of a file: 1 to 255 bytes without a slash, but not `.` or
+/// `..`.
 #[tactic(auto, unfolding(crate::specs::Name::is_name))]
 fn is_name(text: &str) -> bool
     ensures { result ≡ is_name text.now }
@@ -21,7 +22,7 @@ fn is_name(text: &str) -> bool
         && !(text == "." || text == "..")
 }
 
-/// The name of a file: 1 to 255 bytes, without slash, not `.` or `..`. It may have a NUL.
+/// The name of a file: 1 to 255 bytes without a slash, but not `.` or `..`. It may contain NUL.
 #[derive(Drop, Clone, PartialEq, Eq, PartialOrd, Ord)]
 pub struct Name {
     text: Text,
@@ -42,7 +43,7 @@ impl Model for Name {
 }
 
 impl Name {
-    /// The name that a text is, where it may be one.
+    /// Returns the text as a name, or `None` if it can't be one.
     pub fn of(text: String) -> Option<Name>
         ensures { MatchOption result
             (is_name (string_bytes text) ≡ false)
@@ -57,7 +58,7 @@ impl Name {
         }
     }
 
-    /// The name as a text.
+    /// Returns the text of the name.
     pub fn as_str(&self) -> &str
         ensures value { result.now ≡ self.now }
         ensures name { IsTrue (is_name self.now) }
@@ -65,11 +66,7 @@ impl Name {
         self.text.as_str()
     }
 
-    /// The same name once more.
-    ///
-    /// # Errors
-    ///
-    /// `NoMem` where memory is wanting.
+    /// Returns a copy.
     pub fn copy(&self) -> Result<Name, AllocError>
         ensures { IfOk result (λ copy. copy ≡ self.now) }
     {

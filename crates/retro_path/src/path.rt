@@ -1,10 +1,10 @@
-//! Paths: the names from the root down to a file or directory.
+//! Paths.
 ghost use Rattle.std.specs.Prelude.{◌≡◌, ◌++◌, ◌∷◌, [], IfOk, OnOk, OnErr, MatchOption, string_bytes, false, length, ◌-◌, take, map, option_map, ◌<◌};
 ghost use Rattle.std.specs.List.{list_all};
 ghost use Rattle.std.specs.Option.{option_copied};
 ghost use Rattle.retro_path.specs.Order.{path_eq};
 ghost use Rattle.retro_path.specs.Name.{is_name, AllNames};
-ghost use Rattle.retro_path.specs.Path.{parent_of, last_of, prefixes_of, usize_bound, may_stand, is_null, is_root, below, is_child, passwd};
+ghost use Rattle.retro_path.specs.Path.{parent_of, last_of, prefixes_of, usize_bound, may_exist, is_null, is_root, below, is_child, passwd};
 ghost use Rattle.retro_path.specs.Resolving.{step};
 
 use crate::name::Name;
@@ -12,7 +12,7 @@ use std::alloc::{AllocError, Global};
 use std::cmp::Ordering;
 use std::marker::Model;
 
-/// The names from the root down to a file or directory. The root has none.
+/// A path: the names from the root to a file or directory. The root has none.
 #[derive(Drop, Clone)]
 pub struct Path {
     names: Vec<Name>,
@@ -31,7 +31,7 @@ impl Model for Path {
 }
 
 impl Path {
-    /// The path of the root, which has no names.
+    /// Returns the path of the root.
     pub fn root(alloc: Global) -> Path
         ensures { result ≡ [] }
     {
@@ -40,12 +40,8 @@ impl Path {
         }
     }
 
-    /// The path of these names, from the root down, where each may be one: 1 to 255 bytes,
-    /// without slash, not `.` or `..`. Takes the time of their length.
-    ///
-    /// # Errors
-    ///
-    /// `NoMem` where memory is wanting.
+    /// Returns the path of these names, from the root, or `None` if one can't be a name. Takes time
+    /// in proportion to their length.
     pub fn of(alloc: Global, texts: Vec<String>) -> Result<Option<Path>, AllocError>
         ensures { IfOk result (λ found. MatchOption found
             (list_all is_name (map string_bytes texts.items) ≡ false)
@@ -61,7 +57,7 @@ impl Path {
         Ok(Some(Path { names }))
     }
 
-    /// The names, from the root down.
+    /// Returns the names, from the root.
     pub fn names(&self) -> &[Name]
         ensures value { result.now ≡ self.now }
         ensures names { AllNames self.now }
@@ -69,7 +65,7 @@ impl Path {
         self.names.as_slice()
     }
 
-    /// The last name, which the root alone hasn't.
+    /// Returns the last name, or `None` for the root.
     #[tactic(auto, using(crate::proofs::Parents::get_last))]
     pub fn last(&self) -> Option<&Name>
         ensures { option_copied result ≡ last_of self.now }
@@ -77,21 +73,17 @@ impl Path {
         self.names.last()
     }
 
-    /// The directory of this path. The root is its own.
-    ///
-    /// # Errors
-    ///
-    /// `NoMem` where memory is wanting.
+    /// Returns the parent. The parent of the root is the root.
     #[tactic(auto, using(crate::proofs::Parents::take_is_parent))]
     pub fn parent(&self, alloc: Global) -> Result<Path, AllocError>
         ensures { IfOk result (λ parent. parent ≡ parent_of self.now) }
     {
         let count = self.names.len().saturating_sub(1);
-        let (front, _last) = self.names.as_slice().split_at(count);
-        Path::of_names(alloc, front)
+        let (parent, _last) = self.names.as_slice().split_at(count);
+        Path::of_names(alloc, parent)
     }
 
-    /// The directory of this path, by the path itself. Takes no memory.
+    /// Shortens the path to its parent. Takes no memory.
     #[tactic(auto, using(crate::proofs::Parents::take_is_parent))]
     pub fn into_parent(self) -> Path
         ensures { result ≡ parent_of self }
@@ -101,11 +93,7 @@ impl Path {
         path
     }
 
-    /// The path of a name in this directory.
-    ///
-    /// # Errors
-    ///
-    /// `NoMem` where memory is wanting.
+    /// Returns the path of a child.
     pub fn child(&self, alloc: Global, name: &Name) -> Result<Path, AllocError>
         ensures value { IfOk result (λ child. child ≡ self.now ++ name.now ∷ []) }
         ensures length { IfOk result (λ child. length child < usize_bound) }
@@ -115,7 +103,7 @@ impl Path {
         Ok(child)
     }
 
-    /// Adds a name at the end.
+    /// Appends a name.
     fn push(&mut self, name: Name) -> Result<(), AllocError>
         ensures ok { OnOk result (self.new ≡ self.old ++ name ∷ []) }
         ensures length { OnOk result (length self.new < usize_bound) }
@@ -138,41 +126,41 @@ impl Path {
         Ok(prefixes)
     }
 
-    /// The names below a front of this path, or none where it isn't one.
-    #[tactic(auto, using(crate::proofs::Fronts::fronts))]
-    pub fn strip_prefix(&self, front: &Path) -> Option<&[Name]>
-        ensures { option_map (λ rest. rest.now) result ≡ below front.now self.now }
+    /// Returns the names that follow a prefix of this path, or `None` if it isn't a prefix.
+    #[tactic(auto, using(crate::proofs::StripPrefix::strip_prefix))]
+    pub fn strip_prefix(&self, prefix: &Path) -> Option<&[Name]>
+        ensures { option_map (λ rest. rest.now) result ≡ below prefix.now self.now }
     {
-        let count = front.names.len();
+        let count = prefix.names.len();
         if count > self.names.len() {
             return None;
         }
         let (start, rest) = self.names.as_slice().split_at(count);
-        if start == front.names.as_slice() {
+        if start == prefix.names.as_slice() {
             Some(rest)
         } else {
             None
         }
     }
 
-    /// Whether this is a child of a directory: its path and one name more.
+    /// Returns whether this path is `parent` and one more name.
     pub fn is_child_of(&self, parent: &Path) -> bool
         ensures { result ≡ is_child parent.now self.now }
     {
         matches!(self.strip_prefix(parent), Some([_]))
     }
 
-    /// Whether this is the directory of a path, where the root is its own.
+    /// Returns whether this is the parent of a path.
     #[tactic(auto, using(crate::proofs::Parents::take_is_parent))]
     pub fn is_parent_of(&self, path: &Path) -> bool
         ensures { result ≡ path_eq (parent_of path.now) self.now }
     {
         let count = path.names.len().saturating_sub(1);
-        let (front, _last) = path.names.as_slice().split_at(count);
-        front == self.names.as_slice()
+        let (parent, _last) = path.names.as_slice().split_at(count);
+        parent == self.names.as_slice()
     }
 
-    /// The path of the password file, `/etc/passwd`.
+    /// Returns the path of the password file, `/etc/passwd`.
     #[tactic(auto, unfolding(crate::specs::Path::passwd, crate::specs::Name::is_name))]
     pub fn passwd(alloc: Global) -> Result<Path, AllocError>
         ensures { IfOk result (λ path. path ≡ passwd) }
@@ -187,7 +175,7 @@ impl Path {
         Ok(Path { names })
     }
 
-    /// Whether this is the path of the password file.
+    /// Returns whether this is the path of the password file.
     #[tactic(auto, unfolding(crate::specs::Path::passwd))]
     pub fn is_passwd(&self) -> bool
         ensures { result ≡ path_eq passwd self.now }
@@ -198,7 +186,7 @@ impl Path {
         }
     }
 
-    /// The path of names that are given.
+    /// Returns the path of these names.
     fn of_names(alloc: Global, given: &[Name]) -> Result<Path, AllocError>
         ensures { IfOk result (λ path. path ≡ given.now) }
     {
@@ -209,8 +197,8 @@ impl Path {
         Ok(Path { names })
     }
 
-    /// Goes down to a name, or up at two dots. An empty part and a dot stay. After want of memory
-    /// the path is as before.
+    /// Follows one part of a text: appends a name, or removes the last one for `..`. An empty part
+    /// and `.` change nothing.
     #[tactic(auto, unfolding(crate::specs::Resolving::step), using(crate::proofs::Parents::take_is_parent))]
     pub(crate) fn enter(&mut self, alloc: Global, part: &str) -> Result<(), AllocError>
         ensures ok { OnOk result (self.new ≡ step self.old part.now) }
@@ -227,17 +215,17 @@ impl Path {
         Ok(())
     }
 
-    /// Whether this is the root.
+    /// Returns whether this is the root.
     pub fn is_root(&self) -> bool
         ensures { result ≡ is_root self.now }
     {
         self.names.is_empty()
     }
 
-    /// Whether something may stand here: not at `/dev/null` or below it.
-    #[tactic(auto, unfolding(crate::specs::Path::may_stand))]
-    pub fn may_stand(&self) -> bool
-        ensures { result ≡ may_stand self.now }
+    /// Returns whether a file or directory can exist here: not at `/dev/null` or below it.
+    #[tactic(auto, unfolding(crate::specs::Path::may_exist))]
+    pub fn may_exist(&self) -> bool
+        ensures { result ≡ may_exist self.now }
     {
         match self.names.as_slice() {
             [first, second, ..] => !(first.as_str() == "dev" && second.as_str() == "null"),
@@ -245,7 +233,7 @@ impl Path {
         }
     }
 
-    /// Whether this is `/dev/null`.
+    /// Returns whether this is `/dev/null`.
     #[tactic(auto, unfolding(crate::specs::Path::is_null))]
     pub fn is_null(&self) -> bool
         ensures value { result ≡ is_null self.now }
@@ -257,11 +245,7 @@ impl Path {
         }
     }
 
-    /// The same path once more.
-    ///
-    /// # Errors
-    ///
-    /// `NoMem` where memory is wanting.
+    /// Returns a copy.
     pub fn copy(&self) -> Result<Path, AllocError>
         ensures { IfOk result (λ copy. copy ≡ self.now) }
     {

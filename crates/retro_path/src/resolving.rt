@@ -1,4 +1,4 @@
-//! The path that a text names.
+//! Resolution of texts to paths.
 ghost use Rattle.std.specs.Prelude.{◌≡◌, IfOk, map, false, List, ℕ};
 ghost use Rattle.std.specs.List.{list_any};
 ghost use Rattle.retro_path.specs.Path.{PathValue};
@@ -8,25 +8,25 @@ use crate::name::NAME_LIMIT;
 use crate::path::Path;
 use std::alloc::{AllocError, Global};
 
-/// What a text names.
+/// What a text resolves to.
 #[derive(Drop, Clone)]
 pub enum Resolved {
     /// A path.
     Is(Path),
-    /// Nothing, since the text is empty.
+    /// No path, because the text is empty.
     Empty,
-    /// Nothing, since a name in the text is longer than names may be.
+    /// No path, because a name in the text exceeds `NAME_LIMIT`.
     LongName,
 }
 
-/// What stands between the slashes of a text.
+/// Splits a text at slashes.
 fn parts_of(alloc: Global, text: &str) -> Result<Vec<&str>, AllocError>
     ensures { IfOk result (λ parts. map (λ part. part.now) parts.items ≡ parts_of text.now) }
 {
     text.split('/').collect(alloc)
 }
 
-/// Whether a part is longer than names may be.
+/// Returns whether a part exceeds `NAME_LIMIT`.
 fn has_long(parts: &[&str]) -> bool
     ensures { result ≡ list_any is_long (map (λ part. part.now) parts.now) }
 {
@@ -38,7 +38,7 @@ fn has_long(parts: &[&str]) -> bool
     false
 }
 
-/// Where a text starts: at the root after a slash, else in the directory.
+/// Returns where resolution starts: the root if the text begins with a slash, else the directory.
 fn start_of(alloc: Global, cwd: &Path, text: &str) -> Result<Path, AllocError>
     ensures { IfOk result (λ start. start ≡ start_of cwd.now text.now) }
 {
@@ -48,7 +48,7 @@ fn start_of(alloc: Global, cwd: &Path, text: &str) -> Result<Path, AllocError>
     }
 }
 
-/// The path that is reached from a start, part by part.
+/// Returns the path that is reached from `start` by the parts.
 fn walk(alloc: Global, start: Path, parts: &[&str]) -> Result<Path, AllocError>
     ensures { IfOk result (λ path. path ≡ walk start (map (λ part. part.now) parts.now)) }
 {
@@ -59,14 +59,11 @@ fn walk(alloc: Global, start: Path, parts: &[&str]) -> Result<Path, AllocError>
     Ok(path)
 }
 
-/// The path that a text names from a directory, by the text alone: it is cut at slashes, empty
-/// parts and `.` stay where they are, and `..` takes away the name before it, at the root none.
-/// A text that begins with a slash starts at the root. A part of more than 255 bytes is a fault,
-/// also one that a later `..` takes away.
+/// Returns the path that a text names from a directory. Only the text counts, not which files exist.
 ///
-/// # Errors
-///
-/// `NoMem` where memory is wanting.
+/// The text is split at slashes. A text that begins with a slash starts at the root. Empty parts and
+/// `.` are skipped, and `..` removes the last name, if there is one. A part of more than 255 bytes
+/// gives `LongName`, even if a later `..` removes it.
 pub fn resolve(alloc: Global, cwd: &Path, text: &str) -> Result<Resolved, AllocError>
     ensures { IfOk result (λ resolved. resolved ≡ resolve cwd.now text.now) }
 {
@@ -81,12 +78,8 @@ pub fn resolve(alloc: Global, cwd: &Path, text: &str) -> Result<Resolved, AllocE
     Ok(Resolved::Is(walk(alloc, start, parts.as_slice())?))
 }
 
-/// Whether the path that a text names depends on the directory: not that of an empty text, of one
-/// that begins with a slash, or of one with a part that is too long.
-///
-/// # Errors
-///
-/// `NoMem` where memory is wanting.
+/// Returns whether the path that a text names depends on the directory. It doesn't if the text is
+/// empty, begins with a slash, or has a part that is too long.
 #[tactic(auto, unfolding(crate::specs::Resolving::is_relative))]
 pub fn is_relative(alloc: Global, text: &str) -> Result<bool, AllocError>
     ensures { IfOk result (λ relative. relative ≡ is_relative text.now) }
@@ -100,9 +93,9 @@ pub fn is_relative(alloc: Global, text: &str) -> Result<bool, AllocError>
     }
 }
 
-/// A text whose path doesn't depend on the directory names the same from each.
-#[tactic(auto, using(crate::proofs::Alike::named_alike))]
-pub fn named_alike()
+/// A text that isn't relative resolves alike in every directory.
+#[tactic(auto, using(crate::proofs::Alike::resolve_alike))]
+pub fn resolve_ignores_the_directory()
     ensures { (p q : PathValue) (text : List ℕ)
         → is_relative text ≡ false → resolve p text ≡ resolve q text }
 {}

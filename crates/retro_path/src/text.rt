@@ -1,11 +1,11 @@
-//! Texts that clauses see as lists of bytes.
+//! Texts, which contracts see as lists of bytes.
 ghost use Rattle.std.specs.Prelude.{◌≡◌, IfOk, string_bytes};
 
 use std::alloc::AllocError;
 use std::cmp::Ordering;
 use std::marker::Model;
 
-/// A text, by its bytes.
+/// A text. Contracts see the list of its bytes.
 #[derive(Drop, Clone)]
 pub struct Text {
     text: String,
@@ -20,32 +20,28 @@ impl Model for Text {
 }
 
 impl Text {
-    /// The same text once more.
-    ///
-    /// # Errors
-    ///
-    /// `NoMem` where memory is wanting.
+    /// Returns a copy.
     pub fn copy(&self) -> Result<Text, AllocError>
         ensures { IfOk result (λ copy. copy ≡ self.now) }
     {
         self.clone()
     }
 
-    /// The text of a string. Takes no memory.
+    /// Makes a text of a string. Takes no memory.
     pub fn of(text: String) -> Text
         ensures { result ≡ string_bytes text }
     {
         Text { text }
     }
 
-    /// The bytes of the text, in UTF-8.
+    /// Returns the bytes of the text, in UTF-8.
     pub fn bytes(&self) -> &[u8]
         ensures { result.now ≡ self.now }
     {
         self.text.as_bytes()
     }
 
-    /// The string of the text. Takes no memory.
+    /// Returns the string. Takes no memory.
     pub fn into_string(self) -> String
         ensures { string_bytes result ≡ self }
     {
@@ -53,7 +49,7 @@ impl Text {
         text
     }
 
-    /// The text as std's own.
+    /// Returns the text as a `str`.
     pub fn as_str(&self) -> &str
         ensures { result.now ≡ self.now }
     {

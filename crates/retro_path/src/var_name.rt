@@ -8,8 +8,9 @@ use std::alloc::{AllocError, Global};
 use std::cmp::Ordering;
 use std::marker::Model;
 
-/// The name of a variable that a line may assign: a letter or an underscore, then letters, digits
-/// and underscores, of ASCII (POSIX.1-2017 XBD 3.235). IFS, PWD, OLDPWD and CDPATH are none.
+/// The name of a variable that a line can assign: an ASCII letter or an underscore, followed by ASCII
+/// letters, digits and underscores (POSIX.1-2017 XBD 3.235). `IFS`, `PWD`, `OLDPWD` and `CDPATH` are
+/// refused.
 #[derive(Drop, Clone, PartialEq, Eq, PartialOrd, Ord)]
 pub struct VarName {
     text: Text,
@@ -28,28 +29,28 @@ impl Model for VarName {
     ghost inverse = { λ v. record { text = v } };
 }
 
-/// Whether a byte may be the first of a name.
+/// Returns whether a byte can be the first of a name.
 fn starts_name(byte: u8) -> bool
     ensures { result ≡ starts_name byte }
 {
     byte.is_ascii_alphabetic() || byte == b'_'
 }
 
-/// Whether a byte may follow in a name.
+/// Returns whether a byte can follow in a name.
 fn continues_name(byte: u8) -> bool
     ensures { result ≡ continues_name byte }
 {
     byte.is_ascii_alphanumeric() || byte == b'_'
 }
 
-/// Whether each byte may follow in a name.
+/// Returns whether each byte can follow in a name.
 fn all_continue(bytes: &[u8]) -> bool
     ensures { result ≡ list_all continues_name bytes.now }
 {
     bytes.iter().all(|byte| continues_name(*byte))
 }
 
-/// Whether bytes are a name in the shell's grammar.
+/// Returns whether bytes are a name in the shell's grammar.
 #[tactic(auto, unfolding(crate::specs::VarName::is_shell_name))]
 fn is_shell_name(bytes: &[u8]) -> bool
     ensures { result ≡ is_shell_name bytes.now }
@@ -60,7 +61,7 @@ fn is_shell_name(bytes: &[u8]) -> bool
     }
 }
 
-/// Whether a line may assign a variable of this name.
+/// Returns whether a line can assign a variable of this name.
 #[tactic(auto, unfolding(crate::specs::VarName::is_var_name))]
 fn is_var_name(text: &str) -> bool
     ensures { result ≡ is_var_name text.now }
@@ -70,11 +71,7 @@ fn is_var_name(text: &str) -> bool
 }
 
 impl VarName {
-    /// The name that a text is, where a line may assign it.
-    ///
-    /// # Errors
-    ///
-    /// `NoMem` where memory is wanting.
+    /// Returns the text as a name, or `None` if no line can assign it.
     pub fn of(alloc: Global, text: &str) -> Result<Option<VarName>, AllocError>
         ensures { IfOk result (λ found. MatchOption found
             (is_var_name text.now ≡ false)
@@ -88,11 +85,7 @@ impl VarName {
         }))
     }
 
-    /// The name `HOME`.
-    ///
-    /// # Errors
-    ///
-    /// `NoMem` where memory is wanting.
+    /// Returns the name `HOME`.
     #[tactic(auto, unfolding(crate::specs::VarName::is_var_name, crate::specs::VarName::is_shell_name))]
     pub fn home(alloc: Global) -> Result<VarName, AllocError>
         ensures { IfOk result (λ name. name ≡ codes "HOME") }
@@ -102,7 +95,7 @@ impl VarName {
         })
     }
 
-    /// The name as a text.
+    /// Returns the text of the name.
     pub fn as_str(&self) -> &str
         ensures value { result.now ≡ self.now }
         ensures name { IsTrue (is_var_name self.now) }
@@ -110,11 +103,7 @@ impl VarName {
         self.text.as_str()
     }
 
-    /// The same name once more.
-    ///
-    /// # Errors
-    ///
-    /// `NoMem` where memory is wanting.
+    /// Returns a copy.
     pub fn copy(&self) -> Result<VarName, AllocError>
         ensures { IfOk result (λ copy. copy ≡ self.now) }
     {

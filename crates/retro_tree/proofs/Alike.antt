@@ -1,4 +1,4 @@
--- Texts that name the same path from each directory.
-use Rattle.retro_path.proofs.Alike.{named_alike}
+-- Texts that resolve alike in every directory, for crates above.
+use Rattle.retro_path.proofs.Alike.{resolve_alike}
 
-pub ruleset alike = (named_alike)
+pub ruleset alike = (resolve_alike)

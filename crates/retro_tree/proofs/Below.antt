@@ -7,7 +7,7 @@ use Rattle.std.specs.Cmp.Lexicographic.{nat_list_eq_equiv}
 use Rattle.std.specs.FinMap as finmap
 use Rattle.std.proofs.lemmas.Bool.{true≢false, false≢true}
 use Rattle.retro_tree.specs.Order.{text_eq}
-use Rattle.retro_tree.specs.Path.{PathValue, below, child_name, parent_of, is_root, may_stand}
+use Rattle.retro_tree.specs.Path.{PathValue, below, child_name, parent_of, is_root, may_exist}
 use Rattle.retro_tree.specs.Node.{file_limit, is_dir, node_of}
 use Rattle.retro_tree.specs.Tree.{Tree, node_in, has_child}
 use Rattle.retro_tree.specs.Lawful.{law_at, IsLawfulTree}
@@ -68,8 +68,8 @@ append_nothing (x ∷ q) = ap (λ r. x ∷ r) (append_nothing q)
 needs_dir : (r : PathValue) (node above : Node) → is_root r ≡ false → law_at r node above ≡ true → is_dir above ≡ false → node ≡ Missing
 needs_dir [] node above h law absent = absurd (true≢false h)
 needs_dir (x ∷ r) Missing above h law absent = refl
-needs_dir (x ∷ r) Dir above h law absent = absurd (false≢true (ap (λ b. b && may_stand (x ∷ r)) (sym absent) ∙ law))
-needs_dir (x ∷ r) (File bytes) above h law absent = absurd (false≢true (ap (λ b. b && (may_stand (x ∷ r) && nat_le (length bytes) file_limit)) (sym absent) ∙ law))
+needs_dir (x ∷ r) Dir above h law absent = absurd (false≢true (ap (λ b. b && may_exist (x ∷ r)) (sym absent) ∙ law))
+needs_dir (x ∷ r) (File bytes) above h law absent = absurd (false≢true (ap (λ b. b && (may_exist (x ∷ r) && nat_le (length bytes) file_limit)) (sym absent) ∙ law))
 
 pub child_missing : (t : Tree) → IsLawfulTree t → (q : PathValue) (n : List ℕ) → is_dir (node_in q t) ≡ false → node_in (q ++ n ∷ []) t ≡ Missing
 unfolding IsLawfulTree

@@ -6,7 +6,7 @@ use Rattle.std.specs.Bool.{if◌then◌else◌}
 use Rattle.std.specs.Cmp.Lexicographic.{pointwise}
 use Rattle.std.proofs.lemmas.Bool.{false≢true, le-leb}
 use Rattle.retro_tree.specs.Name.{AllNames}
-use Rattle.retro_tree.specs.Path.{PathValue, below, parent_of, null_path, nothing_left, is_null, may_stand}
+use Rattle.retro_tree.specs.Path.{PathValue, below, parent_of, null_path, nothing_left, is_null, may_exist}
 use Rattle.retro_tree.specs.Node.{file_limit, is_dir, grown, permit_under, permit_at}
 use Rattle.retro_tree.specs.Tree.{Tree, node_in, put}
 use Rattle.retro_tree.specs.Lawful.{law_at, IsLawfulTree}
@@ -18,7 +18,7 @@ use Rattle.retro_tree.proofs.LawLemmas.{lawful_put, none_below_file, lawful_grow
 
 -- a directory of a lawful tree isn't at /dev/null or below
 dir_stands : (p : PathValue) (t : Tree) → IsLawfulTree t → node_in p t ≡ Dir → is_some (below null_path p) ≡ false
-unfolding IsLawfulTree may_stand
+unfolding IsLawfulTree may_exist
 dir_stands [] t l is = refl
 dir_stands (m ∷ r) t l is =
     let law = ap (λ n. law_at (m ∷ r) n (node_in (parent_of (m ∷ r)) t)) (sym is) ∙ l (m ∷ r) in
@@ -51,8 +51,8 @@ above_null (x ∷ []) h k = too_short _
 above_null (x ∷ y ∷ []) h k = sym (at_end (pointwise nat_eq (codes "dev") x) (pointwise nat_eq (codes "null") y)) ∙ k
 above_null (x ∷ y ∷ z ∷ r) h k = same_branch (pointwise nat_eq (codes "dev") x) (pointwise nat_eq (codes "null") y) (z ∷ r) (parent_of (z ∷ r)) ∙ h
 
-pub stands_under : (q : PathValue) (t : Tree) → IsLawfulTree t → AllNames q → is_null q ≡ false → node_in (parent_of q) t ≡ Dir → may_stand q ≡ true
-unfolding may_stand
+pub stands_under : (q : PathValue) (t : Tree) → IsLawfulTree t → AllNames q → is_null q ≡ false → node_in (parent_of q) t ≡ Dir → may_exist q ≡ true
+unfolding may_exist
 stands_under q t l names apart up = and_true _ _ (ap not (above_null q (dir_stands (parent_of q) t l up) apart)) names
 
 permit_above : (node above : Node) (n : ℕ) → permit_at node above n ≡ permits.Yes → above ≡ Dir

@@ -3,7 +3,7 @@ use Rattle.std.proofs.Common.{◌≡◌, ◌≢◌, ◌≤◌, true, false, not,
 use Rattle.std.specs.Option.{is_some}
 use Rattle.std.proofs.lemmas.Bool.{false≢true, le-leb}
 use Rattle.retro_tree.specs.Name.{AllNames}
-use Rattle.retro_tree.specs.Path.{PathValue, below, parent_of, null_path, may_stand}
+use Rattle.retro_tree.specs.Path.{PathValue, below, parent_of, null_path, may_exist}
 use Rattle.retro_tree.specs.Node.{is_dir, size_of, file_limit}
 use Rattle.retro_tree.specs.Tree.{Tree, node_in}
 use Rattle.retro_tree.specs.Lawful.{law_at, IsLawfulTree, KeepsTreeLaw}
@@ -18,13 +18,13 @@ dir_of Missing e = absurd (false≢true e)
 dir_of Dir e = refl
 dir_of (File bytes) e = absurd (false≢true e)
 
-stands : (name : List ℕ) (rest : PathValue) (node above : Node) → node ≢ Missing → law_at (name ∷ rest) node above ≡ true → may_stand (name ∷ rest) ≡ true
+stands : (name : List ℕ) (rest : PathValue) (node above : Node) → node ≢ Missing → law_at (name ∷ rest) node above ≡ true → may_exist (name ∷ rest) ≡ true
 stands name rest Missing above ne h = absurd (ne refl)
 stands name rest Dir above ne h = both_true (is_dir above) _ h
-stands name rest (File bytes) above ne h = first_true (may_stand (name ∷ rest)) _ (both_true (is_dir above) _ h)
+stands name rest (File bytes) above ne h = first_true (may_exist (name ∷ rest)) _ (both_true (is_dir above) _ h)
 
 pub told : (tree : Tree) → IsLawfulTree tree → KeepsTreeLaw tree
-unfolding IsLawfulTree may_stand
+unfolding IsLawfulTree may_exist
 told tree l = record { root = dir_of (node_in [] tree) (l []); parents = parents; apart = apart; names = names; files = files }
   where
     parents : (p : PathValue) → node_in p tree ≢ Missing → node_in (parent_of p) tree ≡ Dir
@@ -32,7 +32,7 @@ told tree l = record { root = dir_of (node_in [] tree) (l []); parents = parents
     parents (name ∷ rest) ne =
         dir_of (node_in (parent_of (name ∷ rest)) tree) (dir_above name rest (node_in (name ∷ rest) tree) (node_in (parent_of (name ∷ rest)) tree) ne (l (name ∷ rest)))
 
-    standing : (name : List ℕ) (rest : PathValue) → node_in (name ∷ rest) tree ≢ Missing → may_stand (name ∷ rest) ≡ true
+    standing : (name : List ℕ) (rest : PathValue) → node_in (name ∷ rest) tree ≢ Missing → may_exist (name ∷ rest) ≡ true
     standing name rest ne = stands name rest (node_in (name ∷ rest) tree) (node_in (parent_of (name ∷ rest)) tree) ne (l (name ∷ rest))
 
     apart : (p : PathValue) → node_in p tree ≢ Missing → is_some (below null_path p) ≡ false
@@ -53,11 +53,11 @@ file_is_there : (n : Node) (bytes : List ℕ) → n ≡ File bytes → n ≢ Mis
 file_is_there n bytes e m = cc
 
 pub enough : (tree : Tree) → KeepsTreeLaw tree → IsLawfulTree tree
-unfolding IsLawfulTree may_stand
+unfolding IsLawfulTree may_exist
 enough tree k [] = ap is_dir k.root
 enough tree k (name ∷ rest) = go (node_in (name ∷ rest) tree) refl
   where
-    standing : node_in (name ∷ rest) tree ≢ Missing → may_stand (name ∷ rest) ≡ true
+    standing : node_in (name ∷ rest) tree ≢ Missing → may_exist (name ∷ rest) ≡ true
     standing ne = and_true _ _ (ap not (k.apart (name ∷ rest) ne)) (k.names (name ∷ rest) ne)
 
     go : (n : Node) → node_in (name ∷ rest) tree ≡ n → law_at (name ∷ rest) n (node_in (parent_of (name ∷ rest)) tree) ≡ true

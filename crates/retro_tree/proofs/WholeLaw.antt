@@ -7,7 +7,7 @@ use Rattle.std.specs.Cmp.{nat_cmp_total}
 use Rattle.std.specs.FinMap as map
 use Rattle.std.specs.FinMap.{nat_cmp-IsAntisymmetric}
 use Rattle.retro_tree.specs.Order.{path_total, path_exact, text_cmp, text_total, text_exact}
-use Rattle.retro_tree.specs.Path.{PathValue, parent_of, may_stand}
+use Rattle.retro_tree.specs.Path.{PathValue, parent_of, may_exist}
 use Rattle.retro_tree.specs.Node.{node_of, is_dir, size_of, file_limit}
 use Rattle.retro_tree.specs.Tree.{Tree, node_in}
 use Rattle.retro_tree.specs.Session.{value_limit}
@@ -101,7 +101,7 @@ pub size_under_law : (p : PathValue) (node above : Node) → law_at p node above
 size_under_law p Missing above h = omega arith
 size_under_law p Dir above h = omega arith
 size_under_law [] (File bytes) above h = cc
-size_under_law (name ∷ rest) (File bytes) above h = leb-true _ _ (both_true (may_stand (name ∷ rest)) _ (both_true (is_dir above) _ h))
+size_under_law (name ∷ rest) (File bytes) above h = leb-true _ _ (both_true (may_exist (name ∷ rest)) _ (both_true (is_dir above) _ h))
 
 -- a lawful state is within the limits
 pub limits_of_lawful : (s : State) → IsLawful s → IsWithinLimits s

@@ -3,7 +3,7 @@ use Rattle.std.specs.Prelude.{◌≡◌, ◌≢◌, ◌≤◌, ℕ, List, Bool, 
 use Rattle.std.specs.List.{list_all}
 use Rattle.std.specs.FinMap as map
 use Rattle.retro_tree.specs.Name.{AllNames}
-use Rattle.retro_tree.specs.Path.{PathValue, below, parent_of, null_path, may_stand}
+use Rattle.retro_tree.specs.Path.{PathValue, below, parent_of, null_path, may_exist}
 use Rattle.retro_tree.specs.Node.{file_limit, node_of, is_dir, size_of, grown}
 use Rattle.retro_tree.specs.Tree.{Tree, node_in, has_child}
 use Rattle.retro_tree.specs.Limits.{AreLawfulSessions, are_lawful_sessions}
@@ -16,9 +16,9 @@ use Rattle.retro_tree.specs.declared.node.Node.TheVariants.{Missing, Dir, File}
 abbrev pub law_at : PathValue → Node → Node → Bool
 law_at [] node above = is_dir node
 law_at (name ∷ rest) Missing above = true
-law_at (name ∷ rest) Dir above = is_dir above && may_stand (name ∷ rest)
+law_at (name ∷ rest) Dir above = is_dir above && may_exist (name ∷ rest)
 law_at (name ∷ rest) (File bytes) above =
-    is_dir above && (may_stand (name ∷ rest) && nat_le (length bytes) file_limit)
+    is_dir above && (may_exist (name ∷ rest) && nat_le (length bytes) file_limit)
 
 -- each path passes
 unfoldable pub IsLawfulTree : Tree → Type 0

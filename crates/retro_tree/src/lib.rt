@@ -66,8 +66,8 @@ pub use note_laws::{
 };
 pub use overlay::{Laid, Overlay, overlays_last, overlays_show_a_state};
 pub use retro_path::{
-    Bytes, Listing, NAME_LIMIT, Name, Path, Resolved, Text, VarName, is_relative, named_alike,
-    resolve,
+    Bytes, Listing, NAME_LIMIT, Name, Path, Resolved, Text, VarName, is_relative, resolve,
+    resolve_ignores_the_directory,
 };
 pub use session::{Session, Sessions, VALUE_LIMIT, Vars};
 pub use state::State;

@@ -2,7 +2,7 @@
 ghost use Rattle.std.specs.Prelude.{◌≡◌, ◌↔◌, ◌&&◌, IsTrue, IfOk, OnOk, OnErr, None};
 ghost use Rattle.std.specs.Option.{option_copied};
 ghost use Rattle.std.specs.FinMap as map;
-ghost use Rattle.retro_tree.specs.Path.{parent_of, may_stand};
+ghost use Rattle.retro_tree.specs.Path.{parent_of, may_exist};
 ghost use Rattle.retro_tree.specs.Node.{bytes_in, is_dir, kind_of, size_of, permit_at, grown};
 ghost use Rattle.retro_tree.specs.Tree.{node_in, put, has_child, entries_from};
 ghost use Rattle.retro_tree.specs.Ask.{names_in};
@@ -331,10 +331,10 @@ impl Tree {
     /// isn't at `/dev/null` or below it.
     fn has_place_for(&self, path: &Path) -> Result<bool, AllocError>
         ensures { IfOk result (λ has. has
-            ≡ (is_dir (node_in (parent_of path.now) self.now) && may_stand path.now)) }
+            ≡ (is_dir (node_in (parent_of path.now) self.now) && may_exist path.now)) }
     {
         let parent = path.copy()?.into_parent();
-        Ok(self.is_dir(&parent) && path.may_stand())
+        Ok(self.is_dir(&parent) && path.may_exist())
     }
 
     /// Whether the tree is known to be lawful.
