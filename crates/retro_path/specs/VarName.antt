@@ -1,5 +1,6 @@
 -- The names of variables that a line can assign (POSIX.1-2017 XBD 3.235, Name).
-use Rattle.std.specs.Prelude.{ℕ, ◌==◌, Bool, false, not, ◌&&◌, ◌||◌, List, [], ◌∷◌, codes}
+use Rattle.std.specs.Prelude.{ℕ, ◌==◌, Bool, false, not, ◌&&◌, ◌||◌, List, [], ◌∷◌, Option, Some, None}
+use Rattle.std.specs.Prelude.{if◌then◌else◌, codes}
 use Rattle.std.specs.List.{list_any, list_all}
 use Rattle.std.specs.Char.{is_ascii_alphabetic, is_ascii_alphanumeric}
 use Rattle.retro_path.specs.Ascii.{underscore}
@@ -25,3 +26,7 @@ barred_names = codes "IFS" ∷ codes "PWD" ∷ codes "OLDPWD" ∷ codes "CDPATH"
 -- the name of a variable that a line can assign
 unfoldable pub is_var_name : List ℕ → Bool
 is_var_name bs = is_shell_name bs && not (list_any (text_eq bs) barred_names)
+
+-- a text as a name, or None where no line can assign it
+abbrev pub var_name_of : List ℕ → Option (List ℕ)
+var_name_of bs = if is_var_name bs then Some bs else None

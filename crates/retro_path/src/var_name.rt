@@ -1,5 +1,5 @@
 //! The name of a variable.
-ghost use Rattle.std.specs.Prelude.{◌≡◌, IfOk, IsTrue, MatchOption, false, codes};
+ghost use Rattle.std.specs.Prelude.{◌≡◌, IfOk, IsTrue, MatchOption, false, true, codes, string_bytes};
 ghost use Rattle.std.specs.List.{list_all};
 ghost use Rattle.retro_path.specs.VarName.{starts_name, continues_name, is_shell_name, is_var_name};
 
@@ -29,55 +29,75 @@ impl Model for VarName {
     ghost inverse = { λ v. record { text = v } };
 }
 
-/// Returns whether a byte can be the first of a name.
-fn starts_name(byte: u8) -> bool
-    ensures { result ≡ starts_name byte }
-{
-    byte.is_ascii_alphabetic() || byte == b'_'
-}
-
-/// Returns whether a byte can follow in a name.
-fn continues_name(byte: u8) -> bool
-    ensures { result ≡ continues_name byte }
-{
-    byte.is_ascii_alphanumeric() || byte == b'_'
-}
-
 /// Returns whether each byte can follow in a name.
 fn all_continue(bytes: &[u8]) -> bool
     ensures { result ≡ list_all continues_name bytes.now }
 {
-    bytes.iter().all(|byte| continues_name(*byte))
-}
-
-/// Returns whether bytes are a name in the shell's grammar.
-#[tactic(auto, unfolding(crate::specs::VarName::is_shell_name))]
-fn is_shell_name(bytes: &[u8]) -> bool
-    ensures { result ≡ is_shell_name bytes.now }
-{
-    match bytes {
-        [] => false,
-        [first, rest @ ..] => { starts_name(*first) && all_continue(rest) }
-    }
-}
-
-/// Returns whether a line can assign a variable of this name.
-#[tactic(auto, unfolding(crate::specs::VarName::is_var_name))]
-fn is_var_name(text: &str) -> bool
-    ensures { result ≡ is_var_name text.now }
-{
-    is_shell_name(text.as_bytes())
-        && !(text == "IFS" || text == "PWD" || text == "OLDPWD" || text == "CDPATH")
+    bytes
+        .iter()
+        .all(|byte| VarName::may_continue_with(char::from(*byte)))
 }
 
 impl VarName {
+    /// Returns whether a name can start with the character.
+    pub fn may_start_with(c: char) -> bool
+        ensures { result ≡ starts_name c }
+    {
+        c.is_ascii_alphabetic() || c == '_'
+    }
+
+    /// Returns whether a name can have the character after its first one.
+    pub fn may_continue_with(c: char) -> bool
+        ensures { result ≡ continues_name c }
+    {
+        c.is_ascii_alphanumeric() || c == '_'
+    }
+
+    /// Returns whether a text is a name in the shell's grammar, which admits IFS, PWD, OLDPWD and
+    /// CDPATH.
+    #[tactic(auto, unfolding(crate::specs::VarName::is_shell_name))]
+    pub fn is_shell_name(text: &str) -> bool
+        ensures { result ≡ is_shell_name text.now }
+    {
+        match text.as_bytes() {
+            [] => false,
+            [first, rest @ ..] => {
+                VarName::may_start_with(char::from(*first)) && all_continue(rest)
+            }
+        }
+    }
+
+    /// Returns whether a text is the name of a variable that a line can assign.
+    #[tactic(auto, unfolding(crate::specs::VarName::is_var_name))]
+    pub fn is_var_name(text: &str) -> bool
+        ensures { result ≡ is_var_name text.now }
+    {
+        VarName::is_shell_name(text)
+            && !(text == "IFS" || text == "PWD" || text == "OLDPWD" || text == "CDPATH")
+    }
+
+    /// Returns the string as a name, or `None` if no line can assign it. Doesn't allocate.
+    pub fn from_string(text: String) -> Option<VarName>
+        ensures { MatchOption result
+            (is_var_name (string_bytes text) ≡ false)
+            (λ name. (name ≡ string_bytes text) × (is_var_name (string_bytes text) ≡ true)) }
+    {
+        if VarName::is_var_name(text.as_str()) {
+            Some(VarName {
+                text: Text::of(text),
+            })
+        } else {
+            None
+        }
+    }
+
     /// Returns the text as a name, or `None` if no line can assign it.
     pub fn of(alloc: Global, text: &str) -> Result<Option<VarName>, AllocError>
         ensures { IfOk result (λ found. MatchOption found
             (is_var_name text.now ≡ false)
             (λ name. (name ≡ text.now) × IsTrue (is_var_name name))) }
     {
-        if !is_var_name(text) {
+        if !VarName::is_var_name(text) {
             return Ok(None);
         }
         Ok(Some(VarName {

@@ -55,7 +55,7 @@ quoted_append [] ds h k = k
 quoted_append (c ∷ cs) ds h k =
     and_both (not (c == 0)) (are_quoted (cs ++ ds)) (and_left (not (c == 0)) (are_quoted cs) h) (quoted_append cs ds (and_right (not (c == 0)) (are_quoted cs) h) k)
 
-parameters_push : (ns : List (List ℕ)) (n : List ℕ) → are_parameters ns ≡ true → is_parameter n ≡ true → are_parameters (ns ++ n ∷ []) ≡ true
+parameters_push : (ns : List T.Parameter) (n : T.Parameter) → are_parameters ns ≡ true → is_parameter n ≡ true → are_parameters (ns ++ n ∷ []) ≡ true
 parameters_push [] n h k = and_both (is_parameter n) true k refl
 parameters_push (m ∷ ns) n h k =
     and_both (is_parameter m) (are_parameters (ns ++ n ∷ [])) (and_left (is_parameter m) (are_parameters ns) h) (parameters_push ns n (and_right (is_parameter m) (are_parameters ns) h) k)
@@ -96,7 +96,7 @@ apart_unquoted (quoted x []) cs ds h = h
 apart_unquoted (quoted x (n ∷ ns)) cs ds h = h
 apart_unquoted (parameter n) cs ds h = h
 
-apart_quoted : (f : Part) (cs ds : List ℕ) (ns ms : List (List ℕ)) → are_apart f (quoted cs ns) ≡ true → are_apart f (quoted ds ms) ≡ true
+apart_quoted : (f : Part) (cs ds : List ℕ) (ns ms : List T.Parameter) → are_apart f (quoted cs ns) ≡ true → are_apart f (quoted ds ms) ≡ true
 apart_quoted (unquoted x) cs ds ns ms h = h
 apart_quoted (quoted x []) cs ds ns ms h = h
 apart_quoted (quoted x (k ∷ ks)) cs ds ns ms h = h
@@ -107,7 +107,7 @@ leads_unquoted [] cs ds h = tt
 leads_unquoted (f ∷ []) cs ds h = (h.0, apart_unquoted f cs ds h.1)
 leads_unquoted (f ∷ g ∷ fs) cs ds h = (h.0, h.1, leads_unquoted (g ∷ fs) cs ds h.2)
 
-leads_quoted : (fs : List Part) (cs ds : List ℕ) (ns ms : List (List ℕ)) → Leads fs (quoted cs ns) → Leads fs (quoted ds ms)
+leads_quoted : (fs : List Part) (cs ds : List ℕ) (ns ms : List T.Parameter) → Leads fs (quoted cs ns) → Leads fs (quoted ds ms)
 leads_quoted [] cs ds ns ms h = tt
 leads_quoted (f ∷ []) cs ds ns ms h = (h.0, apart_quoted f cs ds ns ms h.1)
 leads_quoted (f ∷ g ∷ fs) cs ds ns ms h = (h.0, h.1, leads_quoted (g ∷ fs) cs ds ns ms h.2)
@@ -197,7 +197,7 @@ grow_by f ps d ds w (unquoted (c ∷ cs)) e h =
     }
 grow_by f ps d ds w (quoted cs ns) e h = behind_other f ps d ds w h (subst (λ q. are_apart q (unquoted (d ∷ ds)) ≡ true) (sym e) (apart_of ns))
   where
-    apart_of : (ms : List (List ℕ)) → are_apart (quoted cs ms) (unquoted (d ∷ ds)) ≡ true
+    apart_of : (ms : List T.Parameter) → are_apart (quoted cs ms) (unquoted (d ∷ ds)) ≡ true
     apart_of [] = refl
     apart_of (m ∷ ms) = refl
 grow_by f ps d ds w (parameter n) e h = behind_other f ps d ds w h (subst (λ q. are_apart q (unquoted (d ∷ ds)) ≡ true) (sym e) refl)
@@ -249,17 +249,17 @@ grow_quoted g ps s ds (going w) e h = quote_by g ps s ds w w.last refl e h
 
 -- ---- a parameter behind it
 
-apart_parameter : (p : Part) (n : List ℕ) → are_apart p (parameter n) ≡ true
+apart_parameter : (p : Part) (n : T.Parameter) → are_apart p (parameter n) ≡ true
 apart_parameter (unquoted cs) n = refl
 apart_parameter (quoted cs []) n = refl
 apart_parameter (quoted cs (m ∷ ms)) n = refl
 apart_parameter (parameter m) n = refl
 
-pub push_parameter : (ps : List T.Piece) (n : List ℕ) → Begun true ps → is_parameter n ≡ true → Word true (ps ++ T.parameter n ∷ [])
+pub push_parameter : (ps : List T.Piece) (n : T.Parameter) → Begun true ps → is_parameter n ≡ true → Word true (ps ++ T.parameter n ∷ [])
 push_parameter ps n (empty x) h = subst (λ qs. Word true (qs ++ T.parameter n ∷ [])) (sym x) (start_part true (parameter n) h refl)
 push_parameter ps n (going w) h = push_part true true ps w (parameter n) w.whole (apart_parameter w.last n) h
 
-push_by : (ps : List T.Piece) (n : List ℕ) (w : Word true ps) (p : Part) → w.last ≡ p → is_quoted_part p ≡ true → is_parameter n ≡ true → QuotedWord (ps ++ T.quoted_parameter n ∷ [])
+push_by : (ps : List T.Piece) (n : T.Parameter) (w : Word true ps) (p : Part) → w.last ≡ p → is_quoted_part p ≡ true → is_parameter n ≡ true → QuotedWord (ps ++ T.quoted_parameter n ∷ [])
 push_by ps n w (unquoted cs) e k h = cc
 push_by ps n w (parameter m) e k h = cc
 push_by ps n w (quoted cs ns) e k h =
@@ -280,7 +280,7 @@ push_by ps n w (quoted cs ns) e k h =
       kind = refl;
     }
 
-pub push_quoted_parameter : (ps : List T.Piece) (n : List ℕ) → QuotedWord ps → is_parameter n ≡ true → QuotedWord (ps ++ T.quoted_parameter n ∷ [])
+pub push_quoted_parameter : (ps : List T.Piece) (n : T.Parameter) → QuotedWord ps → is_parameter n ≡ true → QuotedWord (ps ++ T.quoted_parameter n ∷ [])
 push_quoted_parameter ps n w h = push_by ps n w.given w.given.last refl w.kind h
 
 -- ---- tokens

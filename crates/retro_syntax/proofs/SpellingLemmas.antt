@@ -1,11 +1,11 @@
 -- What is read from a text has a writing.
 use Rattle.std.proofs.Common.{◌≡◌, ℕ, Bool, true, false, ◌&&◌, ◌||◌, ◌==◌, List, [], ◌∷◌, ◌++◌, Option, Some, None, cond, refl, sym, ap, subst, append-nil, codes}
-use Rattle.std.specs.Char.{encode_utf8, is_ascii_alphanumeric}
+use Rattle.std.specs.Char.{encode_utf8}
 use Rattle.std.proofs.lemmas.Bool.{eqb-true}
 use Rattle.retro_syntax.specs.Ascii.{is_among}
 use Rattle.retro_syntax.specs.Tree as T
-use Rattle.retro_syntax.specs.Words.{is_name, goes_on_name, is_one_of, unsupported_names}
-use Rattle.retro_syntax.specs.Quoting.{Lexing, Reading, Pending, with_pending, between, comment, operator, reading, in_word, dollar, named, braced, question, add_plain, add_quoted, begins_name, continues_name, is_other_parameter, is_special_inside, is_blank, is_operator, is_refused, with_parameter, unquoted_at, fresh, settled, word_at, after_parameter, reading_at, operator_at, plain_at, escaped_in, escaped_reading, escaped_operator, escaped_at, takes_backslash, lex_step, lex_run, reading_end, lex_end_at, lex_end, tokens_of}
+use Rattle.retro_path.specs.VarName.{starts_name, continues_name, is_var_name}
+use Rattle.retro_syntax.specs.Quoting.{Lexing, Reading, Pending, with_pending, between, comment, operator, reading, in_word, dollar, named, braced, question, add_plain, add_quoted, is_other_parameter, is_special_inside, is_blank, is_operator, is_refused, with_parameter, with_variable, unquoted_at, fresh, settled, word_at, after_variable, reading_at, operator_at, plain_at, escaped_in, escaped_reading, escaped_operator, escaped_at, takes_backslash, lex_step, lex_run, reading_end, lex_end_at, lex_end, tokens_of}
 use Rattle.retro_syntax.specs.declared.quoting.Quote.{Quote}
 use Rattle.retro_syntax.specs.declared.quoting.Quote.TheVariants.{Unquoted, Single, Double}
 use Rattle.retro_syntax.specs.declared.quoting.Operator.{Operator}
@@ -13,8 +13,8 @@ use Rattle.retro_syntax.specs.declared.quoting.Operator.TheVariants as o
 use Rattle.retro_syntax.specs.declared.tree.Direction.TheVariants.{From, Onto, Append}
 use Rattle.retro_syntax.specs.declared.tree.Connector.TheVariants.{AndIf, OrIf}
 use Rattle.retro_syntax.specs.Writing.{semicolon, bar, connector, redirection, fits, begins_parameter, is_parameter, HasWriting}
-use Rattle.retro_syntax.proofs.WritingLemmas.{and_left, and_right, or_left, or_right, outside, name_is_ascii, name_begins}
-use Rattle.retro_syntax.proofs.PartLemmas.{by_bool, and_both, and_taken, Word, QuotedWord, Begun, empty, going, start_unquoted, grow_unquoted, grow_quoted, push_parameter, push_quoted_parameter, push_token, push_word}
+use Rattle.retro_syntax.proofs.WritingLemmas.{or_left, or_right, outside}
+use Rattle.retro_syntax.proofs.PartLemmas.{by_bool, and_taken, Word, QuotedWord, Begun, empty, going, start_unquoted, grow_unquoted, grow_quoted, push_parameter, push_quoted_parameter, push_token, push_word}
 
 -- ---- states
 
@@ -22,10 +22,6 @@ use Rattle.retro_syntax.proofs.PartLemmas.{by_bool, and_both, and_taken, Word, Q
 abbrev Before : Bool → List T.Piece → Type 0
 Before true ps = QuotedWord ps
 Before false ps = Begun true ps
-
-abbrev IsStart : List ℕ → Type 0
-IsStart [] = Unit {0}
-IsStart (c ∷ cs) = is_name (c ∷ cs) ≡ true
 
 abbrev InWord : Quote → List T.Piece → Type 0
 InWord Unquoted ps = Word true ps
@@ -35,8 +31,8 @@ InWord Double ps = QuotedWord ps
 abbrev IsReading : Reading → Type 0
 IsReading (in_word ps digits q) = InWord q ps
 IsReading (dollar ps inside) = Before inside ps
-IsReading (named ps inside n) = Before inside ps × (is_name n ≡ true)
-IsReading (braced ps inside n) = Before inside ps × IsStart n
+IsReading (named ps inside n) = Before inside ps
+IsReading (braced ps inside n) = Before inside ps
 IsReading (question ps inside) = Before inside ps
 
 abbrev IsPending : Pending → Type 0
@@ -121,35 +117,19 @@ double_kept ts ps digits c x w =
 
 -- ---- parameters
 
-variable : (n : List ℕ) → is_name n ≡ true → is_one_of unsupported_names n ≡ false → is_parameter n ≡ true
-variable n h u = rw (h, u) refl
+with_parameter_kept : (ts : List T.Token) (ps : List T.Piece) (inside : Bool) (p : T.Parameter) → HasWriting ts → Before inside ps → is_parameter p ≡ true → Kept (with_parameter ts ps inside p)
+with_parameter_kept ts ps true p x b h = (x, push_quoted_parameter ps p b h)
+with_parameter_kept ts ps false p x b h = (x, push_parameter ps p b h)
 
-with_parameter_kept : (ts : List T.Token) (ps : List T.Piece) (inside : Bool) (n : List ℕ) → HasWriting ts → Before inside ps → (is_one_of unsupported_names n ≡ false → is_parameter n ≡ true) → Kept (with_parameter ts ps inside n)
-with_parameter_kept ts ps true n x b h = by_bool (is_one_of unsupported_names n) (λ e. rw e tt) (λ e. rw e (x, push_quoted_parameter ps n b (h e)))
-with_parameter_kept ts ps false n x b h = by_bool (is_one_of unsupported_names n) (λ e. rw e tt) (λ e. rw e (x, push_parameter ps n b (h e)))
+with_variable_kept : (ts : List T.Token) (ps : List T.Piece) (inside : Bool) (n : List ℕ) → HasWriting ts → Before inside ps → Kept (with_variable ts ps inside n)
+with_variable_kept ts ps inside n x b =
+    by_bool (is_var_name n) (λ e. rw e (with_parameter_kept ts ps inside (T.variable n) x b e)) (λ e. rw e tt)
 
-after_parameter_kept : (ts : List T.Token) (ps : List T.Piece) (inside : Bool) (n : List ℕ) (c : ℕ) → HasWriting ts → Before inside ps → is_name n ≡ true → (c == 92) ≡ false → Kept (after_parameter ts ps inside n c)
-after_parameter_kept ts ps true n c x b h a =
-    by_bool (is_one_of unsupported_names n) (λ e. rw e tt) (λ e. rw e (double_kept ts (ps ++ T.quoted_parameter n ∷ []) false c x (push_quoted_parameter ps n b (variable n h e))))
-after_parameter_kept ts ps false n c x b h a =
-    by_bool (is_one_of unsupported_names n) (λ e. rw e tt) (λ e. rw e (whole_kept ts (ps ++ T.parameter n ∷ []) false c x (push_parameter ps n b (variable n h e)) a))
-
-goes_push : (n : List ℕ) (c : ℕ) → goes_on_name n ≡ true → (is_ascii_alphanumeric c || (c == 95)) ≡ true → goes_on_name (n ++ c ∷ []) ≡ true
-goes_push [] c h k = rw k refl
-goes_push (b ∷ n) c h k =
-    and_both (is_ascii_alphanumeric b || (b == 95)) (goes_on_name (n ++ c ∷ [])) (and_left (is_ascii_alphanumeric b || (b == 95)) (goes_on_name n) h)
-    (goes_push n c (and_right (is_ascii_alphanumeric b || (b == 95)) (goes_on_name n) h) k)
-
-name_push : (b : ℕ) (n : List ℕ) (c : ℕ) → is_name (b ∷ n) ≡ true → (is_ascii_alphanumeric c || (c == 95)) ≡ true → is_name (b ∷ (n ++ encode_utf8 c)) ≡ true
-name_push b n c h k =
-    subst (λ s. is_name (b ∷ (n ++ s)) ≡ true) (sym (name_is_ascii c k))
-    (and_both (begins_name b) (goes_on_name (n ++ c ∷ [])) (and_left (begins_name b) (goes_on_name n) h) (goes_push n c (and_right (begins_name b) (goes_on_name n) h) k))
-
-first_name : (c : ℕ) → begins_name c ≡ true → is_name (encode_utf8 c) ≡ true
-first_name c h = subst (λ s. is_name s ≡ true) (sym (name_is_ascii c (name_begins c h))) (rw h refl)
-
-start_name : (c : ℕ) → begins_name c ≡ true → IsStart (encode_utf8 c)
-start_name c h = subst IsStart (sym (name_is_ascii c (name_begins c h))) (rw h refl)
+after_variable_kept : (ts : List T.Token) (ps : List T.Piece) (inside : Bool) (n : List ℕ) (c : ℕ) → HasWriting ts → Before inside ps → (c == 92) ≡ false → Kept (after_variable ts ps inside n c)
+after_variable_kept ts ps true n c x b a =
+    by_bool (is_var_name n) (λ e. rw e (double_kept ts (ps ++ T.quoted_parameter (T.variable n) ∷ []) false c x (push_quoted_parameter ps (T.variable n) b e))) (λ e. rw e tt)
+after_variable_kept ts ps false n c x b a =
+    by_bool (is_var_name n) (λ e. rw e (whole_kept ts (ps ++ T.parameter (T.variable n) ∷ []) false c x (push_parameter ps (T.variable n) b e) a)) (λ e. rw e tt)
 
 -- a `$` that stands for itself
 lone_dollar : (ps : List T.Piece) → Begun true ps → Word false (add_plain ps 36)
@@ -162,9 +142,9 @@ dollar_and ps c (going w) n f = grow_unquoted true ps 36 (c ∷ []) w (rw (n, f)
 
 dollar_outside : (ts : List T.Token) (ps : List T.Piece) (c : ℕ) → HasWriting ts → Begun true ps → (c == 92) ≡ false → Kept (reading_at ts (dollar ps false) c)
 dollar_outside ts ps c x b a =
-    by_bool (begins_name c) (λ e. rw e (x, (b, first_name c e))) (λ n. rw n
-    (by_bool (c == 123) (λ e. rw e (x, (b, tt))) (λ l. rw l
-    (by_bool (c == 63) (λ e. rw e (with_parameter_kept ts ps false (codes "?") x b (λ u. refl))) (λ q. rw q
+    by_bool (starts_name c) (λ e. rw e (x, b)) (λ n. rw n
+    (by_bool (c == 123) (λ e. rw e (x, b)) (λ l. rw l
+    (by_bool (c == 63) (λ e. rw e (with_parameter_kept ts ps false T.status x b refl)) (λ q. rw q
     (by_bool (is_other_parameter c) (λ e. rw e tt) (λ p. rw p
     (word_kept ts false (add_plain ps 36) false c x (lone_dollar ps b)
     (λ e. absurd (let same = eqb-true c 36 e in let f : true ≡ false = subst (λ d. is_other_parameter d ≡ false) same p in cc))
@@ -172,26 +152,25 @@ dollar_outside ts ps c x b a =
 
 dollar_inside : (ts : List T.Token) (ps : List T.Piece) (c : ℕ) → HasWriting ts → QuotedWord ps → Kept (reading_at ts (dollar ps true) c)
 dollar_inside ts ps c x w =
-    by_bool (begins_name c) (λ e. rw e (x, (w, first_name c e))) (λ n. rw n
-    (by_bool (c == 123) (λ e. rw e (x, (w, tt))) (λ l. rw l
-    (by_bool (c == 63) (λ e. rw e (with_parameter_kept ts ps true (codes "?") x w (λ u. refl))) (λ q. rw q
+    by_bool (starts_name c) (λ e. rw e (x, w)) (λ n. rw n
+    (by_bool (c == 123) (λ e. rw e (x, w)) (λ l. rw l
+    (by_bool (c == 63) (λ e. rw e (with_parameter_kept ts ps true T.status x w refl)) (λ q. rw q
     (by_bool (is_other_parameter c) (λ e. rw e tt) (λ p. rw p
     (double_kept ts (add_quoted ps (encode_utf8 36)) false c x (quote_one true ps 36 (going w.given) refl)))))))))
 
-named_kept : (ts : List T.Token) (ps : List T.Piece) (inside : Bool) (n : List ℕ) (c : ℕ) → HasWriting ts → Before inside ps → is_name n ≡ true → (c == 92) ≡ false → Kept (reading_at ts (named ps inside n) c)
-named_kept ts ps inside [] c x b h a = cc
-named_kept ts ps inside (d ∷ n) c x b h a =
-    by_bool (continues_name c) (λ e. rw e (x, (b, name_push d n c h e))) (λ e. rw e (after_parameter_kept ts ps inside (d ∷ n) c x b h a))
+named_kept : (ts : List T.Token) (ps : List T.Piece) (inside : Bool) (n : List ℕ) (c : ℕ) → HasWriting ts → Before inside ps → (c == 92) ≡ false → Kept (reading_at ts (named ps inside n) c)
+named_kept ts ps inside n c x b a =
+    by_bool (continues_name c) (λ e. rw e (x, b)) (λ e. rw e (after_variable_kept ts ps inside n c x b a))
 
-braced_kept : (ts : List T.Token) (ps : List T.Piece) (inside : Bool) (n : List ℕ) (c : ℕ) → HasWriting ts → Before inside ps → IsStart n → Kept (reading_at ts (braced ps inside n) c)
-braced_kept ts ps inside [] c x b h =
-    by_bool (c == 63) (λ e. rw e (x, b)) (λ q. rw q (by_bool (begins_name c) (λ e. rw e (x, (b, start_name c e))) (λ e. rw e tt)))
-braced_kept ts ps inside (d ∷ n) c x b h =
-    by_bool (c == 125) (λ e. rw e (with_parameter_kept ts ps inside (d ∷ n) x b (variable (d ∷ n) h))) (λ q. rw q
-    (by_bool (continues_name c) (λ e. rw e (x, (b, name_push d n c h e))) (λ e. rw e tt)))
+braced_kept : (ts : List T.Token) (ps : List T.Piece) (inside : Bool) (n : List ℕ) (c : ℕ) → HasWriting ts → Before inside ps → Kept (reading_at ts (braced ps inside n) c)
+braced_kept ts ps inside [] c x b =
+    by_bool (c == 63) (λ e. rw e (x, b)) (λ q. rw q (by_bool (starts_name c) (λ e. rw e (x, b)) (λ e. rw e tt)))
+braced_kept ts ps inside (d ∷ n) c x b =
+    by_bool (c == 125) (λ e. rw e (with_variable_kept ts ps inside (d ∷ n) x b)) (λ q. rw q
+    (by_bool (continues_name c) (λ e. rw e (x, b)) (λ e. rw e tt)))
 
 question_kept : (ts : List T.Token) (ps : List T.Piece) (inside : Bool) (c : ℕ) → HasWriting ts → Before inside ps → Kept (reading_at ts (question ps inside) c)
-question_kept ts ps inside c x b = by_bool (c == 125) (λ e. rw e (with_parameter_kept ts ps inside (codes "?") x b (λ u. refl))) (λ e. rw e tt)
+question_kept ts ps inside c x b = by_bool (c == 125) (λ e. rw e (with_parameter_kept ts ps inside T.status x b refl)) (λ e. rw e tt)
 
 -- whether a backslash quotes there, told by the state
 reading_kept : (ts : List T.Token) (r : Reading) (c : ℕ) → HasWriting ts → IsReading r → ((c == 92) && takes_backslash (reading r)) ≡ false → Kept (reading_at ts r c)
@@ -200,8 +179,8 @@ reading_kept ts (in_word ps digits Single) c x h a = single_kept ts ps digits c 
 reading_kept ts (in_word ps digits Double) c x h a = double_kept ts ps digits c x h
 reading_kept ts (dollar ps true) c x h a = dollar_inside ts ps c x h
 reading_kept ts (dollar ps false) c x h a = dollar_outside ts ps c x h (and_taken (c == 92) a)
-reading_kept ts (named ps inside n) c x h a = named_kept ts ps inside n c x h.0 h.1 (and_taken (c == 92) a)
-reading_kept ts (braced ps inside n) c x h a = braced_kept ts ps inside n c x h.0 h.1
+reading_kept ts (named ps inside n) c x h a = named_kept ts ps inside n c x h (and_taken (c == 92) a)
+reading_kept ts (braced ps inside n) c x h a = braced_kept ts ps inside n c x h
 reading_kept ts (question ps inside) c x h a = question_kept ts ps inside c x h
 
 -- ---- operators
@@ -253,11 +232,13 @@ escaped_reading_kept ts (in_word ps digits Double) c x h z = escaped_in_kept ts 
 escaped_reading_kept ts (dollar ps true) c x h z = escaped_in_kept ts true (add_quoted ps (encode_utf8 36)) Double c x (going (quote_one true ps 36 (going h.given) refl).given) z
 escaped_reading_kept ts (dollar ps false) c x h z = escaped_in_kept ts false (add_plain ps 36) Unquoted c x (going (lone_dollar ps h)) z
 escaped_reading_kept ts (named ps true n) c x h z =
-    by_bool (is_one_of unsupported_names n) (λ e. rw e tt)
-    (λ e. rw e (escaped_in_kept ts true (ps ++ T.quoted_parameter n ∷ []) Double c x (going (push_quoted_parameter ps n h.0 (variable n h.1 e)).given) z))
+    by_bool (is_var_name n)
+    (λ e. rw e (escaped_in_kept ts true (ps ++ T.quoted_parameter (T.variable n) ∷ []) Double c x (going (push_quoted_parameter ps (T.variable n) h e).given) z))
+    (λ e. rw e tt)
 escaped_reading_kept ts (named ps false n) c x h z =
-    by_bool (is_one_of unsupported_names n) (λ e. rw e tt)
-    (λ e. rw e (escaped_in_kept ts true (ps ++ T.parameter n ∷ []) Unquoted c x (going (push_parameter ps n h.0 (variable n h.1 e))) z))
+    by_bool (is_var_name n)
+    (λ e. rw e (escaped_in_kept ts true (ps ++ T.parameter (T.variable n) ∷ []) Unquoted c x (going (push_parameter ps (T.variable n) h e)) z))
+    (λ e. rw e tt)
 escaped_reading_kept ts (braced ps inside n) c x h z = tt
 escaped_reading_kept ts (question ps inside) c x h z = tt
 
@@ -292,7 +273,7 @@ reading_end_kept ts (dollar ps true) x h = tt
 reading_end_kept ts (dollar ps false) x h = push_word ts false (add_plain ps 36) x (lone_dollar ps h)
 reading_end_kept ts (named ps true n) x h = tt
 reading_end_kept ts (named ps false n) x h =
-    by_bool (is_one_of unsupported_names n) (λ e. rw e tt) (λ e. rw e (push_word ts true (ps ++ T.parameter n ∷ []) x (push_parameter ps n h.0 (variable n h.1 e))))
+    by_bool (is_var_name n) (λ e. rw e (push_word ts true (ps ++ T.parameter (T.variable n) ∷ []) x (push_parameter ps (T.variable n) h e))) (λ e. rw e tt)
 reading_end_kept ts (braced ps inside n) x h = tt
 reading_end_kept ts (question ps inside) x h = tt
 

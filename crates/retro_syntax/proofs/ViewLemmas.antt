@@ -1,4 +1,4 @@
-use Rattle.std.proofs.Common.{◌≡◌, List, [], ◌∷◌, map, refl, sym, ap, ap₂, ◌∙◌, Box, Vec, string_bytes}
+use Rattle.std.proofs.Common.{◌≡◌, List, [], ◌∷◌, map, refl, sym, ap, ap₂, ◌∙◌, Box, Vec}
 use Rattle.std.specs.declared.alloc.Global.{Global}
 use Rattle.retro_syntax.specs.Tree as T
 use Rattle.retro_syntax.specs.Reader.{join, listed, arms_up_to}
@@ -46,10 +46,10 @@ view_if x = ap (fold-Command T.Command view_step) (sym (rolls-If x)) ∙ (fold-r
     (commands-fuse _ _ (λ b. ap (λ js. join js (pipeline_of view b.last)) (joined-fuse _ (λ j. refl) b.joined.items)) (λ j. refl) x.value.condition)
     (commands-fuse _ _ (λ b. ap (λ js. join js (pipeline_of view b.last)) (joined-fuse _ (λ j. refl) b.joined.items)) (λ j. refl) x.value.consequence))))
 
-pub view_for : (x : Box (Loop Command) Global) → view (For x) ≡ T.loop (string_bytes x.value.name) (map word_view x.value.words.items) (commands_of view x.value.body)
+pub view_for : (x : Box (Loop Command) Global) → view (For x) ≡ T.loop x.value.name (map word_view x.value.words.items) (commands_of view x.value.body)
 unfolding view
 view_for x = ap (fold-Command T.Command view_step) (sym (rolls-For x)) ∙ (fold-roll-Command T.Command view_step (Command-F.For x)
-    ∙ ap (T.loop (string_bytes x.value.name) (map word_view x.value.words.items))
+    ∙ ap (T.loop x.value.name (map word_view x.value.words.items))
     (ap₂ (λ ds a. listed ds a x.value.body.closed)
     (map-fuse _ _ _ (λ a. ap (λ js. join js (pipeline_of view a.last)) (map-fuse _ _ _ (λ j. refl) a.joined.items)) x.value.body.before.items)
     (ap (λ js. join js (pipeline_of view x.value.body.last.last)) (map-fuse _ _ _ (λ j. refl) x.value.body.last.joined.items))))

@@ -1,18 +1,19 @@
 -- A writing of tokens is read as them.
-use Rattle.std.proofs.Common.{◌≡◌, ℕ, Bool, true, false, not, ◌&&◌, ◌||◌, ◌==◌, ◌<◌, List, [], ◌∷◌, ◌++◌, map, Some, cond, arith, refl, sym, ap, subst, ◌∙◌, append_assoc, append-nil, bytes_eq, codes}
+use Rattle.std.proofs.Common.{◌≡◌, ℕ, Bool, true, false, not, ◌&&◌, ◌||◌, ◌==◌, ◌<◌, List, [], ◌∷◌, ◌++◌, map, Some, cond, arith, refl, sym, ap, subst, ◌∙◌, append_assoc, append-nil, codes}
 use Rattle.std.specs.Char.{encode_utf8, is_ascii_digit, is_ascii_alphanumeric}
 use Rattle.std.proofs.lemmas.Bool.{eqb-true, ne_eqb}
 use Rattle.std.proofs.lemmas.Bool.Decides.{leb_tells, eqb_tells}
 use Rattle.std.proofs.lemmas.Str.{encode_ascii}
-use Rattle.std.proofs.lemmas.Slice.Eq.{bytes_eq-Decides}
 use Rattle.retro_syntax.specs.Ascii.{is_among}
 use Rattle.retro_syntax.specs.Tree as T
-use Rattle.retro_syntax.specs.Words.{is_name, goes_on_name, is_variable, is_one_of, unsupported_names}
-use Rattle.retro_syntax.specs.Quoting.{Lexing, Reading, with_pending, between, reading, in_word, dollar, braced, add_plain, add_quoted, parameter_piece, quote_of, begins_name, is_other_parameter, is_special_inside, lex_step, lex_run, lex_end, tokens_of}
+use Rattle.std.specs.List.{list_all}
+use Rattle.retro_path.specs.VarName.{starts_name, continues_name, is_shell_name, is_var_name}
+use Rattle.retro_syntax.specs.Quoting.{Lexing, Reading, with_pending, between, reading, in_word, dollar, braced, add_plain, add_quoted, parameter_piece, quote_of, is_other_parameter, is_special_inside, lex_step, lex_run, lex_end, tokens_of}
 use Rattle.retro_syntax.specs.declared.quoting.Quote.TheVariants.{Unquoted, Double}
 use Rattle.retro_syntax.specs.declared.tree.Direction.TheVariants.{From, Onto, Append}
 use Rattle.retro_syntax.specs.declared.tree.Connector.TheVariants.{AndIf, OrIf}
-use Rattle.retro_syntax.specs.Writing.{Part, unquoted, quoted, parameter, Written, semicolon, bar, connector, redirection, word, bytes_of, pieces_of, word_of, token_of, parameters_then, escaped_then, part_then, parts_then, token_then, written, breaking_characters, fits, begins_parameter, stands_alone, are_unquoted, are_quoted, is_parameter, are_parameters, is_part, is_unquoted_parameter, are_apart, are_parts, begins_no_comment, is_writable, are_writable}
+use Rattle.retro_syntax.specs.Writing.{Part, unquoted, quoted, parameter, Written, semicolon, bar, connector, redirection, word, bytes_of, pieces_of, word_of, token_of, parameter_text, parameters_then, escaped_then, part_then, parts_then, token_then, written, breaking_characters, fits, begins_parameter, stands_alone, are_unquoted, are_quoted, is_parameter, are_parameters, is_part, is_unquoted_parameter, are_apart, are_parts, begins_no_comment, is_writable, are_writable}
+use Rattle.retro_syntax.proofs.WordLemmas.{shell_name}
 use Rattle.retro_syntax.proofs.QuotingLemmas.{add_plain_push, add_quoted_push}
 
 -- ---- tests
@@ -88,7 +89,7 @@ step_dollar ts ps digits = refl
 
 -- what follows a `$` that stands for itself
 abbrev IsNoName : ℕ → Type 0
-IsNoName c = ((c == 92) ≡ false) × (begins_name c ≡ false) × ((c == 123) ≡ false) × ((c == 63) ≡ false) × (is_other_parameter c ≡ false)
+IsNoName c = ((c == 92) ≡ false) × (starts_name c ≡ false) × ((c == 123) ≡ false) × ((c == 63) ≡ false) × (is_other_parameter c ≡ false)
 
 abbrev StandsBefore : List ℕ → Type 0
 StandsBefore [] = ⊥
@@ -104,9 +105,9 @@ dollar_on ts ps (c ∷ cs) h = ap (λ x. lex_run x cs) (step_behind ts ps c h)
 
 no_name : (c : ℕ) → (c == 92) ≡ false → begins_parameter c ≡ false → IsNoName c
 no_name c b e =
-    let one = or_right (begins_name c) ((c == 123) || ((c == 63) || is_other_parameter c)) e in
+    let one = or_right (starts_name c) ((c == 123) || ((c == 63) || is_other_parameter c)) e in
     let two = or_right (c == 123) ((c == 63) || is_other_parameter c) one in
-    (b, or_left (begins_name c) ((c == 123) || ((c == 63) || is_other_parameter c)) e, or_left (c == 123) ((c == 63) || is_other_parameter c) one, or_left (c == 63) (is_other_parameter c) two, or_right (c == 63) (is_other_parameter c) two)
+    (b, or_left (starts_name c) ((c == 123) || ((c == 63) || is_other_parameter c)) e, or_left (c == 123) ((c == 63) || is_other_parameter c) one, or_left (c == 63) (is_other_parameter c) two, or_right (c == 63) (is_other_parameter c) two)
 
 -- what may stand behind an unquoted part
 abbrev Behind : Bool → List ℕ → Type 0
@@ -157,7 +158,7 @@ pub name_is_ascii : (c : ℕ) → (is_ascii_alphanumeric c || (c == 95)) ≡ tru
 unfolding encode_utf8
 name_is_ascii c e = let low : c < 128 = grind (arith, leb_tells, eqb_tells) in encode_ascii c low
 
-pub name_begins : (c : ℕ) → begins_name c ≡ true → (is_ascii_alphanumeric c || (c == 95)) ≡ true
+pub name_begins : (c : ℕ) → starts_name c ≡ true → (is_ascii_alphanumeric c || (c == 95)) ≡ true
 name_begins c e = grind (arith, leb_tells, eqb_tells)
 
 step_name : (ts : List T.Token) (ps : List T.Piece) (inside : Bool) (b : ℕ) (n : List ℕ) (c : ℕ) → (is_ascii_alphanumeric c || (c == 95)) ≡ true
@@ -166,53 +167,50 @@ unfolding lex_step
 step_name ts ps inside b n c h =
     rw (differs (λ x. is_ascii_alphanumeric x || (x == 95)) c 92 h refl, differs (λ x. is_ascii_alphanumeric x || (x == 95)) c 125 h refl, h, name_is_ascii c h) refl
 
-step_brace : (ts : List T.Token) (ps : List T.Piece) (inside : Bool) (b : ℕ) (n : List ℕ) → is_one_of unsupported_names (b ∷ n) ≡ false
-    → lex_step (at ts (braced ps inside (b ∷ n))) 125 ≡ Some (at ts (in_word (ps ++ parameter_piece inside (b ∷ n) ∷ []) false (quote_of inside)))
+step_brace : (ts : List T.Token) (ps : List T.Piece) (inside : Bool) (b : ℕ) (n : List ℕ) → is_var_name (b ∷ n) ≡ true
+    → lex_step (at ts (braced ps inside (b ∷ n))) 125 ≡ Some (at ts (in_word (ps ++ parameter_piece inside (T.variable (b ∷ n)) ∷ []) false (quote_of inside)))
 unfolding lex_step
 step_brace ts ps inside b n h = rw h refl
 
-step_first : (ts : List T.Token) (ps : List T.Piece) (inside : Bool) (c : ℕ) → begins_name c ≡ true
+step_first : (ts : List T.Token) (ps : List T.Piece) (inside : Bool) (c : ℕ) → starts_name c ≡ true
     → lex_step (at ts (braced ps inside [])) c ≡ Some (at ts (braced ps inside (c ∷ [])))
 unfolding lex_step
 step_first ts ps inside c h =
-    rw (differs begins_name c 92 h refl, differs begins_name c 63 h refl, h, name_is_ascii c (name_begins c h)) refl
+    rw (differs starts_name c 92 h refl, differs starts_name c 63 h refl, h, name_is_ascii c (name_begins c h)) refl
 
-name_on : (ts : List T.Token) (ps : List T.Piece) (inside : Bool) (b : ℕ) (n cs r : List ℕ) → goes_on_name cs ≡ true → is_one_of unsupported_names (b ∷ (n ++ cs)) ≡ false
-    → lex_run (Some (at ts (braced ps inside (b ∷ n)))) (cs ++ 125 ∷ r) ≡ lex_run (Some (at ts (in_word (ps ++ parameter_piece inside (b ∷ (n ++ cs)) ∷ []) false (quote_of inside)))) r
+-- after a variable
+abbrev after : List T.Token → List T.Piece → Bool → List ℕ → Lexing
+after ts ps inside n = at ts (in_word (ps ++ parameter_piece inside (T.variable n) ∷ []) false (quote_of inside))
+
+name_on : (ts : List T.Token) (ps : List T.Piece) (inside : Bool) (b : ℕ) (n cs r : List ℕ) → list_all continues_name cs ≡ true → is_var_name (b ∷ (n ++ cs)) ≡ true
+    → lex_run (Some (at ts (braced ps inside (b ∷ n)))) (cs ++ 125 ∷ r) ≡ lex_run (Some (after ts ps inside (b ∷ (n ++ cs)))) r
 name_on ts ps inside b n [] r g u =
-    let plain : is_one_of unsupported_names (b ∷ n) ≡ false = subst (λ m. is_one_of unsupported_names (b ∷ m) ≡ false) (append-nil n) u in
-    next _ _ 125 r (step_brace ts ps inside b n plain) ∙ ap (λ m. lex_run (Some (at ts (in_word (ps ++ parameter_piece inside (b ∷ m) ∷ []) false (quote_of inside)))) r) (sym (append-nil n))
+    let plain : is_var_name (b ∷ n) ≡ true = subst (λ m. is_var_name (b ∷ m) ≡ true) (append-nil n) u in
+    next _ _ 125 r (step_brace ts ps inside b n plain) ∙ ap (λ m. lex_run (Some (after ts ps inside (b ∷ m))) r) (sym (append-nil n))
 name_on ts ps inside b n (c ∷ cs) r g u =
-    let one = and_left (is_ascii_alphanumeric c || (c == 95)) (goes_on_name cs) g in
-    let rest = and_right (is_ascii_alphanumeric c || (c == 95)) (goes_on_name cs) g in
+    let one = and_left (continues_name c) (list_all continues_name cs) g in
+    let rest = and_right (continues_name c) (list_all continues_name cs) g in
     let same : (n ++ c ∷ []) ++ cs ≡ n ++ c ∷ cs = append_assoc n (c ∷ []) cs in
-    let v : is_one_of unsupported_names (b ∷ ((n ++ c ∷ []) ++ cs)) ≡ false = subst (λ m. is_one_of unsupported_names (b ∷ m) ≡ false) (sym same) u in
+    let v : is_var_name (b ∷ ((n ++ c ∷ []) ++ cs)) ≡ true = subst (λ m. is_var_name (b ∷ m) ≡ true) (sym same) u in
     next _ _ c (cs ++ 125 ∷ r) (step_name ts ps inside b n c one) ∙ name_on ts ps inside b (n ++ c ∷ []) cs r rest v
-    ∙ ap (λ m. lex_run (Some (at ts (in_word (ps ++ parameter_piece inside (b ∷ m) ∷ []) false (quote_of inside)))) r) same
+    ∙ ap (λ m. lex_run (Some (after ts ps inside (b ∷ m))) r) same
 
--- the name in braces, and `}`
-abbrev Named : List T.Token → List T.Piece → Bool → List ℕ → List ℕ → Type 0
-Named ts ps inside n r =
-    lex_run (Some (at ts (braced ps inside []))) (n ++ 125 ∷ r) ≡ lex_run (Some (at ts (in_word (ps ++ parameter_piece inside n ∷ []) false (quote_of inside)))) r
+-- the parameter in braces, and `}`
+abbrev Named : List T.Token → List T.Piece → Bool → T.Parameter → List ℕ → Type 0
+Named ts ps inside p r =
+    lex_run (Some (at ts (braced ps inside []))) (parameter_text p ++ 125 ∷ r) ≡ lex_run (Some (at ts (in_word (ps ++ parameter_piece inside p ∷ []) false (quote_of inside)))) r
 
-variable_on : (ts : List T.Token) (ps : List T.Piece) (inside : Bool) (n r : List ℕ) → is_variable n ≡ true → Named ts ps inside n r
-variable_on ts ps inside [] r h = cc
-variable_on ts ps inside (c ∷ cs) r h =
-    let name = and_left (is_name (c ∷ cs)) (not (is_one_of unsupported_names (c ∷ cs))) h in
-    let other = not_true (is_one_of unsupported_names (c ∷ cs)) (and_right (is_name (c ∷ cs)) (not (is_one_of unsupported_names (c ∷ cs))) h) in
-    next _ _ c (cs ++ 125 ∷ r) (step_first ts ps inside c (and_left (begins_name c) (goes_on_name cs) name))
-    ∙ name_on ts ps inside c [] cs r (and_right (begins_name c) (goes_on_name cs) name) other
+variable_by : (ts : List T.Token) (ps : List T.Piece) (inside : Bool) (n r : List ℕ) → is_shell_name n ≡ true → is_var_name n ≡ true → Named ts ps inside (T.variable n) r
+unfolding is_shell_name
+variable_by ts ps inside [] r name h = cc
+variable_by ts ps inside (c ∷ cs) r name h =
+    next _ _ c (cs ++ 125 ∷ r) (step_first ts ps inside c (and_left (starts_name c) (list_all continues_name cs) name))
+    ∙ name_on ts ps inside c [] cs r (and_right (starts_name c) (list_all continues_name cs) name) h
 
-question_on : (ts : List T.Token) (ps : List T.Piece) (inside : Bool) (r : List ℕ) → Named ts ps inside (63 ∷ []) r
+named_on : (ts : List T.Token) (ps : List T.Piece) (inside : Bool) (p : T.Parameter) (r : List ℕ) → is_parameter p ≡ true → Named ts ps inside p r
 unfolding lex_step
-question_on ts ps inside r = refl
-
-named_by : (ts : List T.Token) (ps : List T.Piece) (inside : Bool) (n r : List ℕ) (t : Bool) → is_variable n ≡ t → (t || bytes_eq n (codes "?")) ≡ true → Named ts ps inside n r
-named_by ts ps inside n r true e h = variable_on ts ps inside n r e
-named_by ts ps inside n r false e h = subst (λ m. Named ts ps inside m r) (sym ((bytes_eq-Decides n (codes "?")).0 h)) (question_on ts ps inside r)
-
-named_on : (ts : List T.Token) (ps : List T.Piece) (inside : Bool) (n r : List ℕ) → is_parameter n ≡ true → Named ts ps inside n r
-named_on ts ps inside n r h = named_by ts ps inside n r (is_variable n) refl h
+named_on ts ps inside T.status r h = refl
+named_on ts ps inside (T.variable n) r h = variable_by ts ps inside n r (shell_name n h) h
 
 step_outside : (ts : List T.Token) (ps : List T.Piece) (digits : Bool) (r : List ℕ) → lex_run (Some (inside_word ts ps digits)) (36 ∷ 123 ∷ r) ≡ lex_run (Some (at ts (braced ps false []))) r
 unfolding lex_step
@@ -222,11 +220,11 @@ step_inside : (ts : List T.Token) (ps : List T.Piece) (r : List ℕ) → lex_run
 unfolding lex_step
 step_inside ts ps r = refl
 
-parameters_on : (ts : List T.Token) (ps : List T.Piece) (ns : List (List ℕ)) (r : List ℕ) → are_parameters ns ≡ true
+parameters_on : (ts : List T.Token) (ps : List T.Piece) (ns : List T.Parameter) (r : List ℕ) → are_parameters ns ≡ true
     → lex_run (Some (inside_quotes ts ps)) (parameters_then ns r) ≡ lex_run (Some (inside_quotes ts (ps ++ map T.quoted_parameter ns))) r
 parameters_on ts ps [] r h = ap (λ qs. lex_run (Some (inside_quotes ts qs)) r) (sym (append-nil ps))
 parameters_on ts ps (n ∷ ns) r h =
-    step_inside ts ps (n ++ 125 ∷ parameters_then ns r)
+    step_inside ts ps (parameter_text n ++ 125 ∷ parameters_then ns r)
     ∙ named_on ts ps true n (parameters_then ns r) (and_left (is_parameter n) (are_parameters ns) h)
     ∙ parameters_on ts (ps ++ T.quoted_parameter n ∷ []) ns r (and_right (is_parameter n) (are_parameters ns) h)
     ∙ ap (λ qs. lex_run (Some (inside_quotes ts qs)) r) (append_assoc ps (T.quoted_parameter n ∷ []) (map T.quoted_parameter ns))
@@ -321,17 +319,17 @@ part_on ts ps digits followed (quoted cs ns) r h k b =
           ∙ close_quotes ts (quote_all (add_quoted ps []) cs ++ map T.quoted_parameter ns) r
           ∙ ap (λ qs. lex_run (Some (inside_word ts qs false)) r) grown,
     )
-part_on ts ps digits followed (parameter n) r h k b = (false, step_outside ts ps digits (n ++ 125 ∷ r) ∙ named_on ts ps false n r h)
+part_on ts ps digits followed (parameter n) r h k b = (false, step_outside ts ps digits (parameter_text n ++ 125 ∷ r) ∙ named_on ts ps false n r h)
 
 -- behind a parameter in quotes
-plain_behind : (ps : List T.Piece) (n : List ℕ) (ns : List (List ℕ)) (c : ℕ)
+plain_behind : (ps : List T.Piece) (n : T.Parameter) (ns : List T.Parameter) (c : ℕ)
     → add_plain (ps ++ map T.quoted_parameter (n ∷ ns)) c ≡ (ps ++ map T.quoted_parameter (n ∷ ns)) ++ T.plain (encode_utf8 c) ∷ []
 plain_behind ps n [] c = add_plain_push ps (T.quoted_parameter n) c ∙ sym (append_assoc ps (T.quoted_parameter n ∷ []) (T.plain (encode_utf8 c) ∷ []))
 plain_behind ps n (m ∷ ns) c =
     let same = append_assoc ps (T.quoted_parameter n ∷ []) (map T.quoted_parameter (m ∷ ns)) in
     subst (λ qs. add_plain qs c ≡ qs ++ T.plain (encode_utf8 c) ∷ []) same (plain_behind (ps ++ T.quoted_parameter n ∷ []) m ns c)
 
-quoted_behind : (ps : List T.Piece) (n : List ℕ) (ns : List (List ℕ)) (s : List ℕ)
+quoted_behind : (ps : List T.Piece) (n : T.Parameter) (ns : List T.Parameter) (s : List ℕ)
     → add_quoted (ps ++ map T.quoted_parameter (n ∷ ns)) s ≡ (ps ++ map T.quoted_parameter (n ∷ ns)) ++ T.quoted s ∷ []
 quoted_behind ps n [] s = add_quoted_push ps (T.quoted_parameter n) s ∙ sym (append_assoc ps (T.quoted_parameter n ∷ []) (T.quoted s ∷ []))
 quoted_behind ps n (m ∷ ns) s =

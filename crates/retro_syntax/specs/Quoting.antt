@@ -1,9 +1,9 @@
 -- Token recognition with quotes and parameters, character by character (XCU 2.2, 2.3, 2.6.2).
 use Rattle.std.specs.Prelude.{ℕ, Bool, true, false, ◌&&◌, ◌||◌, ◌==◌, if◌then◌else◌, List, [], ◌∷◌, ◌++◌, Option, Some, None, codes}
-use Rattle.std.specs.Char.{encode_utf8, is_ascii_digit, is_ascii_alphabetic, is_ascii_alphanumeric}
+use Rattle.std.specs.Char.{encode_utf8, is_ascii_digit}
+use Rattle.retro_path.specs.VarName.{starts_name, continues_name, is_var_name}
 use Rattle.retro_syntax.specs.Ascii as ascii
-use Rattle.retro_syntax.specs.Tree.{Piece, plain, quoted, parameter, quoted_parameter, Token, semicolon, bar, connector, redirection, word}
-use Rattle.retro_syntax.specs.Words.{is_one_of, unsupported_names}
+use Rattle.retro_syntax.specs.Tree.{Parameter, status, variable, Piece, plain, quoted, parameter, quoted_parameter, Token, semicolon, bar, connector, redirection, word}
 use Rattle.retro_syntax.specs.declared.tree.Direction.TheVariants.{From, Onto, Append}
 use Rattle.retro_syntax.specs.declared.tree.Connector.TheVariants.{AndIf, OrIf}
 use Rattle.retro_syntax.specs.declared.quoting.Operator.{Operator}
@@ -45,8 +45,8 @@ word_goes_on ts r = Some (with_pending ts (reading r))
 abbrev pub grown_plain : Piece → ℕ → List Piece
 grown_plain (plain t) c = plain (t ++ encode_utf8 c) ∷ []
 grown_plain (quoted t) c = quoted t ∷ plain (encode_utf8 c) ∷ []
-grown_plain (parameter t) c = parameter t ∷ plain (encode_utf8 c) ∷ []
-grown_plain (quoted_parameter t) c = quoted_parameter t ∷ plain (encode_utf8 c) ∷ []
+grown_plain (parameter p) c = parameter p ∷ plain (encode_utf8 c) ∷ []
+grown_plain (quoted_parameter p) c = quoted_parameter p ∷ plain (encode_utf8 c) ∷ []
 
 abbrev pub add_plain : List Piece → ℕ → List Piece
 add_plain [] c = plain (encode_utf8 c) ∷ []
@@ -56,24 +56,27 @@ add_plain (p ∷ q ∷ ps) c = p ∷ add_plain (q ∷ ps) c
 abbrev pub grown_quoted : Piece → List ℕ → List Piece
 grown_quoted (quoted t) s = quoted (t ++ s) ∷ []
 grown_quoted (plain t) s = plain t ∷ quoted s ∷ []
-grown_quoted (parameter t) s = parameter t ∷ quoted s ∷ []
-grown_quoted (quoted_parameter t) s = quoted_parameter t ∷ quoted s ∷ []
+grown_quoted (parameter p) s = parameter p ∷ quoted s ∷ []
+grown_quoted (quoted_parameter p) s = quoted_parameter p ∷ quoted s ∷ []
 
 abbrev pub add_quoted : List Piece → List ℕ → List Piece
 add_quoted [] s = quoted s ∷ []
 add_quoted (p ∷ []) s = grown_quoted p s
 add_quoted (p ∷ q ∷ ps) s = p ∷ add_quoted (q ∷ ps) s
 
-abbrev pub parameter_piece : Bool → List ℕ → Piece
-parameter_piece inside n = if inside then quoted_parameter n else parameter n
+abbrev pub parameter_piece : Bool → Parameter → Piece
+parameter_piece inside p = if inside then quoted_parameter p else parameter p
 
 abbrev pub quote_of : Bool → Quote
 quote_of inside = if inside then Double else Unquoted
 
-abbrev pub with_parameter : List Token → List Piece → Bool → List ℕ → Option Lexing
-with_parameter ts ps inside n =
-    if is_one_of unsupported_names n then None
-    else word_goes_on ts (in_word (ps ++ parameter_piece inside n ∷ []) false (quote_of inside))
+abbrev pub with_parameter : List Token → List Piece → Bool → Parameter → Option Lexing
+with_parameter ts ps inside p =
+    word_goes_on ts (in_word (ps ++ parameter_piece inside p ∷ []) false (quote_of inside))
+
+abbrev pub with_variable : List Token → List Piece → Bool → List ℕ → Option Lexing
+with_variable ts ps inside n =
+    if is_var_name n then with_parameter ts ps inside (variable n) else None
 
 abbrev pub add : List Piece → Bool → ℕ → List Piece
 add ps inside c = if inside then add_quoted ps (encode_utf8 c) else add_plain ps c
@@ -134,42 +137,37 @@ word_at ts ps digits Double c =
     else (if c == ascii.nul || c == ascii.backquote then None
     else word_goes_on ts (in_word (add_quoted ps (encode_utf8 c)) false Double)))
 
-abbrev pub begins_name : ℕ → Bool
-begins_name c = is_ascii_alphabetic c || c == ascii.underscore
-
-abbrev pub continues_name : ℕ → Bool
-continues_name c = is_ascii_alphanumeric c || c == ascii.underscore
-
 -- one of @*#-$!(
 abbrev pub is_other_parameter : ℕ → Bool
 is_other_parameter c = is_ascii_digit c || ascii.is_among (codes "@*#-$!(") c
 
--- the character behind a parameter
-abbrev pub after_parameter : List Token → List Piece → Bool → List ℕ → ℕ → Option Lexing
-after_parameter ts ps inside n c =
-    if is_one_of unsupported_names n then None
-    else word_at ts (ps ++ parameter_piece inside n ∷ []) false (quote_of inside) c
+-- the character after a variable's name
+abbrev pub after_variable : List Token → List Piece → Bool → List ℕ → ℕ → Option Lexing
+after_variable ts ps inside n c =
+    if is_var_name n
+    then word_at ts (ps ++ parameter_piece inside (variable n) ∷ []) false (quote_of inside) c
+    else None
 
 abbrev pub reading_at : List Token → Reading → ℕ → Option Lexing
 reading_at ts (in_word ps digits q) c = word_at ts ps digits q c
 reading_at ts (dollar ps inside) c =
-    if begins_name c then word_goes_on ts (named ps inside (encode_utf8 c))
+    if starts_name c then word_goes_on ts (named ps inside (encode_utf8 c))
     else (if c == ascii.left_brace then word_goes_on ts (braced ps inside [])
-    else (if c == ascii.question then with_parameter ts ps inside (codes "?")
+    else (if c == ascii.question then with_parameter ts ps inside status
     else (if is_other_parameter c then None
     else word_at ts (add ps inside ascii.dollar) false (quote_of inside) c)))
 reading_at ts (named ps inside n) c =
     if continues_name c then word_goes_on ts (named ps inside (n ++ encode_utf8 c))
-    else after_parameter ts ps inside n c
+    else after_variable ts ps inside n c
 reading_at ts (braced ps inside []) c =
     if c == ascii.question then word_goes_on ts (question ps inside)
-    else (if begins_name c then word_goes_on ts (braced ps inside (encode_utf8 c)) else None)
+    else (if starts_name c then word_goes_on ts (braced ps inside (encode_utf8 c)) else None)
 reading_at ts (braced ps inside (b ∷ n)) c =
-    if c == ascii.right_brace then with_parameter ts ps inside (b ∷ n)
+    if c == ascii.right_brace then with_variable ts ps inside (b ∷ n)
     else (if continues_name c then word_goes_on ts (braced ps inside ((b ∷ n) ++ encode_utf8 c))
     else None)
 reading_at ts (question ps inside) c =
-    if c == ascii.right_brace then with_parameter ts ps inside (codes "?") else None
+    if c == ascii.right_brace then with_parameter ts ps inside status else None
 
 -- an operator that the character goes on
 abbrev pub operator_at : List Token → Operator → ℕ → Option Lexing
@@ -214,8 +212,9 @@ escaped_reading ts (in_word ps digits q) c = escaped_in ts ps q c
 escaped_reading ts (dollar ps inside) c =
     escaped_in ts (add ps inside ascii.dollar) (quote_of inside) c
 escaped_reading ts (named ps inside n) c =
-    if is_one_of unsupported_names n then None
-    else escaped_in ts (ps ++ parameter_piece inside n ∷ []) (quote_of inside) c
+    if is_var_name n
+    then escaped_in ts (ps ++ parameter_piece inside (variable n) ∷ []) (quote_of inside) c
+    else None
 escaped_reading ts (braced ps inside n) c = None
 escaped_reading ts (question ps inside) c = None
 
@@ -266,7 +265,7 @@ reading_end ts (dollar ps true) = None
 reading_end ts (dollar ps false) = Some (ts ++ word (add ps false ascii.dollar) ∷ [])
 reading_end ts (named ps true n) = None
 reading_end ts (named ps false n) =
-    if is_one_of unsupported_names n then None else Some (ts ++ word (ps ++ parameter n ∷ []) ∷ [])
+    if is_var_name n then Some (ts ++ word (ps ++ parameter (variable n) ∷ []) ∷ []) else None
 reading_end ts (braced ps inside n) = None
 reading_end ts (question ps inside) = None
 

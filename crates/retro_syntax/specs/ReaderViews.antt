@@ -1,5 +1,5 @@
 -- The state of reading that a value of the code stands for.
-use Rattle.std.specs.Prelude.{◌≡◌, List, map, reverse, IfOk, Option, option_map, Result, string_bytes, Vec}
+use Rattle.std.specs.Prelude.{◌≡◌, List, map, reverse, IfOk, Option, option_map, Result, Vec}
 use Rattle.std.specs.declared.alloc.AllocError.{AllocError}
 use Rattle.std.specs.declared.alloc.Global.{Global}
 use Rattle.retro_syntax.specs.Tree as T
@@ -34,7 +34,7 @@ frame_view (f.Condition xs) = M.condition (map arm_view xs.items)
 frame_view (f.Consequence xs c) = M.consequence (map arm_view xs.items) (commands_of view c)
 frame_view (f.Alternative xs c t) =
     M.alternative (map arm_view xs.items) (commands_of view c) (commands_of view t)
-frame_view (f.Body n ws) = M.body (string_bytes n) (map word_view ws.items)
+frame_view (f.Body n ws) = M.body n (map word_view ws.items)
 
 abbrev pub stages_view : Vec Simple Global → List T.Simple
 stages_view ss = map simple_view ss.items
@@ -52,9 +52,9 @@ place_view (p.Target ss is d) = M.target (stages_view ss) (items_view is) d
 place_view (p.Piped ss) = M.piped (stages_view ss)
 place_view (p.Closed c) = M.closed (view c)
 place_view p.ForName = M.for_name
-place_view (p.ForIn n) = M.for_in (string_bytes n)
-place_view (p.ForWords n ws) = M.for_words (string_bytes n) (words_view ws)
-place_view (p.ForDo n ws) = M.for_do (string_bytes n) (words_view ws)
+place_view (p.ForIn n) = M.for_in n
+place_view (p.ForWords n ws) = M.for_words n (words_view ws)
+place_view (p.ForDo n ws) = M.for_do n (words_view ws)
 
 abbrev pub level_view : Open × Frame → M.Open × M.Frame
 level_view l = (open_view l.0, frame_view l.1)

@@ -1,7 +1,7 @@
 -- Which trees the grammar has, and what a list of tokens spells.
 use Rattle.std.specs.Prelude.{◌≡◌, Bool, true, false, ◌&&◌, List, [], ◌∷◌, Some}
 use Rattle.retro_syntax.specs.Tree.{plain, quoted, parameter, quoted_parameter, Word, Assignment, Token, Item, argument, redirect, Simple, assignments, command, Commands, last, more, AndOr, end, chain, Pipeline, pipeline, Command, simples, conditional, loop, Arms, fi, otherwise, elif, commands_then}
-use Rattle.retro_syntax.specs.Words.{class, name_of, is_name, is_ordinary, is_supported}
+use Rattle.retro_syntax.specs.Words.{class, name_of, is_ordinary, is_supported}
 
 abbrev pub begins_unquoted : Word → Bool
 begins_unquoted [] = false
@@ -10,9 +10,9 @@ begins_unquoted (quoted text ∷ ps) = false
 begins_unquoted (parameter n ∷ ps) = false
 begins_unquoted (quoted_parameter n ∷ ps) = false
 
--- A name that may be assigned, and a value without an unquoted `:~`.
+-- An assignment that a line may have, whose value begins with the unquoted text after the `=`.
 abbrev pub is_assigned : Assignment → Bool
-is_assigned a = is_name a.name && (begins_unquoted a.value && is_supported a)
+is_assigned a = begins_unquoted a.value && is_supported a
 
 abbrev pub are_assigned : List Assignment → Bool
 are_assigned [] = true

@@ -3,6 +3,8 @@ use Rattle.std.specs.Prelude.{List, map, string_bytes, Vec}
 use Rattle.std.specs.declared.alloc.Global.{Global}
 use Rattle.retro_syntax.specs.Tree as T
 use Rattle.retro_syntax.specs.Reader.{join, listed, arms_up_to}
+use Rattle.retro_syntax.specs.declared.tree.Parameter.{Parameter}
+use Rattle.retro_syntax.specs.declared.tree.Parameter.TheVariants as q
 use Rattle.retro_syntax.specs.declared.tree.Piece.{Piece}
 use Rattle.retro_syntax.specs.declared.tree.Piece.TheVariants as p
 use Rattle.retro_syntax.specs.declared.tree.Word.{Word}
@@ -20,17 +22,21 @@ use Rattle.retro_syntax.specs.declared.tree.Conditional.{Conditional}
 use Rattle.retro_syntax.specs.declared.tree.Command.{Command, fold-Command}
 use Rattle.retro_syntax.specs.declared.tree.Command.TheOpen.{Command-F}
 
+abbrev pub parameter_view : Parameter → T.Parameter
+parameter_view q.Status = T.status
+parameter_view (q.Variable n) = T.variable n
+
 abbrev pub piece_view : Piece → T.Piece
 piece_view (p.Plain x) = T.plain (string_bytes x)
 piece_view (p.Quoted x) = T.quoted (string_bytes x)
-piece_view (p.Parameter x) = T.parameter (string_bytes x)
-piece_view (p.QuotedParameter x) = T.quoted_parameter (string_bytes x)
+piece_view (p.Parameter x) = T.parameter (parameter_view x)
+piece_view (p.QuotedParameter x) = T.quoted_parameter (parameter_view x)
 
 abbrev pub word_view : Word → T.Word
 word_view w = map piece_view w.pieces.items
 
 abbrev pub assignment_view : Assignment → T.Assignment
-assignment_view a = record { name = string_bytes a.name; value = word_view a.value }
+assignment_view a = record { name = a.name; value = word_view a.value }
 
 abbrev pub item_view : Item → T.Item
 item_view (i.Argument w) = T.argument (word_view w)
@@ -76,7 +82,7 @@ view_step (Command-F.Pipe ss) = T.simples (map simple_view ss.items)
 view_step (Command-F.If x) = T.conditional (arms_of (λ c. c) x.value)
 view_step (Command-F.IfElse x e) = T.conditional (arms_else_of (λ c. c) x.value e.value)
 view_step (Command-F.For x) =
-    T.loop (string_bytes x.value.name) (map word_view x.value.words.items)
+    T.loop x.value.name (map word_view x.value.words.items)
     (commands_of (λ c. c) x.value.body)
 
 unfoldable pub view : Command → T.Command

@@ -1,7 +1,7 @@
 -- What a word is where a command may begin (XCU 2.4, 2.10.2), and names (XBD 3.235).
 use Rattle.std.specs.Prelude.{ℕ, Bool, true, false, not, List, [], ◌∷◌, Option, Some, None, option_map, option_and_then, if◌then◌else◌, codes, ◌||◌, ◌&&◌, ◌==◌}
 use Rattle.std.specs.Str.{bytes_eq}
-use Rattle.std.specs.Char.{is_ascii_alphabetic, is_ascii_alphanumeric}
+use Rattle.retro_path.specs.VarName.{is_shell_name, is_var_name, var_name_of}
 use Rattle.retro_syntax.specs.Ascii as ascii
 use Rattle.retro_syntax.specs.Tree.{Piece, plain, quoted, parameter, quoted_parameter, Word, Assignment, Token, semicolon, bar, connector, redirection, word, spelling}
 use Rattle.retro_syntax.specs.declared.tree.ReservedWord.{ReservedWord}
@@ -27,19 +27,6 @@ abbrev pub other_reserved : List (List ℕ)
 other_reserved =
     codes "{" ∷ codes "}" ∷ codes "case" ∷ codes "esac" ∷ codes "until" ∷ codes "while" ∷ []
 
--- a letter or underscore, then letters, digits, underscores
-abbrev pub goes_on_name : List ℕ → Bool
-goes_on_name [] = true
-goes_on_name (c ∷ cs) = (is_ascii_alphanumeric c || c == ascii.underscore) && goes_on_name cs
-
-abbrev pub is_name : List ℕ → Bool
-is_name [] = false
-is_name (c ∷ cs) = (is_ascii_alphabetic c || c == ascii.underscore) && goes_on_name cs
-
--- names that no text may use
-abbrev pub unsupported_names : List (List ℕ)
-unsupported_names = codes "IFS" ∷ codes "PWD" ∷ codes "OLDPWD" ∷ codes "CDPATH" ∷ []
-
 -- ---- assignments
 
 -- the texts before and behind the first `=`
@@ -50,7 +37,7 @@ split_equals (c ∷ cs) =
     else option_map (λ s. (c ∷ s.0, s.1)) (split_equals cs)
 
 abbrev pub if_named : List ℕ × List ℕ → Option (List ℕ × List ℕ)
-if_named s = if is_name s.0 then Some s else None
+if_named s = if is_shell_name s.0 then Some s else None
 
 -- the name, and what stands behind the `=`, of a text that begins with `name=`
 abbrev pub split_name : List ℕ → Option (List ℕ × List ℕ)
@@ -60,13 +47,20 @@ split_name text = option_and_then if_named (split_equals text)
 abbrev pub assigned : List ℕ → List ℕ → List Piece → Assignment
 assigned n text ps = record { name = n; value = plain text ∷ ps }
 
--- what a word assigns that begins with an unquoted `name=`
+-- The assignment that a word has the form of: it begins with an unquoted `name=`.
+abbrev pub assignment_form : Word → Option Assignment
+assignment_form [] = None
+assignment_form (plain text ∷ ps) = option_map (λ s. assigned s.0 s.1 ps) (split_name text)
+assignment_form (quoted text ∷ ps) = None
+assignment_form (parameter n ∷ ps) = None
+assignment_form (quoted_parameter n ∷ ps) = None
+
+abbrev pub if_var_name : Assignment → Option Assignment
+if_var_name a = if is_var_name a.name then Some a else None
+
+-- What a word assigns: it has the form of an assignment, and a line may assign the variable.
 abbrev pub assignment_of : Word → Option Assignment
-assignment_of [] = None
-assignment_of (plain text ∷ ps) = option_map (λ s. assigned s.0 s.1 ps) (split_name text)
-assignment_of (quoted text ∷ ps) = None
-assignment_of (parameter n ∷ ps) = None
-assignment_of (quoted_parameter n ∷ ps) = None
+assignment_of w = option_and_then if_var_name (assignment_form w)
 
 abbrev pub begins_tilde : List ℕ → Bool
 begins_tilde [] = false
@@ -84,10 +78,10 @@ has_unquoted_colon_tilde (quoted text ∷ ps) = has_unquoted_colon_tilde ps
 has_unquoted_colon_tilde (parameter n ∷ ps) = has_unquoted_colon_tilde ps
 has_unquoted_colon_tilde (quoted_parameter n ∷ ps) = has_unquoted_colon_tilde ps
 
--- whether it is in the profile
+-- Whether a line may have the assignment: it may assign the variable, and no unquoted `:~` is in the
+-- value.
 abbrev pub is_supported : Assignment → Bool
-is_supported a =
-    not (is_one_of unsupported_names a.name) && not (has_unquoted_colon_tilde a.value)
+is_supported a = is_var_name a.name && not (has_unquoted_colon_tilde a.value)
 
 -- ---- what a word is
 
@@ -105,7 +99,7 @@ class_by (plain text ∷ []) None = plain_class text (lookup reserved_words text
 class_by w None = ordinary
 
 unfoldable pub class : Word → Class
-class w = class_by w (assignment_of w)
+class w = class_by w (assignment_form w)
 
 abbrev pub class_of_token : Token → Class
 class_of_token (word w) = class w
@@ -114,13 +108,10 @@ class_of_token bar = ordinary
 class_of_token (connector op) = ordinary
 class_of_token (redirection d) = ordinary
 
-abbrev pub is_variable : List ℕ → Bool
-is_variable text = is_name text && not (is_one_of unsupported_names text)
-
--- the name that a word is, for `for`
+-- the name of a variable that a word is, for `for`
 unfoldable pub name_of : Word → Option (List ℕ)
 name_of [] = None
-name_of (plain text ∷ []) = if is_variable text then Some text else None
+name_of (plain text ∷ []) = var_name_of text
 name_of (plain text ∷ p ∷ ps) = None
 name_of (quoted text ∷ ps) = None
 name_of (parameter n ∷ ps) = None

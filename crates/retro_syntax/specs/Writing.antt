@@ -2,11 +2,10 @@
 -- a blank behind each token.
 use Rattle.std.specs.Prelude.{◌≡◌, ℕ, Bool, true, false, not, ◌&&◌, ◌||◌, ◌==◌, List, [], ◌∷◌, ◌++◌, map, codes, if◌then◌else◌}
 use Rattle.std.specs.Char.{encode_utf8}
-use Rattle.std.specs.Str.{bytes_eq}
 use Rattle.retro_syntax.specs.Ascii as ascii
 use Rattle.retro_syntax.specs.Tree as T
-use Rattle.retro_syntax.specs.Words.{is_variable}
-use Rattle.retro_syntax.specs.Quoting.{begins_name, is_other_parameter, is_special_inside}
+use Rattle.retro_path.specs.VarName.{starts_name, is_var_name}
+use Rattle.retro_syntax.specs.Quoting.{is_other_parameter, is_special_inside}
 use Rattle.retro_syntax.specs.declared.tree.Direction.{Direction}
 use Rattle.retro_syntax.specs.declared.tree.Direction.TheVariants.{From, Onto, Append}
 use Rattle.retro_syntax.specs.declared.tree.Connector.{Connector}
@@ -15,10 +14,10 @@ use Rattle.retro_syntax.specs.declared.tree.Connector.TheVariants.{AndIf, OrIf}
 -- a part of a word, by its characters
 pub data Part : Type 0 where
   unquoted : List ℕ → Part
-  -- quoted characters, and the names of the parameters behind them in the same quotes
-  quoted : List ℕ → List (List ℕ) → Part
-  -- the name of a parameter outside quotes
-  parameter : List ℕ → Part
+  -- quoted characters, and the parameters after them in the same quotes
+  quoted : List ℕ → List T.Parameter → Part
+  -- a parameter outside quotes
+  parameter : T.Parameter → Part
 
 pub data Written : Type 0 where
   semicolon : Written
@@ -51,12 +50,17 @@ token_of (word ps) = T.word (word_of ps)
 
 -- ---- the characters, before those `r` that follow
 
-abbrev pub braces_then : List ℕ → List ℕ → List ℕ
-braces_then n r = ascii.dollar ∷ ascii.left_brace ∷ n ++ ascii.right_brace ∷ r
+-- what stands in the braces
+abbrev pub parameter_text : T.Parameter → List ℕ
+parameter_text T.status = codes "?"
+parameter_text (T.variable n) = n
 
-abbrev pub parameters_then : List (List ℕ) → List ℕ → List ℕ
+abbrev pub braces_then : T.Parameter → List ℕ → List ℕ
+braces_then p r = ascii.dollar ∷ ascii.left_brace ∷ parameter_text p ++ ascii.right_brace ∷ r
+
+abbrev pub parameters_then : List T.Parameter → List ℕ → List ℕ
 parameters_then [] r = r
-parameters_then (n ∷ ns) r = braces_then n (parameters_then ns r)
+parameters_then (p ∷ ps) r = braces_then p (parameters_then ps r)
 
 -- a backslash stands before each of $ ` " and the backslash
 abbrev pub escaped_then : List ℕ → List ℕ → List ℕ
@@ -110,7 +114,7 @@ fits c = not (ascii.is_among breaking_characters c)
 -- whether a `$` before it doesn't stand for itself
 abbrev pub begins_parameter : ℕ → Bool
 begins_parameter c =
-    begins_name c || (c == ascii.left_brace || (c == ascii.question || is_other_parameter c))
+    starts_name c || (c == ascii.left_brace || (c == ascii.question || is_other_parameter c))
 
 -- a `$` before this stands for itself; `followed` says whether a parameter comes behind the part
 abbrev pub stands_alone : Bool → List ℕ → Bool
@@ -127,12 +131,13 @@ abbrev pub are_quoted : List ℕ → Bool
 are_quoted [] = true
 are_quoted (c ∷ cs) = not (c == ascii.nul) && are_quoted cs
 
-abbrev pub is_parameter : List ℕ → Bool
-is_parameter n = is_variable n || bytes_eq n (codes "?")
+abbrev pub is_parameter : T.Parameter → Bool
+is_parameter T.status = true
+is_parameter (T.variable n) = is_var_name n
 
-abbrev pub are_parameters : List (List ℕ) → Bool
+abbrev pub are_parameters : List T.Parameter → Bool
 are_parameters [] = true
-are_parameters (n ∷ ns) = is_parameter n && are_parameters ns
+are_parameters (p ∷ ps) = is_parameter p && are_parameters ps
 
 abbrev pub is_part : Bool → Part → Bool
 is_part followed (unquoted []) = false

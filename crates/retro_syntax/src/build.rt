@@ -1,6 +1,6 @@
 //! Commands that are put together.
 
-ghost use Rattle.std.specs.Prelude.{◌≡◌, IfOk, map, string_bytes};
+ghost use Rattle.std.specs.Prelude.{◌≡◌, IfOk, map};
 ghost use Rattle.retro_syntax.specs.Tree;
 ghost use Rattle.retro_syntax.specs.View.{view, arms_of, arms_else_of, commands_of, word_view, simple_view};
 
@@ -37,7 +37,7 @@ pub fn conditional_else(
 /// A `for`.
 pub fn repetition(alloc: Global, parts: Loop<Command>) -> Result<Command, AllocError>
     ensures { IfOk result (λ c. view c
-        ≡ Tree.loop (string_bytes parts.name) (map word_view parts.words.items)
+        ≡ Tree.loop parts.name (map word_view parts.words.items)
         (commands_of view parts.body)) }
 {
     Ok(Command::For(Box::new(alloc, parts)?))

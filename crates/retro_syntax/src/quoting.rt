@@ -18,8 +18,8 @@ use crate::quoting::characters::fresh;
 use crate::quoting::operators::{operator_at, settled};
 use crate::quoting::parameters::reading_at;
 use crate::quoting::pieces::add_dollar;
-use crate::tree::{Piece, Token, Word};
-use crate::words::is_unsupported_name;
+use crate::tree::{Parameter, Piece, Token, Word};
+use retro_path::VarName;
 use std::alloc::{AllocError, Global};
 
 /// An operator of one character, or the first character of one of two (XCU 2.10.2).
@@ -233,13 +233,13 @@ pub fn reading_end(
             mut pieces,
             inside: false,
             name,
-        } => {
-            if is_unsupported_name(&name) {
-                return Ok(None);
+        } => match VarName::from_string(name) {
+            None => Ok(None),
+            Some(name) => {
+                pieces.push(Piece::Parameter(Parameter::Variable(name)))?;
+                push_word(tokens, pieces)
             }
-            pieces.push(Piece::Parameter(name))?;
-            push_word(tokens, pieces)
-        }
+        },
         Reading::InWord {
             quote: Quote::Single,
             ..

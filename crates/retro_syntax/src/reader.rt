@@ -17,6 +17,7 @@ use crate::tree::{
 use compound::{at_closed, at_start};
 use lists::{may_end, nothing, whole_list};
 use repetition::{at_for_do, at_for_in, at_for_name, at_for_words};
+use retro_path::VarName;
 use simple::{at_piped, at_target, at_within};
 use std::alloc::{AllocError, Global};
 
@@ -44,7 +45,7 @@ pub enum Frame {
     /// What an `else` leads to, with the arms before it, the last condition and what that leads to.
     Alternative(Vec<Arm>, Commands<Command>, Commands<Command>),
     /// What a `for` repeats, with its variable's name and its words.
-    Body(String, Vec<Word>),
+    Body(VarName, Vec<Word>),
 }
 
 /// Where in a list the next token comes.
@@ -63,11 +64,11 @@ pub enum Place {
     /// Behind `for`.
     ForName,
     /// Behind `for` and its variable's name.
-    ForIn(String),
+    ForIn(VarName),
     /// Among the words behind `in`.
-    ForWords(String, Vec<Word>),
+    ForWords(VarName, Vec<Word>),
     /// Behind the `;` after these words.
-    ForDo(String, Vec<Word>),
+    ForDo(VarName, Vec<Word>),
 }
 
 /// A list of commands, read up to some token.

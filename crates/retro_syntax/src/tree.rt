@@ -1,17 +1,43 @@
 //! A line as a tree (XCU 2.10.2), and the tokens that it is written with.
 
-/// A piece of a word, by how it is quoted (XCU 2.2). Quotes leave a quoted piece even where they
-/// hold nothing.
+ghost use Rattle.std.specs.Prelude.{◌≡◌};
+ghost use Rattle.retro_syntax.specs.View.{parameter_view};
+ghost use Rattle.retro_syntax.specs.Writing.{parameter_text};
+
+use retro_path::VarName;
+
+/// What a `$` expands (XCU 2.5).
+#[derive(Drop)]
+pub enum Parameter {
+    /// `$?`: the exit status of the last pipeline.
+    Status,
+    /// `$name`: the value of a variable.
+    Variable(VarName),
+}
+
+impl Parameter {
+    /// The parameter as it is written between braces: `?` or the variable's name.
+    pub fn text(&self) -> &str
+        ensures { result.now ≡ parameter_text (parameter_view self.now) }
+    {
+        match self {
+            Parameter::Status => "?",
+            Parameter::Variable(name) => name.as_str(),
+        }
+    }
+}
+
+/// A piece of a word (XCU 2.2, 2.6.2). A pair of quotes with nothing in it is an empty quoted piece.
 #[derive(Drop)]
 pub enum Piece {
-    /// Characters that aren't quoted.
+    /// Unquoted text.
     Plain(String),
-    /// Quoted characters.
+    /// Quoted text.
     Quoted(String),
-    /// The name of a parameter outside double quotes, or `?` (XCU 2.5).
-    Parameter(String),
-    /// The name of a parameter in double quotes, or `?`.
-    QuotedParameter(String),
+    /// A parameter outside double quotes.
+    Parameter(Parameter),
+    /// A parameter in double quotes.
+    QuotedParameter(Parameter),
 }
 
 /// A word: one piece or more.
@@ -94,7 +120,7 @@ pub enum Item {
 #[derive(Drop)]
 pub struct Assignment {
     /// The variable's name.
-    pub name: String,
+    pub name: VarName,
     /// The value. Its first piece is what stands unquoted behind the `=`, which may be nothing.
     pub value: Word,
 }
@@ -152,7 +178,7 @@ pub struct Conditional<C> {
 #[derive(Drop)]
 pub struct Loop<C> {
     /// The variable's name.
-    pub name: String,
+    pub name: VarName,
     /// The words behind `in`.
     pub words: Vec<Word>,
     /// What is run for each.

@@ -6,6 +6,7 @@ ghost use Rattle.retro_syntax.specs.Tree;
 ghost use Rattle.retro_syntax.specs.View.{assignment_view, piece_view, word_view};
 
 use crate::tree::{Assignment, Piece, ReservedWord, Word};
+use retro_path::VarName;
 use std::alloc::{AllocError, Global};
 
 /// What a word can be where a command may begin.
@@ -76,43 +77,12 @@ fn is_other_reserved(text: &[u8]) -> bool
         || b"while".as_slice() == text
 }
 
-/// Whether a name can go on by this.
-fn goes_on_name(text: &[u8]) -> bool
-    ensures { result ≡ Words.goes_on_name text.now }
-{
-    let mut rest = text;
-    while let [first, more @ ..] = rest {
-        if !(first.is_ascii_alphanumeric() || *first == b'_') {
-            return false;
-        }
-        rest = more;
-    }
-    true
-}
-
-/// Whether the text is a name (XBD 3.235).
-fn is_name(text: &[u8]) -> bool
-    ensures { result ≡ Words.is_name text.now }
-{
-    match text {
-        [] => false,
-        [first, more @ ..] => (first.is_ascii_alphabetic() || *first == b'_') && goes_on_name(more),
-    }
-}
-
-/// Whether it names a variable that no text may use.
-pub fn is_unsupported_name(name: &str) -> bool
-    ensures { result ≡ Words.is_one_of Words.unsupported_names name.now }
-{
-    "IFS" == name || "PWD" == name || "OLDPWD" == name || "CDPATH" == name
-}
-
 /// The name, and what stands behind the `=`, of a text that begins with a name and `=`.
 fn split_name<'a>(text: &'a str) -> Option<(&'a str, &'a str)>
     ensures { option_map (λ s. (s.0.now, s.1.now)) result ≡ Words.split_name text.now }
 {
     let (name, value) = text.split_once('=')?;
-    if is_name(name.as_bytes()) {
+    if VarName::is_shell_name(name) {
         Some((name, value))
     } else {
         None
@@ -167,7 +137,7 @@ fn assignment_class(name: &str, value: &str, more: &[Piece]) -> Class
     ensures { result
         ≡ Words.assignment_class (Words.assigned name.now value.now (map piece_view more.now)) }
 {
-    if is_unsupported_name(name)
+    if !VarName::is_var_name(name)
         || has_colon_tilde(value.as_bytes())
         || has_unquoted_colon_tilde(more)
     {
@@ -231,14 +201,16 @@ pub fn assignment_of(alloc: Global, word: Word) -> Result<Option<Assignment>, Al
         Some((first, mut pieces)) => match first {
             Piece::Plain(text) => match split_name(&text) {
                 None => Ok(None),
-                Some((name, value)) => {
-                    let name = String::from_str(alloc, name)?;
-                    pieces.insert(0, Piece::Plain(String::from_str(alloc, value)?))?;
-                    Ok(Some(Assignment {
-                        name,
-                        value: Word { pieces },
-                    }))
-                }
+                Some((name, value)) => match VarName::of(alloc, name)? {
+                    None => Ok(None),
+                    Some(name) => {
+                        pieces.insert(0, Piece::Plain(String::from_str(alloc, value)?))?;
+                        Ok(Some(Assignment {
+                            name,
+                            value: Word { pieces },
+                        }))
+                    }
+                },
             },
             Piece::Quoted(_) | Piece::Parameter(_) | Piece::QuotedParameter(_) => Ok(None),
         },
@@ -265,21 +237,13 @@ pub fn is_ordinary(class: Class) -> bool
     }
 }
 
-/// Whether the text is a name that a text may use.
-fn is_variable(text: &str) -> bool
-    ensures { result ≡ Words.is_variable text.now }
-{
-    is_name(text.as_bytes()) && !is_unsupported_name(text)
-}
-
 /// The name that the word is, for `for`.
 #[tactic(auto, unfolding(crate::specs::Words::name_of))]
-pub fn name_of(alloc: Global, word: &Word) -> Result<Option<String>, AllocError>
-    ensures { IfOk result (λ n. option_map (λ s. string_bytes s) n
-        ≡ Words.name_of (word_view word.now)) }
+pub fn name_of(alloc: Global, word: &Word) -> Result<Option<VarName>, AllocError>
+    ensures { IfOk result (λ n. option_map (λ name. name) n ≡ Words.name_of (word_view word.now)) }
 {
     match word.pieces.as_slice() {
-        [Piece::Plain(text)] if is_variable(text) => Ok(Some(text.clone()?)),
+        [Piece::Plain(text)] => VarName::of(alloc, text),
         _ => Ok(None),
     }
 }

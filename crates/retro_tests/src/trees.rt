@@ -13,8 +13,10 @@ fn show_word(out: &mut String, word: &Word) -> Result<(), AllocError> {
         match piece {
             Piece::Plain(text) => out.push_str(text)?,
             Piece::Quoted(text) => show_between(out, "\"", text, "\"")?,
-            Piece::Parameter(name) => show_between(out, "${", name, "}")?,
-            Piece::QuotedParameter(name) => show_between(out, "\"${", name, "}\"")?,
+            Piece::Parameter(parameter) => show_between(out, "${", parameter.text(), "}")?,
+            Piece::QuotedParameter(parameter) => {
+                show_between(out, "\"${", parameter.text(), "}\"")?
+            }
         }
     }
     Ok(())
@@ -41,7 +43,7 @@ fn show_item(out: &mut String, item: &Item) -> Result<(), AllocError> {
 }
 
 fn show_assignment(out: &mut String, assignment: &Assignment) -> Result<(), AllocError> {
-    show_between(out, "", &assignment.name, ":=")?;
+    show_between(out, "", assignment.name.as_str(), ":=")?;
     show_word(out, &assignment.value)
 }
 
@@ -96,7 +98,7 @@ fn show_command(out: &mut String, command: &Command, room: u8) -> Result<(), All
             show_list(out, "else", alternative, room - 1)
         }
         Command::For(parts) => {
-            show_between(out, "for ", &parts.name, " in ")?;
+            show_between(out, "for ", parts.name.as_str(), " in ")?;
             for word in &parts.words {
                 show_word(out, word)?;
                 out.push_str(",")?;

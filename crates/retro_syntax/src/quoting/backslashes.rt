@@ -10,8 +10,8 @@ use crate::quoting::operators::settled;
 use crate::quoting::parameters::{parameter_piece, quote_of};
 use crate::quoting::pieces::{add_dollar, add_quoted, backslash_and, text_of};
 use crate::quoting::{Lexing, Operator, Pending, Quote, Reading};
-use crate::tree::{Piece, Token};
-use crate::words::is_unsupported_name;
+use crate::tree::{Parameter, Piece, Token};
+use retro_path::VarName;
 use std::alloc::{AllocError, Global};
 
 /// What a backslash quotes in double quotes.
@@ -72,13 +72,13 @@ pub fn escaped_reading(
             mut pieces,
             inside,
             name,
-        } => {
-            if is_unsupported_name(&name) {
-                return Ok(None);
+        } => match VarName::from_string(name) {
+            None => Ok(None),
+            Some(name) => {
+                pieces.push(parameter_piece(inside, Parameter::Variable(name)))?;
+                escaped_in(alloc, tokens, pieces, quote_of(inside), c)
             }
-            pieces.push(parameter_piece(inside, name))?;
-            escaped_in(alloc, tokens, pieces, quote_of(inside), c)
-        }
+        },
         Reading::Braced { .. } | Reading::Question { .. } => Ok(None),
     }
 }

@@ -2,24 +2,24 @@
 
 ghost use Rattle.std.specs.Prelude.{option_map, ◌≡◌, [], Option, None, string_bytes, false};
 ghost use Rattle.retro_syntax.specs.Quoting;
-ghost use Rattle.retro_syntax.specs.View.{tokens_view, piece_view};
+ghost use Rattle.retro_syntax.specs.View.{parameter_view, piece_view, tokens_view};
 ghost use Rattle.retro_syntax.specs.QuotingViews.{LexesTo, lexing_view, pieces_view, reading_view};
 
 use crate::quoting::characters::{in_word, with_reading, word_at};
-use crate::quoting::pieces::{add_dollar, question_mark, text_and, text_of};
+use crate::quoting::pieces::{add_dollar, text_and, text_of};
 use crate::quoting::{Lexing, Quote, Reading};
-use crate::tree::{Piece, Token};
-use crate::words::is_unsupported_name;
+use crate::tree::{Parameter, Piece, Token};
+use retro_path::VarName;
 use std::alloc::{AllocError, Global};
 
 /// A parameter, in double quotes or not.
-pub fn parameter_piece(inside: bool, name: String) -> Piece
-    ensures { piece_view result ≡ Quoting.parameter_piece inside (string_bytes name) }
+pub fn parameter_piece(inside: bool, parameter: Parameter) -> Piece
+    ensures { piece_view result ≡ Quoting.parameter_piece inside (parameter_view parameter) }
 {
     if inside {
-        Piece::QuotedParameter(name)
+        Piece::QuotedParameter(parameter)
     } else {
-        Piece::Parameter(name)
+        Piece::Parameter(parameter)
     }
 }
 
@@ -34,26 +34,40 @@ pub fn quote_of(inside: bool) -> Quote
     }
 }
 
-/// The state behind a parameter's last character.
+/// The state after a parameter's last character.
 pub fn with_parameter(
     tokens: Vec<Token>,
     mut pieces: Vec<Piece>,
     inside: bool,
-    name: String,
+    parameter: Parameter,
 ) -> Result<Option<Lexing>, AllocError>
     ensures { LexesTo result
         (Quoting.with_parameter (tokens_view tokens) (pieces_view pieces) inside
-        (string_bytes name)) }
+        (parameter_view parameter)) }
 {
-    if is_unsupported_name(&name) {
-        return Ok(None);
-    }
-    pieces.push(parameter_piece(inside, name))?;
+    pieces.push(parameter_piece(inside, parameter))?;
     Ok(in_word(tokens, pieces, quote_of(inside)))
 }
 
-/// A character behind a parameter, which is no part of it.
-pub fn after_parameter(
+/// The state after the `}` of a variable.
+pub fn with_variable(
+    tokens: Vec<Token>,
+    pieces: Vec<Piece>,
+    inside: bool,
+    name: String,
+) -> Result<Option<Lexing>, AllocError>
+    ensures { LexesTo result
+        (Quoting.with_variable (tokens_view tokens) (pieces_view pieces) inside
+        (string_bytes name)) }
+{
+    match VarName::from_string(name) {
+        None => Ok(None),
+        Some(name) => with_parameter(tokens, pieces, inside, Parameter::Variable(name)),
+    }
+}
+
+/// The state after a character that follows a variable's name.
+pub fn after_variable(
     alloc: Global,
     tokens: Vec<Token>,
     mut pieces: Vec<Piece>,
@@ -62,28 +76,16 @@ pub fn after_parameter(
     c: char,
 ) -> Result<Option<Lexing>, AllocError>
     ensures { LexesTo result
-        (Quoting.after_parameter (tokens_view tokens) (pieces_view pieces) inside
+        (Quoting.after_variable (tokens_view tokens) (pieces_view pieces) inside
         (string_bytes name) c) }
 {
-    if is_unsupported_name(&name) {
-        return Ok(None);
+    match VarName::from_string(name) {
+        None => Ok(None),
+        Some(name) => {
+            pieces.push(parameter_piece(inside, Parameter::Variable(name)))?;
+            word_at(alloc, tokens, pieces, false, quote_of(inside), c)
+        }
     }
-    pieces.push(parameter_piece(inside, name))?;
-    word_at(alloc, tokens, pieces, false, quote_of(inside), c)
-}
-
-/// Whether a name may begin with it.
-pub fn begins_name(c: char) -> bool
-    ensures { result ≡ Quoting.begins_name c }
-{
-    c.is_ascii_alphabetic() || c == '_'
-}
-
-/// Whether a name may go on with it.
-pub fn continues_name(c: char) -> bool
-    ensures { result ≡ Quoting.continues_name c }
-{
-    c.is_ascii_alphanumeric() || c == '_'
 }
 
 /// Whether it is a parameter behind `$`, of a kind that no text may have.
@@ -143,12 +145,12 @@ pub fn dollar_at(
     ensures { LexesTo result
         (Quoting.reading_at (tokens_view tokens) (Quoting.dollar (pieces_view pieces) inside) c) }
 {
-    if begins_name(c) {
+    if VarName::may_start_with(c) {
         Ok(named(tokens, pieces, inside, text_of(alloc, c)?))
     } else if c == '{' {
         Ok(braced(tokens, pieces, inside, String::new(alloc)))
     } else if c == '?' {
-        with_parameter(tokens, pieces, inside, question_mark(alloc)?)
+        with_parameter(tokens, pieces, inside, Parameter::Status)
     } else if is_other_parameter(c) {
         Ok(None)
     } else {
@@ -170,10 +172,10 @@ pub fn named_at(
         (Quoting.reading_at (tokens_view tokens)
         (Quoting.named (pieces_view pieces) inside (string_bytes name)) c) }
 {
-    if continues_name(c) {
+    if VarName::may_continue_with(c) {
         return Ok(named(tokens, pieces, inside, text_and(name, c)?));
     }
-    after_parameter(alloc, tokens, pieces, inside, name, c)
+    after_variable(alloc, tokens, pieces, inside, name, c)
 }
 
 /// A character behind `${`.
@@ -190,7 +192,7 @@ pub fn brace_at(
 {
     if c == '?' {
         Ok(with_reading(tokens, Reading::Question { pieces, inside }))
-    } else if begins_name(c) {
+    } else if VarName::may_start_with(c) {
         Ok(braced(tokens, pieces, inside, text_of(alloc, c)?))
     } else {
         Ok(None)
@@ -214,8 +216,8 @@ pub fn braced_at(
         [] => brace_at(alloc, tokens, pieces, inside, c),
         [_first, _more @ ..] => {
             if c == '}' {
-                with_parameter(tokens, pieces, inside, name)
-            } else if continues_name(c) {
+                with_variable(tokens, pieces, inside, name)
+            } else if VarName::may_continue_with(c) {
                 Ok(braced(tokens, pieces, inside, text_and(name, c)?))
             } else {
                 Ok(None)
@@ -252,7 +254,7 @@ pub fn reading_at(
         } => braced_at(alloc, tokens, pieces, inside, name, c),
         Reading::Question { pieces, inside } => {
             if c == '}' {
-                with_parameter(tokens, pieces, inside, question_mark(alloc)?)
+                with_parameter(tokens, pieces, inside, Parameter::Status)
             } else {
                 Ok(None)
             }

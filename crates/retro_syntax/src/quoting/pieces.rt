@@ -36,15 +36,6 @@ pub fn backslash_and(alloc: Global, c: char) -> Result<String, AllocError>
     Ok(text)
 }
 
-/// The text `?`.
-pub fn question_mark(alloc: Global) -> Result<String, AllocError>
-    ensures { IfOk result (λ s. string_bytes s ≡ 63 ∷ []) }
-{
-    let mut text = String::new(alloc);
-    text.push_str("?")?;
-    Ok(text)
-}
-
 /// The pieces and the last one, with an unquoted character behind it.
 pub fn grown_plain(
     alloc: Global,

@@ -1,6 +1,6 @@
 //! `if`, and where commands begin and end (XCU 2.9.4).
 
-ghost use Rattle.std.specs.Prelude.{◌≡◌, ◌∷◌, IfOk, Option, Some, None, map, option_map, string_bytes};
+ghost use Rattle.std.specs.Prelude.{◌≡◌, ◌∷◌, IfOk, Option, Some, None, map, option_map};
 ghost use Rattle.retro_syntax.specs.Reader;
 ghost use Rattle.retro_syntax.specs.View.{view, commands_of, word_view};
 ghost use Rattle.retro_syntax.specs.ReaderViews.{StepsAt, StepsTo, arm_view, frame_view, open_view, stack_view, state_view, words_view};
@@ -126,7 +126,7 @@ fn end_body(
 ) -> Result<Option<State>, AllocError>
     ensures { StepsTo result
         (Reader.close_by (stack_view stack) (open_view here)
-        (Reader.body (string_bytes parts.name) (words_view parts.words))
+        (Reader.body parts.name (words_view parts.words))
         (commands_of view parts.body) reserved) }
 {
     match reserved {

@@ -1,6 +1,6 @@
 //! `for` up to its `do` (XCU 2.9.4.2).
 
-ghost use Rattle.std.specs.Prelude.{Option, Some, None, string_bytes};
+ghost use Rattle.std.specs.Prelude.{Option, Some, None};
 ghost use Rattle.retro_syntax.specs.Reader;
 ghost use Rattle.retro_syntax.specs.ReaderViews.{StepsAt, words_view};
 
@@ -9,6 +9,7 @@ use crate::reader::lists::step_to;
 use crate::reader::{Frame, Open, Place, State};
 use crate::tree::{Connector, ReservedWord, Token, Word};
 use crate::words::{Class, class_of, name_of};
+use retro_path::VarName;
 use std::alloc::{AllocError, Global};
 
 /// The token behind `for`.
@@ -34,10 +35,10 @@ pub fn at_for_in(
     alloc: Global,
     stack: Vec<(Open, Frame)>,
     here: Open,
-    name: String,
+    name: VarName,
     token: Token,
 ) -> Result<Option<State>, AllocError>
-    ensures { StepsAt stack here (Reader.for_in (string_bytes name)) token result }
+    ensures { StepsAt stack here (Reader.for_in name) token result }
 {
     match token {
         Token::Word(word) => match class_of(&word) {
@@ -69,12 +70,12 @@ pub fn at_for_in(
 pub fn at_for_words(
     stack: Vec<(Open, Frame)>,
     here: Open,
-    name: String,
+    name: VarName,
     mut words: Vec<Word>,
     token: Token,
 ) -> Result<Option<State>, AllocError>
     ensures { StepsAt stack here
-        (Reader.for_words (string_bytes name) (words_view words)) token result }
+        (Reader.for_words name (words_view words)) token result }
 {
     match token {
         Token::Word(word) => {
@@ -91,12 +92,12 @@ pub fn at_for_do(
     alloc: Global,
     stack: Vec<(Open, Frame)>,
     here: Open,
-    name: String,
+    name: VarName,
     words: Vec<Word>,
     token: Token,
 ) -> Result<Option<State>, AllocError>
     ensures { StepsAt stack here
-        (Reader.for_do (string_bytes name) (words_view words)) token result }
+        (Reader.for_do name (words_view words)) token result }
 {
     match token {
         Token::Word(word) => match class_of(&word) {
