@@ -1,3 +1,4 @@
+pub mod FailingLemmas
 pub mod WordLemmas
 pub mod Complete
 pub mod Sound

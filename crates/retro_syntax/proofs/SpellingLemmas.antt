@@ -1,15 +1,11 @@
 -- What is read from a text has a writing.
-use Rattle.std.proofs.Common.{◌≡◌, ℕ, Bool, true, false, ◌&&◌, ◌||◌, ◌==◌, List, [], ◌∷◌, ◌++◌, Option, Some, None, cond, refl, sym, ap, subst, append-nil, codes}
+use Rattle.std.proofs.Common.{◌≡◌, ℕ, Bool, true, false, ◌&&◌, ◌||◌, ◌==◌, List, [], ◌∷◌, ◌++◌, Option, Some, None, cond, refl, sym, subst, append-nil, codes}
 use Rattle.std.specs.Char.{encode_utf8}
 use Rattle.std.proofs.lemmas.Bool.{eqb-true}
 use Rattle.retro_syntax.specs.Ascii.{is_among}
 use Rattle.retro_syntax.specs.Tree as T
 use Rattle.retro_path.specs.VarName.{starts_name, continues_name, is_var_name}
-use Rattle.retro_syntax.specs.Quoting.{Lexing, Reading, Pending, with_pending, between, comment, operator, reading, in_word, dollar, named, braced, question, add_plain, add_quoted, is_other_parameter, is_special_inside, is_blank, is_operator, is_refused, with_parameter, with_variable, unquoted_at, fresh, settled, word_at, after_variable, reading_at, operator_at, plain_at, escaped_in, escaped_reading, escaped_operator, escaped_at, takes_backslash, lex_step, lex_run, reading_end, lex_end_at, lex_end, tokens_of}
-use Rattle.retro_syntax.specs.declared.quoting.Quote.{Quote}
-use Rattle.retro_syntax.specs.declared.quoting.Quote.TheVariants.{Unquoted, Single, Double}
-use Rattle.retro_syntax.specs.declared.quoting.Operator.{Operator}
-use Rattle.retro_syntax.specs.declared.quoting.Operator.TheVariants as o
+use Rattle.retro_syntax.specs.Quoting.{Quote, unquoted as Unquoted, single as Single, double as Double, Operator, one_semicolon, one_ampersand, one_bar, one_less, one_greater, Lexing, Reading, Pending, with_pending, between, comment, operator, reading, in_word, dollar, named, braced, question, add_plain, add_quoted, is_other_parameter, is_special_inside, is_blank, is_operator, is_refused, with_parameter, with_variable, unquoted_at, fresh, settled, word_at, after_variable, reading_at, operator_at, plain_at, escaped_in, escaped_reading, escaped_operator, escaped_at, takes_backslash, lex_step, lex_run, reading_end, lex_end_at, lex_end, tokens_of}
 use Rattle.retro_syntax.specs.declared.tree.Direction.TheVariants.{From, Onto, Append}
 use Rattle.retro_syntax.specs.declared.tree.Connector.TheVariants.{AndIf, OrIf}
 use Rattle.retro_syntax.specs.Writing.{semicolon, bar, connector, redirection, fits, begins_parameter, is_parameter, HasWriting}
@@ -190,24 +186,24 @@ kept_cond true l m f g = f refl
 kept_cond false l m f g = g refl
 
 operator_kept : (ts : List T.Token) (op : Operator) (c : ℕ) → HasWriting ts → (c == 92) ≡ false → Kept (operator_at ts op c)
-operator_kept ts o.Semicolon c x a = kept_cond (c == 59) None (fresh (ts ++ T.semicolon ∷ []) c) (λ e. tt) (λ e. fresh_kept (ts ++ T.semicolon ∷ []) c (push_token ts semicolon x refl) a)
-operator_kept ts o.And c x a = by_bool (c == 38) (λ e. rw e (push_token ts (connector AndIf) x refl, tt)) (λ e. rw e tt)
-operator_kept ts o.Bar c x a =
+operator_kept ts one_semicolon c x a = kept_cond (c == 59) None (fresh (ts ++ T.semicolon ∷ []) c) (λ e. tt) (λ e. fresh_kept (ts ++ T.semicolon ∷ []) c (push_token ts semicolon x refl) a)
+operator_kept ts one_ampersand c x a = by_bool (c == 38) (λ e. rw e (push_token ts (connector AndIf) x refl, tt)) (λ e. rw e tt)
+operator_kept ts one_bar c x a =
     kept_cond (c == 124) (Some (with_pending (ts ++ T.connector OrIf ∷ []) between)) (fresh (ts ++ T.bar ∷ []) c) (λ e. (push_token ts (connector OrIf) x refl, tt))
     (λ e. fresh_kept (ts ++ T.bar ∷ []) c (push_token ts bar x refl) a)
-operator_kept ts o.Less c x a =
+operator_kept ts one_less c x a =
     kept_cond (((c == 60) || (c == 38)) || (c == 62)) None (fresh (ts ++ T.redirection From ∷ []) c) (λ e. tt) (λ e. fresh_kept (ts ++ T.redirection From ∷ []) c (push_token ts (redirection From) x refl) a)
-operator_kept ts o.Greater c x a =
+operator_kept ts one_greater c x a =
     let onto = fresh (ts ++ T.redirection Onto ∷ []) c in
     kept_cond (c == 62) (Some (with_pending (ts ++ T.redirection Append ∷ []) between)) (cond ((c == 38) || (c == 124)) None onto) (λ e. (push_token ts (redirection Append) x refl, tt))
     (λ g. kept_cond ((c == 38) || (c == 124)) None onto (λ e. tt) (λ e. fresh_kept (ts ++ T.redirection Onto ∷ []) c (push_token ts (redirection Onto) x refl) a))
 
 settled_kept : (ts : List T.Token) (op : Operator) → HasWriting ts → KeptTokens (settled ts op)
-settled_kept ts o.Semicolon x = push_token ts semicolon x refl
-settled_kept ts o.And x = tt
-settled_kept ts o.Bar x = push_token ts bar x refl
-settled_kept ts o.Less x = push_token ts (redirection From) x refl
-settled_kept ts o.Greater x = push_token ts (redirection Onto) x refl
+settled_kept ts one_semicolon x = push_token ts semicolon x refl
+settled_kept ts one_ampersand x = tt
+settled_kept ts one_bar x = push_token ts bar x refl
+settled_kept ts one_less x = push_token ts (redirection From) x refl
+settled_kept ts one_greater x = push_token ts (redirection Onto) x refl
 
 plain_kept : (ts : List T.Token) (p : Pending) (c : ℕ) → HasWriting ts → IsPending p → ((c == 92) && takes_backslash p) ≡ false → Kept (plain_at ts p c)
 plain_kept ts between c x h a = fresh_kept ts c x (and_taken (c == 92) a)
@@ -223,7 +219,7 @@ escaped_in_kept ts g ps Single c x b z = tt
 escaped_in_kept ts g ps Unquoted c x b z = (x, (quote_one g ps c b z).given)
 escaped_in_kept ts g ps Double c x b z =
     by_bool (is_special_inside c) (λ e. rw e (x, quote_one g ps c b z))
-    (λ e. rw e (x, grow_quoted g ps (92 ∷ encode_utf8 c) (92 ∷ c ∷ []) b (ap (λ s. 92 ∷ s) (sym (append-nil (encode_utf8 c)))) (rw z refl)))
+    (λ e. rw e (x, quote_one true (add_quoted ps (encode_utf8 92)) c (going (quote_one g ps 92 b refl).given) z))
 
 escaped_reading_kept : (ts : List T.Token) (r : Reading) (c : ℕ) → HasWriting ts → IsReading r → (c == 0) ≡ false → Kept (escaped_reading ts r c)
 escaped_reading_kept ts (in_word ps digits Unquoted) c x h z = escaped_in_kept ts true ps Unquoted c x (going h) z

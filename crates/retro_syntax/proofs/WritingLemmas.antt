@@ -8,8 +8,7 @@ use Rattle.retro_syntax.specs.Ascii.{is_among}
 use Rattle.retro_syntax.specs.Tree as T
 use Rattle.std.specs.List.{list_all}
 use Rattle.retro_path.specs.VarName.{starts_name, continues_name, is_shell_name, is_var_name}
-use Rattle.retro_syntax.specs.Quoting.{Lexing, Reading, with_pending, between, reading, in_word, dollar, braced, add_plain, add_quoted, parameter_piece, quote_of, is_other_parameter, is_special_inside, lex_step, lex_run, lex_end, tokens_of}
-use Rattle.retro_syntax.specs.declared.quoting.Quote.TheVariants.{Unquoted, Double}
+use Rattle.retro_syntax.specs.Quoting.{unquoted as Unquoted, double as Double, Lexing, Reading, with_pending, between, reading, in_word, dollar, braced, add_plain, add_quoted, parameter_piece, quote_of, is_other_parameter, is_special_inside, lex_step, lex_run, lex_end, tokens_of}
 use Rattle.retro_syntax.specs.declared.tree.Direction.TheVariants.{From, Onto, Append}
 use Rattle.retro_syntax.specs.declared.tree.Connector.TheVariants.{AndIf, OrIf}
 use Rattle.retro_syntax.specs.Writing.{Part, unquoted, quoted, parameter, Written, semicolon, bar, connector, redirection, word, bytes_of, pieces_of, word_of, token_of, parameter_text, parameters_then, escaped_then, part_then, parts_then, token_then, written, breaking_characters, fits, begins_parameter, stands_alone, are_unquoted, are_quoted, is_parameter, are_parameters, is_part, is_unquoted_parameter, are_apart, are_parts, begins_no_comment, is_writable, are_writable}

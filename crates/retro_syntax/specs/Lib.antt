@@ -1,5 +1,6 @@
 pub mod Ascii
 pub mod Tree
+pub mod Failing
 pub mod Words
 pub mod Reader
 pub mod Spells

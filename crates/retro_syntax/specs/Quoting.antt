@@ -6,10 +6,20 @@ use Rattle.retro_syntax.specs.Ascii as ascii
 use Rattle.retro_syntax.specs.Tree.{Parameter, status, variable, Piece, plain, quoted, parameter, quoted_parameter, Token, semicolon, bar, connector, redirection, word}
 use Rattle.retro_syntax.specs.declared.tree.Direction.TheVariants.{From, Onto, Append}
 use Rattle.retro_syntax.specs.declared.tree.Connector.TheVariants.{AndIf, OrIf}
-use Rattle.retro_syntax.specs.declared.quoting.Operator.{Operator}
-use Rattle.retro_syntax.specs.declared.quoting.Operator.TheVariants as o
-use Rattle.retro_syntax.specs.declared.quoting.Quote.{Quote}
-use Rattle.retro_syntax.specs.declared.quoting.Quote.TheVariants.{Unquoted, Single, Double}
+
+-- the quotes around a character (XCU 2.2)
+pub data Quote : Type 0 where
+  unquoted : Quote
+  single : Quote
+  double : Quote
+
+-- the first character of an operator: `;`, `&`, `|`, `<` or `>`
+pub data Operator : Type 0 where
+  one_semicolon : Operator
+  one_ampersand : Operator
+  one_bar : Operator
+  one_less : Operator
+  one_greater : Operator
 
 -- what a parameter is read as
 pub data Reading : Type 0 where
@@ -68,7 +78,7 @@ abbrev pub parameter_piece : Bool → Parameter → Piece
 parameter_piece inside p = if inside then quoted_parameter p else parameter p
 
 abbrev pub quote_of : Bool → Quote
-quote_of inside = if inside then Double else Unquoted
+quote_of inside = if inside then double else unquoted
 
 abbrev pub with_parameter : List Token → List Piece → Bool → Parameter → Option Lexing
 with_parameter ts ps inside p =
@@ -78,8 +88,10 @@ abbrev pub with_variable : List Token → List Piece → Bool → List ℕ → O
 with_variable ts ps inside n =
     if is_var_name n then with_parameter ts ps inside (variable n) else None
 
-abbrev pub add : List Piece → Bool → ℕ → List Piece
-add ps inside c = if inside then add_quoted ps (encode_utf8 c) else add_plain ps c
+-- a `$` that begins no parameter
+abbrev pub add_dollar : List Piece → Bool → List Piece
+add_dollar ps inside =
+    if inside then add_quoted ps (encode_utf8 ascii.dollar) else add_plain ps ascii.dollar
 
 -- ---- where a token may begin
 
@@ -94,48 +106,48 @@ is_refused c = c == ascii.nul || c == ascii.newline || ascii.is_among (codes "()
 
 abbrev pub unquoted_at : List Token → List Piece → Bool → ℕ → Option Lexing
 unquoted_at ts ps digits c =
-    if c == ascii.single_quote then word_goes_on ts (in_word (add_quoted ps []) false Single)
-    else (if c == ascii.double_quote then word_goes_on ts (in_word (add_quoted ps []) false Double)
+    if c == ascii.single_quote then word_goes_on ts (in_word (add_quoted ps []) false single)
+    else (if c == ascii.double_quote then word_goes_on ts (in_word (add_quoted ps []) false double)
     else (if c == ascii.dollar then word_goes_on ts (dollar ps false)
     else (if is_refused c then None
-    else word_goes_on ts (in_word (add_plain ps c) (digits && is_ascii_digit c) Unquoted))))
+    else word_goes_on ts (in_word (add_plain ps c) (digits && is_ascii_digit c) unquoted))))
 
 abbrev pub fresh : List Token → ℕ → Option Lexing
 fresh ts c =
     if is_blank c then Some (with_pending ts between)
-    else (if c == ascii.semicolon then Some (with_pending ts (operator o.Semicolon))
-    else (if c == ascii.ampersand then Some (with_pending ts (operator o.And))
-    else (if c == ascii.bar then Some (with_pending ts (operator o.Bar))
-    else (if c == ascii.less then Some (with_pending ts (operator o.Less))
-    else (if c == ascii.greater then Some (with_pending ts (operator o.Greater))
+    else (if c == ascii.semicolon then Some (with_pending ts (operator one_semicolon))
+    else (if c == ascii.ampersand then Some (with_pending ts (operator one_ampersand))
+    else (if c == ascii.bar then Some (with_pending ts (operator one_bar))
+    else (if c == ascii.less then Some (with_pending ts (operator one_less))
+    else (if c == ascii.greater then Some (with_pending ts (operator one_greater))
     else (if c == ascii.hash then Some (with_pending ts comment)
     else unquoted_at ts [] true c))))))
 
 -- an operator that doesn't go on
 abbrev pub settled : List Token → Operator → Option (List Token)
-settled ts o.Semicolon = Some (ts ++ semicolon ∷ [])
-settled ts o.And = None
-settled ts o.Bar = Some (ts ++ bar ∷ [])
-settled ts o.Less = Some (ts ++ redirection From ∷ [])
-settled ts o.Greater = Some (ts ++ redirection Onto ∷ [])
+settled ts one_semicolon = Some (ts ++ semicolon ∷ [])
+settled ts one_ampersand = None
+settled ts one_bar = Some (ts ++ bar ∷ [])
+settled ts one_less = Some (ts ++ redirection From ∷ [])
+settled ts one_greater = Some (ts ++ redirection Onto ∷ [])
 
 -- ---- in a word
 
 abbrev pub word_at : List Token → List Piece → Bool → Quote → ℕ → Option Lexing
-word_at ts ps digits Unquoted c =
+word_at ts ps digits unquoted c =
     if is_blank c || is_operator c then
     (if digits && (c == ascii.less || c == ascii.greater) then None
     else fresh (ts ++ word ps ∷ []) c)
     else unquoted_at ts ps digits c
-word_at ts ps digits Single c =
-    if c == ascii.single_quote then word_goes_on ts (in_word ps false Unquoted)
+word_at ts ps digits single c =
+    if c == ascii.single_quote then word_goes_on ts (in_word ps false unquoted)
     else (if c == ascii.nul then None
-    else word_goes_on ts (in_word (add_quoted ps (encode_utf8 c)) false Single))
-word_at ts ps digits Double c =
-    if c == ascii.double_quote then word_goes_on ts (in_word ps false Unquoted)
+    else word_goes_on ts (in_word (add_quoted ps (encode_utf8 c)) false single))
+word_at ts ps digits double c =
+    if c == ascii.double_quote then word_goes_on ts (in_word ps false unquoted)
     else (if c == ascii.dollar then word_goes_on ts (dollar ps true)
     else (if c == ascii.nul || c == ascii.backquote then None
-    else word_goes_on ts (in_word (add_quoted ps (encode_utf8 c)) false Double)))
+    else word_goes_on ts (in_word (add_quoted ps (encode_utf8 c)) false double)))
 
 -- one of @*#-$!(
 abbrev pub is_other_parameter : ℕ → Bool
@@ -155,7 +167,7 @@ reading_at ts (dollar ps inside) c =
     else (if c == ascii.left_brace then word_goes_on ts (braced ps inside [])
     else (if c == ascii.question then with_parameter ts ps inside status
     else (if is_other_parameter c then None
-    else word_at ts (add ps inside ascii.dollar) false (quote_of inside) c)))
+    else word_at ts (add_dollar ps inside) false (quote_of inside) c)))
 reading_at ts (named ps inside n) c =
     if continues_name c then word_goes_on ts (named ps inside (n ++ encode_utf8 c))
     else after_variable ts ps inside n c
@@ -171,16 +183,16 @@ reading_at ts (question ps inside) c =
 
 -- an operator that the character goes on
 abbrev pub operator_at : List Token → Operator → ℕ → Option Lexing
-operator_at ts o.Semicolon c = if c == ascii.semicolon then None else fresh (ts ++ semicolon ∷ []) c
-operator_at ts o.And c =
+operator_at ts one_semicolon c = if c == ascii.semicolon then None else fresh (ts ++ semicolon ∷ []) c
+operator_at ts one_ampersand c =
     if c == ascii.ampersand then Some (with_pending (ts ++ connector AndIf ∷ []) between) else None
-operator_at ts o.Bar c =
+operator_at ts one_bar c =
     if c == ascii.bar then Some (with_pending (ts ++ connector OrIf ∷ []) between)
     else fresh (ts ++ bar ∷ []) c
-operator_at ts o.Less c =
+operator_at ts one_less c =
     if c == ascii.less || c == ascii.ampersand || c == ascii.greater then None
     else fresh (ts ++ redirection From ∷ []) c
-operator_at ts o.Greater c =
+operator_at ts one_greater c =
     if c == ascii.greater then Some (with_pending (ts ++ redirection Append ∷ []) between)
     else (if c == ascii.ampersand || c == ascii.bar then None
     else fresh (ts ++ redirection Onto ∷ []) c)
@@ -199,18 +211,19 @@ abbrev pub is_special_inside : ℕ → Bool
 is_special_inside c = ascii.is_among (codes "$`\"\\") c
 
 abbrev pub escaped_in : List Token → List Piece → Quote → ℕ → Option Lexing
-escaped_in ts ps Double c =
+escaped_in ts ps double c =
     if is_special_inside c
-    then word_goes_on ts (in_word (add_quoted ps (encode_utf8 c)) false Double)
-    else word_goes_on ts (in_word (add_quoted ps (ascii.backslash ∷ encode_utf8 c)) false Double)
-escaped_in ts ps Unquoted c =
-    word_goes_on ts (in_word (add_quoted ps (encode_utf8 c)) false Unquoted)
-escaped_in ts ps Single c = None
+    then word_goes_on ts (in_word (add_quoted ps (encode_utf8 c)) false double)
+    else word_goes_on ts
+    (in_word (add_quoted (add_quoted ps (encode_utf8 ascii.backslash)) (encode_utf8 c)) false double)
+escaped_in ts ps unquoted c =
+    word_goes_on ts (in_word (add_quoted ps (encode_utf8 c)) false unquoted)
+escaped_in ts ps single c = None
 
 abbrev pub escaped_reading : List Token → Reading → ℕ → Option Lexing
 escaped_reading ts (in_word ps digits q) c = escaped_in ts ps q c
 escaped_reading ts (dollar ps inside) c =
-    escaped_in ts (add ps inside ascii.dollar) (quote_of inside) c
+    escaped_in ts (add_dollar ps inside) (quote_of inside) c
 escaped_reading ts (named ps inside n) c =
     if is_var_name n
     then escaped_in ts (ps ++ parameter_piece inside (variable n) ∷ []) (quote_of inside) c
@@ -220,10 +233,10 @@ escaped_reading ts (question ps inside) c = None
 
 abbrev pub escaped_operator : Option (List Token) → ℕ → Option Lexing
 escaped_operator None c = None
-escaped_operator (Some ts) c = escaped_in ts [] Unquoted c
+escaped_operator (Some ts) c = escaped_in ts [] unquoted c
 
 abbrev pub escaped_at : List Token → Pending → ℕ → Option Lexing
-escaped_at ts between c = escaped_in ts [] Unquoted c
+escaped_at ts between c = escaped_in ts [] unquoted c
 escaped_at ts comment c = None
 escaped_at ts (operator op) c = escaped_operator (settled ts op) c
 escaped_at ts (reading r) c = escaped_reading ts r c
@@ -233,9 +246,9 @@ abbrev pub takes_backslash : Pending → Bool
 takes_backslash between = true
 takes_backslash comment = false
 takes_backslash (operator op) = true
-takes_backslash (reading (in_word ps digits Single)) = false
-takes_backslash (reading (in_word ps digits Unquoted)) = true
-takes_backslash (reading (in_word ps digits Double)) = true
+takes_backslash (reading (in_word ps digits single)) = false
+takes_backslash (reading (in_word ps digits unquoted)) = true
+takes_backslash (reading (in_word ps digits double)) = true
 takes_backslash (reading (dollar ps inside)) = true
 takes_backslash (reading (named ps inside n)) = true
 takes_backslash (reading (braced ps inside n)) = true
@@ -258,11 +271,11 @@ lex_run (Some l) [] = Some l
 lex_run (Some l) (c ∷ cs) = lex_run (lex_step l c) cs
 
 abbrev pub reading_end : List Token → Reading → Option (List Token)
-reading_end ts (in_word ps digits Unquoted) = Some (ts ++ word ps ∷ [])
-reading_end ts (in_word ps digits Single) = None
-reading_end ts (in_word ps digits Double) = None
+reading_end ts (in_word ps digits unquoted) = Some (ts ++ word ps ∷ [])
+reading_end ts (in_word ps digits single) = None
+reading_end ts (in_word ps digits double) = None
 reading_end ts (dollar ps true) = None
-reading_end ts (dollar ps false) = Some (ts ++ word (add ps false ascii.dollar) ∷ [])
+reading_end ts (dollar ps false) = Some (ts ++ word (add_dollar ps false) ∷ [])
 reading_end ts (named ps true n) = None
 reading_end ts (named ps false n) =
     if is_var_name n then Some (ts ++ word (ps ++ parameter (variable n) ∷ []) ∷ []) else None

@@ -1,47 +1,55 @@
--- What a state of the lexer's code stands for.
-use Rattle.std.specs.Prelude.{◌≡◌, IfOk, List, Option, Result, map, option_map, string_bytes, Vec}
-use Rattle.std.specs.declared.alloc.AllocError.{AllocError}
+-- The state of the definition that a state of the lexer stands for.
+use Rattle.std.specs.Prelude.{ℕ, List, Option, Result, map, string_bytes, Vec}
 use Rattle.std.specs.declared.alloc.Global.{Global}
+use Rattle.retro_syntax.specs.Failing.{Gives}
 use Rattle.retro_syntax.specs.Tree as T
 use Rattle.retro_syntax.specs.Quoting as Q
 use Rattle.retro_syntax.specs.View.{tokens_view, piece_view}
+use Rattle.retro_syntax.specs.declared.syntax_error.SyntaxError.{SyntaxError}
 use Rattle.retro_syntax.specs.declared.tree.Piece.{Piece}
-use Rattle.retro_syntax.specs.declared.tree.Token.{Token}
-use Rattle.retro_syntax.specs.declared.quoting.Reading.{Reading}
-use Rattle.retro_syntax.specs.declared.quoting.Reading.TheVariants as r
-use Rattle.retro_syntax.specs.declared.quoting.Pending.{Pending}
-use Rattle.retro_syntax.specs.declared.quoting.Pending.TheVariants as p
-use Rattle.retro_syntax.specs.declared.quoting.Lexing.{Lexing}
+use Rattle.retro_syntax.specs.declared.lexer.Quote.{Quote}
+use Rattle.retro_syntax.specs.declared.lexer.Quote.TheVariants as q
+use Rattle.retro_syntax.specs.declared.lexer.Operator.{Operator}
+use Rattle.retro_syntax.specs.declared.lexer.Operator.TheVariants as o
+use Rattle.retro_syntax.specs.declared.lexer.Pending.{Pending}
+use Rattle.retro_syntax.specs.declared.lexer.Pending.TheVariants as p
+use Rattle.retro_syntax.specs.declared.lexer.Lexer.{Lexer}
 
 abbrev pub pieces_view : Vec Piece Global → List T.Piece
 pieces_view ps = map piece_view ps.items
 
-abbrev pub reading_view : Reading → Q.Reading
-reading_view (r.InWord ps digits q) = Q.in_word (pieces_view ps) digits q
-reading_view (r.Dollar ps inside) = Q.dollar (pieces_view ps) inside
-reading_view (r.Named ps inside n) = Q.named (pieces_view ps) inside (string_bytes n)
-reading_view (r.Braced ps inside n) = Q.braced (pieces_view ps) inside (string_bytes n)
-reading_view (r.Question ps inside) = Q.question (pieces_view ps) inside
+abbrev pub quote_view : Quote → Q.Quote
+quote_view q.Unquoted = Q.unquoted
+quote_view q.Single = Q.single
+quote_view q.Double = Q.double
 
-abbrev pub pending_view : Pending → Q.Pending
-pending_view p.Between = Q.between
-pending_view p.Comment = Q.comment
-pending_view (p.Operator op) = Q.operator op
-pending_view (p.Reading r) = Q.reading (reading_view r)
+abbrev pub operator_view : Operator → Q.Operator
+operator_view o.Semicolon = Q.one_semicolon
+operator_view o.And = Q.one_ampersand
+operator_view o.Bar = Q.one_bar
+operator_view o.Less = Q.one_less
+operator_view o.Greater = Q.one_greater
 
-abbrev pub lexing_view : Lexing → Q.Lexing
-lexing_view l =
-    record {
-      tokens = tokens_view l.tokens;
-      pending = pending_view l.pending;
-      backslash = l.backslash;
-    }
+-- with the pieces of the pending word, and the name of the pending parameter
+abbrev pub pending_view : Pending → List T.Piece → List ℕ → Q.Pending
+pending_view p.Between ps n = Q.between
+pending_view p.Comment ps n = Q.comment
+pending_view (p.Operator op) ps n = Q.operator (operator_view op)
+pending_view (p.Word digits q) ps n = Q.reading (Q.in_word ps digits (quote_view q))
+pending_view (p.Dollar inside) ps n = Q.reading (Q.dollar ps inside)
+pending_view (p.Name inside) ps n = Q.reading (Q.named ps inside n)
+pending_view (p.Brace inside) ps n = Q.reading (Q.braced ps inside n)
+pending_view (p.Question inside) ps n = Q.reading (Q.question ps inside)
 
--- the answer is this state, or none where there is none
-abbrev pub LexesTo : Result (Option Lexing) AllocError → Option Q.Lexing → Type 0
-LexesTo result next = IfOk result (λ l. option_map lexing_view l ≡ next)
+-- the state before the next character, whatever the last one was
+abbrev pub unescaped_view : Lexer → Q.Lexing
+unescaped_view l =
+    Q.with_pending (tokens_view l.tokens)
+    (pending_view l.pending (pieces_view l.pieces) (string_bytes l.name))
 
--- the answer is these tokens, or none where there are none
-abbrev pub TokenizesTo : Result (Option (Vec Token Global)) AllocError → Option (List T.Token)
-    → Type 0
-TokenizesTo result tokens = IfOk result (λ ts. option_map tokens_view ts ≡ tokens)
+abbrev pub lexer_view : Lexer → Q.Lexing
+lexer_view l = record (unescaped_view l) { backslash = l.backslash }
+
+-- The character was read: the lexer is in the state that the definition gives, but for `backslash`.
+abbrev pub Reads : Lexer → Result (Unit {0}) SyntaxError → Option Q.Lexing → Type 0
+Reads l result next = Gives (λ _. unescaped_view l) result next

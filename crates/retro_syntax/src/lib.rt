@@ -15,11 +15,12 @@
 
 mod build;
 mod depth;
+mod lexer;
 mod lines;
 mod parsed;
 mod plain;
-mod quoting;
 mod reader;
+mod syntax_error;
 mod tildes;
 pub mod tree;
 mod words;

@@ -16,8 +16,9 @@ ghost use Rattle.retro_syntax.specs.Tree as Tree;
 ghost use Rattle.retro_syntax.specs.Writing.{HasWriting, Written, are_writable, token_of, written};
 
 use crate::depth::is_shallow;
-use crate::quoting::tokens_of;
+use crate::lexer::tokens_of;
 use crate::reader::read_tokens;
+use crate::syntax_error::SyntaxError;
 use crate::tree::{Command, Commands};
 use std::alloc::{AllocError, Global};
 
@@ -59,9 +60,10 @@ impl From<AllocError> for Refused {
 fn line_of(alloc: Global, text: &str) -> Result<Option<Line>, AllocError>
     ensures { IfOk result (λ found. option_map line_view found ≡ Lines.line_of text.now) }
 {
-    match tokens_of(alloc, text)? {
-        None => Ok(None),
-        Some(tokens) => {
+    match tokens_of(alloc, text) {
+        Err(SyntaxError::NoMem) => Err(AllocError),
+        Err(SyntaxError::Unsupported) => Ok(None),
+        Ok(tokens) => {
             if tokens.is_empty() {
                 return Ok(Some(Line { commands: None }));
             }
