@@ -8,7 +8,7 @@ use Rattle.retro_syntax.specs.declared.tree.ReservedWord.TheVariants.{Bang as ba
 use Rattle.retro_syntax.specs.declared.words.Class.{Class}
 use Rattle.retro_syntax.specs.declared.words.Class.TheVariants.{Reserved as reserved, Forbidden as forbidden, Assignment as assignment, Ordinary as ordinary}
 use Rattle.retro_syntax.specs.Words.{class, name_of, is_ordinary}
-use Rattle.retro_syntax.specs.Reader.{Open, Frame, condition, consequence, alternative, body, Place, start, within, target, piped, closed, for_name, for_in, for_words, for_do, State, at, step, run, join, and_or, listed, arms_up_to, nothing, no_argument, finish, commands_of, close, close_some, begin_reserved, may_end, all_closed, finish_at, go_on}
+use Rattle.retro_syntax.specs.Parsing.{Open, Frame, condition, consequence, alternative, body, Place, start, in_simple, target, after_bar, after_compound, for_name, for_in, for_words, for_do, State, at, step, run, join, and_or, listed, arms_up_to, nothing, no_argument, finish, commands_of, close, close_some, begin_reserved, may_end, all_closed, finish_at, go_on}
 use Rattle.retro_syntax.specs.Spells.{is_assigned, are_assigned, begins_well, is_simple, are_simple, are_stages, is_compound, ends_compound, ends_itself, Spells, IsCommands, IsAndOr, IsPipeline, IsCommand, IsArms}
 use Rattle.retro_syntax.proofs.WordLemmas.{class_key, class_assigned, assignment_of_word}
 
@@ -30,25 +30,25 @@ next : (s s' : State) (t : Token) (r : List Token) → step s t ≡ Some s' → 
 next s s' t r e = ap (λ x. run x r) e
 
 step_assign : (st : Stack) (o : Open) (ss : List Simple) (xs : List Assignment) (a : Assignment) → is_assigned a ≡ true
-    → step (at st o (within ss (assignments xs))) (word (assignment_word a)) ≡ Some (at st o (within ss (assignments (xs ++ a ∷ []))))
+    → step (at st o (in_simple ss (assignments xs))) (word (assignment_word a)) ≡ Some (at st o (in_simple ss (assignments (xs ++ a ∷ []))))
 unfolding step
 step_assign st o ss xs a h = rw (class_assigned a h, assignment_of_word a h) refl
 
 -- more assignments behind others
 assignments_on : (st : Stack) (o : Open) (ss : List Simple) (xs ys : List Assignment) (r : List Token) → are_assigned ys ≡ true
-    → run (Some (at st o (within ss (assignments xs)))) (assignments_then ys r) ≡ run (Some (at st o (within ss (assignments (xs ++ ys))))) r
+    → run (Some (at st o (in_simple ss (assignments xs)))) (assignments_then ys r) ≡ run (Some (at st o (in_simple ss (assignments (xs ++ ys))))) r
 assignments_on st o ss xs [] r h = rw append-nil refl
 assignments_on st o ss xs (a ∷ ys) r h =
     let one = and_left (is_assigned a) (are_assigned ys) h in
     let rest = assignments_on st o ss (xs ++ a ∷ []) ys r (and_right (is_assigned a) (are_assigned ys) h) in
-    next _ _ (word (assignment_word a)) (assignments_then ys r) (step_assign st o ss xs a one) ∙ rest ∙ ap (λ zs. run (Some (at st o (within ss (assignments zs)))) r) (append_assoc xs (a ∷ []) ys)
+    next _ _ (word (assignment_word a)) (assignments_then ys r) (step_assign st o ss xs a one) ∙ rest ∙ ap (λ zs. run (Some (at st o (in_simple ss (assignments zs)))) r) (append_assoc xs (a ∷ []) ys)
 
 -- the items behind some others, which have a word already or have none
 abbrev fits : List Item → List Item → Bool
 fits xs is = cond (no_argument xs) (begins_well is) true
 
 step_target : (st : Stack) (o : Open) (ss : List Simple) (xs : List Item) (d : Direction) (w : Word) (r : List Token)
-    → run (Some (at st o (within ss (command xs)))) (redirection d ∷ word w ∷ r) ≡ run (Some (at st o (within ss (command (xs ++ redirect d w ∷ []))))) r
+    → run (Some (at st o (in_simple ss (command xs)))) (redirection d ∷ word w ∷ r) ≡ run (Some (at st o (in_simple ss (command (xs ++ redirect d w ∷ []))))) r
 unfolding step
 step_target st o ss xs d w r = refl
 
@@ -58,7 +58,7 @@ add_if true false x h = cc
 add_if false b x h = refl
 
 step_argument : (st : Stack) (o : Open) (ss : List Simple) (xs : List Item) (w : Word) → cond (no_argument xs) (is_ordinary (class w)) true ≡ true
-    → step (at st o (within ss (command xs))) (word w) ≡ Some (at st o (within ss (command (xs ++ argument w ∷ []))))
+    → step (at st o (in_simple ss (command xs))) (word w) ≡ Some (at st o (in_simple ss (command (xs ++ argument w ∷ []))))
 unfolding step
 step_argument st o ss xs w h = add_if (no_argument xs) (is_ordinary (class w)) _ h
 
@@ -77,21 +77,21 @@ fits_redirect false b h = h
 
 -- more items behind others
 items_on : (st : Stack) (o : Open) (ss : List Simple) (xs is : List Item) (r : List Token) → fits xs is ≡ true
-    → run (Some (at st o (within ss (command xs)))) (items_then is r) ≡ run (Some (at st o (within ss (command (xs ++ is))))) r
+    → run (Some (at st o (in_simple ss (command xs)))) (items_then is r) ≡ run (Some (at st o (in_simple ss (command (xs ++ is))))) r
 items_on st o ss xs [] r h = rw append-nil refl
 items_on st o ss xs (argument w ∷ is) r h =
     let rest = items_on st o ss (xs ++ argument w ∷ []) is r (rw (no_argument-append xs (argument w)) (fits_argument (no_argument xs) (begins_well is))) in
-    next _ _ (word w) (items_then is r) (step_argument st o ss xs w h) ∙ rest ∙ ap (λ ys. run (Some (at st o (within ss (command ys)))) r) (append_assoc xs (argument w ∷ []) is)
+    next _ _ (word w) (items_then is r) (step_argument st o ss xs w h) ∙ rest ∙ ap (λ ys. run (Some (at st o (in_simple ss (command ys)))) r) (append_assoc xs (argument w ∷ []) is)
 items_on st o ss xs (redirect d w ∷ is) r h =
     let rest = items_on st o ss (xs ++ redirect d w ∷ []) is r (rw (no_argument-append xs (redirect d w)) (fits_redirect (no_argument xs) (begins_well is) h)) in
-    step_target st o ss xs d w (items_then is r) ∙ rest ∙ ap (λ ys. run (Some (at st o (within ss (command ys)))) r) (append_assoc xs (redirect d w ∷ []) is)
+    step_target st o ss xs d w (items_then is r) ∙ rest ∙ ap (λ ys. run (Some (at st o (in_simple ss (command ys)))) r) (append_assoc xs (redirect d w ∷ []) is)
 
 -- ---- the first word of a simple command
 
 record Begins (st : Stack) (o : Open) (p : Place) (ss : List Simple) : Type 0 where
-  assign : (a : Assignment) → is_assigned a ≡ true → step (at st o p) (word (assignment_word a)) ≡ Some (at st o (within ss (assignments (a ∷ []))))
-  plainly : (w : Word) → is_ordinary (class w) ≡ true → step (at st o p) (word w) ≡ Some (at st o (within ss (command (argument w ∷ []))))
-  aims : (d : Direction) (w : Word) (r : List Token) → run (Some (at st o p)) (redirection d ∷ word w ∷ r) ≡ run (Some (at st o (within ss (command (redirect d w ∷ []))))) r
+  assign : (a : Assignment) → is_assigned a ≡ true → step (at st o p) (word (assignment_word a)) ≡ Some (at st o (in_simple ss (assignments (a ∷ []))))
+  plainly : (w : Word) → is_ordinary (class w) ≡ true → step (at st o p) (word w) ≡ Some (at st o (in_simple ss (command (argument w ∷ []))))
+  aims : (d : Direction) (w : Word) (r : List Token) → run (Some (at st o p)) (redirection d ∷ word w ∷ r) ≡ run (Some (at st o (in_simple ss (command (redirect d w ∷ []))))) r
 
 is_plain : (k : Class) → is_ordinary k ≡ true → k ≡ ordinary
 is_plain (reserved k) e = cc
@@ -107,7 +107,7 @@ begins_start st o = record {
   aims = λ d w r. refl;
 }
 
-begins_piped : (st : Stack) (o : Open) (ss : List Simple) → Begins st o (piped ss) ss
+begins_piped : (st : Stack) (o : Open) (ss : List Simple) → Begins st o (after_bar ss) ss
 unfolding step
 begins_piped st o ss = record {
   assign = λ a h. rw (class_assigned a h, assignment_of_word a h) refl;
@@ -116,7 +116,7 @@ begins_piped st o ss = record {
 }
 
 simple_on : (st : Stack) (o : Open) (p : Place) (ss : List Simple) (s : Simple) (r : List Token) → Begins st o p ss → is_simple s ≡ true
-    → run (Some (at st o p)) (simple_then s r) ≡ run (Some (at st o (within ss s))) r
+    → run (Some (at st o p)) (simple_then s r) ≡ run (Some (at st o (in_simple ss s))) r
 simple_on st o p ss (assignments []) r b h = cc
 simple_on st o p ss (assignments (a ∷ ys)) r b h =
     next _ _ (word (assignment_word a)) (assignments_then ys r) (b.assign a (and_left (is_assigned a) (are_assigned ys) h))
@@ -131,10 +131,10 @@ simple_on st o p ss (command (redirect d w ∷ is)) r b h = b.aims d w (items_th
 -- a whole command stands at this place
 abbrev Holds : Place → Command → Type 0
 Holds start c = ⊥
-Holds (within ss s) c = c ≡ simples (ss ++ s ∷ [])
+Holds (in_simple ss s) c = c ≡ simples (ss ++ s ∷ [])
 Holds (target ss is d) c = ⊥
-Holds (piped ss) c = ⊥
-Holds (closed d) c = c ≡ d
+Holds (after_bar ss) c = ⊥
+Holds (after_compound d) c = c ≡ d
 Holds for_name c = ⊥
 Holds (for_in n) c = ⊥
 Holds (for_words n ws) c = ⊥
@@ -144,16 +144,16 @@ Holds (for_do n ws) c = ⊥
 abbrev Reads : Stack → Open → Place → (List Token → List Token) → Command → Type 0
 Reads st o p ts c = (q : Place) × Holds q c × ((r : List Token) → run (Some (at st o p)) (ts r) ≡ run (Some (at st o q)) r)
 
-step_bar : (st : Stack) (o : Open) (ss : List Simple) (s : Simple) → step (at st o (within ss s)) bar ≡ Some (at st o (piped (ss ++ s ∷ [])))
+step_bar : (st : Stack) (o : Open) (ss : List Simple) (s : Simple) → step (at st o (in_simple ss s)) bar ≡ Some (at st o (after_bar (ss ++ s ∷ [])))
 unfolding step
 step_bar st o ss s = refl
 
 stages_on : (st : Stack) (o : Open) (p : Place) (xs ss : List Simple) → Begins st o p xs → are_stages ss ≡ true
     → Reads st o p (stages_then ss) (simples (xs ++ ss))
 stages_on st o p xs [] b h = absurd (let e : false ≡ true = h in cc)
-stages_on st o p xs (s ∷ []) b h = (within xs s, refl, λ r. simple_on st o p xs s r b (and_left (is_simple s) true h))
+stages_on st o p xs (s ∷ []) b h = (in_simple xs s, refl, λ r. simple_on st o p xs s r b (and_left (is_simple s) true h))
 stages_on st o p xs (s ∷ t ∷ ss) b h =
-    let rest = stages_on st o (piped (xs ++ s ∷ [])) (xs ++ s ∷ []) (t ∷ ss) (begins_piped st o (xs ++ s ∷ [])) (and_right (is_simple s) (are_simple (t ∷ ss)) h) in
+    let rest = stages_on st o (after_bar (xs ++ s ∷ [])) (xs ++ s ∷ []) (t ∷ ss) (begins_piped st o (xs ++ s ∷ [])) (and_right (is_simple s) (are_simple (t ∷ ss)) h) in
     let one = and_left (is_simple s) (are_simple (t ∷ ss)) h in (
       rest.0,
       subst (λ ys. Holds rest.0 (simples ys)) (append_assoc xs (s ∷ []) (t ∷ ss)) rest.1,
@@ -202,19 +202,19 @@ record Whole (st : Stack) (o : Open) (ts : List Token → List Token) (ds : List
   open_now : Open
   place_now : Place
   ending : Command
-  done_is : open_now.done ≡ ds
+  done_is : open_now.and_ors ≡ ds
   whole_is : and_or open_now ending ≡ a
   holds : Holds place_now ending
   compound : ends_compound a ≡ is_compound ending
   runs : (r : List Token) → run (Some (at st o start)) (ts r) ≡ run (Some (at st open_now place_now)) r
 
--- the same for one pipeline, of which more may be joined
+-- the same for one pipeline, of which more may be pipelines
 record One (st : Stack) (o : Open) (ts : List Token → List Token) (ds : List AndOr) (js : List (Pipeline × Connector)) (p : Pipeline) : Type 0 where
   open_now : Open
   place_now : Place
   ending : Command
-  done_is : open_now.done ≡ ds
-  joined_is : open_now.joined ≡ js
+  done_is : open_now.and_ors ≡ ds
+  joined_is : open_now.pipelines ≡ js
   whole_is : pipeline open_now.negated ending ≡ p
   holds : Holds place_now ending
   compound : ends_compound (end p) ≡ is_compound ending
@@ -232,15 +232,15 @@ record Ended (st : Stack) (o : Open) (ts : List Token → List Token) (c : Comma
   closes : itself ≡ true → (k : ReservedWord) → IsCloser k → step (at st open_now place_now) (key k) ≡ close st c k
 
 abbrev opened : List AndOr → List (Pipeline × Connector) → Bool → Open
-opened ds js negated = record { done = ds; joined = js; negated = negated }
+opened ds js negated = record { and_ors = ds; pipelines = js; negated = negated }
 
 go_whole : (st : Stack) (o : Open) (p : Place) (c : Command) → Holds p c → step (at st o p) semicolon ≡ go_on st o c semicolon
 unfolding step
 go_whole st o start c h = absurd h
-go_whole st o (within ss s) c h = rw h refl
+go_whole st o (in_simple ss s) c h = rw h refl
 go_whole st o (target ss is d) c h = absurd h
-go_whole st o (piped ss) c h = absurd h
-go_whole st o (closed d) c h = rw h refl
+go_whole st o (after_bar ss) c h = absurd h
+go_whole st o (after_compound d) c h = rw h refl
 go_whole st o for_name c h = absurd h
 go_whole st o (for_in n) c h = absurd h
 go_whole st o (for_words n ws) c h = absurd h
@@ -249,33 +249,33 @@ go_whole st o (for_do n ws) c h = absurd h
 go_joined : (st : Stack) (o : Open) (p : Place) (c : Command) (op : Connector) → Holds p c → step (at st o p) (connector op) ≡ go_on st o c (connector op)
 unfolding step
 go_joined st o start c op h = absurd h
-go_joined st o (within ss s) c op h = rw h refl
+go_joined st o (in_simple ss s) c op h = rw h refl
 go_joined st o (target ss is d) c op h = absurd h
-go_joined st o (piped ss) c op h = absurd h
-go_joined st o (closed d) c op h = rw h refl
+go_joined st o (after_bar ss) c op h = absurd h
+go_joined st o (after_compound d) c op h = rw h refl
 go_joined st o for_name c op h = absurd h
 go_joined st o (for_in n) c op h = absurd h
 go_joined st o (for_words n ws) c op h = absurd h
 go_joined st o (for_do n ws) c op h = absurd h
 
-finish_whole : (o : Open) (p : Place) (c : Command) → Holds p c → finish_at [] o p ≡ Some (listed o.done (and_or o c) false)
+finish_whole : (o : Open) (p : Place) (c : Command) → Holds p c → finish_at [] o p ≡ Some (listed o.and_ors (and_or o c) false)
 finish_whole o start c h = absurd h
-finish_whole o (within ss s) c h = rw h refl
+finish_whole o (in_simple ss s) c h = rw h refl
 finish_whole o (target ss is d) c h = absurd h
-finish_whole o (piped ss) c h = absurd h
-finish_whole o (closed d) c h = rw h refl
+finish_whole o (after_bar ss) c h = absurd h
+finish_whole o (after_compound d) c h = rw h refl
 finish_whole o for_name c h = absurd h
 finish_whole o (for_in n) c h = absurd h
 finish_whole o (for_words n ws) c h = absurd h
 finish_whole o (for_do n ws) c h = absurd h
 
-close_whole : (st : Stack) (o : Open) (p : Place) (c : Command) (k : ReservedWord) → Holds p c → is_compound c ≡ true → step (at st o p) (key k) ≡ close st (listed o.done (and_or o c) false) k
+close_whole : (st : Stack) (o : Open) (p : Place) (c : Command) (k : ReservedWord) → Holds p c → is_compound c ≡ true → step (at st o p) (key k) ≡ close st (listed o.and_ors (and_or o c) false) k
 unfolding step
 close_whole st o start c k h y = absurd h
-close_whole st o (within ss s) c k h y = let e : is_compound (simples (ss ++ s ∷ [])) ≡ true = subst (λ d. is_compound d ≡ true) h y in absurd (let f : false ≡ true = e in cc)
+close_whole st o (in_simple ss s) c k h y = let e : is_compound (simples (ss ++ s ∷ [])) ≡ true = subst (λ d. is_compound d ≡ true) h y in absurd (let f : false ≡ true = e in cc)
 close_whole st o (target ss is d) c k h y = absurd h
-close_whole st o (piped ss) c k h y = absurd h
-close_whole st o (closed d) c k h y = rw (class_key k) (rw h refl)
+close_whole st o (after_bar ss) c k h y = absurd h
+close_whole st o (after_compound d) c k h y = rw (class_key k) (rw h refl)
 close_whole st o for_name c k h y = absurd h
 close_whole st o (for_in n) c k h y = absurd h
 close_whole st o (for_words n ws) c k h y = absurd h
@@ -350,7 +350,7 @@ mutual
   commands_on : (c : Commands) → IsCommands c → (st : Stack) (ds : List AndOr) → Ended st (opened ds [] false) (commands_then c) (prefix ds c) (ends_itself c)
   commands_on (last a false) h st ds =
       let w = and_or_on a h st ds [] in
-      let built : listed w.open_now.done (and_or w.open_now w.ending) false ≡ prefix ds (last a false) = rw (w.done_is, w.whole_is) (listed-prefix ds a false) in
+      let built : listed w.open_now.and_ors (and_or w.open_now w.ending) false ≡ prefix ds (last a false) = rw (w.done_is, w.whole_is) (listed-prefix ds a false) in
       record {
         open_now = w.open_now;
         place_now = w.place_now;
@@ -394,7 +394,7 @@ mutual
   and_or_on (chain p op a) h st ds js =
       let one = pipeline_on p h.0 st ds js in
       let w = and_or_on a h.1 st ds (js ++ (p, op) ∷ []) in
-      let joined : go_on st one.open_now one.ending (connector op) ≡ Some (at st (opened ds (js ++ (p, op) ∷ []) false) start) = rw (one.done_is, one.joined_is, one.whole_is) refl in
+      let pipelines : go_on st one.open_now one.ending (connector op) ≡ Some (at st (opened ds (js ++ (p, op) ∷ []) false) start) = rw (one.done_is, one.joined_is, one.whole_is) refl in
       record {
         open_now = w.open_now;
         place_now = w.place_now;
@@ -403,7 +403,7 @@ mutual
         whole_is = w.whole_is ∙ join_all-push js p op a;
         holds = w.holds;
         compound = sym (ap ends_compound (join_all-push js p op a)) ∙ w.compound;
-        runs = λ r. one.runs (connector op ∷ andor_then a r) ∙ next _ _ (connector op) (andor_then a r) (go_joined st one.open_now one.place_now one.ending op one.holds ∙ joined) ∙ w.runs r;
+        runs = λ r. one.runs (connector op ∷ andor_then a r) ∙ next _ _ (connector op) (andor_then a r) (go_joined st one.open_now one.place_now one.ending op one.holds ∙ pipelines) ∙ w.runs r;
       }
 
   pipeline_on : (p : Pipeline) → IsPipeline p → (st : Stack) (ds : List AndOr) (js : List (Pipeline × Connector)) → One st (opened ds js false) (pipeline_then p) ds js p
@@ -436,16 +436,16 @@ mutual
 
   command_on : (c : Command) → IsCommand c → (st : Stack) (o : Open) → Reads st o start (command_then c) c
   command_on (simples ss) h st o = stages_on st o start [] ss (begins_start st o) h
-  command_on (conditional a) h st o = (closed (conditional a), refl, λ r. next _ _ (key key_if) (arms_then a r) (step_if st o) ∙ arms_on a h st o [] r)
+  command_on (conditional a) h st o = (after_compound (conditional a), refl, λ r. next _ _ (key key_if) (arms_then a r) (step_if st o) ∙ arms_on a h st o [] r)
   command_on (loop n ws c) h st o = (
-    closed (loop n ws c),
+    after_compound (loop n ws c),
     refl,
     λ r. for_on st o n ws (commands_then c (key key_done ∷ r)) h.0
         ∙ inner_of ((o, body n ws) ∷ st) (commands_then c) c key_done r _ (commands_on c h.1.0 ((o, body n ws) ∷ st) []) h.1.1 (λ s p. refl),
   )
 
   arms_on : (a : Arms) → IsArms a → (st : Stack) (o : Open) (xs : List (Commands × Commands)) (r : List Token)
-      → run (Some (at ((o, condition xs) ∷ st) nothing start)) (arms_then a r) ≡ run (Some (at st o (closed (conditional (arms_up_to xs a))))) r
+      → run (Some (at ((o, condition xs) ∷ st) nothing start)) (arms_then a r) ≡ run (Some (at st o (after_compound (conditional (arms_up_to xs a))))) r
   arms_on (fi c t) h st o xs r =
       inner_of ((o, condition xs) ∷ st) (commands_then c) c key_then (commands_then t (key key_fi ∷ r)) _ (commands_on c h.0.0 ((o, condition xs) ∷ st) []) h.0.1 (λ s p. refl)
       ∙ inner_of ((o, consequence xs c) ∷ st) (commands_then t) t key_fi r _ (commands_on t h.1.0 ((o, consequence xs c) ∷ st) []) h.1.1 (λ s p. refl)
@@ -457,7 +457,7 @@ mutual
       inner_of ((o, condition xs) ∷ st) (commands_then c) c key_then (commands_then t (key key_elif ∷ arms_then a r)) _ (commands_on c h.0.0 ((o, condition xs) ∷ st) []) h.0.1 (λ s p. refl)
       ∙ inner_of ((o, consequence xs c) ∷ st) (commands_then t) t key_elif (arms_then a r) _ (commands_on t h.1.0 ((o, consequence xs c) ∷ st) []) h.1.1 (λ s p. refl)
       ∙ arms_on a h.2 st o (xs ++ (c, t) ∷ []) r
-      ∙ ap (λ b. run (Some (at st o (closed (conditional b)))) r) (arms_up_to-push xs c t a)
+      ∙ ap (λ b. run (Some (at st o (after_compound (conditional b)))) r) (arms_up_to-push xs c t a)
 
 -- What is written for a tree is read as that tree.
 pub commands_of_written : (c : Commands) → IsCommands c → commands_of (commands_then c []) ≡ Some c

@@ -5,7 +5,7 @@ use Rattle.std.proofs.lemmas.Bool.{le-leb}
 use Rattle.std.proofs.lemmas.Bool.Decides.{leb_tells}
 use Rattle.std.specs.declared.alloc.Global.{Global}
 use Rattle.retro_syntax.specs.Tree as T
-use Rattle.retro_syntax.specs.Reader.{join, listed, arms_up_to}
+use Rattle.retro_syntax.specs.Parsing.{join, listed, arms_up_to}
 use Rattle.retro_syntax.specs.Depth as D
 use Rattle.retro_syntax.specs.Fits.{command_fits, joined_fit, and_or_fits, and_ors_fit, list_fits, arms_fit, conditional_fits}
 use Rattle.retro_syntax.specs.View.{view, commands_of, and_or_of, pipeline_of, arms_of, arms_else_of}
@@ -37,7 +37,7 @@ join-fits (j ∷ js) p n =
     ∙ and_assoc (command_fits j.0.command n) (joined_fit js n) (nat_le (D.pipeline_depth p) n)
 
 and_or-fits : (a : AndOr Command) (n : ℕ) → nat_le (D.and_or_depth (and_or_of view a)) n ≡ and_or_fits a n
-and_or-fits a n = join-fits a.joined.items (pipeline_of view a.last) n
+and_or-fits a n = join-fits a.before.items (pipeline_of view a.last) n
 
 listed-fits : (ds : List (AndOr Command)) (a : AndOr Command) (b : Bool) (n : ℕ)
     → nat_le (D.depth (listed (map (and_or_of view) ds) (and_or_of view a) b)) n ≡ (and_ors_fit ds n && and_or_fits a n)
@@ -48,7 +48,7 @@ listed-fits (d ∷ ds) a b n =
     ∙ and_assoc (and_or_fits d n) (and_ors_fit ds n) (and_or_fits a n)
 
 pub list-fits : (l : Commands Command) (n : ℕ) → nat_le (D.depth (commands_of view l)) n ≡ list_fits l n
-list-fits l n = listed-fits l.before.items l.last l.closed n
+list-fits l n = listed-fits l.before.items l.last l.final_semicolon n
 
 arms-fit : (xs : List (Commands Command × Commands Command)) (a : T.Arms) (n : ℕ)
     → nat_le (D.arms_depth (arms_up_to (map (λ x. (commands_of view x.0, commands_of view x.1)) xs) a)) n ≡ (arms_fit xs n && nat_le (D.arms_depth a) n)

@@ -3,7 +3,7 @@ pub mod WordLemmas
 pub mod Complete
 pub mod Sound
 pub mod ViewLemmas
-pub mod ReaderLemmas
+pub mod ParserLemmas
 pub mod LineLemmas
 pub mod PlainLemmas
 pub mod WritingLemmas

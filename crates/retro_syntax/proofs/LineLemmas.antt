@@ -3,13 +3,18 @@ use Rattle.std.proofs.Common.{true, false, nat_le, ◌≡◌, ◌≤◌, ◌<◌
 use Rattle.std.specs.Str.{chars}
 use Rattle.std.proofs.lemmas.Bool.{leb-true, leb-false, le-leb, lt-leb}
 use Rattle.retro_syntax.specs.Tree.{Token, Commands}
-use Rattle.retro_syntax.specs.Reader.{commands_of}
+use Rattle.retro_syntax.specs.Parsing.{commands_of}
 use Rattle.retro_syntax.specs.Quoting.{tokens_of}
 use Rattle.retro_syntax.specs.Depth.{line_depth}
-use Rattle.retro_syntax.specs.Lines.{SpellsLine, TextSpells, SpellsWithin, Meets, Answers, line_of, line_of_tokens, line_view, parsed, if_short, if_shallow}
+use Rattle.retro_syntax.specs.Lines.{SpellsLine, TextSpells, SpellsWithin, Meets, Answers, line_of, line_of_tokens, line_view, parsed, if_short, if_shallow, refused_of}
 use Rattle.retro_syntax.specs.declared.lines.Line.{Line}
 use Rattle.retro_syntax.specs.declared.lines.Refused.{Refused}
 use Rattle.retro_syntax.specs.declared.lines.Refused.TheVariants.{Unsupported, TooDeep}
+use Rattle.std.specs.Result.{IsErrAnd}
+use Rattle.retro_path.specs.OutOfMemory.{IsMeant}
+use Rattle.retro_syntax.specs.Failing.{fault}
+use Rattle.retro_syntax.specs.declared.syntax_error.SyntaxError.{SyntaxError}
+use Rattle.retro_syntax.specs.declared.syntax_error.SyntaxError.TheVariants as e
 use Rattle.retro_syntax.proofs.Sound.{Spells-commands_of}
 use Rattle.retro_syntax.proofs.Complete.{commands_of-Spells}
 
@@ -74,6 +79,15 @@ Both text r = Meets text r × Answers text r
 
 pub refused_unspelled : (text : List ℕ) → length text ≤ 4096 → line_of text ≡ None → Both text (Err Unsupported)
 refused_unspelled text h e = ((h, no_line text e), parsed_short text h ∙ ap (option_and_then if_shallow) e)
+
+refused_by : (text : List ℕ) (e : SyntaxError) → length text ≤ 4096 → IsMeant (fault e) (line_of text) → Both text (Err (refused_of e))
+refused_by text e.Unsupported h m = refused_unspelled text h m
+refused_by text e.NoMem h m = (tt, tt)
+
+-- a fault of `line_of` that is passed on
+pub refused_result : (text : List ℕ) (r : Result Line Refused) (e : SyntaxError) → length text ≤ 4096 → IsErrAnd r (λ x. x ≡ refused_of e) → IsMeant (fault e) (line_of text) → Both text r
+refused_result text (Ok line) e h k m = absurd k
+refused_result text (Err x) e h k m = subst (λ y. Both text (Err y)) (sym k) (refused_by text e h m)
 
 pub refused_deep : (text : List ℕ) (l : Option Commands) → length text ≤ 4096 → line_of text ≡ Some l → nat_le (line_depth l) 32 ≡ false → Both text (Err TooDeep)
 refused_deep text l h e d = ((h, (l, TextSpells-line_of text l e, leb-false (line_depth l) 32 d)), parsed_of text l false h e d)

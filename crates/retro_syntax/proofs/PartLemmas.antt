@@ -5,7 +5,7 @@ use Rattle.retro_syntax.specs.Tree as T
 use Rattle.retro_syntax.specs.Quoting.{add_plain, add_quoted}
 use Rattle.retro_syntax.specs.Writing.{Part, unquoted, quoted, parameter, Written, word, bytes_of, pieces_of, word_of, token_of, fits, stands_alone, are_unquoted, are_quoted, is_parameter, are_parameters, is_part, is_unquoted_parameter, are_apart, are_parts, begins_no_comment, is_writable, are_writable, HasWriting}
 use Rattle.retro_syntax.proofs.QuotingLemmas.{add_quoted_push}
-use Rattle.retro_syntax.proofs.ReaderLemmas.{map-push}
+use Rattle.retro_syntax.proofs.ParserLemmas.{map-push}
 use Rattle.retro_syntax.proofs.WritingLemmas.{and_left, and_right, add_all, add_all_plain, ready_behind}
 
 -- ---- tests

@@ -1,7 +1,7 @@
 -- Plain commands, found one by one.
 use Rattle.std.proofs.Common.{◌≡◌, List, [], ◌∷◌, ◌++◌, Option, Some, None, Bool, refl, ap, option_map, append_assoc}
 use Rattle.retro_syntax.specs.Tree as T
-use Rattle.retro_syntax.specs.Reader.{listed}
+use Rattle.retro_syntax.specs.Parsing.{listed}
 use Rattle.retro_syntax.specs.Plain.{and_ors}
 
 -- nothing found yet

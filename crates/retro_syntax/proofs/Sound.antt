@@ -8,7 +8,7 @@ use Rattle.retro_syntax.specs.declared.tree.ReservedWord.TheVariants.{Bang as ba
 use Rattle.retro_syntax.specs.declared.words.Class.{Class}
 use Rattle.retro_syntax.specs.declared.words.Class.TheVariants.{Reserved as reserved, Forbidden as forbidden, Assignment as assignment, Ordinary as ordinary}
 use Rattle.retro_syntax.specs.Words.{class, name_of, assignment_of, is_ordinary, is_assignment}
-use Rattle.retro_syntax.specs.Reader.{Open, Frame, condition, consequence, alternative, body, Place, start, within, target, piped, closed, for_name, for_in, for_words, for_do, State, at, step, step_at, run, join, and_or, listed, arms_up_to, nothing, no_argument, finish, commands_of, close, close_by, close_some, begin, begin_simple, push_assignment, begin_reserved, may_end, all_closed, finish_at, go_on, close_word, only_key, end_of}
+use Rattle.retro_syntax.specs.Parsing.{Open, Frame, condition, consequence, alternative, body, Place, start, in_simple, target, after_bar, after_compound, for_name, for_in, for_words, for_do, State, at, step, step_at, run, join, and_or, listed, arms_up_to, nothing, no_argument, finish, commands_of, close, close_by, close_some, begin, begin_simple, push_assignment, begin_reserved, may_end, all_closed, finish_at, go_on, close_word, only_key, end_of}
 use Rattle.retro_syntax.specs.Spells.{Spells, is_assigned, are_assigned, begins_well, is_simple, are_simple, are_stages, is_compound, ends_compound, ends_itself, EndsItself, IsCommands, IsAndOr, IsPipeline, IsCommand, IsArms}
 use Rattle.retro_syntax.proofs.WordLemmas.{key_of_class, name_of_is, Assigns, assigns}
 
@@ -26,7 +26,7 @@ joined_then [] r = r
 joined_then (j ∷ js) r = pipeline_then j.0 (connector j.1 ∷ joined_then js r)
 
 abbrev open_then : Open → List Token → List Token
-open_then o r = done_then o.done (joined_then o.joined (bang_then o.negated r))
+open_then o r = done_then o.and_ors (joined_then o.pipelines (bang_then o.negated r))
 
 abbrev piped_then : List Simple → List Token → List Token
 piped_then [] r = r
@@ -45,10 +45,10 @@ frame_then (body n ws) r = for_then n ws r
 
 abbrev place_then : Place → List Token → List Token
 place_then start r = r
-place_then (within ss s) r = piped_then ss (simple_then s r)
+place_then (in_simple ss s) r = piped_then ss (simple_then s r)
 place_then (target ss is d) r = piped_then ss (items_then is (redirection d ∷ r))
-place_then (piped ss) r = piped_then ss r
-place_then (closed c) r = command_then c r
+place_then (after_bar ss) r = piped_then ss r
+place_then (after_compound c) r = command_then c r
 place_then for_name r = key key_for ∷ r
 place_then (for_in n) r = key key_for ∷ whole n ∷ r
 place_then (for_words n ws) r = key key_for ∷ whole n ∷ key key_in ∷ words_then ws r
@@ -72,7 +72,7 @@ AreJoined [] = Unit {0}
 AreJoined (j ∷ js) = IsPipeline j.0 × AreJoined js
 
 abbrev IsOpen : Open → Type 0
-IsOpen o = AreDone o.done × AreJoined o.joined
+IsOpen o = AreDone o.and_ors × AreJoined o.pipelines
 
 abbrev AreArms : List (Commands × Commands) → Type 0
 AreArms [] = Unit {0}
@@ -86,10 +86,10 @@ IsFrame (body n ws) = name_of (plain n ∷ []) ≡ Some n
 
 abbrev IsPlace : Place → Type 0
 IsPlace start = Unit {0}
-IsPlace (within ss s) = (are_simple ss ≡ true) × (is_simple s ≡ true)
+IsPlace (in_simple ss s) = (are_simple ss ≡ true) × (is_simple s ≡ true)
 IsPlace (target ss is d) = (are_simple ss ≡ true) × (begins_well is ≡ true)
-IsPlace (piped ss) = are_simple ss ≡ true
-IsPlace (closed c) = IsCommand c × (is_compound c ≡ true)
+IsPlace (after_bar ss) = are_simple ss ≡ true
+IsPlace (after_compound c) = IsCommand c × (is_compound c ≡ true)
 IsPlace for_name = Unit {0}
 IsPlace (for_in n) = name_of (plain n ∷ []) ≡ Some n
 IsPlace (for_words n ws) = name_of (plain n ∷ []) ≡ Some n
@@ -161,8 +161,8 @@ listed-written [] a b r = refl
 listed-written (d ∷ ds) a b r = ap (λ y. andor_then d (semicolon ∷ y)) (listed-written ds a b r)
 
 -- a command behind what is open
-and_or-written : (o : Open) (c : Command) (r : List Token) → andor_then (and_or o c) r ≡ joined_then o.joined (bang_then o.negated (command_then c r))
-and_or-written o c r = join-written o.joined (pipeline o.negated c) r
+and_or-written : (o : Open) (c : Command) (r : List Token) → andor_then (and_or o c) r ≡ joined_then o.pipelines (bang_then o.negated (command_then c r))
+and_or-written o c r = join-written o.pipelines (pipeline o.negated c) r
 
 -- ---- wholeness, kept
 
@@ -306,12 +306,12 @@ may_end_ends ds (j ∷ js) b l e h = absurd (let f : None ≡ Some l = e in cc)
 closing_sound : (st : Stack) (o : Open) (k : ReservedWord) (m : Option Commands) → may_end o ≡ m → IsStack st → IsOpen o → Sound (at st o start) (key k) (close_some st m k)
 closing_sound st o k None e hs ho = tt
 closing_sound st o k (Some l) e hs ho =
-    let x = may_end_ends o.done o.joined o.negated l e ho.0 in
+    let x = may_end_ends o.and_ors o.pipelines o.negated l e ho.0 in
     close_sound (at st o start) st l k (λ r. ap (stack_then st) (x.0 r)) hs x.1
 
 bang_sound : (st : Stack) (o : Open) (b : Bool) → o.negated ≡ b → IsStack st → IsOpen o → Sound (at st o start) (key bang) (cond b None (Some (at st (record o { negated = true }) start)))
 bang_sound st o true e hs ho = tt
-bang_sound st o false e hs ho = record { written = λ r. ap (λ b. stack_then st (done_then o.done (joined_then o.joined (bang_then b (key bang ∷ r))))) e; kept = (hs, ho, tt) }
+bang_sound st o false e hs ho = record { written = λ r. ap (λ b. stack_then st (done_then o.and_ors (joined_then o.pipelines (bang_then b (key bang ∷ r))))) e; kept = (hs, ho, tt) }
 
 key_sound : (st : Stack) (o : Open) (k : ReservedWord) → IsStack st → IsOpen o → Sound (at st o start) (key k) (begin_reserved st o k)
 key_sound st o bang hs ho = bang_sound st o o.negated refl hs ho
@@ -364,30 +364,30 @@ record Stands (p : Place) (c : Command) : Type 0 where
 go_on_sound : (st : Stack) (o : Open) (p : Place) (c : Command) (t : Token) → Stands p c → IsStack st → IsOpen o → Sound (at st o p) t (go_on st o c t)
 go_on_sound st o p c semicolon b hs ho = record {
   written = λ r. ap (λ x. stack_then st (open_then o x)) (b.then_is (semicolon ∷ r))
-      ∙ ap (stack_then st) (sym (done_then-push o.done (and_or o c) r ∙ ap (done_then o.done) (and_or-written o c (semicolon ∷ r))));
-  kept = (hs, (AreDone-push o.done (and_or o c) ho.0 (IsAndOr-join o.joined (pipeline o.negated c) ho.1 b.is_whole), tt), tt);
+      ∙ ap (stack_then st) (sym (done_then-push o.and_ors (and_or o c) r ∙ ap (done_then o.and_ors) (and_or-written o c (semicolon ∷ r))));
+  kept = (hs, (AreDone-push o.and_ors (and_or o c) ho.0 (IsAndOr-join o.pipelines (pipeline o.negated c) ho.1 b.is_whole), tt), tt);
 }
 go_on_sound st o p c (connector op) b hs ho = record {
   written = λ r. ap (λ x. stack_then st (open_then o x)) (b.then_is (connector op ∷ r))
-      ∙ ap (λ x. stack_then st (done_then o.done x)) (sym (joined_then-push o.joined (pipeline o.negated c) op r));
-  kept = (hs, (ho.0, AreJoined-push o.joined (pipeline o.negated c) op ho.1 b.is_whole), tt);
+      ∙ ap (λ x. stack_then st (done_then o.and_ors x)) (sym (joined_then-push o.pipelines (pipeline o.negated c) op r));
+  kept = (hs, (ho.0, AreJoined-push o.pipelines (pipeline o.negated c) op ho.1 b.is_whole), tt);
 }
 go_on_sound st o p c bar b hs ho = tt
 go_on_sound st o p c (redirection d) b hs ho = tt
 go_on_sound st o p c (word w) b hs ho = tt
 
-stands_simple : (ss : List Simple) (s : Simple) → are_simple ss ≡ true → is_simple s ≡ true → Stands (within ss s) (simples (ss ++ s ∷ []))
+stands_simple : (ss : List Simple) (s : Simple) → are_simple ss ≡ true → is_simple s ≡ true → Stands (in_simple ss s) (simples (ss ++ s ∷ []))
 stands_simple ss s h k = record { is_whole = are_stages-push ss s (are_simple-push ss s h k); then_is = λ r. sym (stages_then-push ss s r) }
 
 close_word_sound : (st : Stack) (o : Open) (d : Command) (w : Word) (c : Class) → class w ≡ c → IsCommand d × (is_compound d ≡ true) → IsStack st → IsOpen o
-    → Sound (at st o (closed d)) (word w) (close_word st o d c)
+    → Sound (at st o (after_compound d)) (word w) (close_word st o d c)
 close_word_sound st o d w (reserved k) e h hs ho =
-    let l = listed o.done (and_or o d) false in
-    let written : (r : List Token) → state_then (at st o (closed d)) r ≡ stack_then st (commands_then l r) =
-    λ r. ap (stack_then st) (sym (listed-written o.done (and_or o d) false r ∙ ap (done_then o.done) (and_or-written o d r))) in
-    let whole_list : IsCommands l = IsCommands-listed o.done (and_or o d) false ho.0 (IsAndOr-join o.joined (pipeline o.negated d) ho.1 h.0) in
-    let itself : EndsItself l = ends-listed o.done (and_or o d) ∙ ends_compound-join o.joined o.negated d ∙ h.1 in
-    subst (λ v. Sound (at st o (closed d)) (word v) (close st l k)) (sym (key_of_class w k e)) (close_sound (at st o (closed d)) st l k written hs (whole_list, itself))
+    let l = listed o.and_ors (and_or o d) false in
+    let written : (r : List Token) → state_then (at st o (after_compound d)) r ≡ stack_then st (commands_then l r) =
+    λ r. ap (stack_then st) (sym (listed-written o.and_ors (and_or o d) false r ∙ ap (done_then o.and_ors) (and_or-written o d r))) in
+    let whole_list : IsCommands l = IsCommands-listed o.and_ors (and_or o d) false ho.0 (IsAndOr-join o.pipelines (pipeline o.negated d) ho.1 h.0) in
+    let itself : EndsItself l = ends-listed o.and_ors (and_or o d) ∙ ends_compound-join o.pipelines o.negated d ∙ h.1 in
+    subst (λ v. Sound (at st o (after_compound d)) (word v) (close st l k)) (sym (key_of_class w k e)) (close_sound (at st o (after_compound d)) st l k written hs (whole_list, itself))
 close_word_sound st o d w forbidden e h hs ho = tt
 close_word_sound st o d w assignment e h hs ho = tt
 close_word_sound st o d w ordinary e h hs ho = tt
@@ -396,9 +396,9 @@ close_word_sound st o d w ordinary e h hs ho = tt
 
 more_assigned : (st : Stack) (o : Open) (ss : List Simple) (xs : List Assignment) (w : Word) → Assigns w
     → (are_simple ss ≡ true) × (is_simple (assignments xs) ≡ true) → IsStack st → IsOpen o
-    → Sound (at st o (within ss (assignments xs))) (word w) (push_assignment st o ss xs (assignment_of w))
+    → Sound (at st o (in_simple ss (assignments xs))) (word w) (push_assignment st o ss xs (assignment_of w))
 more_assigned st o ss xs w x h hs ho =
-    subst (λ m. Sound (at st o (within ss (assignments xs))) (word w) (push_assignment st o ss xs m)) (sym x.found) (record {
+    subst (λ m. Sound (at st o (in_simple ss (assignments xs))) (word w) (push_assignment st o ss xs m)) (sym x.found) (record {
       written = λ r. ap (λ v. stack_then st (open_then o (piped_then ss (assignments_then xs (word v ∷ r))))) (sym x.written)
           ∙ ap (λ y. stack_then st (open_then o (piped_then ss y))) (sym (assignments_then-push xs x.given r));
       kept = (hs, ho, (h.0, is_simple-assignments xs x.given h.1 x.lawful));
@@ -412,14 +412,14 @@ is_assign ordinary e = cc
 
 assign_sound : (st : Stack) (o : Open) (ss : List Simple) (xs : List Assignment) (w : Word) (b : Bool) → is_assignment (class w) ≡ b
     → (are_simple ss ≡ true) × (is_simple (assignments xs) ≡ true) → IsStack st → IsOpen o
-    → Sound (at st o (within ss (assignments xs))) (word w) (cond b (push_assignment st o ss xs (assignment_of w)) None)
+    → Sound (at st o (in_simple ss (assignments xs))) (word w) (cond b (push_assignment st o ss xs (assignment_of w)) None)
 assign_sound st o ss xs w false e h hs ho = tt
 assign_sound st o ss xs w true e h hs ho = more_assigned st o ss xs w (assigns w (is_assign (class w) e)) h hs ho
 
 argument_sound : (st : Stack) (o : Open) (ss : List Simple) (is : List Item) (w : Word) (a b : Bool) → no_argument is ≡ a → is_ordinary (class w) ≡ b
     → (are_simple ss ≡ true) × (is_simple (command is) ≡ true) → IsStack st → IsOpen o
-    → Sound (at st o (within ss (command is))) (word w)
-    (cond a (cond b (Some (at st o (within ss (command (is ++ argument w ∷ []))))) None) (Some (at st o (within ss (command (is ++ argument w ∷ []))))))
+    → Sound (at st o (in_simple ss (command is))) (word w)
+    (cond a (cond b (Some (at st o (in_simple ss (command (is ++ argument w ∷ []))))) None) (Some (at st o (in_simple ss (command (is ++ argument w ∷ []))))))
 argument_sound st o ss is w true false e f h hs ho = tt
 argument_sound st o ss is w true true e f h hs ho = record {
   written = λ r. ap (λ x. stack_then st (open_then o (piped_then ss x))) (sym (items_then-push is (argument w) r));
@@ -469,28 +469,28 @@ step_sound : (st : Stack) (o : Open) (p : Place) (t : Token) → IsStack st → 
 step_sound st o start (word w) hs ho h = begin_sound st o w (class w) refl hs ho
 step_sound st o start (redirection d) hs ho h = record { written = λ r. refl; kept = (hs, ho, (refl, refl)) }
 step_sound st o start t hs ho h = tt
-step_sound st o (within ss (assignments ws)) (word w) hs ho h = assign_sound st o ss ws w (is_assignment (class w)) refl h hs ho
-step_sound st o (within ss (command is)) (word w) hs ho h = argument_sound st o ss is w (no_argument is) (is_ordinary (class w)) refl refl h hs ho
-step_sound st o (within ss (assignments ws)) (redirection d) hs ho h = tt
-step_sound st o (within ss (command is)) (redirection d) hs ho h = record { written = λ r. refl; kept = (hs, ho, (h.0, well_from_simple is h.1)) }
-step_sound st o (within ss s) bar hs ho h = record {
+step_sound st o (in_simple ss (assignments ws)) (word w) hs ho h = assign_sound st o ss ws w (is_assignment (class w)) refl h hs ho
+step_sound st o (in_simple ss (command is)) (word w) hs ho h = argument_sound st o ss is w (no_argument is) (is_ordinary (class w)) refl refl h hs ho
+step_sound st o (in_simple ss (assignments ws)) (redirection d) hs ho h = tt
+step_sound st o (in_simple ss (command is)) (redirection d) hs ho h = record { written = λ r. refl; kept = (hs, ho, (h.0, well_from_simple is h.1)) }
+step_sound st o (in_simple ss s) bar hs ho h = record {
   written = λ r. ap (λ x. stack_then st (open_then o x)) (sym (piped_then-push ss s r));
   kept = (hs, ho, are_simple-push ss s h.0 h.1);
 }
-step_sound st o (within ss s) semicolon hs ho h = go_on_sound st o (within ss s) (simples (ss ++ s ∷ [])) semicolon (stands_simple ss s h.0 h.1) hs ho
-step_sound st o (within ss s) (connector op) hs ho h = go_on_sound st o (within ss s) (simples (ss ++ s ∷ [])) (connector op) (stands_simple ss s h.0 h.1) hs ho
+step_sound st o (in_simple ss s) semicolon hs ho h = go_on_sound st o (in_simple ss s) (simples (ss ++ s ∷ [])) semicolon (stands_simple ss s h.0 h.1) hs ho
+step_sound st o (in_simple ss s) (connector op) hs ho h = go_on_sound st o (in_simple ss s) (simples (ss ++ s ∷ [])) (connector op) (stands_simple ss s h.0 h.1) hs ho
 step_sound st o (target ss is d) (word w) hs ho h = record {
   written = λ r. ap (λ x. stack_then st (open_then o (piped_then ss x))) (sym (items_then-push is (redirect d w) r));
   kept = (hs, ho, (h.0, simple_from_well is (redirect d w) (well-target is d w h.1)));
 }
 step_sound st o (target ss is d) t hs ho h = tt
-step_sound st o (piped ss) (word w) hs ho h = simple_sound st o (piped ss) ss w (class w) refl (record { stages = h; then_is = λ r. refl }) hs ho
-step_sound st o (piped ss) (redirection d) hs ho h = record { written = λ r. refl; kept = (hs, ho, (h, refl)) }
-step_sound st o (piped ss) t hs ho h = tt
-step_sound st o (closed c) (word w) hs ho h = close_word_sound st o c w (class w) refl h hs ho
-step_sound st o (closed c) semicolon hs ho h = go_on_sound st o (closed c) c semicolon (record { is_whole = h.0; then_is = λ r. refl }) hs ho
-step_sound st o (closed c) (connector op) hs ho h = go_on_sound st o (closed c) c (connector op) (record { is_whole = h.0; then_is = λ r. refl }) hs ho
-step_sound st o (closed c) t hs ho h = tt
+step_sound st o (after_bar ss) (word w) hs ho h = simple_sound st o (after_bar ss) ss w (class w) refl (record { stages = h; then_is = λ r. refl }) hs ho
+step_sound st o (after_bar ss) (redirection d) hs ho h = record { written = λ r. refl; kept = (hs, ho, (h, refl)) }
+step_sound st o (after_bar ss) t hs ho h = tt
+step_sound st o (after_compound c) (word w) hs ho h = close_word_sound st o c w (class w) refl h hs ho
+step_sound st o (after_compound c) semicolon hs ho h = go_on_sound st o (after_compound c) c semicolon (record { is_whole = h.0; then_is = λ r. refl }) hs ho
+step_sound st o (after_compound c) (connector op) hs ho h = go_on_sound st o (after_compound c) c (connector op) (record { is_whole = h.0; then_is = λ r. refl }) hs ho
+step_sound st o (after_compound c) t hs ho h = tt
 step_sound st o for_name (word w) hs ho h = name_sound st o w (name_of w) refl hs ho
 step_sound st o for_name t hs ho h = tt
 step_sound st o (for_in n) (word w) hs ho h = in_sound st o n w (class w) refl hs ho h
@@ -524,21 +524,21 @@ run_sound (t ∷ ts) s n h e =
 
 -- ---- the end
 
-listed_end : (o : Open) (c : Command) (p : Place) (l : Commands) → Stands p c → IsOpen o → Some (listed o.done (and_or o c) false) ≡ Some l
+listed_end : (o : Open) (c : Command) (p : Place) (l : Commands) → Stands p c → IsOpen o → Some (listed o.and_ors (and_or o c) false) ≡ Some l
     → (open_then o (place_then p []) ≡ commands_then l []) × IsCommands l
 listed_end o c p l b ho e =
-    let same = Some_inj (listed o.done (and_or o c) false) l e in
-    let written : open_then o (place_then p []) ≡ commands_then (listed o.done (and_or o c) false) [] =
-    ap (open_then o) (b.then_is []) ∙ sym (listed-written o.done (and_or o c) false [] ∙ ap (done_then o.done) (and_or-written o c [])) in
-    (written ∙ ap (λ x. commands_then x []) same, subst IsCommands same (IsCommands-listed o.done (and_or o c) false ho.0 (IsAndOr-join o.joined (pipeline o.negated c) ho.1 b.is_whole)))
+    let same = Some_inj (listed o.and_ors (and_or o c) false) l e in
+    let written : open_then o (place_then p []) ≡ commands_then (listed o.and_ors (and_or o c) false) [] =
+    ap (open_then o) (b.then_is []) ∙ sym (listed-written o.and_ors (and_or o c) false [] ∙ ap (done_then o.and_ors) (and_or-written o c [])) in
+    (written ∙ ap (λ x. commands_then x []) same, subst IsCommands same (IsCommands-listed o.and_ors (and_or o c) false ho.0 (IsAndOr-join o.pipelines (pipeline o.negated c) ho.1 b.is_whole)))
 
 finish_sound : (st : Stack) (o : Open) (p : Place) (l : Commands) → IsOpen o → IsPlace p → finish_at st o p ≡ Some l
     → (state_then (at st o p) [] ≡ commands_then l []) × IsCommands l
-finish_sound [] o start l ho h e = let x = may_end_ends o.done o.joined o.negated l e ho.0 in (x.0 [], x.1.0)
-finish_sound [] o (within ss s) l ho h e = listed_end o (simples (ss ++ s ∷ [])) (within ss s) l (stands_simple ss s h.0 h.1) ho e
-finish_sound [] o (closed c) l ho h e = listed_end o c (closed c) l (record { is_whole = h.0; then_is = λ r. refl }) ho e
+finish_sound [] o start l ho h e = let x = may_end_ends o.and_ors o.pipelines o.negated l e ho.0 in (x.0 [], x.1.0)
+finish_sound [] o (in_simple ss s) l ho h e = listed_end o (simples (ss ++ s ∷ [])) (in_simple ss s) l (stands_simple ss s h.0 h.1) ho e
+finish_sound [] o (after_compound c) l ho h e = listed_end o c (after_compound c) l (record { is_whole = h.0; then_is = λ r. refl }) ho e
 finish_sound [] o (target ss is d) l ho h e = absurd (let f : None ≡ Some l = e in cc)
-finish_sound [] o (piped ss) l ho h e = absurd (let f : None ≡ Some l = e in cc)
+finish_sound [] o (after_bar ss) l ho h e = absurd (let f : None ≡ Some l = e in cc)
 finish_sound [] o for_name l ho h e = absurd (let f : None ≡ Some l = e in cc)
 finish_sound [] o (for_in n) l ho h e = absurd (let f : None ≡ Some l = e in cc)
 finish_sound [] o (for_words n ws) l ho h e = absurd (let f : None ≡ Some l = e in cc)

@@ -17,7 +17,7 @@ joined_fit [] n = true
 joined_fit (j ∷ js) n = command_fits j.0.command n && joined_fit js n
 
 abbrev pub and_or_fits : AndOr Command → ℕ → Bool
-and_or_fits a n = joined_fit a.joined.items n && command_fits a.last.command n
+and_or_fits a n = joined_fit a.before.items n && command_fits a.last.command n
 
 abbrev pub and_ors_fit : List (AndOr Command) → ℕ → Bool
 and_ors_fit [] n = true

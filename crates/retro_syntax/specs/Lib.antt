@@ -2,12 +2,12 @@ pub mod Ascii
 pub mod Tree
 pub mod Failing
 pub mod Words
-pub mod Reader
+pub mod Parsing
 pub mod Spells
 pub mod View
 pub mod Depth
 pub mod Fits
-pub mod ReaderViews
+pub mod ParserViews
 pub mod Quoting
 pub mod QuotingViews
 pub mod Plain

@@ -2,12 +2,14 @@
 use Rattle.std.specs.Prelude.{◌≢◌, Bool, true, false, nat_le, ◌≡◌, ◌<◌, ◌≤◌, ℕ, List, [], ◌∷◌, length, Option, Some, None, option_map, option_and_then, if◌then◌else◌, Result, Ok, Err}
 use Rattle.std.specs.Str.{chars}
 use Rattle.retro_syntax.specs.Tree.{Token, Commands}
-use Rattle.retro_syntax.specs.Reader.{commands_of}
+use Rattle.retro_syntax.specs.Parsing.{commands_of}
 use Rattle.retro_syntax.specs.Quoting.{tokens_of}
 use Rattle.retro_syntax.specs.Spells.{Spells}
 use Rattle.retro_syntax.specs.Depth.{line_depth}
 use Rattle.retro_syntax.specs.View as V
 use Rattle.retro_syntax.specs.declared.lines.Line.{Line}
+use Rattle.retro_syntax.specs.declared.syntax_error.SyntaxError.{SyntaxError}
+use Rattle.retro_syntax.specs.declared.syntax_error.SyntaxError.TheVariants as s
 use Rattle.retro_syntax.specs.declared.lines.Refused.{Refused}
 use Rattle.retro_syntax.specs.declared.lines.Refused.TheVariants.{Unsupported, TooLong, TooDeep, NoMem}
 
@@ -34,7 +36,11 @@ line_of_tokens (t ∷ ts) = option_map (λ c. Some c) (commands_of (t ∷ ts))
 unfoldable pub line_of : List ℕ → Option (Option Commands)
 line_of text = option_and_then line_of_tokens (tokens_of (chars text))
 
--- ---- what `parse` answers
+-- ---- what `parse` returns
+
+abbrev pub refused_of : SyntaxError → Refused
+refused_of s.Unsupported = Unsupported
+refused_of s.NoMem = NoMem
 
 -- The text is too long; else it spells no line; else its line nests too deep; else that is the
 -- answer.

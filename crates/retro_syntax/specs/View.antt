@@ -2,7 +2,7 @@
 use Rattle.std.specs.Prelude.{List, map, string_bytes, Vec}
 use Rattle.std.specs.declared.alloc.Global.{Global}
 use Rattle.retro_syntax.specs.Tree as T
-use Rattle.retro_syntax.specs.Reader.{join, listed, arms_up_to}
+use Rattle.retro_syntax.specs.Parsing.{join, listed, arms_up_to}
 use Rattle.retro_syntax.specs.declared.tree.Parameter.{Parameter}
 use Rattle.retro_syntax.specs.declared.tree.Parameter.TheVariants as q
 use Rattle.retro_syntax.specs.declared.tree.Piece.{Piece}
@@ -61,10 +61,10 @@ module _ {C : Type 0} (of : C → T.Command) where
   pipeline_of p = T.pipeline p.negated (of p.command)
 
   abbrev pub and_or_of : AndOr C → T.AndOr
-  and_or_of a = join (map (λ j. (pipeline_of j.0, j.1)) a.joined.items) (pipeline_of a.last)
+  and_or_of a = join (map (λ j. (pipeline_of j.0, j.1)) a.before.items) (pipeline_of a.last)
 
   abbrev pub commands_of : Commands C → T.Commands
-  commands_of c = listed (map and_or_of c.before.items) (and_or_of c.last) c.closed
+  commands_of c = listed (map and_or_of c.before.items) (and_or_of c.last) c.final_semicolon
 
   abbrev pub arms_of : Conditional C → T.Arms
   arms_of x =

@@ -27,7 +27,7 @@ fn joined_fit(joined: &[(Pipeline<Command>, Connector)], room: u8) -> bool
 fn and_or_fits(and_or: &AndOr<Command>, room: u8) -> bool
     ensures { result ≡ Fits.and_or_fits and_or.now room }
 {
-    joined_fit(&and_or.joined, room) && command_fits(&and_or.last.command, room)
+    joined_fit(&and_or.before, room) && command_fits(&and_or.last.command, room)
 }
 
 /// The same of and-or lists.

@@ -18,8 +18,8 @@ mod depth;
 mod lexer;
 mod lines;
 mod parsed;
+mod parser;
 mod plain;
-mod reader;
 mod syntax_error;
 mod tildes;
 pub mod tree;
@@ -27,7 +27,7 @@ mod words;
 
 ghost use Rattle.std.specs.Prelude.{◌≡◌, Some, List};
 ghost use Rattle.retro_syntax.specs.Tree.{Commands, Token};
-ghost use Rattle.retro_syntax.specs.Reader.{commands_of};
+ghost use Rattle.retro_syntax.specs.Parsing.{commands_of};
 ghost use Rattle.retro_syntax.specs.Spells.{Spells};
 
 pub use lines::{

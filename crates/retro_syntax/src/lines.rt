@@ -1,6 +1,7 @@
 //! Lines, and the texts that spell them.
 
-ghost use Rattle.std.specs.Prelude.{◌≡◌, IfOk, Option, Some, None, List, ℕ, map, nat_le, true, option_map};
+ghost use Rattle.std.specs.Prelude.{◌≡◌, Option, Some, List, ℕ, map, nat_le, true};
+ghost use Rattle.retro_syntax.specs.Failing.{Gives};
 ghost use Rattle.retro_syntax.specs.Depth.{line_depth};
 ghost use Rattle.retro_syntax.specs.Lines as Lines;
 ghost use Rattle.retro_syntax.specs.Lines.{
@@ -17,10 +18,10 @@ ghost use Rattle.retro_syntax.specs.Writing.{HasWriting, Written, are_writable, 
 
 use crate::depth::is_shallow;
 use crate::lexer::tokens_of;
-use crate::reader::read_tokens;
+use crate::parser::commands_of;
 use crate::syntax_error::SyntaxError;
 use crate::tree::{Command, Commands};
-use std::alloc::{AllocError, Global};
+use std::alloc::Global;
 
 /// How many bytes a line may have.
 pub const LONGEST_LINE: usize = 4096;
@@ -45,36 +46,32 @@ pub struct Line {
     pub commands: Option<Commands<Command>>,
 }
 
-impl From<AllocError> for Refused {
-    ghost use Rattle.retro_syntax.specs.declared.lines.Refused.TheVariants.{NoMem};
+impl From<SyntaxError> for Refused {
+    ghost use Rattle.retro_syntax.specs.Lines.{refused_of};
 
-    ghost from_gives = { λ _ e. e ≡ NoMem };
+    ghost from_gives = { λ error refused. refused ≡ refused_of error };
 
-    fn from(_error: AllocError) -> Refused {
-        Refused::NoMem
+    fn from(error: SyntaxError) -> Refused {
+        match error {
+            SyntaxError::Unsupported => Refused::Unsupported,
+            SyntaxError::NoMem => Refused::NoMem,
+        }
     }
 }
 
-/// The line that the text spells in the whole grammar.
+/// The line that a text spells, without the limits on its length and depth.
 #[tactic(auto, unfolding(crate::specs::Lines::line_of))]
-fn line_of(alloc: Global, text: &str) -> Result<Option<Line>, AllocError>
-    ensures { IfOk result (λ found. option_map line_view found ≡ Lines.line_of text.now) }
+fn line_of(alloc: Global, text: &str) -> Result<Line, SyntaxError>
+    ensures { Gives line_view result (Lines.line_of text.now) }
 {
-    match tokens_of(alloc, text) {
-        Err(SyntaxError::NoMem) => Err(AllocError),
-        Err(SyntaxError::Unsupported) => Ok(None),
-        Ok(tokens) => {
-            if tokens.is_empty() {
-                return Ok(Some(Line { commands: None }));
-            }
-            match read_tokens(alloc, tokens)? {
-                None => Ok(None),
-                Some(commands) => Ok(Some(Line {
-                    commands: Some(commands),
-                })),
-            }
-        }
+    let tokens = tokens_of(alloc, text)?;
+    if tokens.is_empty() {
+        return Ok(Line { commands: None });
     }
+    let commands = commands_of(alloc, tokens)?;
+    Ok(Line {
+        commands: Some(commands),
+    })
 }
 
 /// Whether `if` and `for` nest no deeper than they may.
@@ -101,16 +98,11 @@ pub fn parse(alloc: Global, text: &str) -> Result<Line, Refused>
     if text.len() > LONGEST_LINE {
         return Err(Refused::TooLong);
     }
-    match line_of(alloc, text)? {
-        None => Err(Refused::Unsupported),
-        Some(line) => {
-            if is_shallow_line(&line) {
-                Ok(line)
-            } else {
-                Err(Refused::TooDeep)
-            }
-        }
+    let line = line_of(alloc, text)?;
+    if !is_shallow_line(&line) {
+        return Err(Refused::TooDeep);
     }
+    Ok(line)
 }
 
 /// A text spells at most one line.

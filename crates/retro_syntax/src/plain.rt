@@ -143,7 +143,7 @@ fn plain_and_or<'a>(
     ensures { IfOk result (λ found.
         option_map plain_command_view found ≡ Plain.plain_and_or (and_or_of view and_or.now)) }
 {
-    match and_or.joined.as_slice() {
+    match and_or.before.as_slice() {
         [] => plain_pipeline(alloc, &and_or.last),
         [_first, _more @ ..] => Ok(None),
     }

@@ -143,11 +143,11 @@ pub struct Pipeline<C> {
     pub command: C,
 }
 
-/// Pipelines, each with what joins it to the next, and the last (XCU 2.9.3).
+/// An and-or list: pipelines with connectors between them (XCU 2.9.3).
 #[derive(Drop)]
 pub struct AndOr<C> {
-    /// Those before the last, in order.
-    pub joined: Vec<(Pipeline<C>, Connector)>,
+    /// The pipelines before the last, in order, each with the connector after it.
+    pub before: Vec<(Pipeline<C>, Connector)>,
     /// The last one.
     pub last: Pipeline<C>,
 }
@@ -159,8 +159,8 @@ pub struct Commands<C> {
     pub before: Vec<AndOr<C>>,
     /// The last one.
     pub last: AndOr<C>,
-    /// Whether a `;` stands behind the last.
-    pub closed: bool,
+    /// Whether a `;` follows the last.
+    pub final_semicolon: bool,
 }
 
 /// The conditions of an `if`, each with the list that it leads to (XCU 2.9.4.4).

@@ -1,13 +1,15 @@
 //! What a word is where a command may begin.
 
 ghost use Rattle.std.specs.Prelude.{◌≡◌, ◌∷◌, [], MatchOption, Option, map, option_map, string_bytes, IfOk};
+ghost use Rattle.retro_syntax.specs.Failing.{Gives};
 ghost use Rattle.retro_syntax.specs.Words;
 ghost use Rattle.retro_syntax.specs.Tree;
 ghost use Rattle.retro_syntax.specs.View.{assignment_view, piece_view, word_view};
 
+use crate::syntax_error::SyntaxError;
 use crate::tree::{Assignment, Piece, ReservedWord, Word};
 use retro_path::VarName;
-use std::alloc::{AllocError, Global};
+use std::alloc::Global;
 
 /// What a word can be where a command may begin.
 #[derive(Clone, Copy, Debug, PartialEq, Eq)]
@@ -192,27 +194,28 @@ fn first_piece(word: Word) -> Option<(Piece, Vec<Piece>)>
 }
 
 /// What the word assigns, where it begins with a name and `=`.
-pub fn assignment_of(alloc: Global, word: Word) -> Result<Option<Assignment>, AllocError>
-    ensures { IfOk result (λ a. option_map assignment_view a
-        ≡ Words.assignment_of (word_view word)) }
+pub fn assignment_of(alloc: Global, word: Word) -> Result<Assignment, SyntaxError>
+    ensures { Gives assignment_view result (Words.assignment_of (word_view word)) }
 {
     match first_piece(word) {
-        None => Ok(None),
+        None => Err(SyntaxError::Unsupported),
         Some((first, mut pieces)) => match first {
             Piece::Plain(text) => match split_name(&text) {
-                None => Ok(None),
+                None => Err(SyntaxError::Unsupported),
                 Some((name, value)) => match VarName::of(alloc, name)? {
-                    None => Ok(None),
+                    None => Err(SyntaxError::Unsupported),
                     Some(name) => {
                         pieces.insert(0, Piece::Plain(String::from_str(alloc, value)?))?;
-                        Ok(Some(Assignment {
+                        Ok(Assignment {
                             name,
                             value: Word { pieces },
-                        }))
+                        })
                     }
                 },
             },
-            Piece::Quoted(_) | Piece::Parameter(_) | Piece::QuotedParameter(_) => Ok(None),
+            Piece::Quoted(_) | Piece::Parameter(_) | Piece::QuotedParameter(_) => {
+                Err(SyntaxError::Unsupported)
+            }
         },
     }
 }
@@ -239,11 +242,14 @@ pub fn is_ordinary(class: Class) -> bool
 
 /// The name that the word is, for `for`.
 #[tactic(auto, unfolding(crate::specs::Words::name_of))]
-pub fn name_of(alloc: Global, word: &Word) -> Result<Option<VarName>, AllocError>
-    ensures { IfOk result (λ n. option_map (λ name. name) n ≡ Words.name_of (word_view word.now)) }
+pub fn name_of(alloc: Global, word: &Word) -> Result<VarName, SyntaxError>
+    ensures { Gives (λ name. name) result (Words.name_of (word_view word.now)) }
 {
     match word.pieces.as_slice() {
-        [Piece::Plain(text)] => VarName::of(alloc, text),
-        _ => Ok(None),
+        [Piece::Plain(text)] => match VarName::of(alloc, text)? {
+            None => Err(SyntaxError::Unsupported),
+            Some(name) => Ok(name),
+        },
+        _ => Err(SyntaxError::Unsupported),
     }
 }

@@ -122,7 +122,7 @@ fn show_pipeline(
 
 #[cycle(shown)]
 fn show_and_or(out: &mut String, and_or: &AndOr<Command>, room: u8) -> Result<(), AllocError> {
-    for joined in &and_or.joined {
+    for joined in &and_or.before {
         show_pipeline(out, &joined.0, room)?;
         out.push_str(match joined.1 {
             Connector::AndIf => "&&",
@@ -146,7 +146,7 @@ fn show_list(
         out.push_str(";")?;
     }
     show_and_or(out, &list.last, room)?;
-    out.push_str(if list.closed { ";]" } else { "]" })
+    out.push_str(if list.final_semicolon { ";]" } else { "]" })
 }
 
 /// The tree of a text, nothing for a blank line, or the number of its refusal.

@@ -1,6 +1,6 @@
 use Rattle.std.proofs.Common.{map}
 use Rattle.retro_syntax.specs.View.{piece_view}
-use Rattle.retro_syntax.proofs.ReaderLemmas.{map-push}
+use Rattle.retro_syntax.proofs.ParserLemmas.{map-push}
 use Rattle.retro_syntax.proofs.QuotingLemmas.{add_plain_push}
 use Rattle.retro_syntax.proofs.lexer.pieces.push_plain.Goals as goal
 

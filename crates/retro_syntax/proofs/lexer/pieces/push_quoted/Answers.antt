@@ -1,7 +1,7 @@
 use Rattle.std.proofs.Common.{map}
 use Rattle.std.specs.Char.{encode_utf8}
 use Rattle.retro_syntax.specs.View.{piece_view}
-use Rattle.retro_syntax.proofs.ReaderLemmas.{map-push}
+use Rattle.retro_syntax.proofs.ParserLemmas.{map-push}
 use Rattle.retro_syntax.proofs.QuotingLemmas.{add_quoted_push}
 use Rattle.retro_syntax.proofs.lexer.pieces.push_quoted.Goals as goal
 

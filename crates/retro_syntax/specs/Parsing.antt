@@ -14,12 +14,12 @@ use Rattle.retro_syntax.specs.declared.words.Class.TheVariants.{Reserved as rese
 -- a list that isn't at its end: whole and-or lists, pipelines with what joins them to the next, and
 -- whether `!` stands here
 pub record Open : Type 0 where
-  pub done : List AndOr
-  pub joined : List (Pipeline × Connector)
+  pub and_ors : List AndOr
+  pub pipelines : List (Pipeline × Connector)
   pub negated : Bool
 
 abbrev pub nothing : Open
-nothing = record { done = []; joined = []; negated = false }
+nothing = record { and_ors = []; pipelines = []; negated = false }
 
 -- what a list is read for, with what stands before it
 pub data Frame : Type 0 where
@@ -37,13 +37,13 @@ pub data Place : Type 0 where
   -- where a command may begin
   start : Place
   -- behind a part of a simple command, with the stages before it
-  within : List Simple → Simple → Place
+  in_simple : List Simple → Simple → Place
   -- behind a redirection's operator, with the items before it
   target : List Simple → List Item → Direction → Place
   -- behind a `|`
-  piped : List Simple → Place
+  after_bar : List Simple → Place
   -- behind a whole compound command
-  closed : Command → Place
+  after_compound : Command → Place
   -- behind `for`, its name, `in` or a word, and the `;` after them
   for_name : Place
   for_in : List ℕ → Place
@@ -66,7 +66,7 @@ join [] p = end p
 join (j ∷ js) p = chain j.0 j.1 (join js p)
 
 abbrev pub and_or : Open → Command → AndOr
-and_or o c = join o.joined (pipeline o.negated c)
+and_or o c = join o.pipelines (pipeline o.negated c)
 
 abbrev pub listed : List AndOr → AndOr → Bool → Commands
 listed [] a closing = last a closing
@@ -90,10 +90,10 @@ close_by st o (consequence xs c) l key_elif =
     Some (at ((o, condition (xs ++ (c, l) ∷ [])) ∷ st) nothing start)
 close_by st o (consequence xs c) l key_else = Some (at ((o, alternative xs c l) ∷ st) nothing start)
 close_by st o (consequence xs c) l key_fi =
-    Some (at st o (closed (conditional (arms_up_to xs (fi c l)))))
+    Some (at st o (after_compound (conditional (arms_up_to xs (fi c l)))))
 close_by st o (alternative xs c t) l key_fi =
-    Some (at st o (closed (conditional (arms_up_to xs (otherwise c t l)))))
-close_by st o (body n ws) l key_done = Some (at st o (closed (loop n ws l)))
+    Some (at st o (after_compound (conditional (arms_up_to xs (otherwise c t l)))))
+close_by st o (body n ws) l key_done = Some (at st o (after_compound (loop n ws l)))
 close_by st o f l k = None
 
 -- a word that ends the list
@@ -107,12 +107,12 @@ close_some st (Some l) k = close st l k
 
 -- the list at a place where a command may begin, if it may end there
 abbrev pub end_of : List AndOr → List (Pipeline × Connector) → Bool → Option Commands
-end_of done [] false = all_closed done
-end_of done [] true = None
-end_of done (j ∷ js) negated = None
+end_of and_ors [] false = all_closed and_ors
+end_of and_ors [] true = None
+end_of and_ors (j ∷ js) negated = None
 
 abbrev pub may_end : Open → Option Commands
-may_end o = end_of o.done o.joined o.negated
+may_end o = end_of o.and_ors o.pipelines o.negated
 
 abbrev pub begin_reserved : List (Open × Frame) → Open → ReservedWord → Option State
 begin_reserved st o bang =
@@ -125,11 +125,11 @@ begin_reserved st o k = close_some st (may_end o) k
 abbrev pub push_assignment : List (Open × Frame) → Open → List Simple → List Assignment
     → Option Assignment → Option State
 push_assignment st o ss xs None = None
-push_assignment st o ss xs (Some a) = Some (at st o (within ss (assignments (xs ++ a ∷ []))))
+push_assignment st o ss xs (Some a) = Some (at st o (in_simple ss (assignments (xs ++ a ∷ []))))
 
 abbrev pub begin_simple : List (Open × Frame) → Open → List Simple → Word → Class → Option State
 begin_simple st o ss w assignment = push_assignment st o ss [] (assignment_of w)
-begin_simple st o ss w ordinary = Some (at st o (within ss (command (argument w ∷ []))))
+begin_simple st o ss w ordinary = Some (at st o (in_simple ss (command (argument w ∷ []))))
 begin_simple st o ss w c = None
 
 abbrev pub begin : List (Open × Frame) → Open → Word → Class → Option State
@@ -147,9 +147,9 @@ add_word st o ss (assignments xs) w =
     if is_assignment (class w) then push_assignment st o ss xs (assignment_of w) else None
 add_word st o ss (command is) w =
     if no_argument is then
-    (if is_ordinary (class w) then Some (at st o (within ss (command (is ++ argument w ∷ []))))
+    (if is_ordinary (class w) then Some (at st o (in_simple ss (command (is ++ argument w ∷ []))))
     else None)
-    else Some (at st o (within ss (command (is ++ argument w ∷ []))))
+    else Some (at st o (in_simple ss (command (is ++ argument w ∷ []))))
 
 abbrev pub add_direction : List (Open × Frame) → Open → List Simple → Simple → Direction
     → Option State
@@ -159,14 +159,14 @@ add_direction st o ss (command is) d = Some (at st o (target ss is d))
 -- an operator behind a whole command
 abbrev pub go_on : List (Open × Frame) → Open → Command → Token → Option State
 go_on st o c semicolon =
-    Some (at st (record { done = o.done ++ and_or o c ∷ []; joined = []; negated = false }) start)
+    Some (at st (record { and_ors = o.and_ors ++ and_or o c ∷ []; pipelines = []; negated = false }) start)
 go_on st o c (connector op) =
     Some (at st
-    (record o { joined = o.joined ++ (pipeline o.negated c, op) ∷ []; negated = false }) start)
+    (record o { pipelines = o.pipelines ++ (pipeline o.negated c, op) ∷ []; negated = false }) start)
 go_on st o c t = None
 
 abbrev pub close_word : List (Open × Frame) → Open → Command → Class → Option State
-close_word st o c (reserved k) = close st (listed o.done (and_or o c) false) k
+close_word st o c (reserved k) = close st (listed o.and_ors (and_or o c) false) k
 close_word st o c _ = None
 
 abbrev pub only_key : ReservedWord → Class → Option State → Option State
@@ -178,18 +178,18 @@ abbrev pub step_at : List (Open × Frame) → Open → Place → Token → Optio
 step_at st o start (word w) = begin st o w (class w)
 step_at st o start (redirection d) = Some (at st o (target [] [] d))
 step_at st o start t = None
-step_at st o (within ss s) (word w) = add_word st o ss s w
-step_at st o (within ss s) (redirection d) = add_direction st o ss s d
-step_at st o (within ss s) bar = Some (at st o (piped (ss ++ s ∷ [])))
-step_at st o (within ss s) t = go_on st o (simples (ss ++ s ∷ [])) t
+step_at st o (in_simple ss s) (word w) = add_word st o ss s w
+step_at st o (in_simple ss s) (redirection d) = add_direction st o ss s d
+step_at st o (in_simple ss s) bar = Some (at st o (after_bar (ss ++ s ∷ [])))
+step_at st o (in_simple ss s) t = go_on st o (simples (ss ++ s ∷ [])) t
 step_at st o (target ss is d) (word w) =
-    Some (at st o (within ss (command (is ++ redirect d w ∷ []))))
+    Some (at st o (in_simple ss (command (is ++ redirect d w ∷ []))))
 step_at st o (target ss is d) t = None
-step_at st o (piped ss) (word w) = begin_simple st o ss w (class w)
-step_at st o (piped ss) (redirection d) = Some (at st o (target ss [] d))
-step_at st o (piped ss) t = None
-step_at st o (closed c) (word w) = close_word st o c (class w)
-step_at st o (closed c) t = go_on st o c t
+step_at st o (after_bar ss) (word w) = begin_simple st o ss w (class w)
+step_at st o (after_bar ss) (redirection d) = Some (at st o (target ss [] d))
+step_at st o (after_bar ss) t = None
+step_at st o (after_compound c) (word w) = close_word st o c (class w)
+step_at st o (after_compound c) t = go_on st o c t
 step_at st o for_name (word w) = option_map (λ n. at st o (for_in n)) (name_of w)
 step_at st o for_name t = None
 step_at st o (for_in n) (word w) = only_key key_in (class w) (Some (at st o (for_words n [])))
@@ -213,8 +213,8 @@ run (Some s) (t ∷ ts) = run (step s t) ts
 
 abbrev pub finish_at : List (Open × Frame) → Open → Place → Option Commands
 finish_at [] o start = may_end o
-finish_at [] o (within ss s) = Some (listed o.done (and_or o (simples (ss ++ s ∷ []))) false)
-finish_at [] o (closed c) = Some (listed o.done (and_or o c) false)
+finish_at [] o (in_simple ss s) = Some (listed o.and_ors (and_or o (simples (ss ++ s ∷ []))) false)
+finish_at [] o (after_compound c) = Some (listed o.and_ors (and_or o c) false)
 finish_at st o p = None
 
 abbrev pub finish : Option State → Option Commands

@@ -1,28 +1,29 @@
--- The state of reading that a value of the code stands for.
-use Rattle.std.specs.Prelude.{◌≡◌, List, map, reverse, IfOk, Option, option_map, Result, Vec}
-use Rattle.std.specs.declared.alloc.AllocError.{AllocError}
+-- The state of the definition that a state of the parser stands for.
+use Rattle.std.specs.Prelude.{List, map, reverse, Option, Result, Vec}
 use Rattle.std.specs.declared.alloc.Global.{Global}
+use Rattle.retro_syntax.specs.Failing.{Gives}
 use Rattle.retro_syntax.specs.Tree as T
-use Rattle.retro_syntax.specs.Reader as M
+use Rattle.retro_syntax.specs.Parsing as M
 use Rattle.retro_syntax.specs.View.{token_view, view, commands_of, and_or_of, pipeline_of, word_view, simple_view, item_view}
+use Rattle.retro_syntax.specs.declared.syntax_error.SyntaxError.{SyntaxError}
 use Rattle.retro_syntax.specs.declared.tree.Token.{Token}
 use Rattle.retro_syntax.specs.declared.tree.Word.{Word}
 use Rattle.retro_syntax.specs.declared.tree.Item.{Item}
 use Rattle.retro_syntax.specs.declared.tree.Simple.{Simple}
 use Rattle.retro_syntax.specs.declared.tree.Commands.{Commands}
 use Rattle.retro_syntax.specs.declared.tree.Command.{Command}
-use Rattle.retro_syntax.specs.declared.reader.Open.{Open}
-use Rattle.retro_syntax.specs.declared.reader.Frame.{Frame}
-use Rattle.retro_syntax.specs.declared.reader.Frame.TheVariants as f
-use Rattle.retro_syntax.specs.declared.reader.Place.{Place}
-use Rattle.retro_syntax.specs.declared.reader.Place.TheVariants as p
-use Rattle.retro_syntax.specs.declared.reader.State.{State}
+use Rattle.retro_syntax.specs.declared.parser.open.Open.{Open}
+use Rattle.retro_syntax.specs.declared.parser.Frame.{Frame}
+use Rattle.retro_syntax.specs.declared.parser.Frame.TheVariants as f
+use Rattle.retro_syntax.specs.declared.parser.Place.{Place}
+use Rattle.retro_syntax.specs.declared.parser.Place.TheVariants as p
+use Rattle.retro_syntax.specs.declared.parser.Parser.{Parser}
 
 abbrev pub open_view : Open → M.Open
 open_view o =
     record {
-      done = map (and_or_of view) o.done.items;
-      joined = map (λ j. (pipeline_of view j.0, j.1)) o.joined.items;
+      and_ors = map (and_or_of view) o.and_ors.items;
+      pipelines = map (λ j. (pipeline_of view j.0, j.1)) o.pipelines.items;
       negated = o.negated;
     }
 
@@ -47,10 +48,10 @@ words_view ws = map word_view ws.items
 
 abbrev pub place_view : Place → M.Place
 place_view p.Start = M.start
-place_view (p.Within ss s) = M.within (stages_view ss) (simple_view s)
+place_view (p.InSimple ss s) = M.in_simple (stages_view ss) (simple_view s)
 place_view (p.Target ss is d) = M.target (stages_view ss) (items_view is) d
-place_view (p.Piped ss) = M.piped (stages_view ss)
-place_view (p.Closed c) = M.closed (view c)
+place_view (p.AfterBar ss) = M.after_bar (stages_view ss)
+place_view (p.AfterCompound c) = M.after_compound (view c)
 place_view p.ForName = M.for_name
 place_view (p.ForIn n) = M.for_in n
 place_view (p.ForWords n ws) = M.for_words n (words_view ws)
@@ -63,15 +64,15 @@ level_view l = (open_view l.0, frame_view l.1)
 abbrev pub stack_view : Vec (Open × Frame) Global → List (M.Open × M.Frame)
 stack_view st = reverse (map level_view st.items)
 
-abbrev pub state_view : State → M.State
-state_view s = M.at (stack_view s.stack) (open_view s.here) (place_view s.place)
+abbrev pub parser_view : Parser → M.State
+parser_view p = M.at (stack_view p.stack) (open_view p.here) (place_view p.place)
 
--- the answer is this state, or none where there is none
-abbrev pub StepsTo : Result (Option State) AllocError → Option M.State → Type 0
-StepsTo result next = IfOk result (λ n. option_map state_view n ≡ next)
+-- The token was read: the parser is in the state that the definition gives.
+abbrev pub Parses : Parser → Result (Unit {0}) SyntaxError → Option M.State → Type 0
+Parses p result next = Gives (λ _. parser_view p) result next
 
--- the answer is the state behind the token at this place, or none where the token can't stand there
-abbrev pub StepsAt : Vec (Open × Frame) Global → Open → M.Place → Token
-    → Result (Option State) AllocError → Type 0
-StepsAt stack here place token result =
-    StepsTo result (M.step_at (stack_view stack) (open_view here) place (token_view token))
+-- The token was read at this place.
+abbrev pub ParsesAt : Parser → M.Place → Token → Parser → Result (Unit {0}) SyntaxError → Type 0
+ParsesAt old place token new result =
+    Parses new result
+    (M.step_at (stack_view old.stack) (open_view old.here) place (token_view token))

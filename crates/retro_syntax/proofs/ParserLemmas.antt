@@ -2,7 +2,7 @@
 use Rattle.std.proofs.Common.{◌≡◌, ℕ, length, arith, List, [], ◌∷◌, ◌++◌, map, reverse, Some, None, true, refl, ap, option_map}
 use Rattle.std.proofs.lemmas.List.{reverse-append}
 use Rattle.retro_syntax.specs.Tree as T
-use Rattle.retro_syntax.specs.Reader.{all_closed, listed, Open, Frame, close_by, condition, consequence, alternative, body}
+use Rattle.retro_syntax.specs.Parsing.{all_closed, listed, Open, Frame, close_by, condition, consequence, alternative, body}
 use Rattle.retro_syntax.specs.declared.tree.ReservedWord.{ReservedWord}
 use Rattle.retro_syntax.specs.declared.tree.ReservedWord.TheVariants.{Then as key_then, Elif as key_elif, Else as key_else, Fi as key_fi, Done as key_done}
 
