@@ -1,6 +1,9 @@
-pub mod Edge
+pub mod Exit
+pub mod Input
 pub mod Numbers
+pub mod Output
 pub mod Program
 pub mod Replay
 pub mod Report
+pub mod Stop
 pub mod Words

@@ -1,5 +1,7 @@
--- The program as a function from words and an input to a text or a refusal, and what a run of it does.
-use Rattle.std.specs.Prelude.{◌≡◌, ℕ, List, Bool, true, false, Option, Some, None, IsSome, Result, Ok, Err, if◌then◌else◌}
+-- What the program does: the first refusal of words and an input, the texts that answer a request, and
+-- what a run leaves. Each command adds a row to `request_refusal` and to `Answered`.
+use Rattle.std.specs.Prelude.{◌≡◌, ℕ, List, Option, Some, None, IsSome, Result, Ok, Err, if◌then◌else◌}
+use Rattle.std.specs.Result.{result_err}
 use Rattle.std.specs.Io.KnownBytes.{Appends}
 use Rattle.retro_tree.specs.declared.state.State.{State}
 use Rattle.retro_keep.specs.Script.{ScriptValue}
@@ -7,83 +9,81 @@ use Rattle.retro_keep.specs.Runs.{Output, others, whole}
 use Rattle.retro_log.specs.Document.{script_in}
 use Rattle.retro_log.specs.Numbers.{refusal_number}
 use Rattle.retro_log.specs.declared.fault.Refusal.{Refusal}
-use Rattle.retro_cli.specs.Edge.{Begins}
+use Rattle.retro_cli.specs.Output.{AppendsPart}
 use Rattle.retro_cli.specs.Replay.{are_there}
 use Rattle.retro_cli.specs.Report.{replay_text}
 use Rattle.retro_cli.specs.Words.{Request, replay, requested}
-use Rattle.retro_cli.specs.declared.program.Exit.{Exit}
-use Rattle.retro_cli.specs.declared.program.Exit.TheVariants as exits
-use Rattle.retro_cli.specs.declared.program.Stop.{Stop}
-use Rattle.retro_cli.specs.declared.program.Stop.TheVariants as stops
+use Rattle.retro_cli.specs.declared.stop.TheConstants.{BAD_WORDS, UNKNOWN_LINE}
+use Rattle.retro_cli.specs.declared.exit.Exit.{Exit}
+use Rattle.retro_cli.specs.declared.exit.Exit.TheVariants as exits
 
 abbrev pub Text : Type 0
 Text = List ℕ
 
--- ---- the answer
-
--- bad words are refusal 31
-abbrev pub judged : Option Request → Result Request ℕ
-judged None = Err 31
-judged (Some request) = Ok request
-
--- a refused document is refused by its number
-abbrev pub numbered : Result ScriptValue Refusal → Result ScriptValue ℕ
-numbered (Ok script) = Ok script
-numbered (Err refusal) = Err (refusal_number refusal)
+-- ---- the report of a replay
 
 abbrev pub report : State × List Output → Text
 report (state, outputs) = replay_text outputs state
 
--- the report of running all lines but the cancelled ones; a number that is no line's is refusal 21
-abbrev pub answered : Request → ScriptValue → Result Text ℕ
-answered (replay cancelled) script =
-    if are_there cancelled script.lines then Ok (report (whole (others cancelled script.lines) script.first)) else Err 21
+-- the report of running a script's lines but the cancelled ones, which must be lines of it
+abbrev pub replay_script : List ℕ → ScriptValue → Result Text ℕ
+replay_script cancelled script =
+    if are_there cancelled script.lines
+    then Ok (report (whole (others cancelled script.lines) script.first))
+    else Err UNKNOWN_LINE
 
--- the first refusal counts
-infixl 10 ◌>>=◌
-abbrev pub ◌>>=◌ : {A B : Type 0} → Result A ℕ → (A → Result B ℕ) → Result B ℕ
-(Ok x) >>= f = f x
-(Err number) >>= f = Err number
+abbrev pub replay_document : List ℕ → Result ScriptValue Refusal → Result Text ℕ
+replay_document cancelled (Ok script) = replay_script cancelled script
+replay_document cancelled (Err refusal) = Err (refusal_number refusal)
 
--- words first, then the document, then the request
-unfoldable pub answer_of : List Text → Text → Result Text ℕ
-answer_of words input = do
-  request ← judged (requested words)
-  script ← numbered (script_in input)
-  answered request script
+-- the report, or the number of the first refusal: of the document, then of the cancelled numbers
+unfoldable pub replay_answer : List ℕ → Text → Result Text ℕ
+replay_answer cancelled input = replay_document cancelled (script_in input)
 
--- ---- values of the code: the answer that is meant, memory apart
+-- ---- refusals
 
-abbrev pub Fails : {Y : Type 0} → Stop → Result Y ℕ → Type 0
-Fails stops.NoMem meant = Unit {0}
-Fails (stops.Refused number) meant = meant ≡ Err number
+-- the number of the first refusal of a request about an input
+abbrev pub request_refusal : Request → Text → Option ℕ
+request_refusal (replay cancelled) input = result_err (replay_answer cancelled input)
 
-abbrev pub Answers : {X Y : Type 0} → (X → Y) → Result X Stop → Result Y ℕ → Type 0
-Answers view (Ok x) meant = meant ≡ Ok (view x)
-Answers view (Err e) meant = Fails e meant
+abbrev pub refusal_in : Option Request → Text → Option ℕ
+refusal_in None input = Some BAD_WORDS
+refusal_in (Some request) input = request_refusal request input
+
+-- the number of the first refusal: of the words, then of the request
+unfoldable pub refusal_of : List Text → Text → Option ℕ
+refusal_of words input = refusal_in (requested words) input
+
+-- ---- answers
+
+-- whether a text answers a request about an input, and the program ends so once it is written
+abbrev pub Answered : Request → Text → Exit → Text → Type 0
+Answered (replay cancelled) input exits.Done text = replay_answer cancelled input ≡ Ok text
+Answered (replay cancelled) input (exits.Refused number) text = ⊥
+Answered (replay cancelled) input exits.OutOfMemory text = ⊥
+Answered (replay cancelled) input exits.ReadFailed text = ⊥
+Answered (replay cancelled) input exits.WriteFailed text = ⊥
+
+-- the answer to words about an input
+pub record Answers (words : List Text) (input : Text) (exit : Exit) (text : Text) : Type 0 where
+  pub request : Request
+  pub words_ask : requested words ≡ Some request
+  pub answered : Answered request input exit text
 
 -- ---- a run
 
--- whether an exit leaves the writer as it was
-abbrev pub is_quiet : Exit → Bool
-is_quiet exits.Done = false
-is_quiet (exits.Refused number) = true
-is_quiet exits.OutOfMemory = true
-is_quiet exits.ReadFailed = true
-is_quiet exits.WriteFailed = false
+-- whether the words lead to such an exit: bad ones to refusal 31 or out of memory alone
+abbrev pub WordsAllow : List Text → Exit → Type 0
+WordsAllow words exits.Done = IsSome (requested words)
+WordsAllow words (exits.Refused number) = requested words ≡ None → number ≡ BAD_WORDS
+WordsAllow words exits.OutOfMemory = Unit {0}
+WordsAllow words exits.ReadFailed = IsSome (requested words)
+WordsAllow words exits.WriteFailed = IsSome (requested words)
 
--- the words come first: bad ones are refusal 31, and only good ones lead to reading and writing
-abbrev pub JudgesWords : List Text → Exit → Type 0
-JudgesWords words exits.Done = IsSome (requested words)
-JudgesWords words (exits.Refused number) = requested words ≡ None → number ≡ 31
-JudgesWords words exits.OutOfMemory = Unit {0}
-JudgesWords words exits.ReadFailed = IsSome (requested words)
-JudgesWords words exits.WriteFailed = IsSome (requested words)
-
--- what the program did on words and an input: `old` and `new` are what the writer held before and after
+-- what a run on words and an input leaves: `old` and `new` are what the writer held before and after
 abbrev pub Runs : List Text → Text → Option Text → Option Text → Exit → Type 0
-Runs words input old new exits.Done = (text : Text) × (answer_of words input ≡ Ok text) × Appends old new text
-Runs words input old new (exits.Refused number) = answer_of words input ≡ Err number
-Runs words input old new exits.WriteFailed = (text : Text) × (answer_of words input ≡ Ok text) × Begins old new text
+Runs words input old new exits.Done = (text : Text) × Answers words input exits.Done text × Appends old new text
+Runs words input old new (exits.Refused number) = refusal_of words input ≡ Some number
 Runs words input old new exits.OutOfMemory = Unit {0}
 Runs words input old new exits.ReadFailed = Unit {0}
+Runs words input old new exits.WriteFailed = (text : Text) × Answers words input exits.Done text × AppendsPart old new text

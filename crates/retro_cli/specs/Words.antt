@@ -1,8 +1,9 @@
 -- The program's command line, and what words ask for there, as `clap` reads them.
-use Rattle.std.specs.Prelude.{◌≡◌, ℕ, List, [], ◌∷◌, true, Option, Some, None, Result, Ok, Err, codes, option_map, option_and_then, nat_eq, if◌then◌else◌}
+use Rattle.std.specs.Prelude.{ℕ, List, [], ◌∷◌, true, Option, Some, None, Result, codes, option_map, option_and_then, nat_eq, if◌then◌else◌}
 use Rattle.std.specs.Cmp.Lexicographic.{pointwise}
 use Rattle.clap.specs.Words.{App, Kinds, Row, Rule, Shape, Text, fault_of, first_of, new_app, new_rule, subcommand_of, with_subcommand}
 use Rattle.clap.specs.declared.builder.action.ArgAction.TheVariants.{Set}
+use Rattle.retro_tree.specs.OutOfMemory.{UnlessOutOfMemory}
 use Rattle.retro_cli.specs.Numbers.{list_in}
 use Rattle.retro_cli.specs.declared.words.Given.{Given as GivenWords}
 use Rattle.retro_cli.specs.declared.words.Request.{Request as RequestValue}
@@ -77,11 +78,11 @@ given_view g = record { name = g.name.now; cancel = option_map (λ s. s.now) g.c
 abbrev pub request_view : RequestValue → Request
 request_view (requests.Replay numbers) = replay numbers.items
 
--- what is found is what is meant, memory apart
-abbrev pub Fails : {Y : Type 0} → WordsFault → Option Y → Type 0
-Fails faults.NoMem found = Unit {0}
-Fails faults.BadWords found = found ≡ None
+-- a fault as the definitions say it: none where memory ran out
+abbrev pub not_found : {Y : Type 0} → WordsFault → Option (Option Y)
+not_found faults.NoMem = None
+not_found faults.BadWords = Some None
 
+-- what is found, or that nothing is
 abbrev pub Means : {X Y : Type 0} → (X → Y) → Result X WordsFault → Option Y → Type 0
-Means view (Ok x) found = found ≡ Some (view x)
-Means view (Err e) found = Fails e found
+Means view result found = UnlessOutOfMemory (λ x. Some (view x)) not_found result found

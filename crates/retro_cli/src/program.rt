@@ -1,128 +1,96 @@
 //! The program on words, an input and an output.
-ghost use Rattle.std.specs.Prelude.{◌≡◌, true, map, IfSome, string_bytes};
-ghost use Rattle.std.specs.Io.KnownBytes.{Keeps};
-ghost use Rattle.retro_log.specs.Document.{script_in};
+ghost use Rattle.std.specs.Prelude.{◌≡◌, true, false, None, map, Ok, Err, IfOk, IfErr, IfSome, string_bytes};
+ghost use Rattle.retro_cli.specs.Exit.{exit_of, is_quiet};
+ghost use Rattle.retro_cli.specs.Input.{is_broken};
+ghost use Rattle.retro_cli.specs.Program.{Answered, Runs, WordsAllow, replay_answer, request_refusal};
+ghost use Rattle.retro_cli.specs.Stop.{Refuses, ReturnsAs};
 ghost use Rattle.retro_cli.specs.Words.{request_view, requested};
-ghost use Rattle.retro_cli.specs.Program.{Answers, JudgesWords, Runs, answer_of, answered, is_quiet, judged, numbered};
+ghost use Rattle.retro_cli.specs.declared.exit.Exit.TheVariants as exits;
+ghost use Rattle.retro_cli.specs.declared.stop.Stop.TheVariants as stops;
 
-use crate::edge::{ReadFault, read_whole, write_whole};
+use crate::exit::Exit;
+use crate::input::Input;
+use crate::output::Output;
 use crate::replay::{are_there, replay};
 use crate::report::replay_report;
-use crate::words::{Request, WordsFault, read_words};
-use retro_keep::Script;
-use retro_log::{LogFault, read_script};
-use retro_tree::NoMem;
+use crate::stop::{Stop, UNKNOWN_LINE};
+use crate::words::{Request, read_words};
+use retro_log::read_script;
 use std::alloc::{AllocGlobal, Global};
 use std::io::{Read, Write};
 
-/// How the program ends.
-#[derive(Clone, Copy, Debug, PartialEq, Eq)]
-pub enum Exit {
-    /// The answer was written whole.
-    Done,
-    /// The words, the document or the request are refused, with the refusal's number: 31 for bad
-    /// words, 8 to 16 for a document, 21 for a number that is no line's. Nothing was written.
-    Refused(u8),
-    /// Memory was wanted and refused. Nothing was written.
-    OutOfMemory,
-    /// The input couldn't be read to its end. Nothing was written.
-    ReadFailed,
-    /// The answer couldn't be written whole; a beginning of it may have been.
-    WriteFailed,
-}
-
-/// Why there is no answer.
-#[derive(Clone, Copy, Debug, PartialEq, Eq)]
-enum Stop {
-    NoMem,
-    Refused(u8),
-}
-
-impl From<NoMem> for Stop {
-    ghost use Rattle.retro_cli.specs.declared.program.Stop.TheVariants as stops;
-
-    ghost from_gives = { λ _ e. e ≡ stops.NoMem };
-
-    fn from(_error: NoMem) -> Stop {
-        Stop::NoMem
-    }
-}
-
-/// What the words ask for, or refusal 31.
-fn request(alloc: Global, words: &[String]) -> Result<Request, Stop>
-    ensures { Answers request_view result (judged (requested (map string_bytes words.now))) }
+/// The report of a replay of the script that the input is.
+#[tactic(auto, unfolding(crate::specs::Program::replay_answer))]
+fn replay_input(alloc: Global, cancel: &[u32], input: &[u8]) -> Result<Vec<u8>, Stop>
+    ensures { ReturnsAs (λ text. text.items) result (replay_answer cancel.now input.now) }
 {
-    match read_words(alloc, words) {
-        Ok(request) => Ok(request),
-        Err(WordsFault::NoMem) => Err(Stop::NoMem),
-        Err(WordsFault::BadWords) => Err(Stop::Refused(31)),
+    let script = read_script(alloc, input)?;
+    if !are_there(alloc, cancel, script.lines())? {
+        return Err(Stop::Refused(UNKNOWN_LINE));
     }
+    let (state, outputs) = replay(alloc, script, cancel)?;
+    Ok(replay_report(alloc, &state, &outputs)?)
 }
 
-/// The script that the input is, or the number of the refusal that comes first.
-fn script(alloc: Global, input: &[u8]) -> Result<Script, Stop>
-    ensures { Answers (λ script. script) result (numbered (script_in input.now)) }
-{
-    match read_script(alloc, input) {
-        Ok(script) => Ok(script),
-        Err(LogFault::NoMem) => Err(Stop::NoMem),
-        Err(LogFault::Refused(refusal)) => Err(Stop::Refused(refusal.number())),
-    }
-}
-
-/// The text that answers a request about a script, or refusal 21.
-fn answer(alloc: Global, request: &Request, script: Script) -> Result<Vec<u8>, Stop>
-    ensures { Answers (λ text. text.items) result (answered (request_view request.now) script) }
+/// The text that answers a request about an input.
+fn answer(alloc: Global, request: &Request, input: &[u8]) -> Result<Vec<u8>, Stop>
+    ensures ok { IfOk result (λ text.
+        Answered (request_view request.now) input.now exits.Done text.items) }
+    ensures err { IfErr result (λ stop.
+        Refuses stop (request_refusal (request_view request.now) input.now)) }
 {
     match request {
-        Request::Replay { cancel } => {
-            if !are_there(alloc, cancel, script.lines())? {
-                return Err(Stop::Refused(21));
-            }
-            let (state, outputs) = replay(alloc, script, cancel)?;
-            Ok(replay_report(alloc, &state, &outputs)?)
-        }
+        Request::Replay { cancel } => replay_input(alloc, cancel, input),
     }
 }
 
-/// Runs the program: judges the words, reads the input whole, judges the document and the request,
-/// and writes the answer. The first word is the program's name.
-#[tactic(auto, unfolding(crate::specs::Program::answer_of))]
+/// Reads the words, reads the input to its end, and writes the answer.
+#[tactic(auto, unfolding(crate::specs::Program::refusal_of))]
+fn run<R: Read, W: Write>(
+    alloc: Global,
+    words: &[String],
+    input: &mut Input<R>,
+    output: &mut Output<W>,
+) -> Result<(), Stop>
+    ensures runs { IfSome (R.remaining input.old.reader) (λ bytes.
+        Runs (map string_bytes words.now) bytes
+        (W.contents output.old.writer) (W.contents output.new.writer) (exit_of result)) }
+    ensures words { WordsAllow (map string_bytes words.now) (exit_of result) }
+    ensures unread { requested (map string_bytes words.now) ≡ None → input.new ≡ input.old }
+    ensures quiet { is_quiet (exit_of result) ≡ true → output.new ≡ output.old }
+    ensures read_failed { result ≡ Err stops.ReadFailed → is_broken input.new.reads input.new.has_failed ≡ true }
+    ensures read_failure { input.old.has_failed ≡ false → input.new.has_failed ≡ true →
+        result ≡ Err stops.ReadFailed }
+    ensures write_failed { result ≡ Err stops.WriteFailed → output.new.has_failed ≡ true }
+    ensures write_failure { output.old.has_failed ≡ false → output.new.has_failed ≡ true →
+        result ≡ Err stops.WriteFailed }
+{
+    let request = read_words(alloc, words)?;
+    let bytes = input.read_to_end(alloc)?;
+    let text = answer(alloc, &request, &bytes)?;
+    output.write_all(&text)
+}
+
+/// Runs the program: reads the words, of which the first is the program's name, reads the input to
+/// its end, and writes the answer.
 pub fn run_with<T: AllocGlobal, R: Read, W: Write>(
     rt: &T,
     words: &[String],
-    reader: &mut R,
-    writer: &mut W,
+    input: &mut Input<R>,
+    output: &mut Output<W>,
 ) -> Exit
-    ensures runs { IfSome (R.remaining reader.old) (λ input. Runs (map string_bytes words.now) input
-        (W.contents writer.old) (W.contents writer.new) result) }
-    ensures words { JudgesWords (map string_bytes words.now) result }
-    ensures quiet { is_quiet result ≡ true → Keeps (W.contents writer.old) (W.contents writer.new) }
+    ensures runs { IfSome (R.remaining input.old.reader) (λ bytes.
+        Runs (map string_bytes words.now) bytes
+        (W.contents output.old.writer) (W.contents output.new.writer) result) }
+    ensures words { WordsAllow (map string_bytes words.now) result }
+    ensures unread { requested (map string_bytes words.now) ≡ None → input.new ≡ input.old }
+    ensures quiet { is_quiet result ≡ true → output.new ≡ output.old }
+    ensures read_failed { result ≡ exits.ReadFailed → is_broken input.new.reads input.new.has_failed ≡ true }
+    ensures read_failure { input.old.has_failed ≡ false → input.new.has_failed ≡ true →
+        result ≡ exits.ReadFailed }
+    ensures write_failed { result ≡ exits.WriteFailed → output.new.has_failed ≡ true }
+    ensures write_failure { output.old.has_failed ≡ false → output.new.has_failed ≡ true →
+        result ≡ exits.WriteFailed }
 {
-    let alloc = rt.alloc();
-    let request = match request(alloc, words) {
-        Ok(request) => request,
-        Err(Stop::NoMem) => return Exit::OutOfMemory,
-        Err(Stop::Refused(number)) => return Exit::Refused(number),
-    };
-    let input = match read_whole(alloc, reader) {
-        Ok(input) => input,
-        Err(ReadFault::NoMem) => return Exit::OutOfMemory,
-        Err(ReadFault::Failed) => return Exit::ReadFailed,
-    };
-    let script = match script(alloc, &input) {
-        Ok(script) => script,
-        Err(Stop::NoMem) => return Exit::OutOfMemory,
-        Err(Stop::Refused(number)) => return Exit::Refused(number),
-    };
-    let text = match answer(alloc, &request, script) {
-        Ok(text) => text,
-        Err(Stop::NoMem) => return Exit::OutOfMemory,
-        Err(Stop::Refused(number)) => return Exit::Refused(number),
-    };
-    if write_whole(writer, &text) {
-        Exit::Done
-    } else {
-        Exit::WriteFailed
-    }
+    Exit::of(run(rt.alloc(), words, input, output))
 }

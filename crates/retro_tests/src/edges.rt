@@ -1,7 +1,7 @@
 //! The program's edges: readers and writers that fail, and large inputs.
 use crate::programs::words;
 use crate::tables::EMPTY;
-use retro_cli::{Exit, run_with};
+use retro_cli::{Exit, Input, Output, run_with};
 use std::alloc::{AllocError, Global};
 use std::io;
 use std::io::{ErrorKind, Read, Write};
@@ -102,7 +102,12 @@ fn run_edges(
         fails: writes,
         failure,
     };
-    let exit = run_with(rt, &words, &mut reader, &mut writer);
+    let exit = run_with(
+        rt,
+        &words,
+        &mut Input::new(&mut reader),
+        &mut Output::new(&mut writer),
+    );
     Ok((exit, reader.calls, writer.calls, writer.held))
 }
 
@@ -191,7 +196,15 @@ fn large_scripts_are_replayed(rt: HostRuntime) -> Result<(), Fail> {
         kind: ErrorKind::Other,
     };
     let mut out = Vec::new(rt.alloc());
-    assert_eq!(rt; run_with(&rt, &words, &mut reader, &mut out), Exit::Done);
+    assert_eq!(rt;
+        run_with(
+            &rt,
+            &words,
+            &mut Input::new(&mut reader),
+            &mut Output::new(&mut out)
+        ),
+        Exit::Done
+    );
     assert!(rt;
         out.as_slice() == large_report(rt.alloc())?.as_bytes(),
         "another report"
@@ -207,12 +220,22 @@ fn odd_inputs_are_refused(rt: HostRuntime) -> Result<(), Fail> {
     let mut out = Vec::new(rt.alloc());
     let mut reader: &[u8] = EMPTY.as_bytes();
     assert_eq!(rt;
-        run_with(&rt, &none, &mut reader, &mut out),
+        run_with(
+            &rt,
+            &none,
+            &mut Input::new(&mut reader),
+            &mut Output::new(&mut out)
+        ),
         Exit::Refused(31)
     );
     let mut reader: &[u8] = &[0xff];
     assert_eq!(rt;
-        run_with(&rt, &words, &mut reader, &mut out),
+        run_with(
+            &rt,
+            &words,
+            &mut Input::new(&mut reader),
+            &mut Output::new(&mut out)
+        ),
         Exit::Refused(12)
     );
     Ok(())

@@ -1,7 +1,7 @@
 //! Runs of the program, and lines that it runs.
 use crate::tables::input_named;
 use hex::decode;
-use retro_cli::{Exit, run_with};
+use retro_cli::{Exit, Input, Output, run_with};
 use serde_json::Value;
 use std::alloc::{AllocError, Global};
 use std::test::Fail;
@@ -31,7 +31,12 @@ fn output(rt: &HostRuntime, given: &str, input: &str) -> Result<(Exit, Vec<u8>),
     let words = words(rt.alloc(), given)?;
     let mut reader = input.as_bytes();
     let mut out = Vec::new(rt.alloc());
-    let exit = run_with(rt, &words, &mut reader, &mut out);
+    let exit = run_with(
+        rt,
+        &words,
+        &mut Input::new(&mut reader),
+        &mut Output::new(&mut out),
+    );
     Ok((exit, out))
 }
 

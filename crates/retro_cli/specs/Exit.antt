@@ -1,0 +1,36 @@
+-- How the program ends: the exit of a run, its status, and its line on standard error.
+use Rattle.std.specs.Prelude.{ℕ, List, [], ◌++◌, Bool, true, false, Result, Ok, Err, codes, ⊤}
+use Rattle.std.specs.Prelude.{decimal}
+use Rattle.retro_cli.specs.declared.exit.Exit.{Exit}
+use Rattle.retro_cli.specs.declared.exit.Exit.TheVariants as exits
+use Rattle.retro_cli.specs.declared.stop.Stop.{Stop}
+use Rattle.retro_cli.specs.declared.stop.Stop.TheVariants as stops
+
+abbrev pub exit_of : Result ⊤ Stop → Exit
+exit_of (Ok done) = exits.Done
+exit_of (Err stops.NoMem) = exits.OutOfMemory
+exit_of (Err (stops.Refused number)) = exits.Refused number
+exit_of (Err stops.ReadFailed) = exits.ReadFailed
+exit_of (Err stops.WriteFailed) = exits.WriteFailed
+
+abbrev pub status_of : Exit → ℕ
+status_of exits.Done = 0
+status_of (exits.Refused number) = 1
+status_of exits.OutOfMemory = 2
+status_of exits.ReadFailed = 3
+status_of exits.WriteFailed = 3
+
+abbrev pub message_of : Exit → List ℕ
+message_of exits.Done = []
+message_of (exits.Refused number) = codes "retro: refused " ++ (decimal number ++ codes "\n")
+message_of exits.OutOfMemory = codes "retro: out of memory\n"
+message_of exits.ReadFailed = codes "retro: read failed\n"
+message_of exits.WriteFailed = codes "retro: write failed\n"
+
+-- whether nothing is written to the output before such an exit
+abbrev pub is_quiet : Exit → Bool
+is_quiet exits.Done = false
+is_quiet (exits.Refused number) = true
+is_quiet exits.OutOfMemory = true
+is_quiet exits.ReadFailed = true
+is_quiet exits.WriteFailed = false

@@ -1,0 +1,41 @@
+-- What stops a run, by the faults of its parts.
+use Rattle.std.specs.Prelude.{◌≡◌, ℕ, Option, Some, None, Result, Ok, Err}
+use Rattle.retro_tree.specs.OutOfMemory.{UnlessOutOfMemory}
+use Rattle.retro_log.specs.Numbers.{refusal_number}
+use Rattle.retro_log.specs.declared.fault.LogFault.{LogFault}
+use Rattle.retro_log.specs.declared.fault.LogFault.TheVariants as documents
+use Rattle.retro_cli.specs.declared.stop.TheConstants.{BAD_WORDS}
+use Rattle.retro_cli.specs.declared.stop.Stop.{Stop}
+use Rattle.retro_cli.specs.declared.stop.Stop.TheVariants as stops
+use Rattle.retro_cli.specs.declared.words.WordsFault.{WordsFault}
+use Rattle.retro_cli.specs.declared.words.WordsFault.TheVariants as words
+
+abbrev pub stop_of_words : WordsFault → Stop
+stop_of_words words.NoMem = stops.NoMem
+stop_of_words words.BadWords = stops.Refused BAD_WORDS
+
+abbrev pub stop_of_document : LogFault → Stop
+stop_of_document documents.NoMem = stops.NoMem
+stop_of_document (documents.Refused refusal) = stops.Refused (refusal_number refusal)
+
+-- a stop says that a request is refused by a number, unless memory ran out
+abbrev pub Refuses : Stop → Option ℕ → Type 0
+Refuses stops.NoMem refusal = Unit {0}
+Refuses (stops.Refused number) refusal = refusal ≡ Some number
+Refuses stops.ReadFailed refusal = ⊥
+Refuses stops.WriteFailed refusal = ⊥
+
+-- a fault as the definitions say it: none where memory ran out
+abbrev pub refused : {Y : Type 0} → Stop → Option (Result Y Stop)
+refused stops.NoMem = None
+refused (stops.Refused number) = Some (Err (stops.Refused number))
+refused stops.ReadFailed = Some (Err stops.ReadFailed)
+refused stops.WriteFailed = Some (Err stops.WriteFailed)
+
+abbrev pub with_stops : {Y : Type 0} → Result Y ℕ → Result Y Stop
+with_stops (Ok y) = Ok y
+with_stops (Err number) = Err (stops.Refused number)
+
+-- an answer, or the number of a refusal
+abbrev pub ReturnsAs : {X Y : Type 0} → (X → Y) → Result X Stop → Result Y ℕ → Type 0
+ReturnsAs value result meant = UnlessOutOfMemory (λ x. Ok (value x)) refused result (with_stops meant)

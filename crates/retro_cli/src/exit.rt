@@ -1,0 +1,67 @@
+//! How the program ends.
+ghost use Rattle.std.specs.Prelude.{◌≡◌, OnOk};
+ghost use Rattle.std.specs.Io.KnownBytes.{Appends};
+ghost use Rattle.retro_cli.specs.Exit.{exit_of, message_of, status_of};
+
+use crate::stop::Stop;
+use std::io;
+use std::io::Write;
+
+/// How the program ends.
+#[derive(Clone, Copy, Debug, PartialEq, Eq)]
+pub enum Exit {
+    /// The answer was written whole.
+    Done,
+    /// The words, the document or the request are refused, with the refusal's number: 31 for bad
+    /// words, 8 to 16 for a document, 21 for a cancelled number that no line has. Nothing was
+    /// written.
+    Refused(u8),
+    /// The program ran out of memory. Nothing was written.
+    OutOfMemory,
+    /// The input couldn't be read to its end. Nothing was written.
+    ReadFailed,
+    /// The answer couldn't be written whole. A part of it from its start, but not all of it, may
+    /// have been written.
+    WriteFailed,
+}
+
+impl Exit {
+    /// How the program ends after a run.
+    pub(crate) fn of(run: Result<(), Stop>) -> Exit
+        ensures { result ≡ exit_of run }
+    {
+        match run {
+            Ok(()) => Exit::Done,
+            Err(Stop::NoMem) => Exit::OutOfMemory,
+            Err(Stop::Refused(number)) => Exit::Refused(number),
+            Err(Stop::ReadFailed) => Exit::ReadFailed,
+            Err(Stop::WriteFailed) => Exit::WriteFailed,
+        }
+    }
+
+    /// The exit status of the process.
+    pub fn status(self) -> u8
+        ensures { result ≡ status_of self }
+    {
+        match self {
+            Exit::Done => 0,
+            Exit::Refused(_) => 1,
+            Exit::OutOfMemory => 2,
+            Exit::ReadFailed | Exit::WriteFailed => 3,
+        }
+    }
+
+    /// Writes the line for standard error: nothing if the program is done. It allocates nothing.
+    pub fn write_message<W: Write>(self, writer: &mut W) -> io::Result<()>
+        ensures { OnOk result
+            (Appends (W.contents writer.old) (W.contents writer.new) (message_of self)) }
+    {
+        match self {
+            Exit::Done => Ok(()),
+            Exit::Refused(number) => writeln!(writer, "retro: refused {number}"),
+            Exit::OutOfMemory => writeln!(writer, "retro: out of memory"),
+            Exit::ReadFailed => writeln!(writer, "retro: read failed"),
+            Exit::WriteFailed => writeln!(writer, "retro: write failed"),
+        }
+    }
+}

@@ -1,0 +1,90 @@
+//! The program's input.
+ghost use Rattle.std.specs.Prelude.{◌≡◌, ◌<◌, ◌+◌, true, false, IfOk, IfErr, IfSome, IsNone, IsTrue, Err};
+ghost use Rattle.retro_cli.specs.Input.{GivesPiece, is_broken, is_read_stop};
+ghost use Rattle.retro_cli.specs.declared.stop.Stop.TheVariants as stops;
+
+use crate::stop::Stop;
+use std::alloc::Global;
+use std::io::Read;
+
+/// How many calls of `read` an input may take. Reading fails if they find no end.
+pub const MOST_READS: u32 = 4_294_967_295;
+
+/// How many bytes one call of `read` may give.
+const PIECE: usize = 4096;
+
+/// A reader that isn't called after it failed, and what its calls gave.
+#[derive(Debug, Drop)]
+pub struct Input<R> {
+    pub reader: R,
+    /// How many calls of `read` gave bytes or the end.
+    pub reads: u32,
+    /// Whether a call of `read` failed.
+    pub has_failed: bool,
+}
+
+impl<R: Read> Input<R> {
+    /// An input of which nothing has been read.
+    pub fn new(reader: R) -> Input<R>
+        ensures { result ≡ record { reader = reader; reads = 0; has_failed = false } }
+    {
+        Input {
+            reader,
+            reads: 0,
+            has_failed: false,
+        }
+    }
+
+    /// Whether no more is read: a call failed, or `MOST_READS` calls were made.
+    pub fn is_broken(&self) -> bool
+        ensures { result ≡ is_broken self.now.reads self.now.has_failed }
+    {
+        self.has_failed || self.reads == MOST_READS
+    }
+
+    /// Calls `read` once. Returns how many bytes at the start of `piece` it gave, where 0 is the
+    /// end, or `None` if the input is broken.
+    fn read(&mut self, piece: &mut [u8]) -> Option<usize>
+        ensures broken { IsNone result → is_broken self.new.reads self.new.has_failed ≡ true }
+        ensures failed { self.new.has_failed ≡ true → IsNone result }
+        ensures bytes { IfSome result (λ n.
+            GivesPiece (R.remaining self.old.reader) (R.remaining self.new.reader) n piece.new) }
+        ensures left { IfSome result (λ _. self.old.reads < MOST_READS) }
+        ensures count { IfSome result (λ _. self.new.reads ≡ self.old.reads + 1) }
+    {
+        if self.is_broken() {
+            return None;
+        }
+        match self.reader.read(piece) {
+            Ok(n) => {
+                self.reads += 1;
+                Some(n)
+            }
+            Err(_) => {
+                self.has_failed = true;
+                None
+            }
+        }
+    }
+
+    /// All bytes that the reader still gives.
+    pub(crate) fn read_to_end(&mut self, alloc: Global) -> Result<Vec<u8>, Stop>
+        ensures bytes { IfOk result (λ read. IfSome (R.remaining self.old.reader)
+            (λ bytes. read.items ≡ bytes)) }
+        ensures stop { IfErr result (λ stop. IsTrue (is_read_stop stop)) }
+        ensures broken { result ≡ Err stops.ReadFailed →
+            is_broken self.new.reads self.new.has_failed ≡ true }
+        ensures failed { self.new.has_failed ≡ true →
+            result ≡ Err stops.ReadFailed }
+    {
+        let mut bytes = Vec::new(alloc);
+        let mut piece = [0u8; PIECE];
+        while let Some(n) = self.read(&mut piece) {
+            if n == 0 {
+                return Ok(bytes);
+            }
+            bytes.extend_from_slice(&piece[..n])?;
+        }
+        Err(Stop::ReadFailed)
+    }
+}

@@ -1,0 +1,54 @@
+//! Why a run ends before its answer is written.
+ghost use Rattle.std.specs.Prelude.{◌≡◌};
+ghost use Rattle.retro_cli.specs.declared.stop.Stop.TheVariants as stops;
+ghost use Rattle.retro_cli.specs.Stop.{stop_of_words, stop_of_document};
+
+use crate::words::WordsFault;
+use retro_log::LogFault;
+use retro_tree::NoMem;
+
+/// The number of the refusal of bad words.
+pub const BAD_WORDS: u8 = 31;
+
+/// The number of the refusal of a cancelled number that no line has.
+pub(crate) const UNKNOWN_LINE: u8 = 21;
+
+/// Why a run ends before its answer is written whole.
+#[derive(Clone, Copy, Debug, PartialEq, Eq)]
+pub(crate) enum Stop {
+    NoMem,
+    /// The words, the document or the request are refused, with the refusal's number.
+    Refused(u8),
+    ReadFailed,
+    WriteFailed,
+}
+
+impl From<NoMem> for Stop {
+    ghost from_gives = { λ _ stop. stop ≡ stops.NoMem };
+
+    fn from(_error: NoMem) -> Stop {
+        Stop::NoMem
+    }
+}
+
+impl From<WordsFault> for Stop {
+    ghost from_gives = { λ fault stop. stop ≡ stop_of_words fault };
+
+    fn from(fault: WordsFault) -> Stop {
+        match fault {
+            WordsFault::NoMem => Stop::NoMem,
+            WordsFault::BadWords => Stop::Refused(BAD_WORDS),
+        }
+    }
+}
+
+impl From<LogFault> for Stop {
+    ghost from_gives = { λ fault stop. stop ≡ stop_of_document fault };
+
+    fn from(fault: LogFault) -> Stop {
+        match fault {
+            LogFault::NoMem => Stop::NoMem,
+            LogFault::Refused(refusal) => Stop::Refused(refusal.number()),
+        }
+    }
+}
