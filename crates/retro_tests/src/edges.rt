@@ -149,7 +149,7 @@ fn a_failed_write_ends_the_run(rt: HostRuntime) -> Result<(), Fail> {
     Ok(())
 }
 
-/// A script over a directory with a thousand files, and a hundred lines of 4,096 bytes, `echo nn..`.
+/// A script of a hundred lines of 4,096 bytes, `echo nn..`, in a directory with a thousand files.
 fn large_script(alloc: Global) -> Result<String, AllocError> {
     let mut script = String::from_str(alloc, r#"{"script":1,"tree":[["/d"]"#)?;
     for number in 1000..2000_u32 {

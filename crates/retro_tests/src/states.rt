@@ -1,9 +1,9 @@
 //! States, overlays and lines that are run on states: changes, questions and answers as text.
 //!
-//! Changes are separated by `; `: `put PATH dir`, `put PATH missing`, `put PATH file TEXT`, `grow
-//! PATH by TEXT`, `var SID NAME TEXT`, `cwd SID PATH`, `status SID NUMBER`. Questions are `kind
-//! PATH`, `bytes PATH`, `names PATH`, `canwrite PATH NUMBER`, `user NAME`, `var SID NAME`, `cwd SID`,
-//! `status SID`, and `children PATH`.
+//! Changes are separated by `; `: `put PATH dir`, `put PATH missing`, `put PATH file TEXT`,
+//! `grow PATH by TEXT`, `var SID NAME TEXT`, `cwd SID PATH`, `status SID NUMBER`. Questions are
+//! `kind PATH`, `bytes PATH`, `names PATH`, `canwrite PATH NUMBER`, `user NAME`, `var SID NAME`,
+//! `cwd SID`, `status SID`, and `children PATH`.
 use crate::paths::{path, path_text};
 use crate::rows::text;
 use retro_shell::{play, step};
