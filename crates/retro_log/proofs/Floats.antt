@@ -7,8 +7,8 @@ use Rattle.serde_json.specs.Written.{has_float}
 use Rattle.retro_tree.specs.Order.{text_cmp}
 use Rattle.retro_tree.specs.Path.{PathValue}
 use Rattle.retro_tree.specs.Tree.{Tree}
-use Rattle.retro_tree.specs.declared.node.Entry.{Entry}
-use Rattle.retro_tree.specs.declared.node.Entry.TheVariants.{Dir, File}
+use Rattle.retro_tree.specs.declared.entry.Entry.{Entry}
+use Rattle.retro_tree.specs.declared.entry.Entry.TheVariants.{Dir, File}
 use Rattle.retro_tree.specs.declared.session.Session.{Session}
 use Rattle.retro_log.specs.Shape.{Text}
 use Rattle.retro_log.specs.Values.{listing, entry_data, path_text, row_data, is_listed, tree_data, var_data, vars_data, session_data, sessions_data}

@@ -7,8 +7,8 @@ use Rattle.retro_tree.specs.Path.{PathValue}
 use Rattle.retro_tree.specs.Node.{file_limit}
 use Rattle.retro_tree.specs.Tree.{Tree as TreeValue}
 use Rattle.retro_tree.specs.Lawful.{is_lawful_tree}
-use Rattle.retro_tree.specs.declared.node.Entry.{Entry}
-use Rattle.retro_tree.specs.declared.node.Entry.TheVariants.{Dir, File}
+use Rattle.retro_tree.specs.declared.entry.Entry.{Entry}
+use Rattle.retro_tree.specs.declared.entry.Entry.TheVariants.{Dir, File}
 use Rattle.retro_log.specs.declared.fault.Part.TheVariants.{Tree}
 use Rattle.retro_log.specs.declared.fault.Refusal.{Refusal}
 use Rattle.retro_log.specs.declared.fault.Refusal.TheVariants.{WrongShape, BadHex, OverLimit, LawlessTree}

@@ -9,8 +9,8 @@ use Rattle.serde_json.specs.View.{items_of}
 use Rattle.retro_tree.specs.Order.{text_cmp}
 use Rattle.retro_tree.specs.Path.{PathValue, is_root}
 use Rattle.retro_tree.specs.Tree.{Tree}
-use Rattle.retro_tree.specs.declared.node.Entry.{Entry}
-use Rattle.retro_tree.specs.declared.node.Entry.TheVariants.{Dir, File}
+use Rattle.retro_tree.specs.declared.entry.Entry.{Entry}
+use Rattle.retro_tree.specs.declared.entry.Entry.TheVariants.{Dir, File}
 use Rattle.retro_tree.specs.declared.session.Session.{Session}
 use Rattle.retro_log.specs.Shape.{Text}
 

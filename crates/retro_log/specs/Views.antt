@@ -1,7 +1,7 @@
 -- What the reader's rows stand for.
 use Rattle.std.specs.Prelude.{ℕ, List, Option, option_map}
 use Rattle.retro_tree.specs.Path.{PathValue}
-use Rattle.retro_tree.specs.declared.node.Entry.{Entry}
+use Rattle.retro_tree.specs.declared.entry.Entry.{Entry}
 use Rattle.std.specs.FinMap.{from_entries}
 use Rattle.retro_log.specs.SessionsPart.{SessionCells}
 use Rattle.retro_log.specs.declared.reading.sessions.Var.{Var}

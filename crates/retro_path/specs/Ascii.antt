@@ -8,3 +8,15 @@ slash = 47
 -- '_'
 abbrev pub underscore : ℕ
 underscore = 95
+
+-- NUL
+abbrev pub nul : ℕ
+nul = 0
+
+-- a newline
+abbrev pub newline : ℕ
+newline = 10
+
+-- ':'
+abbrev pub colon : ℕ
+colon = 58

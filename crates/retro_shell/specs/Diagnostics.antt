@@ -1,7 +1,7 @@
 -- The texts of diagnostics.
 use Rattle.std.specs.Prelude.{ℕ, List, [], ◌∷◌, ◌++◌, Option, Some, None, codes}
-use Rattle.retro_tree.specs.declared.node.Permit.{Permit}
-use Rattle.retro_tree.specs.declared.node.Permit.TheVariants.{Yes, NoParent, NotDir, IsDir, TooLarge}
+use Rattle.retro_tree.specs.declared.permit.Permit.{Permit}
+use Rattle.retro_tree.specs.declared.permit.Permit.TheVariants.{Yes, NoParent, NotDir, IsDir, TooLarge}
 use Rattle.retro_shell.specs.declared.diagnostics.Reason.{Reason}
 use Rattle.retro_shell.specs.declared.diagnostics.Reason.TheVariants as reasons
 

@@ -200,7 +200,7 @@ pub fn state_answer(alloc: Global, given: &str, question: &str) -> Result<String
     let mut state = changed(alloc, base)?;
     let mut overlay = Overlay::new(alloc);
     for change in changes(alloc, given)? {
-        overlay.lay(change)?;
+        overlay.apply(change)?;
     }
     let combined = overlay_text(alloc, &overlay.copy(alloc)?, &state, question)?;
     overlay.commit(alloc, &mut state)?;
@@ -225,7 +225,7 @@ pub fn allows(alloc: Global, before: &str, given: &str) -> Result<String, Fail> 
 pub fn lawfulness(alloc: Global, given: &str) -> Result<String, Fail> {
     let mut state = changed(alloc, given)?;
     let lawful = state.is_lawful(alloc)?;
-    if lawful != state.judge(alloc)? {
+    if lawful != state.validate(alloc)? {
         return Err("two answers")?;
     }
     Ok(format!(in alloc; "{} {lawful}", state.is_within_limits())?)

@@ -14,22 +14,22 @@ use Rattle.retro_tree.specs.Order.{path_cmp, path_eq, path_total, path_exact, pa
 use Rattle.retro_tree.specs.Path.{PathValue, parent_of, child_name, is_child, passwd}
 use Rattle.retro_tree.specs.Node.{node_of, kind_of, permit_at}
 use Rattle.retro_tree.specs.Tree.{Tree, node_in}
-use Rattle.retro_tree.specs.Session.{fresh_session, session_in}
+use Rattle.retro_tree.specs.Session.{default_session, session_in}
 use Rattle.retro_tree.specs.User.{user_in}
 use Rattle.retro_tree.specs.Cell.{value}
 use Rattle.retro_tree.specs.Ask.{names_in, listing, answer, supports}
 use Rattle.retro_tree.specs.declared.session.Session.{Session}
-use Rattle.retro_tree.specs.declared.node.Entry.{Entry}
-use Rattle.retro_tree.specs.declared.node.Entry.TheVariants.{Dir as DirEntry, File as FileEntry}
+use Rattle.retro_tree.specs.declared.entry.Entry.{Entry}
+use Rattle.retro_tree.specs.declared.entry.Entry.TheVariants.{Dir as DirEntry, File as FileEntry}
 use Rattle.retro_tree.specs.declared.node.Node.{Node}
 use Rattle.retro_tree.specs.declared.node.Node.TheVariants.{Missing, Dir, File}
 use Rattle.retro_tree.specs.declared.cell.Cell.{Cell}
 use Rattle.retro_tree.specs.declared.cell.Cell.TheVariants as cells
-use Rattle.retro_tree.specs.declared.cell.Value.{Value}
-use Rattle.retro_tree.specs.declared.cell.Value.TheVariants as values
+use Rattle.retro_tree.specs.declared.value.Value.{Value}
+use Rattle.retro_tree.specs.declared.value.Value.TheVariants as values
 use Rattle.retro_tree.specs.declared.ask.Ask.{Ask}
 use Rattle.retro_tree.specs.declared.ask.Ask.TheVariants as asks
-use Rattle.retro_tree.specs.declared.ask.Answer.TheVariants as answers
+use Rattle.retro_tree.specs.declared.answer.Answer.TheVariants as answers
 use Rattle.retro_tree.specs.declared.state.State.{State}
 use Rattle.retro_tree.proofs.Small.{and_true, or_first, or_last}
 
@@ -135,6 +135,6 @@ unfolding value
 same_state s t h there =
     let tree = same_map path_total path_exact s.tree t.tree (λ q. same_get s.tree t.tree q (ap node_held (h (cells.At q)))) in
     let sessions = same_map nat_cmp_total nat_cmp-IsAntisymmetric s.sessions t.sessions (λ sid.
-    same_option (map.get s.sessions sid) (map.get t.sessions sid) fresh_session (there sid)
+    same_option (map.get s.sessions sid) (map.get t.sessions sid) default_session (there sid)
     (same_session (session_in sid s.sessions) (session_in sid t.sessions) (ap cwd_held (h (cells.Cwd sid))) (λ q. ap text_held (h (cells.Var sid q))) (ap status_held (h (cells.Status sid))))) in
     λ i. record { tree = tree i; sessions = sessions i }

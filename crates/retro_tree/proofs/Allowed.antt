@@ -8,12 +8,12 @@ use Rattle.retro_tree.specs.Order.{text_total}
 use Rattle.retro_tree.specs.Maps.{update}
 use Rattle.retro_tree.specs.Node.{grown, is_dir}
 use Rattle.retro_tree.specs.Tree.{node_in}
-use Rattle.retro_tree.specs.Session.{fresh_session, session_in, with_var, with_status}
+use Rattle.retro_tree.specs.Session.{default_session, session_in, with_var, with_status}
 use Rattle.retro_tree.specs.Limits.{IsLawfulSession, AreLawfulSessions}
 use Rattle.retro_tree.specs.Lawful.{IsLawful}
 use Rattle.retro_tree.specs.Change.{apply, has_its_session, grows_dir, may_make, IsLawfulChange}
 use Rattle.retro_tree.specs.declared.session.Session.{Session}
-use Rattle.retro_tree.specs.declared.session.Setting.TheVariants.{Var, Cwd, Status}
+use Rattle.retro_tree.specs.declared.setting.Setting.TheVariants.{Var, Cwd, Status}
 use Rattle.retro_tree.specs.declared.change.Change.{Change}
 use Rattle.retro_tree.specs.declared.change.Change.TheVariants as changes
 use Rattle.retro_tree.specs.declared.state.State.{State}
@@ -43,7 +43,7 @@ pub sound : (c : Change) (s : State) → IsLawful s → has_its_session c s ≡ 
 sound c s l there may = record { growth = no_growth c s may; session = there; after = kept c s l may }
 
 -- the session of a change that left lawful sessions
-changed_session : (m : map.FinMap nat_cmp Session) (sid : ℕ) (f : Session → Session) → AreLawfulSessions (update m sid fresh_session f) → IsLawfulSession (f (session_in sid m))
+changed_session : (m : map.FinMap nat_cmp Session) (sid : ℕ) (f : Session → Session) → AreLawfulSessions (update m sid default_session f) → IsLawfulSession (f (session_in sid m))
 unfolding AreLawfulSessions
 changed_session m sid f l = l sid (f (session_in sid m)) (get_inserted nat_cmp_total m sid (f (session_in sid m)))
 

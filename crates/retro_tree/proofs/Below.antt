@@ -12,7 +12,7 @@ use Rattle.retro_tree.specs.Node.{file_limit, is_dir, node_of}
 use Rattle.retro_tree.specs.Tree.{Tree, node_in, has_child}
 use Rattle.retro_tree.specs.Lawful.{law_at, IsLawfulTree}
 use Rattle.retro_tree.specs.Ask.{names_in}
-use Rattle.retro_tree.specs.declared.node.Entry.{Entry}
+use Rattle.retro_tree.specs.declared.entry.Entry.{Entry}
 use Rattle.retro_tree.specs.declared.node.Node.{Node}
 use Rattle.retro_tree.specs.declared.node.Node.TheVariants.{Missing, Dir, File}
 use Rattle.retro_tree.proofs.Small.{some_same, none_some, same_text}

@@ -7,13 +7,13 @@ use Rattle.retro_tree.specs.Order.{text_total, text_exact}
 use Rattle.retro_tree.specs.Maps.{update}
 use Rattle.retro_tree.specs.Node.{grown}
 use Rattle.retro_tree.specs.Tree.{node_in}
-use Rattle.retro_tree.specs.Session.{fresh_session, session_in, with_var, with_cwd, with_status}
+use Rattle.retro_tree.specs.Session.{default_session, session_in, with_var, with_cwd, with_status}
 use Rattle.retro_tree.specs.Cell.{value}
 use Rattle.retro_tree.specs.Change.{apply, cell_of, written}
 use Rattle.retro_tree.specs.declared.session.Session.{Session}
 use Rattle.retro_tree.specs.declared.cell.Cell.{Cell}
 use Rattle.retro_tree.specs.declared.cell.Cell.TheVariants as cells
-use Rattle.retro_tree.specs.declared.cell.Value.TheVariants as values
+use Rattle.retro_tree.specs.declared.value.Value.TheVariants as values
 use Rattle.retro_tree.specs.declared.change.Change.{Change}
 use Rattle.retro_tree.specs.declared.change.Change.TheVariants as changes
 use Rattle.retro_tree.specs.declared.state.State.{State}
@@ -30,17 +30,17 @@ value_changed (changes.SetCwd sid p) s = ap (λ (t : Session). values.Cwd t.cwd)
 value_changed (changes.SetStatus sid status) s = ap (λ (t : Session). values.Status t.status) (session_updated s.sessions sid (with_status status))
 
 -- a field of a session that the update leaves alone
-pub kept : {A : Type 0} (read : Session → A) (m : FinMap nat_cmp Session) (sid other : ℕ) (f : Session → Session) → ((t : Session) → read (f t) ≡ read t) → read (session_in other (update m sid fresh_session f)) ≡ read (session_in other m)
+pub kept : {A : Type 0} (read : Session → A) (m : FinMap nat_cmp Session) (sid other : ℕ) (f : Session → Session) → ((t : Session) → read (f t) ≡ read t) → read (session_in other (update m sid default_session f)) ≡ read (session_in other m)
 kept read m sid other f same =
     ⊎_elim
-    (λ e. ap (λ k. read (session_in k (update m sid fresh_session f))) e ∙ ap read (session_updated m sid f) ∙ same _ ∙ ap (λ k. read (session_in k m)) (sym e))
+    (λ e. ap (λ k. read (session_in k (update m sid default_session f))) e ∙ ap read (session_updated m sid f) ∙ same _ ∙ ap (λ k. read (session_in k m)) (sym e))
     (λ ne. ap read (session_updated_apart m sid other f ne))
     (cases_eq other sid)
 
-var_kept : (m : FinMap nat_cmp Session) (sid other : ℕ) (name q text : List ℕ) → (other ≡ sid → q ≢ name) → map.get (session_in other (update m sid fresh_session (with_var name text))).vars q ≡ map.get (session_in other m).vars q
+var_kept : (m : FinMap nat_cmp Session) (sid other : ℕ) (name q text : List ℕ) → (other ≡ sid → q ≢ name) → map.get (session_in other (update m sid default_session (with_var name text))).vars q ≡ map.get (session_in other m).vars q
 var_kept m sid other name q text h =
     ⊎_elim
-    (λ e. ap (λ k. map.get (session_in k (update m sid fresh_session (with_var name text))).vars q) e ∙ ap (λ (t : Session). map.get t.vars q) (session_updated m sid (with_var name text))
+    (λ e. ap (λ k. map.get (session_in k (update m sid default_session (with_var name text))).vars q) e ∙ ap (λ (t : Session). map.get t.vars q) (session_updated m sid (with_var name text))
     ∙ get_inserted_apart text_total text_exact (session_in sid m).vars name text q (h e) ∙ ap (λ k. map.get (session_in k m).vars q) (sym e))
     (λ ne. ap (λ (t : Session). map.get t.vars q) (session_updated_apart m sid other (with_var name text) ne))
     (cases_eq other sid)

@@ -14,11 +14,11 @@ use Rattle.std.specs.FinMap.Entries.{find, is_sorted, below_all, same_entries, i
 use Rattle.std.proofs.lemmas.Bool.{true≢false, false≢true}
 use Rattle.retro_tree.specs.Order.{path_cmp, path_exact, text_cmp, text_eq, text_total, text_exact, text_ties}
 use Rattle.retro_tree.specs.Path.{PathValue, below, only_name, child_name}
-use Rattle.retro_tree.specs.Node.{node_of, is_there}
+use Rattle.retro_tree.specs.Node.{node_of, is_present}
 use Rattle.retro_tree.specs.Tree.{Tree, node_in}
 use Rattle.retro_tree.specs.Ask.{names_in}
-use Rattle.retro_tree.specs.declared.node.Entry.{Entry}
-use Rattle.retro_tree.specs.declared.node.Entry.TheVariants.{Dir as DirEntry, File as FileEntry}
+use Rattle.retro_tree.specs.declared.entry.Entry.{Entry}
+use Rattle.retro_tree.specs.declared.entry.Entry.TheVariants.{Dir as DirEntry, File as FileEntry}
 use Rattle.retro_tree.proofs.Small.{tied, less, both_fst, both_snd, some_same, none_some, same_text}
 use Rattle.retro_tree.proofs.MapLemmas.{in_order}
 
@@ -119,17 +119,17 @@ same_names ns ms h k same =
     ∙ keys_keyed ms
 
 -- ---- what is there
-there_of : (x : Option Entry) → is_there (node_of x) ≡ is_some x
+there_of : (x : Option Entry) → is_present (node_of x) ≡ is_some x
 there_of None = refl
 there_of (Some DirEntry) = refl
 there_of (Some (FileEntry bytes)) = refl
 
-pub there_in : (q : PathValue) (t : Tree) → is_there (node_in q t) ≡ is_some (finmap.get t q)
+pub there_in : (q : PathValue) (t : Tree) → is_present (node_in q t) ≡ is_some (finmap.get t q)
 unfolding node_in
 there_in q t = there_of (finmap.get t q)
 
 -- directories with the same children have the same names
-pub same_children : (p : PathValue) (a b : Tree) → ((n : List ℕ) → is_there (node_in (p ++ n ∷ []) a) ≡ is_there (node_in (p ++ n ∷ []) b)) → names_in p a ≡ names_in p b
+pub same_children : (p : PathValue) (a b : Tree) → ((n : List ℕ) → is_present (node_in (p ++ n ∷ []) a) ≡ is_present (node_in (p ++ n ∷ []) b)) → names_in p a ≡ names_in p b
 same_children p a b h = same_names _ _ (names_rise p a) (names_rise p b) (λ n. names_listed p n a ∙ sym (there_in _ a) ∙ h n ∙ there_in _ b ∙ sym (names_listed p n b))
 
 pub ruleset listings = (names_rise, names_listed)

@@ -1,54 +1,54 @@
 -- Exact overlays: they follow both states from line to line, and make the repaired state.
-use Rattle.std.proofs.Common.{◌≡◌, ◌≢◌, ℕ, Bool, true, false, not, ◌&&◌, ◌||◌, List, [], ◌∷◌, Option, Some, None, refl, sym, ap, subst, ◌∙◌, nat_cmp}
+use Rattle.std.proofs.Common.{◌≡◌, ◌≢◌, ℕ, Bool, true, false, not, ◌||◌, List, Option, Some, None, refl, sym, ap, subst, ◌∙◌, nat_cmp}
 use Rattle.std.specs.Option.{is_some, unwrap_or}
 use Rattle.std.specs.Ordering.{eq_by_cmp}
-use Rattle.std.specs.List.{list_any, list_all}
+use Rattle.std.specs.List.{list_any}
 use Rattle.std.specs.FinMap as map
 use Rattle.std.proofs.lemmas.Bool.{true≢false, false≢true}
 use Rattle.retro_tree.specs.CellOrder.{cell_total, cell_exact}
 use Rattle.retro_tree.specs.Cell.{value}
-use Rattle.retro_tree.specs.Session.{session_in, fresh_session}
+use Rattle.retro_tree.specs.Session.{session_in, default_session}
 use Rattle.retro_tree.specs.State.{SameSessions}
 use Rattle.retro_tree.specs.Notes.{after, changes, effects, AgreeOn}
-use Rattle.retro_tree.specs.Overlay.{Cells, Overlays, Fits, AllValues, shown_at, is_of, is_whole}
+use Rattle.retro_tree.specs.Overlay.{OverlayMap, Overlays, Fits, AllValues, combined_value, fits_cell, is_value}
 use Rattle.retro_tree.specs.Commit.{committed, makes}
 use Rattle.retro_tree.specs.Exact.{IsDifference, IsExact, IsTight}
 use Rattle.retro_tree.specs.declared.cell.Cell.{Cell}
 use Rattle.retro_tree.specs.declared.cell.Cell.TheVariants as cells
-use Rattle.retro_tree.specs.declared.cell.Value.{Value}
-use Rattle.retro_tree.specs.declared.cell.Value.TheVariants as values
+use Rattle.retro_tree.specs.declared.value.Value.{Value}
+use Rattle.retro_tree.specs.declared.value.Value.TheVariants as values
 use Rattle.retro_tree.specs.declared.note.Note.{Note}
-use Rattle.retro_tree.specs.declared.overlay.laid.Laid.{Laid}
-use Rattle.retro_tree.specs.declared.overlay.laid.Laid.TheVariants.{Whole, More}
+use Rattle.retro_tree.specs.declared.overlay_entry.OverlayEntry.{OverlayEntry}
+use Rattle.retro_tree.specs.declared.overlay_entry.OverlayEntry.TheVariants as entries
 use Rattle.retro_tree.specs.declared.session.Session.{Session}
 use Rattle.retro_tree.specs.declared.state.State.{State}
 use Rattle.retro_tree.proofs.Entries.{all_tested}
 use Rattle.retro_tree.proofs.PutCells.{state_shown}
 use Rattle.retro_tree.proofs.NoteLaws.{value_after, value_unchanged, touched_where_changed}
-use Rattle.retro_tree.proofs.KeptSessions.{same_key}
+use Rattle.retro_tree.proofs.KeptSessions.{same_key, any_of_none}
 
 -- ---- entries
-laid_shown : (o : Option Laid) (was now : Value) → IsDifference o was now → now ≡ shown_at o was
+laid_shown : (o : Option OverlayEntry) (was now : Value) → IsDifference o was now → now ≡ combined_value o was
 laid_shown None was now h = sym h
-laid_shown (Some (Whole v)) was now h = sym h.0
-laid_shown (Some (More bytes)) was now h = absurd h
+laid_shown (Some (entries.Value v)) was now h = sym h.0
+laid_shown (Some (entries.Growth bytes)) was now h = absurd h
 
-pub exact_shows : (laid : Cells) (s t : State) → IsExact laid s t → Overlays laid s t
-exact_shows laid s t h c = laid_shown (map.get laid c) (value c s) (value c t) (h c)
+pub exact_shows : (overlay : OverlayMap) (s t : State) → IsExact overlay s t → Overlays overlay s t
+exact_shows overlay s t h c = laid_shown (map.get overlay c) (value c s) (value c t) (h c)
 
-pub exact_tight : (laid : Cells) (s t : State) → IsExact laid s t → IsTight laid s
-exact_tight laid s t h c = subst (IsDifference (map.get laid c) (value c s)) (exact_shows laid s t h c) (h c)
+pub exact_tight : (overlay : OverlayMap) (s t : State) → IsExact overlay s t → IsTight overlay s
+exact_tight overlay s t h c = subst (IsDifference (map.get overlay c) (value c s)) (exact_shows overlay s t h c) (h c)
 
-pub tight_exact : (laid : Cells) (s t : State) → IsTight laid s → Overlays laid s t → IsExact laid s t
-tight_exact laid s t h o c = subst (IsDifference (map.get laid c) (value c s)) (sym (o c)) (h c)
+pub tight_exact : (overlay : OverlayMap) (s t : State) → IsTight overlay s → Overlays overlay s t → IsExact overlay s t
+tight_exact overlay s t h o c = subst (IsDifference (map.get overlay c) (value c s)) (sym (o c)) (h c)
 
-laid_same : (o : Option Laid) (was now a b : Value) → IsDifference o was now → was ≡ now → a ≡ b → IsDifference o a b
+laid_same : (o : Option OverlayEntry) (was now a b : Value) → IsDifference o was now → was ≡ now → a ≡ b → IsDifference o a b
 laid_same None was now a b h e f = f
-laid_same (Some (Whole v)) was now a b h e f = absurd (h.1 e)
-laid_same (Some (More bytes)) was now a b h e f = h
+laid_same (Some (entries.Value v)) was now a b h e f = absurd (h.1 e)
+laid_same (Some (entries.Growth bytes)) was now a b h e f = h
 
 -- ---- a line: the entries of the cells that either list of notes changes are set, and no other
-pub step_exact : (old new : Cells) (s t : State) (ns ms : List Note) → IsExact old s t
+pub step_exact : (old new : OverlayMap) (s t : State) (ns ms : List Note) → IsExact old s t
     → ((c : Cell) → (changes ns c || changes ms c) ≡ true → IsDifference (map.get new c) (value c (after ns s)) (value c (after ms t)))
     → ((c : Cell) → (changes ns c || changes ms c) ≡ false → map.get new c ≡ map.get old c)
     → IsExact new (after ns s) (after ms t)
@@ -63,121 +63,113 @@ step_exact old new s t ns ms h wrote kept c = go (changes ns c) (changes ms c) r
         (subst (λ v. IsDifference (map.get old c) (value c s) v) (sym (value_unchanged ms c t f)) (h c)))
 
 -- a line whose cells agree, and that is kept, leaves the overlay
-pub unmet_step : (laid : Cells) (s t : State) (ns : List Note) → IsExact laid s t → AgreeOn ns s t → IsExact laid (after ns s) (after ns t)
-unmet_step laid s t ns h u c = go (changes ns c) refl
+pub unmet_step : (overlay : OverlayMap) (s t : State) (ns : List Note) → IsExact overlay s t → AgreeOn ns s t → IsExact overlay (after ns s) (after ns t)
+unmet_step overlay s t ns h u c = go (changes ns c) refl
   where
-    go : (b : Bool) → changes ns c ≡ b → IsDifference (map.get laid c) (value c (after ns s)) (value c (after ns t))
+    go : (b : Bool) → changes ns c ≡ b → IsDifference (map.get overlay c) (value c (after ns s)) (value c (after ns t))
     go true e =
         let same = u c (touched_where_changed ns c e) in
-        laid_same (map.get laid c) (value c s) (value c t) _ _ (h c) same (value_after ns c s ∙ ap (effects ns c) same ∙ sym (value_after ns c t))
+        laid_same (map.get overlay c) (value c s) (value c t) _ _ (h c) same (value_after ns c s ∙ ap (effects ns c) same ∙ sym (value_after ns c t))
     go false e =
-        subst (λ v. IsDifference (map.get laid c) v (value c (after ns t))) (sym (value_unchanged ns c s e))
-        (subst (λ v. IsDifference (map.get laid c) (value c s) v) (sym (value_unchanged ns c t e)) (h c))
+        subst (λ v. IsDifference (map.get overlay c) v (value c (after ns t))) (sym (value_unchanged ns c s e))
+        (subst (λ v. IsDifference (map.get overlay c) (value c s) v) (sym (value_unchanged ns c t e)) (h c))
 
 -- every entry of a tight overlay, and so of an exact one, is a value
-pub tight_values : (laid : Cells) (s : State) → IsTight laid s → AllValues laid
+pub tight_values : (overlay : OverlayMap) (s : State) → IsTight overlay s → AllValues overlay
 unfolding AllValues
-tight_values laid s h c l is = go l (subst (λ o. IsDifference o (value c s) (shown_at o (value c s))) is (h c))
+tight_values overlay s h c l is = go l (subst (λ o. IsDifference o (value c s) (combined_value o (value c s))) is (h c))
   where
-    go : (l : Laid) → IsDifference (Some l) (value c s) (shown_at (Some l) (value c s)) → is_whole l ≡ true
-    go (Whole v) k = refl
-    go (More bytes) k = absurd k
+    go : (l : OverlayEntry) → IsDifference (Some l) (value c s) (combined_value (Some l) (value c s)) → is_value l ≡ true
+    go (entries.Value v) k = refl
+    go (entries.Growth bytes) k = absurd k
 
 -- both states change in the same way, in cells that have no entry
-pub apart_exact : (laid : Cells) (s t : State) (ns : List Note) → IsExact laid s t → ((c : Cell) → changes ns c ≡ true → map.contains_key laid c ≡ false) → IsExact laid (after ns s) (after ns t)
-apart_exact laid s t ns h apart c = go (changes ns c) refl
+pub apart_exact : (overlay : OverlayMap) (s t : State) (ns : List Note) → IsExact overlay s t → ((c : Cell) → changes ns c ≡ true → map.contains_key overlay c ≡ false) → IsExact overlay (after ns s) (after ns t)
+apart_exact overlay s t ns h apart c = go (changes ns c) refl
   where
-    none : (o : Option Laid) → is_some o ≡ false → IsDifference o (value c s) (value c t) → value c s ≡ value c t
+    none : (o : Option OverlayEntry) → is_some o ≡ false → IsDifference o (value c s) (value c t) → value c s ≡ value c t
     none None e k = k
     none (Some l) e k = absurd (true≢false e)
 
-    go : (b : Bool) → changes ns c ≡ b → IsDifference (map.get laid c) (value c (after ns s)) (value c (after ns t))
+    go : (b : Bool) → changes ns c ≡ b → IsDifference (map.get overlay c) (value c (after ns s)) (value c (after ns t))
     go true e =
-        let same = none (map.get laid c) (apart c e) (h c) in
-        laid_same (map.get laid c) (value c s) (value c t) _ _ (h c) same (value_after ns c s ∙ ap (effects ns c) same ∙ sym (value_after ns c t))
+        let same = none (map.get overlay c) (apart c e) (h c) in
+        laid_same (map.get overlay c) (value c s) (value c t) _ _ (h c) same (value_after ns c s ∙ ap (effects ns c) same ∙ sym (value_after ns c t))
     go false e =
-        subst (λ v. IsDifference (map.get laid c) v (value c (after ns t))) (sym (value_unchanged ns c s e))
-        (subst (λ v. IsDifference (map.get laid c) (value c s) v) (sym (value_unchanged ns c t e)) (h c))
+        subst (λ v. IsDifference (map.get overlay c) v (value c (after ns t))) (sym (value_unchanged ns c s e))
+        (subst (λ v. IsDifference (map.get overlay c) (value c s) v) (sym (value_unchanged ns c t e)) (h c))
 
 -- ---- kinds
-value_fits : (c : Cell) (s : State) → is_of c (Whole (value c s)) ≡ true
+value_fits : (c : Cell) (s : State) → fits_cell c (entries.Value (value c s)) ≡ true
 unfolding value
 value_fits (cells.At p) s = refl
 value_fits (cells.Cwd sid) s = refl
 value_fits (cells.Var sid name) s = refl
 value_fits (cells.Status sid) s = refl
 
-pub exact_fits : (laid : Cells) (s t : State) → IsExact laid s t → Fits laid
+pub exact_fits : (overlay : OverlayMap) (s t : State) → IsExact overlay s t → Fits overlay
 unfolding Fits
-exact_fits laid s t h c l is = go l (subst (λ o. IsDifference o (value c s) (value c t)) is (h c))
+exact_fits overlay s t h c l is = go l (subst (λ o. IsDifference o (value c s) (value c t)) is (h c))
   where
-    go : (l : Laid) → IsDifference (Some l) (value c s) (value c t) → is_of c l ≡ true
-    go (Whole v) k = ap (λ x. is_of c (Whole x)) k.0 ∙ value_fits c t
-    go (More bytes) k = absurd k
+    go : (l : OverlayEntry) → IsDifference (Some l) (value c s) (value c t) → fits_cell c l ≡ true
+    go (entries.Value v) k = ap (λ x. fits_cell c (entries.Value x)) k.0 ∙ value_fits c t
+    go (entries.Growth bytes) k = absurd k
 
 -- ---- the session of a cell
 moved : (k sid : ℕ) (s t : State) → eq_by_cmp nat_cmp k sid ≡ true → session_in k s.sessions ≡ session_in k t.sessions → session_in sid s.sessions ≡ session_in sid t.sessions
 moved k sid s t e same = subst (λ n. session_in n s.sessions ≡ session_in n t.sessions) (same_key k sid e) same
 
-makes_own : (k : ℕ) (c : Cell) (l : Laid) (s t : State) → makes k c l ≡ true → session_in k s.sessions ≡ session_in k t.sessions → value c s ≡ value c t
+makes_own : (k : ℕ) (c : Cell) (l : OverlayEntry) (s t : State) → makes k c l ≡ true → session_in k s.sessions ≡ session_in k t.sessions → value c s ≡ value c t
 unfolding value
 makes_own k (cells.At p) l s t e same = absurd (false≢true e)
-makes_own k (cells.Cwd sid) (Whole (values.Cwd p)) s t e same = ap (λ (x : Session). values.Cwd x.cwd) (moved k sid s t e same)
-makes_own k (cells.Cwd sid) (Whole (values.Node n)) s t e same = absurd (false≢true e)
-makes_own k (cells.Cwd sid) (Whole (values.Text x)) s t e same = absurd (false≢true e)
-makes_own k (cells.Cwd sid) (Whole (values.Status n)) s t e same = absurd (false≢true e)
-makes_own k (cells.Cwd sid) (More bytes) s t e same = absurd (false≢true e)
-makes_own k (cells.Var sid name) (Whole (values.Cwd p)) s t e same = absurd (false≢true e)
-makes_own k (cells.Var sid name) (Whole (values.Node n)) s t e same = absurd (false≢true e)
-makes_own k (cells.Var sid name) (Whole (values.Text None)) s t e same = absurd (false≢true e)
-makes_own k (cells.Var sid name) (Whole (values.Text (Some x))) s t e same = ap (λ (y : Session). values.Text (map.get y.vars name)) (moved k sid s t e same)
-makes_own k (cells.Var sid name) (Whole (values.Status n)) s t e same = absurd (false≢true e)
-makes_own k (cells.Var sid name) (More bytes) s t e same = absurd (false≢true e)
-makes_own k (cells.Status sid) (Whole (values.Cwd p)) s t e same = absurd (false≢true e)
-makes_own k (cells.Status sid) (Whole (values.Node n)) s t e same = absurd (false≢true e)
-makes_own k (cells.Status sid) (Whole (values.Text x)) s t e same = absurd (false≢true e)
-makes_own k (cells.Status sid) (Whole (values.Status n)) s t e same = ap (λ (x : Session). values.Status x.status) (moved k sid s t e same)
-makes_own k (cells.Status sid) (More bytes) s t e same = absurd (false≢true e)
+makes_own k (cells.Cwd sid) (entries.Value (values.Cwd p)) s t e same = ap (λ (x : Session). values.Cwd x.cwd) (moved k sid s t e same)
+makes_own k (cells.Cwd sid) (entries.Value (values.Node n)) s t e same = absurd (false≢true e)
+makes_own k (cells.Cwd sid) (entries.Value (values.Text x)) s t e same = absurd (false≢true e)
+makes_own k (cells.Cwd sid) (entries.Value (values.Status n)) s t e same = absurd (false≢true e)
+makes_own k (cells.Cwd sid) (entries.Growth bytes) s t e same = absurd (false≢true e)
+makes_own k (cells.Var sid name) (entries.Value (values.Cwd p)) s t e same = absurd (false≢true e)
+makes_own k (cells.Var sid name) (entries.Value (values.Node n)) s t e same = absurd (false≢true e)
+makes_own k (cells.Var sid name) (entries.Value (values.Text None)) s t e same = absurd (false≢true e)
+makes_own k (cells.Var sid name) (entries.Value (values.Text (Some x))) s t e same = ap (λ (y : Session). values.Text (map.get y.vars name)) (moved k sid s t e same)
+makes_own k (cells.Var sid name) (entries.Value (values.Status n)) s t e same = absurd (false≢true e)
+makes_own k (cells.Var sid name) (entries.Growth bytes) s t e same = absurd (false≢true e)
+makes_own k (cells.Status sid) (entries.Value (values.Cwd p)) s t e same = absurd (false≢true e)
+makes_own k (cells.Status sid) (entries.Value (values.Node n)) s t e same = absurd (false≢true e)
+makes_own k (cells.Status sid) (entries.Value (values.Text x)) s t e same = absurd (false≢true e)
+makes_own k (cells.Status sid) (entries.Value (values.Status n)) s t e same = ap (λ (x : Session). values.Status x.status) (moved k sid s t e same)
+makes_own k (cells.Status sid) (entries.Growth bytes) s t e same = absurd (false≢true e)
 
-fresh : (o : Option Session) → is_some o ≡ false → unwrap_or o fresh_session ≡ fresh_session
+fresh : (o : Option Session) → is_some o ≡ false → unwrap_or o default_session ≡ default_session
 fresh None e = refl
 fresh (Some x) e = absurd (true≢false e)
 
-none_makes : (laid : Cells) (s t : State) (k : ℕ) → IsExact laid s t → session_in k s.sessions ≡ session_in k t.sessions → (c : Cell) (l : Laid) → map.get laid c ≡ Some l → not (makes k c l) ≡ true
-none_makes laid s t k h same c l is = go (makes k c l) refl
+none_makes : (overlay : OverlayMap) (s t : State) (k : ℕ) → IsExact overlay s t → session_in k s.sessions ≡ session_in k t.sessions → (c : Cell) (l : OverlayEntry) → map.get overlay c ≡ Some l → not (makes k c l) ≡ true
+none_makes overlay s t k h same c l is = go (makes k c l) refl
   where
-    differs : (x : Laid) → IsDifference (Some x) (value c s) (value c t) → value c s ≢ value c t
-    differs (Whole v) i = i.1
-    differs (More bytes) i = absurd i
+    differs : (x : OverlayEntry) → IsDifference (Some x) (value c s) (value c t) → value c s ≢ value c t
+    differs (entries.Value v) i = i.1
+    differs (entries.Growth bytes) i = absurd i
 
     go : (b : Bool) → makes k c l ≡ b → not b ≡ true
     go true e = absurd (differs l (subst (λ o. IsDifference o (value c s) (value c t)) is (h c)) (makes_own k c l s t e same))
     go false e = refl
 
-any_of_none : (p : Cell × Laid → Bool) (es : List (Cell × Laid)) → list_all (λ e. not (p e)) es ≡ true → list_any p es ≡ false
-any_of_none p [] h = refl
-any_of_none p (e ∷ es) h = go (p e) refl h (any_of_none p es)
-  where
-    go : (b : Bool) → p e ≡ b → (not b && list_all (λ d. not (p d)) es) ≡ true → (list_all (λ d. not (p d)) es ≡ true → list_any p es ≡ false) → (b || list_any p es) ≡ false
-    go true i k more = absurd (false≢true k)
-    go false i k more = more k
-
-pub exact_state : (laid : Cells) (s t : State) → IsExact laid s t → SameSessions s t → committed laid s ≡ t
-exact_state laid s t h same = state_shown laid s t (exact_shows laid s t h) (λ k. sym (same k) ∙ go k (map.contains_key s.sessions k) refl)
+pub exact_state : (overlay : OverlayMap) (s t : State) → IsExact overlay s t → SameSessions s t → committed overlay s ≡ t
+exact_state overlay s t h same = state_shown overlay s t (exact_shows overlay s t h) (λ k. sym (same k) ∙ go k (map.contains_key s.sessions k) refl)
   where
     made : ℕ → Bool
-    made k = list_any (λ e. makes k e.0 e.1) (map.entries laid)
+    made k = list_any (λ e. makes k e.0 e.1) (map.entries overlay)
 
-    go : (k : ℕ) (b : Bool) → map.contains_key s.sessions k ≡ b → map.contains_key s.sessions k ≡ (list_any (λ e. makes k e.0 e.1) (map.entries laid) || map.contains_key s.sessions k)
-    go k true e = e ∙ sym (or_true (list_any (λ e. makes k e.0 e.1) (map.entries laid)) _ e)
+    go : (k : ℕ) (b : Bool) → map.contains_key s.sessions k ≡ b → map.contains_key s.sessions k ≡ (list_any (λ e. makes k e.0 e.1) (map.entries overlay) || map.contains_key s.sessions k)
+    go k true e = e ∙ sym (or_true (list_any (λ e. makes k e.0 e.1) (map.entries overlay)) _ e)
       where
         or_true : (x y : Bool) → y ≡ true → (x || y) ≡ true
         or_true true y i = refl
         or_true false y i = i
     go k false e =
         let both = fresh (map.get s.sessions k) e ∙ sym (fresh (map.get t.sessions k) (sym (same k) ∙ e)) in
-        sym (ap (λ b. b || map.contains_key s.sessions k) (any_of_none (λ e. makes k e.0 e.1) (map.entries laid)
-        (all_tested cell_total cell_exact (λ e. not (makes k e.0 e.1)) laid (none_makes laid s t k h both))))
+        sym (ap (λ b. b || map.contains_key s.sessions k) (any_of_none (λ e. makes k e.0 e.1) (map.entries overlay)
+        (all_tested cell_total cell_exact (λ e. not (makes k e.0 e.1)) overlay (none_makes overlay s t k h both))))
 
 pub ruleset exactness = (exact_shows, exact_tight, tight_exact, tight_values)
 

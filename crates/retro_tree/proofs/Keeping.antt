@@ -11,22 +11,21 @@ use Rattle.retro_tree.specs.Order.{text_cmp, text_total, text_exact}
 use Rattle.retro_tree.specs.Name.{AllNames}
 use Rattle.retro_tree.specs.Path.{PathValue, is_null}
 use Rattle.retro_tree.specs.Node.{file_limit}
-use Rattle.retro_tree.specs.Session.{fresh_session, session_in, value_limit}
+use Rattle.retro_tree.specs.Session.{default_session, session_in, value_limit, unset, without_var}
 use Rattle.retro_tree.specs.Setting.{with_setting, setting_fits}
-use Rattle.retro_tree.specs.Former.{unset, without_var}
 use Rattle.retro_tree.specs.State.{put_node, grow_file, put_status, permit_of}
 use Rattle.retro_tree.specs.Limits.{IsLawfulSession, AreLawfulSessions, values_fit}
 use Rattle.retro_tree.specs.Lawful.{IsLawful}
 use Rattle.retro_tree.specs.declared.node.Node.TheVariants.{File}
-use Rattle.retro_tree.specs.declared.node.Permit.TheVariants.{Yes}
+use Rattle.retro_tree.specs.declared.permit.Permit.TheVariants.{Yes}
 use Rattle.retro_tree.specs.declared.session.Session.{Session}
-use Rattle.retro_tree.specs.declared.session.Setting.{Setting}
-use Rattle.retro_tree.specs.declared.session.Setting.TheVariants.{Var, Cwd, Status}
+use Rattle.retro_tree.specs.declared.setting.Setting.{Setting}
+use Rattle.retro_tree.specs.declared.setting.Setting.TheVariants.{Var, Cwd, Status}
 use Rattle.retro_tree.specs.declared.state.State.{State}
 use Rattle.retro_tree.proofs.Small.{some_same, none_some, first_true, both_true}
 use Rattle.retro_tree.proofs.Lookups.{one_or_two, get_inserted, get_inserted_apart, get_removed, get_removed_apart}
 use Rattle.retro_tree.proofs.WholeLaw.{values_from_test}
-use Rattle.retro_tree.proofs.Standing.{file_stands, growth_stands}
+use Rattle.retro_tree.proofs.FilesAllowed.{file_stands, growth_stands}
 
 -- ---- files
 pub lawful_file : (p : PathValue) (bytes : List ℕ) (n : ℕ) (s : State) → IsLawful s → AllNames p → is_null p ≡ false → permit_of p n s ≡ Yes → length bytes ≤ file_limit → IsLawful (put_node p (File bytes) s)
@@ -39,16 +38,16 @@ pub lawful_growth : (p : PathValue) (bytes : List ℕ) (s : State) → IsLawful 
 lawful_growth p bytes s l names apart may = record { tree = growth_stands p bytes s.tree l.tree names apart may; sessions = l.sessions }
 
 -- ---- sessions
-fresh_is_lawful : IsLawfulSession fresh_session
-unfolding fresh_session
-fresh_is_lawful = record { status = omega arith; values = λ name value is. absurd (none_some value (sym (map.get-empty text_cmp name) ∙ is)) }
+default_is_lawful : IsLawfulSession default_session
+unfolding default_session
+default_is_lawful = record { status = omega arith; values = λ name value is. absurd (none_some value (sym (map.get-empty text_cmp name) ∙ is)) }
 
 pub session_is_lawful : (m : map.FinMap nat_cmp Session) (sid : ℕ) → AreLawfulSessions m → IsLawfulSession (session_in sid m)
 unfolding AreLawfulSessions
 session_is_lawful m sid l = go (map.get m sid) refl
   where
-    go : (o : Option Session) → map.get m sid ≡ o → IsLawfulSession (unwrap_or o fresh_session)
-    go None is = fresh_is_lawful
+    go : (o : Option Session) → map.get m sid ≡ o → IsLawfulSession (unwrap_or o default_session)
+    go None is = default_is_lawful
     go (Some t) is = l sid t is
 
 with_lawful_setting : (setting : Setting) (t : Session) → setting_fits setting ≡ true → IsLawfulSession t → IsLawfulSession (with_setting setting t)
@@ -71,7 +70,7 @@ inserted m sid new l fit other t is =
     (λ ne. l other t (sym (get_inserted_apart nat_cmp_total nat_cmp-IsAntisymmetric m sid new other ne) ∙ is))
     (cases_eq other sid)
 
-pub settings : (m : map.FinMap nat_cmp Session) (sid : ℕ) (setting : Setting) → AreLawfulSessions m → setting_fits setting ≡ true → AreLawfulSessions (update m sid fresh_session (with_setting setting))
+pub settings : (m : map.FinMap nat_cmp Session) (sid : ℕ) (setting : Setting) → AreLawfulSessions m → setting_fits setting ≡ true → AreLawfulSessions (update m sid default_session (with_setting setting))
 settings m sid setting l fit = inserted m sid (with_setting setting (session_in sid m)) l (with_lawful_setting setting (session_in sid m) fit (session_is_lawful m sid l))
 
 pub added : (m : map.FinMap nat_cmp Session) (sid : ℕ) (new : Session) → AreLawfulSessions m → (nat_le new.status 255 && values_fit new.vars) ≡ true → AreLawfulSessions (map.insert m sid new)

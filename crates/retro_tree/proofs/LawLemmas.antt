@@ -13,8 +13,8 @@ use Rattle.retro_tree.specs.Path.{PathValue, below, only_name, parent_of, is_chi
 use Rattle.retro_tree.specs.Node.{node_of, grown, is_dir}
 use Rattle.retro_tree.specs.Tree.{Tree, node_in, put, has_child}
 use Rattle.retro_tree.specs.Lawful.{law_at, IsLawfulTree, may_put, may_grow}
-use Rattle.retro_tree.specs.declared.node.Entry.{Entry}
-use Rattle.retro_tree.specs.declared.node.Entry.TheVariants.{Dir as DirEntry, File as FileEntry}
+use Rattle.retro_tree.specs.declared.entry.Entry.{Entry}
+use Rattle.retro_tree.specs.declared.entry.Entry.TheVariants.{Dir as DirEntry, File as FileEntry}
 use Rattle.retro_tree.specs.declared.node.Node.{Node}
 use Rattle.retro_tree.specs.declared.node.Node.TheVariants.{Missing, Dir, File}
 use Rattle.retro_tree.proofs.Lookups.{node_put, node_put_apart, one_or_two}

@@ -10,13 +10,13 @@ use Rattle.std.specs.declared.cmp.Ordering.{Ordering}
 use Rattle.std.specs.declared.cmp.Ordering.TheVariants.{Less, Equal, Greater}
 use Rattle.retro_tree.specs.Order.{path_total, path_exact, text_cmp}
 use Rattle.retro_tree.specs.Maps.{update}
-use Rattle.retro_tree.specs.Session.{fresh_session, session_in}
+use Rattle.retro_tree.specs.Session.{default_session, session_in}
 use Rattle.retro_tree.specs.Path.{PathValue}
 use Rattle.retro_tree.specs.Node.{node_of, grown, entry_grown}
 use Rattle.retro_tree.specs.Tree.{Tree, node_in, put}
 use Rattle.retro_tree.specs.declared.session.Session.{Session}
-use Rattle.retro_tree.specs.declared.node.Entry.{Entry}
-use Rattle.retro_tree.specs.declared.node.Entry.TheVariants.{Dir as DirEntry, File as FileEntry}
+use Rattle.retro_tree.specs.declared.entry.Entry.{Entry}
+use Rattle.retro_tree.specs.declared.entry.Entry.TheVariants.{Dir as DirEntry, File as FileEntry}
 use Rattle.retro_tree.specs.declared.node.Node.{Node}
 use Rattle.retro_tree.specs.declared.node.Node.TheVariants.{Missing, Dir, File}
 use Rattle.retro_tree.proofs.Small.{tied}
@@ -66,16 +66,16 @@ node_put_apart p q Dir tree h = ap node_of (get_inserted_apart path_total path_e
 node_put_apart p q (File bytes) tree h = ap node_of (get_inserted_apart path_total path_exact tree p _ q h)
 
 -- ---- sessions
-pub session_updated : (m : FinMap nat_cmp Session) (sid : ℕ) (f : Session → Session) → session_in sid (update m sid fresh_session f) ≡ f (session_in sid m)
-session_updated m sid f = ap (λ o. unwrap_or o fresh_session) (get_inserted nat_cmp_total m sid _)
+pub session_updated : (m : FinMap nat_cmp Session) (sid : ℕ) (f : Session → Session) → session_in sid (update m sid default_session f) ≡ f (session_in sid m)
+session_updated m sid f = ap (λ o. unwrap_or o default_session) (get_inserted nat_cmp_total m sid _)
 
-pub session_updated_apart : (m : FinMap nat_cmp Session) (sid other : ℕ) (f : Session → Session) → other ≢ sid → session_in other (update m sid fresh_session f) ≡ session_in other m
-session_updated_apart m sid other f h = ap (λ o. unwrap_or o fresh_session) (get_inserted_apart nat_cmp_total nat_cmp-IsAntisymmetric m sid _ other h)
+pub session_updated_apart : (m : FinMap nat_cmp Session) (sid other : ℕ) (f : Session → Session) → other ≢ sid → session_in other (update m sid default_session f) ≡ session_in other m
+session_updated_apart m sid other f h = ap (λ o. unwrap_or o default_session) (get_inserted_apart nat_cmp_total nat_cmp-IsAntisymmetric m sid _ other h)
 
 -- a session that isn't there has no variable
 pub var_of_none : (m : FinMap nat_cmp Session) (sid : ℕ) (name : List ℕ) → map.get m sid ≡ None → map.get (session_in sid m).vars name ≡ None
-unfolding fresh_session
-var_of_none m sid name e = ap (λ o. map.get (unwrap_or o fresh_session).vars name) e ∙ map.get-empty text_cmp name
+unfolding default_session
+var_of_none m sid name e = ap (λ o. map.get (unwrap_or o default_session).vars name) e ∙ map.get-empty text_cmp name
 
 -- ---- growth
 pub put_grown : (p : PathValue) (bytes : List ℕ) (e : Entry) (tree : Tree) → map.get tree p ≡ Some e → put p (grown bytes (node_in p tree)) tree ≡ map.insert tree p (entry_grown bytes e)

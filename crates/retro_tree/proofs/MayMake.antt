@@ -17,13 +17,13 @@ use Rattle.retro_tree.specs.declared.change.Change.{Change}
 use Rattle.retro_tree.specs.declared.change.Change.TheVariants as changes
 use Rattle.retro_tree.specs.declared.node.Node.{Node}
 use Rattle.retro_tree.specs.declared.node.Node.TheVariants.{Missing, Dir, File}
-use Rattle.retro_tree.specs.declared.node.Permit.TheVariants as permits
+use Rattle.retro_tree.specs.declared.permit.Permit.TheVariants as permits
 use Rattle.retro_tree.specs.declared.state.State.{State}
 use Rattle.retro_tree.proofs.Small.{and_true, or_last}
 use Rattle.retro_tree.proofs.LawLemmas.{may_put_back, law_after, none_below_file}
-use Rattle.retro_tree.proofs.Standing.{stands_under, permit_no_dir, file_stands, growth_stands}
+use Rattle.retro_tree.proofs.FilesAllowed.{stands_under, permit_no_dir, file_stands, growth_stands}
 use Rattle.retro_tree.proofs.OverlayAnswers.{same_under, over_least}
-use Rattle.retro_tree.proofs.OverlayLasting.{key_changed, sets}
+use Rattle.retro_tree.proofs.CommittedChanges.{key_changed, sets}
 
 -- ---- files
 pub may_put_file : (p : PathValue) (bytes : List ℕ) (n : ℕ) (s : State) → IsLawful s → AllNames p → is_null p ≡ false → permit_of p n s ≡ permits.Yes → length bytes ≤ file_limit → may_make (changes.Put p (File bytes)) s ≡ true

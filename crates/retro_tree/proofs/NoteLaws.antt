@@ -11,7 +11,7 @@ use Rattle.retro_tree.specs.Change.{apply, cell_of, written}
 use Rattle.retro_tree.specs.Lawful.{IsLawful}
 use Rattle.retro_tree.specs.Notes.{after, Holds, AllAllowed, cell_eq, touches, changes, effects}
 use Rattle.retro_tree.specs.declared.cell.Cell.{Cell}
-use Rattle.retro_tree.specs.declared.cell.Value.{Value}
+use Rattle.retro_tree.specs.declared.value.Value.{Value}
 use Rattle.retro_tree.specs.declared.change.Change.{Change}
 use Rattle.retro_tree.specs.declared.note.Note.{Note}
 use Rattle.retro_tree.specs.declared.note.Note.TheVariants.{Asked, Made}

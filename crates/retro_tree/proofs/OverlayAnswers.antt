@@ -7,14 +7,14 @@ use Rattle.retro_tree.specs.Node.{grown, kind_of, kind_grown, file_limit, permit
 use Rattle.retro_tree.specs.Tree.{node_in}
 use Rattle.retro_tree.specs.State.{permit_of}
 use Rattle.retro_tree.specs.Cell.{value}
-use Rattle.retro_tree.specs.Overlay.{Cells, Overlays, shown_at}
+use Rattle.retro_tree.specs.Overlay.{OverlayMap, Overlays, combined_value}
 use Rattle.retro_tree.specs.declared.node.Node.{Node}
 use Rattle.retro_tree.specs.declared.node.Node.TheVariants.{Missing, Dir, File}
-use Rattle.retro_tree.specs.declared.node.Permit.TheVariants.{Yes, TooLarge}
+use Rattle.retro_tree.specs.declared.permit.Permit.TheVariants.{Yes, TooLarge}
 use Rattle.retro_tree.specs.declared.cell.Cell.TheVariants as cells
-use Rattle.retro_tree.specs.declared.cell.Value.{Value}
-use Rattle.retro_tree.specs.declared.cell.Value.TheVariants as values
-use Rattle.retro_tree.specs.declared.overlay.laid.Laid.TheVariants.{Whole, More}
+use Rattle.retro_tree.specs.declared.value.Value.{Value}
+use Rattle.retro_tree.specs.declared.value.Value.TheVariants as values
+use Rattle.retro_tree.specs.declared.overlay_entry.OverlayEntry.TheVariants as entries
 use Rattle.retro_tree.specs.declared.state.State.{State}
 
 pub kind_after : (bytes : List ℕ) (node : Node) → kind_of (grown bytes node) ≡ kind_grown (kind_of node)
@@ -35,7 +35,7 @@ over_least b = grind arith
 over_all : (old bytes : List ℕ) (n : ℕ) → nat_lt file_limit (length old + min (length bytes + n) 4294967295) ≡ nat_lt file_limit (length (old ++ bytes) + n)
 over_all old bytes n = grind (arith, length-append)
 
--- a growth that is laid counts among the bytes that are to be written
+-- a growth that is overlay counts among the bytes that are to be written
 permit_grown : (node parent : Node) (bytes : List ℕ) (n : ℕ) → permit_at node parent (min (length bytes + n) 4294967295) ≡ permit_at (grown bytes node) parent n
 permit_grown Dir parent bytes n = refl
 permit_grown Missing parent bytes n = same_under parent _ _ (over_least (length bytes + n))
@@ -47,25 +47,25 @@ node_held (values.Cwd p) = Missing
 node_held (values.Text t) = Missing
 node_held (values.Status n) = Missing
 
-node_kept : (p : PathValue) (laid : Cells) (below now : State) → Overlays laid below now → map.get laid (cells.At p) ≡ None → node_in p now.tree ≡ node_in p below.tree
+node_kept : (p : PathValue) (overlay : OverlayMap) (below now : State) → Overlays overlay below now → map.get overlay (cells.At p) ≡ None → node_in p now.tree ≡ node_in p below.tree
 unfolding value
-node_kept p laid below now h none = ap node_held (h (cells.At p) ∙ ap (λ x. shown_at x (value (cells.At p) below)) none)
+node_kept p overlay below now h none = ap node_held (h (cells.At p) ∙ ap (λ x. combined_value x (value (cells.At p) below)) none)
 
-node_more : (p : PathValue) (bytes : List ℕ) (laid : Cells) (below now : State) → Overlays laid below now → map.get laid (cells.At p) ≡ Some (More bytes) → node_in p now.tree ≡ grown bytes (node_in p below.tree)
+node_more : (p : PathValue) (bytes : List ℕ) (overlay : OverlayMap) (below now : State) → Overlays overlay below now → map.get overlay (cells.At p) ≡ Some (entries.Growth bytes) → node_in p now.tree ≡ grown bytes (node_in p below.tree)
 unfolding value
-node_more p bytes laid below now h more = ap node_held (h (cells.At p) ∙ ap (λ x. shown_at x (value (cells.At p) below)) more)
+node_more p bytes overlay below now h more = ap node_held (h (cells.At p) ∙ ap (λ x. combined_value x (value (cells.At p) below)) more)
 
-pub node_whole : (p : PathValue) (node : Node) (laid : Cells) (below now : State) → Overlays laid below now → map.get laid (cells.At p) ≡ Some (Whole (values.Node node)) → node ≡ node_in p now.tree
+pub node_whole : (p : PathValue) (node : Node) (overlay : OverlayMap) (below now : State) → Overlays overlay below now → map.get overlay (cells.At p) ≡ Some (entries.Value (values.Node node)) → node ≡ node_in p now.tree
 unfolding value
-node_whole p node laid below now h whole = sym (ap node_held (h (cells.At p) ∙ ap (λ x. shown_at x (value (cells.At p) below)) whole))
+node_whole p node overlay below now h whole = sym (ap node_held (h (cells.At p) ∙ ap (λ x. combined_value x (value (cells.At p) below)) whole))
 
-pub permit_kept : (p : PathValue) (n : ℕ) (laid : Cells) (below now : State) → Overlays laid below now → map.get laid (cells.At p) ≡ None → map.get laid (cells.At (parent_of p)) ≡ None → permit_of p n below ≡ permit_of p n now
-permit_kept p n laid below now h none above =
-    sym (λ i. permit_at (node_kept p laid below now h none i) (node_kept (parent_of p) laid below now h above i) n)
+pub permit_kept : (p : PathValue) (n : ℕ) (overlay : OverlayMap) (below now : State) → Overlays overlay below now → map.get overlay (cells.At p) ≡ None → map.get overlay (cells.At (parent_of p)) ≡ None → permit_of p n below ≡ permit_of p n now
+permit_kept p n overlay below now h none above =
+    sym (λ i. permit_at (node_kept p overlay below now h none i) (node_kept (parent_of p) overlay below now h above i) n)
 
-pub permit_more : (p : PathValue) (bytes : List ℕ) (n : ℕ) (laid : Cells) (below now : State) → Overlays laid below now → map.get laid (cells.At p) ≡ Some (More bytes) → map.get laid (cells.At (parent_of p)) ≡ None → permit_of p (min (length bytes + n) 4294967295) below ≡ permit_of p n now
-permit_more p bytes n laid below now h more above =
+pub permit_more : (p : PathValue) (bytes : List ℕ) (n : ℕ) (overlay : OverlayMap) (below now : State) → Overlays overlay below now → map.get overlay (cells.At p) ≡ Some (entries.Growth bytes) → map.get overlay (cells.At (parent_of p)) ≡ None → permit_of p (min (length bytes + n) 4294967295) below ≡ permit_of p n now
+permit_more p bytes n overlay below now h more above =
     permit_grown (node_in p below.tree) (node_in (parent_of p) below.tree) bytes n
-    ∙ sym (λ i. permit_at (node_more p bytes laid below now h more i) (node_kept (parent_of p) laid below now h above i) n)
+    ∙ sym (λ i. permit_at (node_more p bytes overlay below now h more i) (node_kept (parent_of p) overlay below now h above i) n)
 
 pub ruleset permits = (permit_kept, permit_more, node_whole)

@@ -13,19 +13,19 @@ use Rattle.std.proofs.lemmas.Bool.{true≢false, cases_eq}
 use Rattle.retro_tree.specs.Order.{text_total, text_exact}
 use Rattle.retro_tree.specs.CellOrder.{cell_cmp, cell_total}
 use Rattle.retro_tree.specs.Maps.{update}
-use Rattle.retro_tree.specs.Session.{fresh_session, session_in}
-use Rattle.retro_tree.specs.Former.{without_var, unset}
+use Rattle.retro_tree.specs.Session.{default_session, session_in, without_var, unset}
 use Rattle.retro_tree.specs.Cell.{value}
 use Rattle.retro_tree.specs.Change.{apply, value_grown}
 use Rattle.retro_tree.specs.Notes.{cell_eq}
-use Rattle.retro_tree.specs.Overlay.{Cells, Overlays, shown_at}
-use Rattle.retro_tree.specs.Commit.{put_text, put_cell, put_cells, removes, removals, writes, makes, committed}
+use Rattle.retro_tree.specs.Overlay.{OverlayMap, Overlays, combined_value}
+use Rattle.retro_tree.specs.Commit.{put_text, put_cell, put_cells, makes, committed}
+use Rattle.retro_tree.specs.CommitSteps.{removes, removals, writes}
 use Rattle.retro_tree.specs.declared.cell.Cell.{Cell}
 use Rattle.retro_tree.specs.declared.cell.Cell.TheVariants as cells
-use Rattle.retro_tree.specs.declared.cell.Value.{Value}
-use Rattle.retro_tree.specs.declared.cell.Value.TheVariants as values
-use Rattle.retro_tree.specs.declared.overlay.laid.Laid.{Laid}
-use Rattle.retro_tree.specs.declared.overlay.laid.Laid.TheVariants.{Whole, More}
+use Rattle.retro_tree.specs.declared.value.Value.{Value}
+use Rattle.retro_tree.specs.declared.value.Value.TheVariants as values
+use Rattle.retro_tree.specs.declared.overlay_entry.OverlayEntry.{OverlayEntry}
+use Rattle.retro_tree.specs.declared.overlay_entry.OverlayEntry.TheVariants as entries
 use Rattle.retro_tree.specs.declared.change.Change.TheVariants as changes
 use Rattle.retro_tree.specs.declared.session.Session.{Session}
 use Rattle.retro_tree.specs.declared.state.State.{State}
@@ -41,21 +41,21 @@ same_if true x = refl
 same_if false x = refl
 
 -- ---- a variable taken away
-unset_updates : (m : FinMap nat_cmp Session) (sid : ℕ) (name : List ℕ) (x : Session) → finmap.get m sid ≡ Some x → unset (Some x) sid name m ≡ update m sid fresh_session (without_var name)
-unset_updates m sid name x is = ap (λ o. finmap.insert m sid (without_var name (unwrap_or o fresh_session))) (sym is)
+unset_updates : (m : FinMap nat_cmp Session) (sid : ℕ) (name : List ℕ) (x : Session) → finmap.get m sid ≡ Some x → unset (Some x) sid name m ≡ update m sid default_session (without_var name)
+unset_updates m sid name x is = ap (λ o. finmap.insert m sid (without_var name (unwrap_or o default_session))) (sym is)
 
-var_left : (m : FinMap nat_cmp Session) (sid other : ℕ) (name q : List ℕ) → (other ≡ sid → q ≢ name) → finmap.get (session_in other (update m sid fresh_session (without_var name))).vars q ≡ finmap.get (session_in other m).vars q
+var_left : (m : FinMap nat_cmp Session) (sid other : ℕ) (name q : List ℕ) → (other ≡ sid → q ≢ name) → finmap.get (session_in other (update m sid default_session (without_var name))).vars q ≡ finmap.get (session_in other m).vars q
 var_left m sid other name q h =
     ⊎_elim
-    (λ e. ap (λ k. finmap.get (session_in k (update m sid fresh_session (without_var name))).vars q) e ∙ ap (λ (t : Session). finmap.get t.vars q) (session_updated m sid (without_var name))
+    (λ e. ap (λ k. finmap.get (session_in k (update m sid default_session (without_var name))).vars q) e ∙ ap (λ (t : Session). finmap.get t.vars q) (session_updated m sid (without_var name))
     ∙ get_removed_apart text_total text_exact (session_in sid m).vars name q (h e) ∙ ap (λ k. finmap.get (session_in k m).vars q) (sym e))
     (λ ne. ap (λ (t : Session). finmap.get t.vars q) (session_updated_apart m sid other (without_var name) ne))
     (cases_eq other sid)
 
-var_gone : (m : FinMap nat_cmp Session) (sid : ℕ) (name : List ℕ) → finmap.get (session_in sid (update m sid fresh_session (without_var name))).vars name ≡ None
+var_gone : (m : FinMap nat_cmp Session) (sid : ℕ) (name : List ℕ) → finmap.get (session_in sid (update m sid default_session (without_var name))).vars name ≡ None
 var_gone m sid name = ap (λ (t : Session). finmap.get t.vars name) (session_updated m sid (without_var name)) ∙ get_removed text_total (session_in sid m).vars name
 
-updated_without : (sid : ℕ) (name : List ℕ) (s : State) (d : Cell) → value d (record s { sessions = update s.sessions sid fresh_session (without_var name) }) ≡ if cell_eq (cells.Var sid name) d then values.Text None else value d s
+updated_without : (sid : ℕ) (name : List ℕ) (s : State) (d : Cell) → value d (record s { sessions = update s.sessions sid default_session (without_var name) }) ≡ if cell_eq (cells.Var sid name) d then values.Text None else value d s
 unfolding value
 updated_without sid name s (cells.At q) = refl
 updated_without sid name s (cells.Cwd k) = ap values.Cwd (kept (λ t. t.cwd) s.sessions sid k (without_var name) (λ t. refl))
@@ -63,7 +63,7 @@ updated_without sid name s (cells.Status k) = ap values.Status (kept (λ t. t.st
 updated_without sid name s (cells.Var k q) = go (cell_eq (cells.Var sid name) (cells.Var k q)) refl
   where
     after : State
-    after = record s { sessions = update s.sessions sid fresh_session (without_var name) }
+    after = record s { sessions = update s.sessions sid default_session (without_var name) }
 
     go : (b : Bool) → cell_eq (cells.Var sid name) (cells.Var k q) ≡ b → value (cells.Var k q) after ≡ if b then values.Text None else value (cells.Var k q) s
     go true e = ap (λ d. value d after) (sym (same_cells (cells.Var sid name) (cells.Var k q) e)) ∙ ap values.Text (var_gone s.sessions sid name)
@@ -85,37 +85,37 @@ value_unset sid name s d = by_session (finmap.get s.sessions sid) refl
     by_session (Some x) is = ap (λ m. value d (record s { sessions = m })) (unset_updates s.sessions sid name x is) ∙ updated_without sid name s d
 
 -- ---- each cell
-abbrev pub held : Cell → Laid → Value → Value
-held (cells.At p) (Whole (values.Node node)) old = values.Node node
-held (cells.At p) (More bytes) old = value_grown bytes old
-held (cells.Cwd sid) (Whole (values.Cwd q)) old = values.Cwd q
-held (cells.Var sid name) (Whole (values.Text text)) old = values.Text text
-held (cells.Status sid) (Whole (values.Status n)) old = values.Status n
+abbrev pub held : Cell → OverlayEntry → Value → Value
+held (cells.At p) (entries.Value (values.Node node)) old = values.Node node
+held (cells.At p) (entries.Growth bytes) old = value_grown bytes old
+held (cells.Cwd sid) (entries.Value (values.Cwd q)) old = values.Cwd q
+held (cells.Var sid name) (entries.Value (values.Text text)) old = values.Text text
+held (cells.Status sid) (entries.Value (values.Status n)) old = values.Status n
 held _ _ old = old
 
-pub value_put : (c : Cell) (l : Laid) (s : State) (d : Cell) → value d (put_cell c l s) ≡ if cell_eq c d then held c l (value d s) else value d s
+pub value_put : (c : Cell) (l : OverlayEntry) (s : State) (d : Cell) → value d (put_cell c l s) ≡ if cell_eq c d then held c l (value d s) else value d s
 unfolding put_cell apply
-value_put (cells.At p) (Whole (values.Node node)) s d = value_applied (changes.Put p node) d s
-value_put (cells.At p) (Whole (values.Cwd q)) s d = same_if (cell_eq (cells.At p) d) (value d s)
-value_put (cells.At p) (Whole (values.Text text)) s d = same_if (cell_eq (cells.At p) d) (value d s)
-value_put (cells.At p) (Whole (values.Status n)) s d = same_if (cell_eq (cells.At p) d) (value d s)
-value_put (cells.At p) (More bytes) s d = value_applied (changes.Grow p bytes) d s
-value_put (cells.Cwd sid) (Whole (values.Node node)) s d = same_if (cell_eq (cells.Cwd sid) d) (value d s)
-value_put (cells.Cwd sid) (Whole (values.Cwd q)) s d = value_applied (changes.SetCwd sid q) d s
-value_put (cells.Cwd sid) (Whole (values.Text text)) s d = same_if (cell_eq (cells.Cwd sid) d) (value d s)
-value_put (cells.Cwd sid) (Whole (values.Status n)) s d = same_if (cell_eq (cells.Cwd sid) d) (value d s)
-value_put (cells.Cwd sid) (More bytes) s d = same_if (cell_eq (cells.Cwd sid) d) (value d s)
-value_put (cells.Var sid name) (Whole (values.Node node)) s d = same_if (cell_eq (cells.Var sid name) d) (value d s)
-value_put (cells.Var sid name) (Whole (values.Cwd q)) s d = same_if (cell_eq (cells.Var sid name) d) (value d s)
-value_put (cells.Var sid name) (Whole (values.Text None)) s d = value_unset sid name s d
-value_put (cells.Var sid name) (Whole (values.Text (Some text))) s d = value_applied (changes.SetVar sid name text) d s
-value_put (cells.Var sid name) (Whole (values.Status n)) s d = same_if (cell_eq (cells.Var sid name) d) (value d s)
-value_put (cells.Var sid name) (More bytes) s d = same_if (cell_eq (cells.Var sid name) d) (value d s)
-value_put (cells.Status sid) (Whole (values.Node node)) s d = same_if (cell_eq (cells.Status sid) d) (value d s)
-value_put (cells.Status sid) (Whole (values.Cwd q)) s d = same_if (cell_eq (cells.Status sid) d) (value d s)
-value_put (cells.Status sid) (Whole (values.Text text)) s d = same_if (cell_eq (cells.Status sid) d) (value d s)
-value_put (cells.Status sid) (Whole (values.Status n)) s d = value_applied (changes.SetStatus sid n) d s
-value_put (cells.Status sid) (More bytes) s d = same_if (cell_eq (cells.Status sid) d) (value d s)
+value_put (cells.At p) (entries.Value (values.Node node)) s d = value_applied (changes.Put p node) d s
+value_put (cells.At p) (entries.Value (values.Cwd q)) s d = same_if (cell_eq (cells.At p) d) (value d s)
+value_put (cells.At p) (entries.Value (values.Text text)) s d = same_if (cell_eq (cells.At p) d) (value d s)
+value_put (cells.At p) (entries.Value (values.Status n)) s d = same_if (cell_eq (cells.At p) d) (value d s)
+value_put (cells.At p) (entries.Growth bytes) s d = value_applied (changes.Grow p bytes) d s
+value_put (cells.Cwd sid) (entries.Value (values.Node node)) s d = same_if (cell_eq (cells.Cwd sid) d) (value d s)
+value_put (cells.Cwd sid) (entries.Value (values.Cwd q)) s d = value_applied (changes.SetCwd sid q) d s
+value_put (cells.Cwd sid) (entries.Value (values.Text text)) s d = same_if (cell_eq (cells.Cwd sid) d) (value d s)
+value_put (cells.Cwd sid) (entries.Value (values.Status n)) s d = same_if (cell_eq (cells.Cwd sid) d) (value d s)
+value_put (cells.Cwd sid) (entries.Growth bytes) s d = same_if (cell_eq (cells.Cwd sid) d) (value d s)
+value_put (cells.Var sid name) (entries.Value (values.Node node)) s d = same_if (cell_eq (cells.Var sid name) d) (value d s)
+value_put (cells.Var sid name) (entries.Value (values.Cwd q)) s d = same_if (cell_eq (cells.Var sid name) d) (value d s)
+value_put (cells.Var sid name) (entries.Value (values.Text None)) s d = value_unset sid name s d
+value_put (cells.Var sid name) (entries.Value (values.Text (Some text))) s d = value_applied (changes.SetVar sid name text) d s
+value_put (cells.Var sid name) (entries.Value (values.Status n)) s d = same_if (cell_eq (cells.Var sid name) d) (value d s)
+value_put (cells.Var sid name) (entries.Growth bytes) s d = same_if (cell_eq (cells.Var sid name) d) (value d s)
+value_put (cells.Status sid) (entries.Value (values.Node node)) s d = same_if (cell_eq (cells.Status sid) d) (value d s)
+value_put (cells.Status sid) (entries.Value (values.Cwd q)) s d = same_if (cell_eq (cells.Status sid) d) (value d s)
+value_put (cells.Status sid) (entries.Value (values.Text text)) s d = same_if (cell_eq (cells.Status sid) d) (value d s)
+value_put (cells.Status sid) (entries.Value (values.Status n)) s d = value_applied (changes.SetStatus sid n) d s
+value_put (cells.Status sid) (entries.Growth bytes) s d = same_if (cell_eq (cells.Status sid) d) (value d s)
 
 -- ---- the sessions
 pub key_updated : (m : FinMap nat_cmp Session) (sid : ℕ) (x : Session) (k : ℕ) → finmap.contains_key (finmap.insert m sid x) k ≡ (eq_by_cmp nat_cmp k sid || finmap.contains_key m k)
@@ -133,29 +133,29 @@ key_unset m sid name k (Some x) is = key_updated m sid (without_var name x) k �
     go true e = sym (ap (finmap.contains_key m) (nat_cmp-IsAntisymmetric k sid (tied _ e)) ∙ ap is_some is)
     go false e = refl
 
-pub key_put : (c : Cell) (l : Laid) (s : State) (k : ℕ) → finmap.contains_key (put_cell c l s).sessions k ≡ (makes k c l || finmap.contains_key s.sessions k)
+pub key_put : (c : Cell) (l : OverlayEntry) (s : State) (k : ℕ) → finmap.contains_key (put_cell c l s).sessions k ≡ (makes k c l || finmap.contains_key s.sessions k)
 unfolding put_cell
-key_put (cells.At p) (Whole (values.Node node)) s k = refl
-key_put (cells.At p) (Whole (values.Cwd q)) s k = refl
-key_put (cells.At p) (Whole (values.Text text)) s k = refl
-key_put (cells.At p) (Whole (values.Status n)) s k = refl
-key_put (cells.At p) (More bytes) s k = refl
-key_put (cells.Cwd sid) (Whole (values.Node node)) s k = refl
-key_put (cells.Cwd sid) (Whole (values.Cwd q)) s k = key_updated s.sessions sid _ k
-key_put (cells.Cwd sid) (Whole (values.Text text)) s k = refl
-key_put (cells.Cwd sid) (Whole (values.Status n)) s k = refl
-key_put (cells.Cwd sid) (More bytes) s k = refl
-key_put (cells.Var sid name) (Whole (values.Node node)) s k = refl
-key_put (cells.Var sid name) (Whole (values.Cwd q)) s k = refl
-key_put (cells.Var sid name) (Whole (values.Text None)) s k = key_unset s.sessions sid name k (finmap.get s.sessions sid) refl
-key_put (cells.Var sid name) (Whole (values.Text (Some text))) s k = key_updated s.sessions sid _ k
-key_put (cells.Var sid name) (Whole (values.Status n)) s k = refl
-key_put (cells.Var sid name) (More bytes) s k = refl
-key_put (cells.Status sid) (Whole (values.Node node)) s k = refl
-key_put (cells.Status sid) (Whole (values.Cwd q)) s k = refl
-key_put (cells.Status sid) (Whole (values.Text text)) s k = refl
-key_put (cells.Status sid) (Whole (values.Status n)) s k = key_updated s.sessions sid _ k
-key_put (cells.Status sid) (More bytes) s k = refl
+key_put (cells.At p) (entries.Value (values.Node node)) s k = refl
+key_put (cells.At p) (entries.Value (values.Cwd q)) s k = refl
+key_put (cells.At p) (entries.Value (values.Text text)) s k = refl
+key_put (cells.At p) (entries.Value (values.Status n)) s k = refl
+key_put (cells.At p) (entries.Growth bytes) s k = refl
+key_put (cells.Cwd sid) (entries.Value (values.Node node)) s k = refl
+key_put (cells.Cwd sid) (entries.Value (values.Cwd q)) s k = key_updated s.sessions sid _ k
+key_put (cells.Cwd sid) (entries.Value (values.Text text)) s k = refl
+key_put (cells.Cwd sid) (entries.Value (values.Status n)) s k = refl
+key_put (cells.Cwd sid) (entries.Growth bytes) s k = refl
+key_put (cells.Var sid name) (entries.Value (values.Node node)) s k = refl
+key_put (cells.Var sid name) (entries.Value (values.Cwd q)) s k = refl
+key_put (cells.Var sid name) (entries.Value (values.Text None)) s k = key_unset s.sessions sid name k (finmap.get s.sessions sid) refl
+key_put (cells.Var sid name) (entries.Value (values.Text (Some text))) s k = key_updated s.sessions sid _ k
+key_put (cells.Var sid name) (entries.Value (values.Status n)) s k = refl
+key_put (cells.Var sid name) (entries.Growth bytes) s k = refl
+key_put (cells.Status sid) (entries.Value (values.Node node)) s k = refl
+key_put (cells.Status sid) (entries.Value (values.Cwd q)) s k = refl
+key_put (cells.Status sid) (entries.Value (values.Text text)) s k = refl
+key_put (cells.Status sid) (entries.Value (values.Status n)) s k = key_updated s.sessions sid _ k
+key_put (cells.Status sid) (entries.Growth bytes) s k = refl
 
 -- ---- two cells
 crossed : {A : Type 0} (a b : Bool) (f g : A → A) (x : A) → (a ≡ true → b ≡ true → ⊥) → (if a then f (if b then g x else x) else (if b then g x else x)) ≡ (if b then g (if a then f x else x) else (if a then f x else x))
@@ -170,7 +170,7 @@ or_swapped true false c = refl
 or_swapped false true c = refl
 or_swapped false false c = refl
 
-pub puts_swapped : (c d : Cell) (v w : Laid) (s : State) → cell_eq c d ≡ false → put_cell c v (put_cell d w s) ≡ put_cell d w (put_cell c v s)
+pub puts_swapped : (c d : Cell) (v w : OverlayEntry) (s : State) → cell_eq c d ≡ false → put_cell c v (put_cell d w s) ≡ put_cell d w (put_cell c v s)
 puts_swapped c d v w s apart =
     same_state _ _
     (λ q. value_put c v (put_cell d w s) q ∙ ap (λ x. if cell_eq c q then held c v x else x) (value_put d w s q)
@@ -185,13 +185,13 @@ both : (a b : Bool) → T a → T b → T (a && b)
 both true b p q = q
 both false b p q = p
 
-put_past : (c : Cell) (v : Laid) (es : List (Cell × Laid)) (s : State) → T (below_all cell_cmp c es) → put_cells es (put_cell c v s) ≡ put_cell c v (put_cells es s)
+put_past : (c : Cell) (v : OverlayEntry) (es : List (Cell × OverlayEntry)) (s : State) → T (below_all cell_cmp c es) → put_cells es (put_cell c v s) ≡ put_cell c v (put_cells es s)
 put_past c v [] s h = refl
 put_past c v (e ∷ es) s h =
     ap (put_cells es) (puts_swapped e.0 c e.1 v s ((eq_by_cmp_equiv cell_total).symm e.0 c ∙ ap is_eq (less _ (both_fst _ _ h))))
     ∙ put_past c v es (put_cell e.0 e.1 s) (both_snd _ _ h)
 
-below_filtered : (c : Cell) (p : Cell × Laid → Bool) (es : List (Cell × Laid)) → T (below_all cell_cmp c es) → T (below_all cell_cmp c (filter p es))
+below_filtered : (c : Cell) (p : Cell × OverlayEntry → Bool) (es : List (Cell × OverlayEntry)) → T (below_all cell_cmp c es) → T (below_all cell_cmp c (filter p es))
 below_filtered c p [] h = tt
 below_filtered c p (e ∷ es) h =
     let rest = below_filtered c p es (both_snd _ _ h) in
@@ -200,7 +200,7 @@ below_filtered c p (e ∷ es) h =
       | false ↦ rest
     ]
 
-is_sorted-where : (p : Cell × Laid → Bool) (es : List (Cell × Laid)) → T (is_sorted cell_cmp es) → T (is_sorted cell_cmp (filter p es))
+is_sorted-where : (p : Cell × OverlayEntry → Bool) (es : List (Cell × OverlayEntry)) → T (is_sorted cell_cmp es) → T (is_sorted cell_cmp (filter p es))
 is_sorted-where p [] h = tt
 is_sorted-where p (e ∷ es) h =
     let rest = is_sorted-where p es (both_snd _ _ h) in
@@ -210,7 +210,7 @@ is_sorted-where p (e ∷ es) h =
     ]
 
 -- the writes first, and then the removals
-in_parts : (es : List (Cell × Laid)) → T (is_sorted cell_cmp es) → (s : State) → put_cells (removals es) (put_cells (writes es) s) ≡ put_cells es s
+in_parts : (es : List (Cell × OverlayEntry)) → T (is_sorted cell_cmp es) → (s : State) → put_cells (removals es) (put_cells (writes es) s) ≡ put_cells es s
 in_parts [] h s = refl
 in_parts (e ∷ es) h s =
     elim (removes e.1) as (λ b. put_cells (cond b (e ∷ removals es) (removals es)) (put_cells (cond (not b) (e ∷ writes es) (writes es)) s) ≡ put_cells es (put_cell e.0 e.1 s)) [
@@ -219,18 +219,18 @@ in_parts (e ∷ es) h s =
     ]
 
 -- from the last to the first
-puts_append : (xs ys : List (Cell × Laid)) (s : State) → put_cells (xs ++ ys) s ≡ put_cells ys (put_cells xs s)
+puts_append : (xs ys : List (Cell × OverlayEntry)) (s : State) → put_cells (xs ++ ys) s ≡ put_cells ys (put_cells xs s)
 puts_append [] ys s = refl
 puts_append (x ∷ xs) ys s = puts_append xs ys (put_cell x.0 x.1 s)
 
-reversed : (es : List (Cell × Laid)) → T (is_sorted cell_cmp es) → (s : State) → put_cells (reverse es) s ≡ put_cells es s
+reversed : (es : List (Cell × OverlayEntry)) → T (is_sorted cell_cmp es) → (s : State) → put_cells (reverse es) s ≡ put_cells es s
 reversed [] h s = refl
 reversed (e ∷ es) h s =
     ap (λ fs. put_cells fs s) (reverse-append (e ∷ []) es) ∙ puts_append (reverse es) (e ∷ []) s
     ∙ ap (put_cell e.0 e.1) (reversed es (both_snd _ _ h) s)
     ∙ sym (put_past e.0 e.1 es s (both_fst _ _ h))
 
-pub all_removals : (es : List (Cell × Laid)) → list_all (λ e. removes e.1) (removals es) ≡ true
+pub all_removals : (es : List (Cell × OverlayEntry)) → list_all (λ e. removes e.1) (removals es) ≡ true
 all_removals [] = refl
 all_removals (e ∷ es) =
     elim (removes e.1) as (λ b. removes e.1 ≡ b → list_all (λ f. removes f.1) (cond b (e ∷ removals es) (removals es)) ≡ true) [
@@ -238,45 +238,45 @@ all_removals (e ∷ es) =
       | false ↦ λ t. all_removals es
     ] refl
 
-pub parted : (laid : Cells) (s : State) → put_cells (reverse (removals (finmap.entries laid))) (put_cells (writes (finmap.entries laid)) s) ≡ committed laid s
-parted laid s =
-    reversed (removals (finmap.entries laid)) (is_sorted-where (λ e. removes e.1) (finmap.entries laid) (entries_sorted laid)) (put_cells (writes (finmap.entries laid)) s)
-    ∙ in_parts (finmap.entries laid) (entries_sorted laid) s
+pub parted : (overlay : OverlayMap) (s : State) → put_cells (reverse (removals (finmap.entries overlay))) (put_cells (writes (finmap.entries overlay)) s) ≡ committed overlay s
+parted overlay s =
+    reversed (removals (finmap.entries overlay)) (is_sorted-where (λ e. removes e.1) (finmap.entries overlay) (entries_sorted overlay)) (put_cells (writes (finmap.entries overlay)) s)
+    ∙ in_parts (finmap.entries overlay) (entries_sorted overlay) s
 
 -- ---- the state that is shown
-held_own : (c : Cell) (s : State) (old : Value) → held c (Whole (value c s)) old ≡ value c s
+held_own : (c : Cell) (s : State) (old : Value) → held c (entries.Value (value c s)) old ≡ value c s
 unfolding value
 held_own (cells.At p) s old = refl
 held_own (cells.Cwd sid) s old = refl
 held_own (cells.Var sid name) s old = refl
 held_own (cells.Status sid) s old = refl
 
--- where a cell of a state shows what is laid over it, that is what it holds once that is put into it
-held_shown : (c : Cell) (l : Laid) (s now : State) → value c now ≡ shown_at (Some l) (value c s) → held c l (value c s) ≡ value c now
+-- where a cell of a state shows what is overlay over it, that is what it holds once that is put into it
+held_shown : (c : Cell) (l : OverlayEntry) (s now : State) → value c now ≡ combined_value (Some l) (value c s) → held c l (value c s) ≡ value c now
 unfolding value
-held_shown c (Whole v) s now h = ap (λ w. held c (Whole w) (value c s)) (sym h) ∙ held_own c now (value c s)
-held_shown (cells.At p) (More bytes) s now h = sym h
-held_shown (cells.Cwd sid) (More bytes) s now h = sym h
-held_shown (cells.Var sid name) (More bytes) s now h = sym h
-held_shown (cells.Status sid) (More bytes) s now h = sym h
+held_shown c (entries.Value v) s now h = ap (λ w. held c (entries.Value w) (value c s)) (sym h) ∙ held_own c now (value c s)
+held_shown (cells.At p) (entries.Growth bytes) s now h = sym h
+held_shown (cells.Cwd sid) (entries.Growth bytes) s now h = sym h
+held_shown (cells.Var sid name) (entries.Growth bytes) s now h = sym h
+held_shown (cells.Status sid) (entries.Growth bytes) s now h = sym h
 
-pub found_first : (e : Cell × Laid) (es : List (Cell × Laid)) → find cell_cmp e.0 (e ∷ es) ≡ Some e.1
+pub found_first : (e : Cell × OverlayEntry) (es : List (Cell × OverlayEntry)) → find cell_cmp e.0 (e ∷ es) ≡ Some e.1
 found_first e es = ap (λ r. cond (is_eq r) (Some e.1) (find cell_cmp e.0 es)) (tied_itself cell_total e.0)
 
-pub found_later : (c : Cell) (e : Cell × Laid) (es : List (Cell × Laid)) → cell_eq e.0 c ≡ false → find cell_cmp c (e ∷ es) ≡ find cell_cmp c es
+pub found_later : (c : Cell) (e : Cell × OverlayEntry) (es : List (Cell × OverlayEntry)) → cell_eq e.0 c ≡ false → find cell_cmp c (e ∷ es) ≡ find cell_cmp c es
 found_later c e es apart = ap (λ b. cond b (Some e.1) (find cell_cmp c es)) ((eq_by_cmp_equiv cell_total).symm c e.0 ∙ apart)
 
-settled : (now : State) (es : List (Cell × Laid)) → T (is_sorted cell_cmp es) → (s : State) → ((c : Cell) (l : Laid) → find cell_cmp c es ≡ Some l → value c now ≡ shown_at (Some l) (value c s)) → ((c : Cell) → find cell_cmp c es ≡ None → value c s ≡ value c now) → (c : Cell) → value c (put_cells es s) ≡ value c now
+settled : (now : State) (es : List (Cell × OverlayEntry)) → T (is_sorted cell_cmp es) → (s : State) → ((c : Cell) (l : OverlayEntry) → find cell_cmp c es ≡ Some l → value c now ≡ combined_value (Some l) (value c s)) → ((c : Cell) → find cell_cmp c es ≡ None → value c s ≡ value c now) → (c : Cell) → value c (put_cells es s) ≡ value c now
 settled now [] h s own other c = other c refl
 settled now (e ∷ es) h s own other c = settled now es (both_snd _ _ h) (put_cell e.0 e.1 s) later now_other c
   where
     not_found : (d : Cell) → cell_eq e.0 d ≡ true → find cell_cmp d es ≡ None
     not_found d t = none_found d es (subst (λ k. T (below_all cell_cmp k es)) (same_cells e.0 d t) (both_fst _ _ h))
 
-    later : (d : Cell) (l : Laid) → find cell_cmp d es ≡ Some l → value d now ≡ shown_at (Some l) (value d (put_cell e.0 e.1 s))
-    later d l is = go (cell_eq e.0 d) refl ∙ ap (shown_at (Some l)) (sym (value_put e.0 e.1 s d))
+    later : (d : Cell) (l : OverlayEntry) → find cell_cmp d es ≡ Some l → value d now ≡ combined_value (Some l) (value d (put_cell e.0 e.1 s))
+    later d l is = go (cell_eq e.0 d) refl ∙ ap (combined_value (Some l)) (sym (value_put e.0 e.1 s d))
       where
-        go : (b : Bool) → cell_eq e.0 d ≡ b → value d now ≡ shown_at (Some l) (if b then held e.0 e.1 (value d s) else value d s)
+        go : (b : Bool) → cell_eq e.0 d ≡ b → value d now ≡ combined_value (Some l) (if b then held e.0 e.1 (value d s) else value d s)
         go true t = absurd (none_some l (sym (not_found d t) ∙ is))
         go false t = own d l (found_later d e es t ∙ is)
 
@@ -291,13 +291,13 @@ settled now (e ∷ es) h s own other c = settled now es (both_snd _ _ h) (put_ce
             ∙ ap (λ k. value k now) same
         go false t = other d (found_later d e es t ∙ is)
 
-pub cells_shown : (laid : Cells) (s now : State) → Overlays laid s now → (c : Cell) → value c (committed laid s) ≡ value c now
-cells_shown laid s now h =
-    settled now (finmap.entries laid) (entries_sorted laid) s
-    (λ c l is. h c ∙ ap (λ o. shown_at o (value c s)) (get-entries laid c ∙ is))
-    (λ c is. sym (h c ∙ ap (λ o. shown_at o (value c s)) (get-entries laid c ∙ is)))
+pub cells_shown : (overlay : OverlayMap) (s now : State) → Overlays overlay s now → (c : Cell) → value c (committed overlay s) ≡ value c now
+cells_shown overlay s now h =
+    settled now (finmap.entries overlay) (entries_sorted overlay) s
+    (λ c l is. h c ∙ ap (λ o. combined_value o (value c s)) (get-entries overlay c ∙ is))
+    (λ c is. sym (h c ∙ ap (λ o. combined_value o (value c s)) (get-entries overlay c ∙ is)))
 
-pub sessions_made : (es : List (Cell × Laid)) (s : State) (k : ℕ) → finmap.contains_key (put_cells es s).sessions k ≡ (list_any (λ e. makes k e.0 e.1) es || finmap.contains_key s.sessions k)
+pub sessions_made : (es : List (Cell × OverlayEntry)) (s : State) (k : ℕ) → finmap.contains_key (put_cells es s).sessions k ≡ (list_any (λ e. makes k e.0 e.1) es || finmap.contains_key s.sessions k)
 sessions_made [] s k = refl
 sessions_made (e ∷ es) s k =
     sessions_made es (put_cell e.0 e.1 s) k ∙ ap (λ b. list_any (λ f. makes k f.0 f.1) es || b) (key_put e.0 e.1 s k)
@@ -310,7 +310,7 @@ sessions_made (e ∷ es) s k =
     moved false false c = refl
 
 -- a state with these cells and these sessions is what is left
-pub state_shown : (laid : Cells) (s now : State) → Overlays laid s now → ((k : ℕ) → finmap.contains_key now.sessions k ≡ (list_any (λ e. makes k e.0 e.1) (finmap.entries laid) || finmap.contains_key s.sessions k)) → committed laid s ≡ now
-state_shown laid s now h sessions = same_state _ _ (cells_shown laid s now h) (λ k. sessions_made (finmap.entries laid) s k ∙ sym (sessions k))
+pub state_shown : (overlay : OverlayMap) (s now : State) → Overlays overlay s now → ((k : ℕ) → finmap.contains_key now.sessions k ≡ (list_any (λ e. makes k e.0 e.1) (finmap.entries overlay) || finmap.contains_key s.sessions k)) → committed overlay s ≡ now
+state_shown overlay s now h sessions = same_state _ _ (cells_shown overlay s now h) (λ k. sessions_made (finmap.entries overlay) s k ∙ sym (sessions k))
 
 pub ruleset commits = (cells_shown, sessions_made, state_shown)

@@ -13,7 +13,7 @@ use Rattle.retro_tree.specs.Tree.{Tree, node_in}
 use Rattle.retro_tree.specs.Session.{value_limit}
 use Rattle.retro_tree.specs.Limits.{AreLawfulSessions, IsWithinLimits, values_fit, session_fits, are_lawful_sessions, entry_fits, files_fit, within_limits}
 use Rattle.retro_tree.specs.Lawful.{law_at, IsLawfulTree, entry_passes, is_lawful_tree, IsLawful, is_lawful}
-use Rattle.retro_tree.specs.declared.node.Entry.{Entry}
+use Rattle.retro_tree.specs.declared.entry.Entry.{Entry}
 use Rattle.retro_tree.specs.declared.node.Node.{Node}
 use Rattle.retro_tree.specs.declared.node.Node.TheVariants.{Missing, Dir, File}
 use Rattle.retro_tree.specs.declared.session.Session.{Session}

@@ -1,4 +1,4 @@
--- What a state answers to questions, and on which cells an answer can depend.
+-- Queries: a state's answers, and the cells on which an answer can depend.
 use Rattle.std.specs.Prelude.{ℕ, ◌==◌, Bool, false, ◌&&◌, ◌||◌, List, Option, Some, None}
 use Rattle.std.specs.List.{filter_map}
 use Rattle.std.specs.FinMap as map
@@ -15,21 +15,21 @@ use Rattle.retro_tree.specs.declared.cell.Cell.{Cell}
 use Rattle.retro_tree.specs.declared.cell.Cell.TheVariants as cells
 use Rattle.retro_tree.specs.declared.ask.Ask.{Ask}
 use Rattle.retro_tree.specs.declared.ask.Ask.TheVariants as asks
-use Rattle.retro_tree.specs.declared.ask.Answer.{Answer}
-use Rattle.retro_tree.specs.declared.ask.Answer.TheVariants as answers
+use Rattle.retro_tree.specs.declared.answer.Answer.{Answer}
+use Rattle.retro_tree.specs.declared.answer.Answer.TheVariants as answers
 use Rattle.retro_tree.specs.declared.state.State.{State}
 
--- the names of what stands right below a path, in byte order
+-- the names of the children of a path, in byte order
 unfoldable pub names_in : PathValue → Tree → List (List ℕ)
 names_in p tree = filter_map (child_name p) (map.keys tree)
 
--- the names that are a directory's, and no other node's
+-- only a directory has a listing
 abbrev pub listing : Node → List (List ℕ) → Option (List (List ℕ))
 listing Missing names = None
 listing (File bytes) names = None
 listing Dir names = Some names
 
--- what a state answers
+-- a state's answer to a query
 unfoldable pub answer : Ask → State → Answer
 answer (asks.Kind p) s = answers.Kind (kind_of (node_in p s.tree))
 answer (asks.Bytes p) s = answers.Bytes (node_in p s.tree)
@@ -40,7 +40,7 @@ answer (asks.VarOf sid name) s = answers.Var (map.get (session_in sid s.sessions
 answer (asks.CwdOf sid) s = answers.Cwd (session_in sid s.sessions).cwd
 answer (asks.StatusOf sid) s = answers.Status (session_in sid s.sessions).status
 
--- whether an answer can depend on a cell
+-- whether the answer to a query can depend on a cell
 unfoldable pub supports : Ask → Cell → Bool
 supports (asks.Kind p) (cells.At q) = path_eq p q
 supports (asks.Bytes p) (cells.At q) = path_eq p q

@@ -1,4 +1,4 @@
--- The order of cells, which the derive gives: by kind, and then by what they name.
+-- The order of cells, which is derived: by kind, and then by their fields.
 use Rattle.std.specs.Prelude.{◌≡◌, refl}
 use Rattle.std.proofs.Common.{ap}
 use Rattle.std.specs.Ordering.{nat_cmp, ordering_then}
@@ -10,11 +10,11 @@ use Rattle.std.specs.declared.cmp.Ordering.TheVariants.{Less, Equal, Greater}
 use Rattle.retro_tree.specs.Order.{text_cmp, path_exact, text_exact}
 use Rattle.retro_tree.specs.declared.cell.Cell.{Cell}
 use Rattle.retro_tree.specs.declared.cell.Cell.TheVariants as cells
-use Rattle.retro_tree.specs.declared.overlay.laid.Laid.{Laid}
+use Rattle.retro_tree.specs.declared.overlay_entry.OverlayEntry.{OverlayEntry}
 use Rattle.retro_tree.specs.contracts.cell.CellOrd.TheImpl as cell_ord
 use Rattle.retro_tree.specs.contracts.cell.CellOrd.TheImpl.Laws as cell_laws
 use Rattle.retro_tree.specs.contracts.cell.Cell as cell_type
-use Rattle.retro_tree.specs.contracts.overlay.laid.Laid as laid_type
+use Rattle.retro_tree.specs.contracts.overlay_entry.OverlayEntry as laid_type
 
 abbrev pub cell_cmp : Cell → Cell → Ordering
 cell_cmp = (cell_ord.ghosts).cmp
@@ -25,15 +25,15 @@ cell_total = cell_laws.total-law
 abbrev pub coded_cell : Coded Cell
 coded_cell = (cell_type.the_row).coded
 
-abbrev pub coded_laid : Coded Laid
-coded_laid = (laid_type.the_row).coded
+abbrev pub coded_overlay_entry : Coded OverlayEntry
+coded_overlay_entry = (laid_type.the_row).coded
 
 both_equal : (a b : Ordering) → ordering_then a b ≡ Equal → (a ≡ Equal) × (b ≡ Equal)
 both_equal Less b e = (e, cc)
 both_equal Equal b e = (refl, e)
 both_equal Greater b e = (e, cc)
 
--- cells that compare alike are one
+-- cells that compare equal are equal
 pub cell_exact : IsAntisymmetric cell_cmp
 cell_exact (cells.At p) (cells.At q) e = ap cells.At (path_exact p q e)
 cell_exact (cells.At p) (cells.Cwd t) e = cc

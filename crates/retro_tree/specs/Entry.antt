@@ -1,8 +1,8 @@
--- The code of what a tree holds.
+-- The encoding of entries of a tree, which finite maps need.
 use Rattle.std.specs.Prelude.{ℕ, List, Option, Some, None, refl}
 use Rattle.std.specs.Coded.{Coded, code_by, coded_ℕ, coded_list, coded_option}
-use Rattle.retro_tree.specs.declared.node.Entry.{Entry}
-use Rattle.retro_tree.specs.declared.node.Entry.TheVariants.{Dir, File}
+use Rattle.retro_tree.specs.declared.entry.Entry.{Entry}
+use Rattle.retro_tree.specs.declared.entry.Entry.TheVariants.{Dir, File}
 
 abbrev pub bytes_of : Entry → Option (List ℕ)
 bytes_of Dir = None

@@ -3,27 +3,27 @@
 use Rattle.std.specs.Prelude.{◌≡◌, ◌≢◌, Option, Some, None}
 use Rattle.std.specs.FinMap as map
 use Rattle.retro_tree.specs.Cell.{value}
-use Rattle.retro_tree.specs.Overlay.{Cells, shown_at}
+use Rattle.retro_tree.specs.Overlay.{OverlayMap, combined_value}
 use Rattle.retro_tree.specs.declared.cell.Cell.{Cell}
-use Rattle.retro_tree.specs.declared.cell.Value.{Value}
-use Rattle.retro_tree.specs.declared.overlay.laid.Laid.{Laid}
-use Rattle.retro_tree.specs.declared.overlay.laid.Laid.TheVariants.{Whole, More}
+use Rattle.retro_tree.specs.declared.value.Value.{Value}
+use Rattle.retro_tree.specs.declared.overlay_entry.OverlayEntry.{OverlayEntry}
+use Rattle.retro_tree.specs.declared.overlay_entry.OverlayEntry.TheVariants as entries
 use Rattle.retro_tree.specs.declared.state.State.{State}
 
 -- the entry of a cell that holds one value in the recorded state and another in the repaired one: none
 -- where the two are equal, else the repaired value
-abbrev pub IsDifference : Option Laid → Value → Value → Type 0
+abbrev pub IsDifference : Option OverlayEntry → Value → Value → Type 0
 IsDifference None recorded repaired = recorded ≡ repaired
-IsDifference (Some (Whole v)) recorded repaired = (v ≡ repaired) × (recorded ≢ repaired)
-IsDifference (Some (More bytes)) recorded repaired = ⊥
+IsDifference (Some (entries.Value v)) recorded repaired = (v ≡ repaired) × (recorded ≢ repaired)
+IsDifference (Some (entries.Growth bytes)) recorded repaired = ⊥
 
 -- an overlay is exact where each entry is the difference in its cell
-abbrev pub IsExact : Cells → State → State → Type 0
-IsExact laid recorded repaired =
-    (c : Cell) → IsDifference (map.get laid c) (value c recorded) (value c repaired)
+abbrev pub IsExact : OverlayMap → State → State → Type 0
+IsExact overlay recorded repaired =
+    (c : Cell) → IsDifference (map.get overlay c) (value c recorded) (value c repaired)
 
 -- an overlay is tight where each entry is a value that isn't the recorded state's
-abbrev pub IsTight : Cells → State → Type 0
-IsTight laid recorded =
-    (c : Cell) → IsDifference (map.get laid c) (value c recorded)
-    (shown_at (map.get laid c) (value c recorded))
+abbrev pub IsTight : OverlayMap → State → Type 0
+IsTight overlay recorded =
+    (c : Cell) → IsDifference (map.get overlay c) (value c recorded)
+    (combined_value (map.get overlay c) (value c recorded))

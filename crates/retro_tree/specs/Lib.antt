@@ -22,6 +22,8 @@ pub mod Change
 pub mod Notes
 pub mod Overlay
 pub mod Exact
-pub mod Former
+pub mod Marks
+pub mod Previous
 pub mod Commit
+pub mod CommitSteps
 pub mod OutOfMemory

@@ -1,4 +1,4 @@
--- Notes, in the order in which they were made, and what they mean on states.
+-- Notes: what a trace of reads and writes means on states.
 use Rattle.std.specs.Prelude.{◌≡◌, Bool, true, false, ◌||◌, if◌then◌else◌, List, [], ◌∷◌}
 use Rattle.std.specs.Ordering.{eq_by_cmp}
 use Rattle.retro_tree.specs.CellOrder.{cell_cmp}
@@ -6,7 +6,7 @@ use Rattle.retro_tree.specs.Cell.{value}
 use Rattle.retro_tree.specs.Ask.{answer, supports}
 use Rattle.retro_tree.specs.Change.{apply, cell_of, written, IsLawfulChange}
 use Rattle.retro_tree.specs.declared.cell.Cell.{Cell}
-use Rattle.retro_tree.specs.declared.cell.Value.{Value}
+use Rattle.retro_tree.specs.declared.value.Value.{Value}
 use Rattle.retro_tree.specs.declared.note.Note.{Note}
 use Rattle.retro_tree.specs.declared.note.Note.TheVariants.{Asked, Made}
 use Rattle.retro_tree.specs.declared.state.State.{State}
@@ -17,7 +17,7 @@ after [] s = s
 after (Asked a r ∷ notes) s = after notes s
 after (Made c ∷ notes) s = after notes (apply c s)
 
--- each answer is that of the state reached so far
+-- each noted answer is that of the state reached so far
 abbrev pub Holds : List Note → State → Type 0
 Holds [] s = Unit {0}
 Holds (Asked a r ∷ notes) s = (answer a s ≡ r) × Holds notes s
@@ -29,11 +29,11 @@ AllAllowed [] s = Unit {0}
 AllAllowed (Asked a r ∷ notes) s = AllAllowed notes s
 AllAllowed (Made c ∷ notes) s = IsLawfulChange c s × AllAllowed notes (apply c s)
 
--- whether two cells are one
+-- whether two cells are equal
 abbrev pub cell_eq : Cell → Cell → Bool
 cell_eq = eq_by_cmp cell_cmp
 
--- whether a cell is one of the notes: one that an answer can depend on, or one that is changed
+-- whether a cell is one of the notes' cells: an answer can depend on it, or a change writes it
 abbrev pub touches : List Note → Cell → Bool
 touches [] c = false
 touches (Asked a r ∷ notes) c = supports a c || touches notes c
@@ -49,7 +49,7 @@ changes (Made change ∷ notes) c = cell_eq (cell_of change) c || changes notes 
 abbrev pub AgreeOn : List Note → State → State → Type 0
 AgreeOn notes s t = (c : Cell) → touches notes c ≡ true → value c s ≡ value c t
 
--- what the notes make of what one cell holds
+-- the value of a cell after the notes, by its value before them
 abbrev pub effects : List Note → Cell → Value → Value
 effects [] c v = v
 effects (Asked a r ∷ notes) c v = effects notes c v

@@ -1,2 +1,2 @@
--- What a call returns, where memory may run out before it is done.
+-- What a call returns if memory can run out before it is done.
 pub use Rattle.retro_path.specs.OutOfMemory.{IsMeant, UnlessOutOfMemory}

@@ -5,10 +5,10 @@ use Rattle.retro_tree.specs.Maps.{update}
 use Rattle.retro_tree.specs.Path.{PathValue, parent_of}
 use Rattle.retro_tree.specs.Node.{grown, permit_at}
 use Rattle.retro_tree.specs.Tree.{node_in, put}
-use Rattle.retro_tree.specs.Session.{fresh_session, with_status}
-use Rattle.retro_tree.specs.declared.node.Entry.TheVariants.{Dir as DirEntry}
+use Rattle.retro_tree.specs.Session.{default_session, with_status}
+use Rattle.retro_tree.specs.declared.entry.Entry.TheVariants.{Dir as DirEntry}
 use Rattle.retro_tree.specs.declared.node.Node.{Node}
-use Rattle.retro_tree.specs.declared.node.Permit.{Permit}
+use Rattle.retro_tree.specs.declared.permit.Permit.{Permit}
 use Rattle.retro_tree.specs.declared.session.Session.{Session}
 use Rattle.retro_tree.specs.declared.state.State.{State}
 
@@ -20,20 +20,20 @@ empty_state = record { tree = map.insert map.empty [] DirEntry; sessions = map.e
 abbrev pub put_node : PathValue → Node → State → State
 put_node p node s = record s { tree = put p node s.tree }
 
--- bytes added at the end of the file at a path
+-- bytes appended to the file at a path
 abbrev pub grow_file : PathValue → List ℕ → State → State
 grow_file p bytes s = put_node p (grown bytes (node_in p s.tree)) s
 
--- a session put in the place of the one with its number
+-- a session added, or the one with its number replaced
 abbrev pub put_session : ℕ → Session → State → State
 put_session sid session s = record s { sessions = map.insert s.sessions sid session }
 
--- another status of a session, which is made where it isn't there
+-- the status of a session set; the session is created if it doesn't exist
 abbrev pub put_status : ℕ → ℕ → State → State
 put_status sid status s =
-    record s { sessions = update s.sessions sid fresh_session (with_status status) }
+    record s { sessions = update s.sessions sid default_session (with_status status) }
 
--- whether n bytes more may be written to a path
+-- whether n more bytes can be written to a path
 abbrev pub permit_of : PathValue → ℕ → State → Permit
 permit_of p n s = permit_at (node_in p s.tree) (node_in (parent_of p) s.tree) n
 

@@ -1,91 +1,63 @@
-//! Questions to a state, and what it answers.
-ghost use Rattle.std.specs.Prelude.{◌≡◌, IfOk};
+//! Queries of a state.
+ghost use Rattle.std.specs.Prelude.{◌≡◌, ◌↔◌, IfOk, IsTrue};
 ghost use Rattle.retro_tree.specs.Ask.{supports};
 
 use crate::cell::Cell;
-use crate::node::{Kind, Node, Permit};
-use retro_path::{Listing, Path, Text, VarName};
+use retro_path::{Path, Text, VarName};
 use std::alloc::AllocError;
 
-/// A question to a state. A session that isn't there has the root as its directory, no variables
-/// and status 0.
+/// A query of a state. `State::answer` answers it.
+///
+/// A session that doesn't exist has the root as its directory, no variables, and status 0.
 #[derive(Drop, Clone, PartialEq, Eq)]
 pub enum Ask {
     /// Which kind of node is at a path?
     Kind(Path),
-    /// What is at a path?
+    /// Which node is at a path?
     Bytes(Path),
-    /// Which children has a directory?
+    /// Which children does a directory have?
     Names(Path),
-    /// May so many bytes more be written to the file at a path?
+    /// Can this many more bytes be written to the file at a path?
     CanWrite(Path, u32),
-    /// Which number and home has a login name?
+    /// Which number and home directory does a login name have?
     User(Text),
-    /// Which value has a variable of a session?
+    /// Which value does a variable of a session have?
     VarOf(u32, VarName),
-    /// Which directory has a session?
+    /// Which directory is a session in?
     CwdOf(u32),
-    /// Which status has a session?
+    /// Which status does a session have?
     StatusOf(u32),
 }
 
-/// What a state answers to a question, by the question's kind.
-#[derive(Drop, Clone, PartialEq, Eq)]
-pub enum Answer {
-    /// The kind of node.
-    Kind(Kind),
-    /// The node.
-    Bytes(Node),
-    /// The names of the children in byte order, where the path is a directory.
-    Names(Option<Listing>),
-    /// Whether they may be written, or what stands against it.
-    CanWrite(Permit),
-    /// The entry of the login name, where it has one.
-    User(Option<User>),
-    /// The variable's value, where it is set.
-    Var(Option<Text>),
-    /// The session's directory.
-    Cwd(Path),
-    /// The session's status.
-    Status(u8),
-}
-
-/// What the password file has of a login name.
-#[derive(Drop, Clone, PartialEq, Eq)]
-pub struct User {
-    /// The user's number.
-    pub number: u32,
-    /// The home directory, as written there.
-    pub home: Text,
-}
-
 impl Ask {
-    /// The same question once more.
-    ///
-    /// # Errors
-    ///
-    /// `NoMem` where memory is wanting.
+    /// Returns a copy.
     pub fn copy(&self) -> Result<Ask, AllocError>
         ensures { IfOk result (λ copy. copy ≡ self.now) }
     {
         self.clone()
     }
-}
 
-impl Answer {
-    /// The same answer once more.
-    ///
-    /// # Errors
-    ///
-    /// `NoMem` where memory is wanting.
-    pub fn copy(&self) -> Result<Answer, AllocError>
-        ensures { IfOk result (λ copy. copy ≡ self.now) }
+    /// Returns whether this is the same query as another.
+    #[tactic(auto, using(crate::proofs::Sames::sames))]
+    pub fn is_same(&self, other: &Ask) -> bool
+        ensures { IsTrue result ↔ (self.now ≡ other.now) }
     {
-        self.clone()
+        match (self, other) {
+            (Ask::Kind(x), Ask::Kind(y))
+            | (Ask::Bytes(x), Ask::Bytes(y))
+            | (Ask::Names(x), Ask::Names(y)) => x == y,
+            (Ask::CanWrite(path, x), Ask::CanWrite(other_path, y)) => {
+                path == other_path && *x == *y
+            }
+            (Ask::User(x), Ask::User(y)) => x == y,
+            (Ask::VarOf(sid, x), Ask::VarOf(other_sid, y)) => *sid == *other_sid && x == y,
+            (Ask::CwdOf(x), Ask::CwdOf(y)) | (Ask::StatusOf(x), Ask::StatusOf(y)) => *x == *y,
+            _ => false,
+        }
     }
 }
 
-/// Whether the answer to a question can depend on a cell.
+/// Returns whether the answer to a query can depend on a cell.
 #[tactic(auto, unfolding(crate::specs::Ask::supports))]
 pub fn supports(ask: &Ask, cell: &Cell) -> bool
     ensures { result ≡ supports ask.now cell.now }

@@ -1,17 +1,15 @@
-//! The places of a state that hold a value of their own.
-ghost use Rattle.std.specs.Prelude.{◌≡◌, IfOk};
-ghost use Rattle.retro_tree.specs.CellOrder.{cell_cmp};
+//! The cells of a state.
+ghost use Rattle.std.specs.Prelude.{◌≡◌, ◌↔◌, IfOk, IsTrue};
 
-use crate::node::Node;
-use retro_path::{Path, Text, VarName};
+use retro_path::{Path, VarName};
 use std::alloc::AllocError;
 use std::cmp::Ordering;
 
-/// One place of a state that holds a value. Cells are in order by kind, as listed here, and then by
-/// what they name.
+/// A place of a state that holds one value. A state is the values of its cells and the set of its
+/// sessions. Cells are ordered by kind, as listed here, and then by their fields.
 #[derive(Drop, Clone, PartialEq, Eq, PartialOrd, Ord)]
 pub enum Cell {
-    /// What is at a path.
+    /// The node at a path.
     At(Path),
     /// The directory of a session.
     Cwd(u32),
@@ -21,48 +19,24 @@ pub enum Cell {
     Status(u32),
 }
 
-/// What a cell holds.
-#[derive(Drop, Clone, PartialEq, Eq)]
-pub enum Value {
-    /// What is at a path.
-    Node(Node),
-    /// A session's directory.
-    Cwd(Path),
-    /// A variable's value, where it is set.
-    Text(Option<Text>),
-    /// A session's status.
-    Status(u8),
-}
-
 impl Cell {
-    /// How the cell stands to another in their order.
-    pub fn order(&self, other: &Cell) -> Ordering
-        ensures { result ≡ cell_cmp self.now other.now }
-    {
-        self.cmp(other)
-    }
-
-    /// The same cell once more.
-    ///
-    /// # Errors
-    ///
-    /// `NoMem` where memory is wanting.
+    /// Returns a copy.
     pub fn copy(&self) -> Result<Cell, AllocError>
         ensures { IfOk result (λ copy. copy ≡ self.now) }
     {
         self.clone()
     }
-}
 
-impl Value {
-    /// The same value once more.
-    ///
-    /// # Errors
-    ///
-    /// `NoMem` where memory is wanting.
-    pub fn copy(&self) -> Result<Value, AllocError>
-        ensures { IfOk result (λ copy. copy ≡ self.now) }
+    /// Returns whether this is the same cell as another.
+    #[tactic(auto, using(crate::proofs::Sames::sames))]
+    pub fn is_same(&self, other: &Cell) -> bool
+        ensures { IsTrue result ↔ (self.now ≡ other.now) }
     {
-        self.clone()
+        match (self, other) {
+            (Cell::At(x), Cell::At(y)) => x == y,
+            (Cell::Cwd(x), Cell::Cwd(y)) | (Cell::Status(x), Cell::Status(y)) => *x == *y,
+            (Cell::Var(sid, x), Cell::Var(other_sid, y)) => *sid == *other_sid && x == y,
+            _ => false,
+        }
     }
 }

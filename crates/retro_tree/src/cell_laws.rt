@@ -14,17 +14,17 @@ ghost use Rattle.retro_tree.specs.declared.ask.Ask.{Ask};
 ghost use Rattle.retro_tree.specs.declared.change.Change.{Change};
 ghost use Rattle.retro_tree.specs.declared.state.State.{State};
 
-/// A change writes its own cell, by what the cell held, and leaves each other cell as it is. This
-/// holds of every state, also where the session of the change isn't there.
+/// A change writes its own cell, by the cell's value, and leaves every other cell unchanged. This
+/// holds in every state, even if the session of the change doesn't exist.
 #[tactic(auto, using(crate::proofs::CellLaw::cell_laws))]
 pub fn changes_write_one_cell()
     ensures own { (change : Change) (s : State) → value (cell_of change) (apply change s)
         ≡ written change (value (cell_of change) s) }
-    ensures other { (change : Change) (c : Cell) (s : State)
+    ensures unchanged { (change : Change) (c : Cell) (s : State)
         → c ≢ cell_of change → value c (apply change s) ≡ value c s }
 {}
 
-/// An answer depends on the cells that its question supports, and on no other.
+/// An answer depends only on the cells that `supports` names.
 #[tactic(auto, using(crate::proofs::Agree::agreeing))]
 pub fn answers_depend_on_cells()
     ensures { (ask : Ask) (s t : State)
@@ -32,7 +32,7 @@ pub fn answers_depend_on_cells()
         → answer ask s ≡ answer ask t }
 {}
 
-/// States are equal where all cells hold the same and the same sessions are there.
+/// States with the same sessions and the same values of all cells are equal.
 #[tactic(auto, using(crate::proofs::Agree::same_state))]
 pub fn cells_make_the_state()
     ensures { (s t : State) → ((c : Cell) → value c s ≡ value c t)
@@ -40,11 +40,11 @@ pub fn cells_make_the_state()
         → s ≡ t }
 {}
 
-/// The names of what stands right below a path are in byte order, each once, and are exactly those
-/// of the children that are there.
+/// The names of the children of a path are in byte order, each once. They are exactly the names of
+/// the children that exist.
 #[tactic(auto, using(crate::proofs::Children::listings))]
 pub fn listings_name_the_children()
-    ensures rising { (p : PathValue) (tree : Tree)
+    ensures sorted { (p : PathValue) (tree : Tree)
         → IsStrictlySortedBy text_cmp (names_in p tree) }
     ensures exact { (p : PathValue) (name : List ℕ) (tree : Tree)
         → list_any (text_eq name) (names_in p tree) ≡ is_some (map.get tree (p ++ name ∷ [])) }

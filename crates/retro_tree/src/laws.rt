@@ -13,53 +13,53 @@ ghost use Rattle.retro_tree.specs.Change.{IsLawfulChange, apply, has_its_session
 ghost use Rattle.retro_tree.specs.declared.change.Change.{Change};
 ghost use Rattle.retro_tree.specs.declared.change.Change.TheVariants.{Put, Grow};
 ghost use Rattle.retro_tree.specs.declared.node.Node.TheVariants.{Missing, Dir, File};
-ghost use Rattle.retro_tree.specs.declared.node.Permit.TheVariants.{Yes};
+ghost use Rattle.retro_tree.specs.declared.permit.Permit.TheVariants.{Yes};
 ghost use Rattle.retro_tree.specs.declared.state.State.{State};
 
-/// A tree is lawful exactly where its root is a directory, as is the parent of each other path at
-/// which something stands, none of these paths is at `/dev/null` or below it, their names may be
-/// names, and files are within the limit.
+/// A tree is lawful exactly if its root is a directory, the parent of each other path with a node is
+/// a directory, none of these paths is at `/dev/null` or below it, their names can be names, and files
+/// are within the limit.
 #[tactic(auto, using(crate::proofs::TreeLaw::tree_law))]
 pub fn lawful_trees()
-    ensures told { (tree : Tree) → IsLawfulTree tree → KeepsTreeLaw tree }
-    ensures enough { (tree : Tree) → KeepsTreeLaw tree → IsLawfulTree tree }
+    ensures sound { (tree : Tree) → IsLawfulTree tree → KeepsTreeLaw tree }
+    ensures complete { (tree : Tree) → KeepsTreeLaw tree → IsLawfulTree tree }
 {}
 
-/// The whole test of a tree is true exactly where the tree is lawful.
+/// `is_lawful_tree` is true exactly if the tree is lawful.
 #[tactic(auto, using(crate::proofs::WholeLaw::whole_tree))]
 pub fn lawful_trees_pass()
     ensures sound { (tree : Tree) → IsTrue (is_lawful_tree tree) → IsLawfulTree tree }
-    ensures whole { (tree : Tree) → IsLawfulTree tree → IsTrue (is_lawful_tree tree) }
+    ensures complete { (tree : Tree) → IsLawfulTree tree → IsTrue (is_lawful_tree tree) }
 {}
 
-/// The whole test of a state is true exactly where the state is lawful.
+/// `is_lawful` is true exactly if the state is lawful.
 #[tactic(auto, using(crate::proofs::WholeLaw::whole_state))]
 pub fn lawful_states_pass()
     ensures sound { (s : State) → IsTrue (is_lawful s) → IsLawful s }
-    ensures whole { (s : State) → IsLawful s → IsTrue (is_lawful s) }
+    ensures complete { (s : State) → IsLawful s → IsTrue (is_lawful s) }
 {}
 
-/// The test of the limits is true exactly where a state is within them, as each lawful state is.
+/// `within_limits` is true exactly if the state is within the limits. Every lawful state is.
 #[tactic(auto, using(crate::proofs::WholeLaw::whole_limits))]
 pub fn lawful_states_are_within_limits()
     ensures sound { (s : State) → IsTrue (within_limits s) → IsWithinLimits s }
-    ensures whole { (s : State) → IsWithinLimits s → IsTrue (within_limits s) }
+    ensures complete { (s : State) → IsWithinLimits s → IsTrue (within_limits s) }
     ensures lawful { (s : State) → IsLawful s → IsWithinLimits s }
 {}
 
-/// A lawful state stays lawful where a file within the limit, or an empty one, is put at a path
-/// that may be written to.
+/// A lawful state stays lawful if a file within the limit, or an empty one, is put at a path that
+/// can be written to.
 #[tactic(auto, using(crate::proofs::Keeping::keeping))]
 pub fn lawful_files()
     ensures put { (p : PathValue) (bytes : List ℕ) (n : ℕ) (s : State)
         → IsLawful s → AllNames p → is_null p ≡ false → permit_of p n s ≡ Yes
         → length bytes ≤ file_limit → IsLawful (put_node p (File bytes) s) }
-    ensures emptied { (p : PathValue) (n : ℕ) (s : State)
+    ensures empty { (p : PathValue) (n : ℕ) (s : State)
         → IsLawful s → AllNames p → is_null p ≡ false → permit_of p n s ≡ Yes
         → IsLawful (put_node p (File []) s) }
 {}
 
-/// A lawful state stays lawful where a file grows by as many bytes as may be written to it.
+/// A lawful state stays lawful if a file grows by bytes that can be written to it.
 #[tactic(auto, using(crate::proofs::Keeping::keeping))]
 pub fn lawful_growths()
     ensures { (p : PathValue) (bytes : List ℕ) (s : State)
@@ -67,20 +67,21 @@ pub fn lawful_growths()
         → IsLawful (grow_file p bytes s) }
 {}
 
-/// A lawful state stays lawful where a session's status is set.
+/// A lawful state stays lawful if a session's status is set.
 #[tactic(auto, using(crate::proofs::Keeping::keeping))]
 pub fn lawful_statuses()
     ensures { (sid status : ℕ) (s : State)
         → IsLawful s → status ≤ 255 → IsLawful (put_status sid status s) }
 {}
 
-/// Of a lawful state a change is lawful exactly where its session is there and it passes the test
-/// at its cell and around it, and the state after it is lawful.
+/// In a lawful state a change is lawful exactly if its session exists and `may_make` is true. The
+/// state after a lawful change is lawful, and so is the state after a change for which `may_make` is
+/// true.
 #[tactic(auto, using(crate::proofs::Allowed::lawful_changes))]
 pub fn lawful_changes()
     ensures sound { (c : Change) (s : State) → IsLawful s → has_its_session c s ≡ true
         → may_make c s ≡ true → IsLawfulChange c s }
-    ensures whole { (c : Change) (s : State) → IsLawfulChange c s → may_make c s ≡ true }
+    ensures complete { (c : Change) (s : State) → IsLawfulChange c s → may_make c s ≡ true }
     ensures kept { (c : Change) (s : State) → IsLawful s → may_make c s ≡ true
         → IsLawful (apply c s) }
     ensures session { (c : Change) (s : State)
@@ -88,33 +89,33 @@ pub fn lawful_changes()
     ensures after { (c : Change) (s : State) → IsLawfulChange c s → IsLawful (apply c s) }
 {}
 
-/// A file within the limit, or an empty one, passes the test at a path that may be written to, and so
-/// does a growth by as many bytes as may be written.
+/// `may_make` is true for putting a file within the limit, or an empty one, at a path that can be
+/// written to, and for a growth by bytes that can be written.
 #[tactic(auto, using(crate::proofs::MayMake::may_making))]
-pub fn tested_files()
+pub fn file_changes_pass()
     ensures put { (p : PathValue) (bytes : List ℕ) (n : ℕ) (s : State)
         → IsLawful s → AllNames p → is_null p ≡ false → permit_of p n s ≡ Yes
         → length bytes ≤ file_limit → may_make (Put p (File bytes)) s ≡ true }
-    ensures emptied { (p : PathValue) (n : ℕ) (s : State)
+    ensures empty { (p : PathValue) (n : ℕ) (s : State)
         → IsLawful s → AllNames p → is_null p ≡ false → permit_of p n s ≡ Yes
         → may_make (Put p (File [])) s ≡ true }
-    ensures grown { (p : PathValue) (bytes : List ℕ) (s : State)
+    ensures growth { (p : PathValue) (bytes : List ℕ) (s : State)
         → IsLawful s → AllNames p → is_null p ≡ false → permit_of p (length bytes) s ≡ Yes
         → may_make (Grow p bytes) s ≡ true }
 {}
 
-/// A directory passes the test where the parent is one, but at `/dev/null`.
+/// `may_make` is true for putting a directory where the parent is one, except at `/dev/null`.
 #[tactic(auto, using(crate::proofs::MayMake::may_making))]
-pub fn tested_directories()
+pub fn directory_changes_pass()
     ensures { (p : PathValue) (s : State)
         → IsLawful s → AllNames p → is_null p ≡ false → node_in (parent_of p) s.tree ≡ Dir
         → may_make (Put p Dir) s ≡ true }
 {}
 
-/// A removal passes the test where the path isn't the root and has no children, as what is no
-/// directory has none.
+/// `may_make` is true for removing a path that isn't the root and has no children. In a lawful state
+/// only directories have children.
 #[tactic(auto, using(crate::proofs::MayMake::may_making))]
-pub fn tested_removals()
+pub fn removals_pass()
     ensures childless { (p : PathValue) (s : State)
         → IsLawful s → is_root p ≡ false → names_in p s.tree ≡ []
         → may_make (Put p Missing) s ≡ true }
@@ -124,7 +125,7 @@ pub fn tested_removals()
 
 /// A change removes no session. One whose session exists leaves the same sessions.
 #[tactic(auto, using(crate::proofs::MayMake::session_stays, crate::proofs::KeptSessions::change_keeps_sessions))]
-pub fn sessions_stay()
+pub fn changes_keep_sessions()
     ensures same { (c : Change) (s : State)
         → has_its_session c s ≡ true → SameSessions (apply c s) s }
     ensures kept { (c : Change) (s : State) (sid : ℕ)
@@ -132,7 +133,8 @@ pub fn sessions_stay()
         → map.contains_key (apply c s).sessions sid ≡ true }
 {}
 
-/// The greatest number that can be asked for stands for all that are over the limit of a file.
+/// A permit for more than 2^32 - 1 bytes is the permit for 2^32 - 1 bytes, because both exceed the
+/// limit of a file.
 #[tactic(auto, using(crate::proofs::MayMake::permit_clamped))]
 pub fn permits_are_clamped()
     ensures { (p : PathValue) (n : ℕ) (s : State)

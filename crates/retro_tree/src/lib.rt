@@ -1,78 +1,98 @@
 //! The state of a machine: a tree of files, and the sessions that work in it.
 //!
-//! A state is made by `State::empty`, `State::place` and `State::add_session`, lawful or not, and
-//! read and changed by its methods. Each of them says exactly what it answers or leaves, in terms
-//! of two finite maps: from paths to directories and files, and from numbers to sessions. After
-//! want of memory, which is `NoMem`, a state is as before.
+//! `State::empty`, `State::place` and `State::add_session` make a state, lawful or not. Contracts see
+//! it as two finite maps: from paths to directories and files, and from numbers to sessions.
 //!
-//! All that a state holds stands in its cells: what is at a path, and the directory, the variables
-//! and the status of a session. `State::apply` makes a change, which writes one cell.
-//! `State::answer` answers a question, by the cells that `supports` tells and by no other. What
-//! shows a state through its answers is a `View`.
+//! A state is the values of its `Cell`s: the node at each path, and the directory, variables and
+//! status of each session. A `Change` writes one cell. An `Ask` is a query; its `Answer` depends only
+//! on the cells that `supports` names. A `View` answers queries about one state.
 //!
-//! `Note`s keep what was asked and changed; they act on each cell alone. An `Overlay` holds values
-//! for some cells of a state that a view shows: it answers as the state that has them, takes
-//! changes, and is put into a state whole or not at all.
+//! `Notes` are a trace of reads and writes with their values. An `Overlay` has entries for some cells
+//! and takes the other cells from a view: it answers queries about the combined state, takes changes,
+//! and commits to a state, all or nothing.
 //!
-//! `State::is_lawful` is true exactly where the root is a directory, the parent of each other path
-//! is one, nothing stands at `/dev/null` or below it, and the state is within the limits.
-//! `State::allows` is true exactly where a change is lawful, and a lawful change keeps a lawful
-//! state lawful. A write that `State::permit` allows, anywhere but at `/dev/null`, is one.
+//! A state is lawful if the root is a directory, as is the parent of each other path, nothing is at
+//! `/dev/null` or below it, and the state is within the limits. `State::is_lawful` decides that.
+//! `State::allows` decides whether a change is lawful, and a lawful change keeps a lawful state
+//! lawful. A write that `State::permit` allows is one, except at `/dev/null`.
 //!
-//! Texts, names and paths, and `resolve`, are those of `retro_path`, handed out here too, so that
-//! whoever works with states needs this crate alone.
+//! The names of `retro_path` are exported here too, so that a crate that works with states needs only
+//! this one.
+//!
+//! If allocation fails, calls return `NoMem` and leave their arguments unchanged.
 #![tactic(auto)]
 
-mod answering;
+mod answer;
 mod ask;
 mod cell;
 mod cell_laws;
 mod change;
-mod changing;
-mod exact_laws;
+mod combined;
+mod commit;
+mod entry;
+mod kind;
 mod laws;
 mod node;
 mod note;
 mod note_laws;
+mod notes;
 mod overlay;
-mod same;
+mod overlay_entry;
+mod overlay_laws;
+mod permit;
+mod previous;
 mod session;
+mod sessions;
+mod setting;
 mod state;
 mod tree;
+mod undo;
 mod user;
+mod value;
+mod vars;
 mod view;
 
-pub use ask::{Answer, Ask, User, supports};
-pub use cell::{Cell, Value};
+pub use answer::Answer;
+pub use ask::{Ask, supports};
+pub use cell::Cell;
 pub use cell_laws::{
     answers_depend_on_cells, cells_make_the_state, changes_write_one_cell,
     listings_name_the_children,
 };
 pub use change::Change;
-pub use exact_laws::{
-    exact_overlays, exact_overlays_make_the_state, lines_keep_overlays_exact,
-    overlays_follow_the_state,
-};
+pub use entry::{Entry, FILE_LIMIT};
+pub use kind::Kind;
 pub use laws::{
-    lawful_changes, lawful_files, lawful_growths, lawful_states_are_within_limits,
-    lawful_states_pass, lawful_statuses, lawful_trees, lawful_trees_pass, permits_are_clamped,
-    sessions_stay, tested_directories, tested_files, tested_removals,
+    changes_keep_sessions, directory_changes_pass, file_changes_pass, lawful_changes, lawful_files,
+    lawful_growths, lawful_states_are_within_limits, lawful_states_pass, lawful_statuses,
+    lawful_trees, lawful_trees_pass, permits_are_clamped, removals_pass,
 };
-pub use node::{Entry, FILE_LIMIT, Kind, Node, Permit};
-pub use note::{Note, Notes};
+pub use node::Node;
+pub use note::Note;
 pub use note_laws::{
     allowed_notes_keep_the_law, allowed_notes_keep_the_sessions, notes_act_on_each_cell,
     notes_hold_by_their_cells, notes_in_turn,
 };
-pub use overlay::{Laid, Overlay, overlays_last, overlays_show_a_state};
+pub use notes::Notes;
+pub use overlay::Overlay;
+pub use overlay_entry::OverlayEntry;
+pub use overlay_laws::{
+    committed_states, exact_overlays, exact_overlays_make_the_state, fitting_overlays_combine,
+    lines_keep_overlays_exact, overlays_follow_the_state,
+};
+pub use permit::Permit;
 pub use retro_path::{
     Bytes, Listing, NAME_LIMIT, Name, Path, Resolved, Text, VarName, is_relative, resolve,
     resolve_ignores_the_directory,
 };
-pub use session::{Session, Sessions, VALUE_LIMIT, Vars};
+pub use session::{Session, VALUE_LIMIT};
+pub use sessions::Sessions;
 pub use state::State;
 pub use tree::Tree;
+pub use user::User;
+pub use value::Value;
+pub use vars::Vars;
 pub use view::View;
 
-/// Memory was wanted and refused.
+/// Allocation failed.
 pub use std::alloc::AllocError as NoMem;

@@ -5,12 +5,12 @@ ghost use Rattle.retro_tree.specs.State.{SameSessions};
 ghost use Rattle.retro_tree.specs.Lawful.{IsLawful};
 ghost use Rattle.retro_tree.specs.Notes.{after, Holds, AllAllowed, touches, changes, effects};
 ghost use Rattle.retro_tree.specs.declared.cell.Cell.{Cell};
-ghost use Rattle.retro_tree.specs.declared.cell.Value.{Value};
+ghost use Rattle.retro_tree.specs.declared.value.Value.{Value};
 ghost use Rattle.retro_tree.specs.declared.note.Note.{Note};
 ghost use Rattle.retro_tree.specs.declared.state.State.{State};
 
-/// Notes act on each cell alone: what it holds after them follows from what it held before, and a
-/// cell that they don't change keeps what it holds.
+/// Notes act on each cell alone: its value after them follows from its value before them. A cell that
+/// they don't change keeps its value.
 #[tactic(auto, using(crate::proofs::NoteLaws::one_cell))]
 pub fn notes_act_on_each_cell()
     ensures alone { (notes : List Note) (c : Cell) (s : State)
@@ -21,8 +21,8 @@ pub fn notes_act_on_each_cell()
         → changes notes c ≡ false → value c (after notes s) ≡ value c s }
 {}
 
-/// Notes that hold in a state hold in each state that agrees with it on the cells of the notes,
-/// among which are the cells that they change.
+/// Notes that hold in a state hold in every state that agrees with it on the cells of the notes. The
+/// cells that notes change are among their cells.
 #[tactic(auto, using(crate::proofs::NoteLaws::by_cells))]
 pub fn notes_hold_by_their_cells()
     ensures agreed { (notes : List Note) (s t : State)
@@ -32,7 +32,7 @@ pub fn notes_hold_by_their_cells()
         → changes notes c ≡ true → touches notes c ≡ true }
 {}
 
-/// A lawful state stays lawful under notes whose changes are each lawful where they are made.
+/// Notes whose changes are each lawful where they are made keep a lawful state lawful.
 #[tactic(auto, using(crate::proofs::NoteLaws::lawful_after))]
 pub fn allowed_notes_keep_the_law()
     ensures { (notes : List Note) (s : State)
@@ -46,7 +46,7 @@ pub fn allowed_notes_keep_the_sessions()
         → AllAllowed notes s → SameSessions (after notes s) s }
 {}
 
-/// What notes after notes mean: the later ones start where the earlier ones end.
+/// A trace that is two traces in turn: the second starts in the state in which the first ends.
 #[tactic(auto, using(crate::proofs::NoteLaws::in_turn))]
 pub fn notes_in_turn()
     ensures state { (xs ys : List Note) (s : State)

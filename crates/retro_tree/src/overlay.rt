@@ -1,60 +1,66 @@
-//! What is laid over the cells of a state: values, and growths.
-ghost use Rattle.std.specs.Prelude.{◌≡◌, ◌≢◌, ◌↔◌, IfOk, IsTrue, OnOk, OnErr, is_some, true};
+//! Overlays.
+ghost use Rattle.std.specs.Prelude.{◌≡◌, ◌≢◌, ◌↔◌, ◌||◌, IfOk, IsTrue, OnOk, OnErr, is_some, true};
 ghost use Rattle.std.specs.Option.{option_copied, option_map};
 ghost use Rattle.std.specs.FinMap as map;
 ghost use Rattle.retro_tree.specs.Cell.{value as value_at};
-ghost use Rattle.retro_tree.specs.Overlay.{Overlays, Fits, AllValues, is_of, is_whole, grown_at, replaced_at};
+ghost use Rattle.retro_tree.specs.Ask.{answer, names_in};
+ghost use Rattle.retro_tree.specs.Change.{apply, cell_of};
+ghost use Rattle.retro_tree.specs.Notes.{cell_eq};
+ghost use Rattle.retro_tree.specs.Overlay.{Overlays, Fits, AllValues, fits_cell, is_value, grown_at, replaced_at};
 ghost use Rattle.retro_tree.specs.Commit.{committed};
+ghost use Rattle.retro_tree.specs.Marks.{overlay_from, starts_below};
 ghost use Rattle.retro_tree.specs.declared.cell.Cell.{Cell as StateCell};
-ghost use Rattle.retro_tree.specs.declared.overlay.laid.Laid.TheVariants as Laid;
-ghost use Rattle.retro_tree.specs.declared.state.State.{State};
+ghost use Rattle.retro_tree.specs.declared.cell.Cell.TheVariants as Cell;
+ghost use Rattle.retro_tree.specs.declared.change.Change.TheVariants as Change;
+ghost use Rattle.retro_tree.specs.declared.overlay_entry.OverlayEntry.TheVariants as OverlayEntry;
+ghost use Rattle.retro_tree.specs.declared.state.State.{State as StateValue};
 
-mod answering;
-mod asking;
-mod commit;
-mod laid;
-mod laying;
-mod listing;
-mod nodes;
-
-use crate::cell::{Cell, Value};
-pub use commit::{overlays_last, overlays_show_a_state};
-pub use laid::Laid;
-use retro_path::Bytes;
+use crate::answer::Answer;
+use crate::ask::Ask;
+use crate::cell::Cell;
+use crate::change::Change;
+use crate::combined::Combined;
+use crate::commit::Commit;
+use crate::overlay_entry::OverlayEntry;
+use crate::state::State;
+use crate::value::Value;
+use crate::view::View;
+use retro_path::{Bytes, Listing, Path};
 use std::alloc::{AllocError, Global};
 use std::collections::BTreeMap;
-use std::collections::btree_map::Iter;
+use std::collections::btree_map::{IntoIter, Iter, Range};
 use std::marker::Model;
 use std::mem::replace;
 
-/// Values and growths laid over some cells of a state. Together with a view of the state it shows
-/// the state that has these values in these cells, that is grown so where a growth is laid, and that
-/// has in each other cell what the view's state has there. A growth holds the bytes that it adds,
-/// and nothing of the file below.
+/// Entries for some cells of a state, over which a view gives the other cells.
+///
+/// Together they give the combined state. A cell with an entry has the entry's value, or the view's
+/// file with bytes appended. Every other cell has the view's value. An overlay holds nothing of the
+/// view's files.
 #[derive(Drop)]
 pub struct Overlay {
-    cells: BTreeMap<Cell, Laid>,
+    cells: BTreeMap<Cell, OverlayEntry>,
 }
 
 impl Model for Overlay {
     ghost use Rattle.std.specs.FinMap as map;
-    ghost use Rattle.retro_tree.specs.CellOrder.{cell_cmp, coded_cell, coded_laid};
-    ghost use Rattle.retro_tree.specs.declared.overlay.laid.Laid.{Laid};
+    ghost use Rattle.retro_tree.specs.CellOrder.{cell_cmp, coded_cell, coded_overlay_entry};
+    ghost use Rattle.retro_tree.specs.declared.overlay_entry.OverlayEntry.{OverlayEntry};
 
-    ghost Value = { map.FinMap cell_cmp Laid };
+    ghost Value = { map.FinMap cell_cmp OverlayEntry };
 
-    ghost coded = { map.code coded_cell coded_laid };
+    ghost coded = { map.code coded_cell coded_overlay_entry };
 
     ghost view = { λ a. map.from_entries a.cells.entries };
 }
 
 impl Overlay {
-    /// Nothing is laid: each state is shown as it is. Takes no memory.
-    #[tactic(auto, using(crate::proofs::OverlayLemmas::nothing_laid, crate::proofs::OverlayLasting::lasts_none, crate::proofs::Fitting::fits_none, crate::proofs::ValueEntries::values))]
+    /// Returns an overlay without entries. Takes no memory.
+    #[tactic(auto, using(crate::proofs::OverlayLemmas::nothing_laid, crate::proofs::CommittedChanges::lasts_none, crate::proofs::Fitting::fits_none, crate::proofs::ValueEntries::values))]
     pub fn new(alloc: Global) -> Overlay
         ensures value { result ≡ map.empty }
-        ensures shows { (s : State) → Overlays result s s }
-        ensures lasts { (s : State) → committed result s ≡ s }
+        ensures overlays { (s : StateValue) → Overlays result s s }
+        ensures committed { (s : StateValue) → committed result s ≡ s }
         ensures fits { Fits result }
         ensures values { AllValues result }
     {
@@ -63,63 +69,58 @@ impl Overlay {
         }
     }
 
-    /// What is laid over a cell, where something is.
-    pub fn get(&self, cell: &Cell) -> Option<&Laid>
+    /// Returns the entry of a cell, or `None` if it has none.
+    pub fn get(&self, cell: &Cell) -> Option<&OverlayEntry>
         ensures { option_copied result ≡ map.get self.now cell.now }
     {
         self.cells.get(cell)
     }
 
-    /// Returns the value of a cell's entry, or `None` if the cell has no entry. No entry is a growth.
+    /// Returns the value of a cell's entry, or `None` if the cell has none. No entry may be a growth.
     pub fn get_value(&self, cell: &Cell) -> Option<&Value>
         requires { AllValues self.now }
-        ensures { option_map Laid.Whole (option_copied result) ≡ map.get self.now cell.now }
+        ensures { option_map OverlayEntry.Value (option_copied result)
+            ≡ map.get self.now cell.now }
     {
         match self.get(cell) {
-            Some(Laid::Whole(value)) => Some(value),
-            Some(Laid::More(_)) => unreachable!(),
+            Some(OverlayEntry::Value(value)) => Some(value),
+            Some(OverlayEntry::Growth(_)) => unreachable!(),
             None => None,
         }
     }
 
-    /// Lays a value over a cell, in the place of what is laid: a state is shown that has this value
-    /// there, and elsewhere what was shown. After want of memory the overlay is as before.
-    ///
-    /// # Errors
-    ///
-    /// `NoMem` where memory is wanting.
-    #[tactic(auto, using(crate::proofs::OverlayLaying::shows_laid, crate::proofs::Fitting::fitting, crate::proofs::ValueEntries::values))]
+    /// Sets the value of a cell.
+    #[tactic(auto, using(crate::proofs::OverlayChanges::shows_laid, crate::proofs::Fitting::fitting, crate::proofs::ValueEntries::values))]
     pub fn insert(&mut self, cell: Cell, value: Value) -> Result<(), AllocError>
-        ensures ok { OnOk result (self.new ≡ map.insert self.old cell (Laid.Whole value)) }
-        ensures shows { OnOk result ((below now next : State)
+        ensures ok { OnOk result
+            (self.new ≡ map.insert self.old cell (OverlayEntry.Value value)) }
+        ensures overlays { OnOk result ((below now next : StateValue)
             → Overlays self.old below now
             → value_at cell next ≡ value
             → ((c : StateCell) → c ≢ cell → value_at c next ≡ value_at c now)
             → Overlays self.new below next) }
         ensures fits { OnOk result
-            (is_of cell (Laid.Whole value) ≡ true → Fits self.old → Fits self.new) }
+            (fits_cell cell (OverlayEntry.Value value) ≡ true → Fits self.old → Fits self.new) }
         ensures values { OnOk result (AllValues self.old → AllValues self.new) }
         ensures err { OnErr result (self.new ≡ self.old) }
     {
-        self.lay_over(cell, Laid::Whole(value))
+        self.set(cell, OverlayEntry::Value(value))
     }
 
-    /// Lays a value or a growth over a cell, in the place of what is laid. After want of memory the
-    /// overlay is as before.
-    fn lay_over(&mut self, cell: Cell, laid: Laid) -> Result<(), AllocError>
-        ensures ok { OnOk result (self.new ≡ map.insert self.old cell laid) }
+    /// Sets the entry of a cell.
+    fn set(&mut self, cell: Cell, entry: OverlayEntry) -> Result<(), AllocError>
+        ensures ok { OnOk result (self.new ≡ map.insert self.old cell entry) }
         ensures err { OnErr result (self.new ≡ self.old) }
     {
-        self.cells.insert(cell, laid)?;
+        self.cells.insert(cell, entry)?;
         Ok(())
     }
 
-    /// Takes away what is laid over a cell, where something is: a state is shown that has there what
-    /// the state below has. Takes no memory.
+    /// Removes the entry of a cell, so that the cell has the view's value. Takes no memory.
     #[tactic(auto, using(crate::proofs::Fitting::fits_removed))]
     pub fn remove(&mut self, cell: &Cell)
         ensures value { self.new ≡ map.remove self.old cell.now }
-        ensures shows { (below now next : State)
+        ensures overlays { (below now next : StateValue)
             → Overlays self.old below now
             → value_at cell.now next ≡ value_at cell.now below
             → ((c : StateCell) → c ≢ cell.now → value_at c next ≡ value_at c now)
@@ -130,64 +131,23 @@ impl Overlay {
         self.cells.remove(cell);
     }
 
-    /// What is laid, in order of cells.
-    pub fn iter(&self) -> Iter<'_, Cell, Laid>
-        ensures { result ≡ map.entries self.now }
-    {
-        self.cells.iter()
-    }
-
-    /// Over how many cells something is laid.
-    pub fn len(&self) -> usize
-        ensures { result ≡ map.len self.now }
-    {
-        self.cells.len()
-    }
-
-    /// Whether nothing is laid.
-    pub fn is_empty(&self) -> bool
-        ensures { IsTrue result ↔ (map.len self.now ≡ 0) }
-    {
-        self.len() == 0
-    }
-
-    /// The same overlay once more.
-    ///
-    /// # Errors
-    ///
-    /// `NoMem` where memory is wanting.
-    pub fn copy(&self, alloc: Global) -> Result<Overlay, AllocError>
-        ensures { IfOk result (λ copy. copy ≡ self.now) }
-    {
-        let mut copy = Overlay::new(alloc);
-        for (cell, laid) in self.iter() {
-            copy.lay_over(cell.copy()?, laid.copy()?)?;
-        }
-        Ok(copy)
-    }
-
-    /// Replaces the entry of a cell and returns the previous one, or `None` if the cell has no entry.
-    /// Takes no memory.
-    pub fn replace(&mut self, cell: &Cell, laid: Laid) -> Option<Laid>
+    /// Replaces the entry of a cell and returns the previous one, or does nothing and returns `None`
+    /// if the cell has no entry. Takes no memory.
+    pub fn replace(&mut self, cell: &Cell, entry: OverlayEntry) -> Option<OverlayEntry>
         ensures previous { result ≡ map.get self.old cell.now }
         ensures new { self.new
-            ≡ replaced_at cell.now laid (map.get self.old cell.now) self.old }
-        ensures fits { is_of cell.now laid ≡ true → Fits self.old → Fits self.new }
-        ensures values { is_whole laid ≡ true → AllValues self.old → AllValues self.new }
+            ≡ replaced_at cell.now entry (map.get self.old cell.now) self.old }
+        ensures fits { fits_cell cell.now entry ≡ true → Fits self.old → Fits self.new }
+        ensures values { is_value entry ≡ true → AllValues self.old → AllValues self.new }
     {
         if let Some(slot) = self.cells.get_mut(cell) {
-            return Some(replace(slot, laid));
+            return Some(replace(slot, entry));
         }
         None
     }
 
-    /// Adds bytes at the end of what is laid over a cell, in place. A value grows as its cell would,
-    /// and a growth has these bytes behind its own. False where nothing is laid. After want of memory
-    /// the overlay is as before.
-    ///
-    /// # Errors
-    ///
-    /// `NoMem` where memory is wanting.
+    /// Appends bytes to the entry of a cell, in place. A value grows as its cell does, and a growth
+    /// gets longer. Does nothing and returns false if the cell has no entry.
     pub fn grow(&mut self, cell: &Cell, bytes: &Bytes) -> Result<bool, AllocError>
         ensures done { IfOk result (λ done. done ≡ is_some (map.get self.old cell.now)) }
         ensures ok { OnOk result
@@ -196,10 +156,180 @@ impl Overlay {
         ensures values { OnOk result (AllValues self.old → AllValues self.new) }
         ensures err { OnErr result (self.new ≡ self.old) }
     {
-        if let Some(laid) = self.cells.get_mut(cell) {
-            laid.grow(bytes)?;
+        if let Some(entry) = self.cells.get_mut(cell) {
+            entry.grow(bytes)?;
             return Ok(true);
         }
         Ok(false)
+    }
+
+    /// Makes a change in the combined state. The entries of other cells stay unchanged. A growth
+    /// takes time in proportion to its own bytes: no file is read or copied.
+    #[tactic(auto, using(crate::proofs::OverlayChanges::laying, crate::proofs::CommittedChanges::lasting, crate::proofs::Fitting::fitting))]
+    pub fn apply(&mut self, change: Change) -> Result<(), AllocError>
+        ensures ok { OnOk result ((below now : StateValue)
+            → Overlays self.old below now
+            → Overlays self.new below (apply change now)) }
+        ensures committed { OnOk result ((below now : StateValue)
+            → Overlays self.old below now
+            → committed self.old below ≡ now
+            → committed self.new below ≡ apply change now) }
+        ensures cells { OnOk result ((c : StateCell) → map.contains_key self.new c
+            ≡ (cell_eq (cell_of change) c || map.contains_key self.old c)) }
+        ensures unchanged { OnOk result ((c : StateCell) → c ≢ cell_of change
+            → map.get self.new c ≡ map.get self.old c) }
+        ensures fits { OnOk result (Fits self.old → Fits self.new) }
+        ensures err { OnErr result (self.new ≡ self.old) }
+    {
+        match change {
+            Change::Put(path, node) => self.insert(Cell::At(path), Value::Node(node))?,
+            Change::Grow(path, bytes) => self.apply_growth(path, bytes)?,
+            Change::SetVar(sid, name, text) => {
+                self.insert(Cell::Var(sid, name), Value::Text(Some(text)))?
+            }
+            Change::SetCwd(sid, path) => self.insert(Cell::Cwd(sid), Value::Cwd(path))?,
+            Change::SetStatus(sid, status) => {
+                self.insert(Cell::Status(sid), Value::Status(status))?
+            }
+        }
+        Ok(())
+    }
+
+    /// Makes a growth: appends the bytes to the entry of the path, or makes them its entry.
+    #[tactic(auto, using(crate::proofs::OverlayChanges::laying, crate::proofs::CommittedChanges::lasting, crate::proofs::Fitting::fitting))]
+    fn apply_growth(&mut self, path: Path, bytes: Bytes) -> Result<(), AllocError>
+        ensures ok { OnOk result ((below now : StateValue)
+            → Overlays self.old below now
+            → Overlays self.new below (apply (Change.Grow path bytes) now)) }
+        ensures committed { OnOk result ((below now : StateValue)
+            → Overlays self.old below now
+            → committed self.old below ≡ now
+            → committed self.new below ≡ apply (Change.Grow path bytes) now) }
+        ensures cells { OnOk result ((c : StateCell) → map.contains_key self.new c
+            ≡ (cell_eq (cell_of (Change.Grow path bytes)) c || map.contains_key self.old c)) }
+        ensures unchanged { OnOk result ((c : StateCell) → c ≢ cell_of (Change.Grow path bytes)
+            → map.get self.new c ≡ map.get self.old c) }
+        ensures fits { OnOk result (Fits self.old → Fits self.new) }
+        ensures err { OnErr result (self.new ≡ self.old) }
+    {
+        let cell = Cell::At(path);
+        if self.grow(&cell, &bytes)? {
+            return Ok(());
+        }
+        self.set(cell, OverlayEntry::Growth(bytes))
+    }
+
+    /// Returns the entries, in order of cells.
+    pub fn iter(&self) -> Iter<'_, Cell, OverlayEntry>
+        ensures { result ≡ map.entries self.now }
+    {
+        self.cells.iter()
+    }
+
+    /// Returns the entries with their cells, in order of cells.
+    pub fn into_entries(self) -> IntoIter<Cell, OverlayEntry>
+        ensures { result ≡ map.entries self }
+    {
+        self.cells.into_iter()
+    }
+
+    /// Returns the entries of a cell and of the cells after it, in order.
+    pub(crate) fn from(&self, cell: &Cell) -> Range<'_, Cell, OverlayEntry>
+        ensures { result ≡ overlay_from cell.now self.now }
+    {
+        self.cells.range(cell..)
+    }
+
+    /// Returns whether the cell of a path, or of a path below it, has an entry.
+    pub(crate) fn has_entry_below(&self, path: &Path) -> Result<bool, AllocError>
+        ensures { IfOk result (λ has.
+            has ≡ starts_below path.now (overlay_from (Cell.At path.now) self.now)) }
+    {
+        let start = Cell::At(path.copy()?);
+        match self.from(&start).next() {
+            Some((Cell::At(at), _)) => Ok(at.strip_prefix(path).is_some()),
+            _ => Ok(false),
+        }
+    }
+
+    /// Returns the number of entries.
+    pub fn len(&self) -> usize
+        ensures { result ≡ map.len self.now }
+    {
+        self.cells.len()
+    }
+
+    /// Returns whether there are no entries.
+    pub fn is_empty(&self) -> bool
+        ensures { IsTrue result ↔ (map.len self.now ≡ 0) }
+    {
+        self.len() == 0
+    }
+
+    /// Returns a copy.
+    pub fn copy(&self, alloc: Global) -> Result<Overlay, AllocError>
+        ensures { IfOk result (λ copy. copy ≡ self.now) }
+    {
+        let mut copy = Overlay::new(alloc);
+        for (cell, entry) in self.iter() {
+            copy.set(cell.copy()?, entry.copy()?)?;
+        }
+        Ok(copy)
+    }
+
+    /// Returns the combined state's answer to a query.
+    pub fn answer<V: View>(&self, alloc: Global, view: &V, ask: &Ask) -> Result<Answer, AllocError>
+        ensures { IfOk result (λ a. (now : StateValue)
+            → Overlays self.now (V.state view.now) now → a ≡ answer ask.now now) }
+    {
+        Combined::new(view, self).answer(alloc, ask)
+    }
+
+    /// Returns the value of a cell in the combined state.
+    pub fn value<V: View>(&self, alloc: Global, view: &V, cell: &Cell) -> Result<Value, AllocError>
+        ensures { IfOk result (λ value. (now : StateValue)
+            → Overlays self.now (V.state view.now) now → value ≡ value_at cell.now now) }
+    {
+        Combined::new(view, self).value(alloc, cell)
+    }
+
+    /// Returns the names of the children of a path in the combined state, in byte order, whatever
+    /// node is at the path itself. Takes time in proportion to the view's names and to the entries
+    /// below the path.
+    pub fn children<V: View>(
+        &self,
+        alloc: Global,
+        view: &V,
+        path: &Path,
+    ) -> Result<Listing, AllocError>
+        ensures { IfOk result (λ names. (now : StateValue)
+            → Overlays self.now (V.state view.now) now → names ≡ names_in path.now now.tree) }
+    {
+        Combined::new(view, self).children(alloc, path)
+    }
+
+    /// Commits all entries to a state. Files grow in place. Cells without an entry are neither
+    /// copied nor read.
+    #[tactic(auto, using(crate::proofs::PutCells::cells_shown))]
+    pub fn commit(self, alloc: Global, state: &mut State) -> Result<(), AllocError>
+        ensures ok { OnOk result (state.new ≡ committed self state.old) }
+        ensures cells { OnOk result ((now : StateValue)
+            → Overlays self state.old now
+            → (c : StateCell) → value_at c state.new ≡ value_at c now) }
+        ensures err { OnErr result (state.new ≡ state.old) }
+    {
+        let was_known = state.is_known_lawful();
+        let mut commit = Commit::new(alloc);
+        match commit.write_all(alloc, self, state) {
+            Ok(()) => {
+                commit.remove_all(state);
+                state.revalidate(alloc, was_known);
+                Ok(())
+            }
+            Err(error) => {
+                commit.undo_all(state);
+                Err(error)
+            }
+        }
     }
 }

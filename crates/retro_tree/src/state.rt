@@ -1,21 +1,35 @@
-//! A tree and its sessions.
+//! States of a machine.
 ghost use Rattle.std.specs.Prelude.{◌≡◌, ◌↔◌, IfOk, IsTrue, OnOk, OnErr};
 ghost use Rattle.std.specs.Option.{option_copied};
 ghost use Rattle.std.specs.FinMap as map;
+ghost use Rattle.retro_tree.specs.Path.{passwd};
 ghost use Rattle.retro_tree.specs.Node.{bytes_in, kind_of};
 ghost use Rattle.retro_tree.specs.Tree.{node_in};
-ghost use Rattle.retro_tree.specs.Ask.{names_in};
+ghost use Rattle.retro_tree.specs.Cell.{value};
+ghost use Rattle.retro_tree.specs.Ask.{names_in, listing, answer};
+ghost use Rattle.retro_tree.specs.User.{user_in};
 ghost use Rattle.retro_tree.specs.Session.{session_in};
 ghost use Rattle.retro_tree.specs.Limits.{IsWithinLimits, within_limits};
 ghost use Rattle.retro_tree.specs.Lawful.{IsLawful, is_lawful};
 ghost use Rattle.retro_tree.specs.State.{empty_state, put_node, grow_file, put_session, put_status, permit_of};
-ghost use Rattle.retro_tree.specs.Change.{put_setting};
+ghost use Rattle.retro_tree.specs.Change.{put_setting, apply, IsLawfulChange};
 
-pub(crate) mod writing;
-
-use crate::node::{Kind, Node, Permit};
-use crate::session::{Session, Sessions, Setting, Vars};
+use crate::answer::Answer;
+use crate::ask::Ask;
+use crate::cell::Cell;
+use crate::change::Change;
+use crate::entry::Entry;
+use crate::kind::Kind;
+use crate::node::Node;
+use crate::permit::Permit;
+use crate::session::Session;
+use crate::sessions::Sessions;
+use crate::setting::Setting;
 use crate::tree::Tree;
+use crate::user::{User, find_user};
+use crate::value::Value;
+use crate::vars::Vars;
+use crate::view::View;
 use retro_path::{Bytes, Listing, Path, Text, VarName};
 use std::alloc::{AllocError, Global};
 use std::collections::BTreeMap;
@@ -23,16 +37,12 @@ use std::collections::BTreeMap;
 /// A tree of files and the sessions that work in it.
 #[derive(Drop, Clone)]
 pub struct State {
-    tree: Tree,
-    sessions: Sessions,
+    pub(crate) tree: Tree,
+    pub(crate) sessions: Sessions,
 }
 
 impl State {
-    /// The root alone, without sessions.
-    ///
-    /// # Errors
-    ///
-    /// `NoMem` where memory is wanting.
+    /// Returns a state with only the root, and no sessions.
     #[tactic(auto, unfolding(crate::specs::State::empty_state))]
     pub fn empty(alloc: Global) -> Result<State, AllocError>
         ensures { IfOk result (λ state. state ≡ empty_state) }
@@ -42,40 +52,32 @@ impl State {
             sessions: Sessions::new(alloc),
         };
         state.place(Path::root(alloc), Node::Dir)?;
-        state.judge(alloc)?;
+        state.validate(alloc)?;
         Ok(state)
     }
 
-    /// The same state once more.
-    ///
-    /// # Errors
-    ///
-    /// `NoMem` where memory is wanting.
+    /// Returns a copy.
     pub fn copy(&self) -> Result<State, AllocError>
         ensures { IfOk result (λ copy. copy ≡ self.now) }
     {
         self.clone()
     }
 
-    /// The files and directories.
+    /// Returns the files and directories.
     pub fn tree(&self) -> &Tree
         ensures { result.now ≡ self.now.tree }
     {
         &self.tree
     }
 
-    /// The sessions, by their numbers.
+    /// Returns the sessions, by their numbers.
     pub fn sessions(&self) -> &Sessions
         ensures { result.now ≡ self.now.sessions }
     {
         &self.sessions
     }
 
-    /// Puts a node at a path, where Missing removes. After want of memory the state is as before.
-    ///
-    /// # Errors
-    ///
-    /// `NoMem` where memory is wanting.
+    /// Puts a node at a path, where `Missing` removes.
     pub fn place(&mut self, path: Path, node: Node) -> Result<(), AllocError>
         ensures ok { OnOk result (self.new ≡ put_node path node self.old) }
         ensures err { OnErr result (self.new ≡ self.old) }
@@ -83,12 +85,7 @@ impl State {
         self.tree.put(path, node)
     }
 
-    /// Adds bytes at the end of a file, in place. A missing file is made, and a directory stays.
-    /// After want of memory the state is as before.
-    ///
-    /// # Errors
-    ///
-    /// `NoMem` where memory is wanting.
+    /// Appends bytes to a file, in place. A missing file is created, and a directory stays unchanged.
     pub fn grow(&mut self, path: &Path, bytes: &Bytes) -> Result<(), AllocError>
         ensures ok { OnOk result (self.new ≡ grow_file path.now bytes.now self.old) }
         ensures err { OnErr result (self.new ≡ self.old) }
@@ -96,12 +93,7 @@ impl State {
         self.tree.grow(path, bytes)
     }
 
-    /// Adds a session, or puts it in the place of the one with its number. After want of memory
-    /// the state is as before.
-    ///
-    /// # Errors
-    ///
-    /// `NoMem` where memory is wanting.
+    /// Adds a session, or replaces the one with its number.
     pub fn add_session(
         &mut self,
         sid: u32,
@@ -122,12 +114,8 @@ impl State {
         self.sessions.add(sid, session)
     }
 
-    /// Sets the status of a session. One that isn't there is made first: at the root, without
-    /// variables. After want of memory the state is as before.
-    ///
-    /// # Errors
-    ///
-    /// `NoMem` where memory is wanting.
+    /// Sets the status of a session. One that doesn't exist is created: at the root, without
+    /// variables.
     pub fn set_status(&mut self, alloc: Global, sid: u32, status: u8) -> Result<(), AllocError>
         ensures ok { OnOk result (self.new ≡ put_status sid status self.old) }
         ensures err { OnErr result (self.new ≡ self.old) }
@@ -135,14 +123,9 @@ impl State {
         self.set(alloc, sid, Setting::Status(status))
     }
 
-    /// Makes a setting in a session. One that isn't there is made first: at the root, without
-    /// variables, with status 0. After want of memory the state is as before.
-    pub(crate) fn set(
-        &mut self,
-        alloc: Global,
-        sid: u32,
-        setting: Setting,
-    ) -> Result<(), AllocError>
+    /// Makes a setting in a session. One that doesn't exist is created: at the root, without
+    /// variables, with status 0.
+    fn set(&mut self, alloc: Global, sid: u32, setting: Setting) -> Result<(), AllocError>
         ensures ok { OnOk result (self.new ≡ put_setting sid setting self.old) }
         ensures err { OnErr result (self.new ≡ self.old) }
     {
@@ -150,48 +133,65 @@ impl State {
         Ok(())
     }
 
-    /// Which kind of node is at a path.
+    /// Makes a change. Files grow in place.
+    #[tactic(auto, unfolding(crate::specs::Change::apply))]
+    pub fn apply(&mut self, alloc: Global, change: &Change) -> Result<(), AllocError>
+        ensures ok { OnOk result (self.new ≡ apply change.now self.old) }
+        ensures err { OnErr result (self.new ≡ self.old) }
+    {
+        match change {
+            Change::Put(path, node) => self.place(path.copy()?, node.copy()?),
+            Change::Grow(path, bytes) => self.grow(path, bytes),
+            Change::SetVar(sid, name, text) => {
+                let setting = Setting::Var(name.copy()?, text.copy()?);
+                self.set(alloc, *sid, setting)
+            }
+            Change::SetCwd(sid, path) => self.set(alloc, *sid, Setting::Cwd(path.copy()?)),
+            Change::SetStatus(sid, status) => self.set(alloc, *sid, Setting::Status(*status)),
+        }
+    }
+
+    /// Returns the kind of the node at a path.
     pub fn kind(&self, path: &Path) -> Kind
         ensures { result ≡ kind_of (node_in path.now self.now.tree) }
     {
         self.tree.kind(path)
     }
 
-    /// What is at a path, copied.
-    ///
-    /// # Errors
-    ///
-    /// `NoMem` where memory is wanting.
+    /// Returns a copy of the node at a path.
     pub fn node(&self, path: &Path) -> Result<Node, AllocError>
         ensures { IfOk result (λ node. node ≡ node_in path.now self.now.tree) }
     {
         self.tree.node(path)
     }
 
-    /// The bytes of the file at a path, where one is.
+    /// Returns the bytes of the file at a path, or `None` if no file is there.
     pub fn file(&self, path: &Path) -> Option<&Bytes>
         ensures { option_copied result ≡ bytes_in (node_in path.now self.now.tree) }
     {
         self.tree.file(path)
     }
 
-    /// The names of what stands right below a path, in byte order, whatever stands at the path
-    /// itself. Takes the time of what stands below it.
-    ///
-    /// # Errors
-    ///
-    /// `NoMem` where memory is wanting.
+    /// Returns the names of the children of a path, in byte order, whatever node is at the path
+    /// itself. Takes time in proportion to the entries below the path.
     pub fn names(&self, alloc: Global, path: &Path) -> Result<Listing, AllocError>
         ensures { IfOk result (λ names. names ≡ names_in path.now self.now.tree) }
     {
         self.tree.names(alloc, path)
     }
 
-    /// Whether so many bytes more may be written to the file at a path.
-    ///
-    /// # Errors
-    ///
-    /// `NoMem` where memory is wanting.
+    /// Returns the children of a directory, or `None` for another node.
+    fn listing(&self, alloc: Global, path: &Path) -> Result<Option<Listing>, AllocError>
+        ensures { IfOk result (λ names. names
+            ≡ listing (node_in path.now self.now.tree) (names_in path.now self.now.tree)) }
+    {
+        match self.kind(path) {
+            Kind::Dir => Ok(Some(self.names(alloc, path)?)),
+            _ => Ok(None),
+        }
+    }
+
+    /// Returns whether `more` bytes can be written to the file at a path.
     pub fn permit(&self, alloc: Global, path: &Path, more: u64) -> Result<Permit, AllocError>
         ensures { IfOk result (λ permit. permit ≡ permit_of path.now more self.now) }
     {
@@ -199,12 +199,28 @@ impl State {
         Ok(self.tree.permit(path, &parent, more))
     }
 
-    /// The directory of a session, which is the root where the session isn't there.
-    ///
-    /// # Errors
-    ///
-    /// `NoMem` where memory is wanting.
-    #[tactic(auto, unfolding(crate::specs::Session::fresh_session))]
+    /// Returns the user with a login name, by the password file.
+    #[tactic(auto, unfolding(crate::specs::Tree::node_in))]
+    fn user(&self, alloc: Global, name: &Text) -> Result<Option<User>, AllocError>
+        ensures { IfOk result (λ user. user
+            ≡ user_in name.now (node_in passwd self.now.tree)) }
+    {
+        let path = Path::passwd(alloc)?;
+        match self.tree.get(&path) {
+            Some(Entry::File(bytes)) => find_user(alloc, name, bytes.as_slice()),
+            _ => Ok(None),
+        }
+    }
+
+    /// Returns whether a session exists.
+    pub fn has_session(&self, sid: u32) -> bool
+        ensures { result ≡ map.contains_key self.now.sessions sid }
+    {
+        self.sessions.get(sid).is_some()
+    }
+
+    /// Returns the directory of a session. It is the root if the session doesn't exist.
+    #[tactic(auto, unfolding(crate::specs::Session::default_session))]
     pub fn cwd(&self, alloc: Global, sid: u32) -> Result<Path, AllocError>
         ensures { IfOk result (λ cwd. cwd ≡ (session_in sid self.now.sessions).cwd) }
     {
@@ -214,14 +230,66 @@ impl State {
         }
     }
 
-    /// Whether a session is there.
-    pub fn has_session(&self, sid: u32) -> bool
-        ensures { result ≡ map.contains_key self.now.sessions sid }
+    /// Returns the value of a variable of a session, or `None` if it isn't set.
+    #[tactic(auto, using(crate::proofs::Lookups::var_of_none))]
+    fn var(&self, sid: u32, name: &VarName) -> Result<Option<Text>, AllocError>
+        ensures { IfOk result (λ text. text
+            ≡ map.get (session_in sid self.now.sessions).vars name.now) }
     {
-        self.sessions.get(sid).is_some()
+        let Some(session) = self.sessions.get(sid) else {
+            return Ok(None);
+        };
+        match session.vars.get(name) {
+            Some(text) => Ok(Some(text.copy()?)),
+            None => Ok(None),
+        }
     }
 
-    /// Whether the state is within the limits: each file, the values of variables, statuses.
+    /// Returns the status of a session. It is 0 if the session doesn't exist.
+    #[tactic(auto, unfolding(crate::specs::Session::default_session))]
+    fn status(&self, sid: u32) -> u8
+        ensures { result ≡ (session_in sid self.now.sessions).status }
+    {
+        match self.sessions.get(sid) {
+            Some(session) => session.status,
+            None => 0,
+        }
+    }
+
+    /// Returns the answer to a query.
+    #[tactic(auto, unfolding(crate::specs::Ask::answer))]
+    pub fn answer(&self, alloc: Global, ask: &Ask) -> Result<Answer, AllocError>
+        ensures { IfOk result (λ a. a ≡ answer ask.now self.now) }
+    {
+        match ask {
+            Ask::Kind(path) => Ok(Answer::Kind(self.kind(path))),
+            Ask::Bytes(path) => Ok(Answer::Bytes(self.node(path)?)),
+            Ask::Names(path) => Ok(Answer::Names(self.listing(alloc, path)?)),
+            Ask::CanWrite(path, more) => {
+                Ok(Answer::CanWrite(self.permit(alloc, path, u64::from(*more))?))
+            }
+            Ask::User(name) => Ok(Answer::User(self.user(alloc, name)?)),
+            Ask::VarOf(sid, name) => Ok(Answer::Var(self.var(*sid, name)?)),
+            Ask::CwdOf(sid) => Ok(Answer::Cwd(self.cwd(alloc, *sid)?)),
+            Ask::StatusOf(sid) => Ok(Answer::Status(self.status(*sid))),
+        }
+    }
+
+    /// Returns the value of a cell. A session that doesn't exist is at the root, without variables,
+    /// with status 0.
+    #[tactic(auto, unfolding(crate::specs::Cell::value))]
+    pub fn value(&self, alloc: Global, cell: &Cell) -> Result<Value, AllocError>
+        ensures { IfOk result (λ v. v ≡ value cell.now self.now) }
+    {
+        match cell {
+            Cell::At(path) => Ok(Value::Node(self.node(path)?)),
+            Cell::Cwd(sid) => Ok(Value::Cwd(self.cwd(alloc, *sid)?)),
+            Cell::Var(sid, name) => Ok(Value::Text(self.var(*sid, name)?)),
+            Cell::Status(sid) => Ok(Value::Status(self.status(*sid))),
+        }
+    }
+
+    /// Returns whether the state is within the limits on files, values of variables and statuses.
     pub fn is_within_limits(&self) -> bool
         ensures value { result ≡ within_limits self.now }
         ensures exact { IsTrue result ↔ IsWithinLimits self.now }
@@ -236,12 +304,8 @@ impl State {
         self.tree.fits() && self.sessions.are_lawful()
     }
 
-    /// Whether the state is lawful: the root is a directory, as is the parent of each other path,
-    /// nothing stands at `/dev/null` or below it, and the state is within the limits.
-    ///
-    /// # Errors
-    ///
-    /// `NoMem` where memory is wanting.
+    /// Returns whether the state is lawful: the root is a directory, as is the parent of each other
+    /// path, nothing is at `/dev/null` or below it, and the state is within the limits.
     pub fn is_lawful(&self, alloc: Global) -> Result<bool, AllocError>
         ensures value { IfOk result (λ lawful. lawful ≡ is_lawful self.now) }
         ensures exact { IfOk result (λ lawful. IsTrue lawful ↔ IsLawful self.now) }
@@ -249,33 +313,77 @@ impl State {
         Ok(self.passes_law(alloc)?)
     }
 
-    /// Whether the state is lawful, which it remembers: from then on, as long as each change is
-    /// lawful, `allows` looks at no more than what is around a change. A state that was made from
-    /// an empty one by lawful changes knows it without this.
-    ///
-    /// # Errors
-    ///
-    /// `NoMem` where memory is wanting.
-    pub fn judge(&mut self, alloc: Global) -> Result<bool, AllocError>
-        ensures exact { IfOk result (λ lawful. IsTrue lawful ↔ IsLawful self.old) }
-        ensures same { self.new ≡ self.old }
+    #[tactic(auto, unfolding(crate::specs::Lawful::is_lawful))]
+    fn passes_law(&self, alloc: Global) -> Result<bool, AllocError>
+        ensures { IfOk result (λ lawful. lawful ≡ is_lawful self.now) }
     {
-        let tree = self.tree.judge(alloc)?;
-        let sessions = self.sessions.judge();
+        Ok(self.tree.is_lawful(alloc)? && self.sessions.are_lawful())
+    }
+
+    /// Returns whether the state is lawful, and remembers it as long as each change is lawful.
+    /// `allows` is cheap on a state that is known to be lawful. A state that was made from an empty
+    /// one by lawful changes is known to be lawful without this.
+    pub fn validate(&mut self, alloc: Global) -> Result<bool, AllocError>
+        ensures exact { IfOk result (λ lawful. IsTrue lawful ↔ IsLawful self.old) }
+        ensures unchanged { self.new ≡ self.old }
+    {
+        let tree = self.tree.validate(alloc)?;
+        let sessions = self.sessions.validate();
         Ok(tree && sessions)
     }
 
-    /// Whether the state is known to be lawful.
+    /// Returns whether the state is known to be lawful.
     pub(crate) fn is_known_lawful(&self) -> bool
         ensures { IsTrue result → IsLawful self.now }
     {
         self.tree.is_known_lawful() && self.sessions.is_known_lawful()
     }
 
-    #[tactic(auto, unfolding(crate::specs::Lawful::is_lawful))]
-    fn passes_law(&self, alloc: Global) -> Result<bool, AllocError>
-        ensures { IfOk result (λ lawful. lawful ≡ is_lawful self.now) }
+    /// Validates a state that was known to be lawful and no longer is. If allocation fails, it stays
+    /// unknown.
+    pub(crate) fn revalidate(&mut self, alloc: Global, was_known: bool)
+        ensures { self.new ≡ self.old }
     {
-        Ok(self.tree.is_lawful(alloc)? && self.sessions.are_lawful())
+        if was_known && !self.is_known_lawful() {
+            let _ = self.validate(alloc);
+        }
+    }
+
+    /// Returns whether a change is lawful: it grows no directory, its session exists, and the state
+    /// after it is lawful. In a state that is known to be lawful, looks only at the path of the
+    /// change, its parent and the first entry below it. Otherwise makes the change in a copy.
+    #[tactic(auto, using(crate::proofs::Allowed::allowed))]
+    pub fn allows(&self, alloc: Global, change: &Change) -> Result<bool, AllocError>
+        ensures { IfOk result (λ may. IsTrue may ↔ IsLawfulChange change.now self.now) }
+    {
+        if !change.has_its_session(self) || change.grows_dir(self) {
+            return Ok(false);
+        }
+        if self.is_known_lawful() {
+            return change.keeps_lawful(self);
+        }
+        self.is_lawful_after(alloc, change)
+    }
+
+    /// Returns whether the state after a change is lawful.
+    fn is_lawful_after(&self, alloc: Global, change: &Change) -> Result<bool, AllocError>
+        ensures { IfOk result (λ lawful. IsTrue lawful
+            ↔ IsLawful (apply change.now self.now)) }
+    {
+        let mut after = self.copy()?;
+        after.apply(alloc, change)?;
+        after.validate(alloc)
+    }
+}
+
+impl View for State {
+    ghost state = { λ s. s };
+
+    fn answer(&self, alloc: Global, ask: &Ask) -> Result<Answer, AllocError> {
+        self.answer(alloc, ask)
+    }
+
+    fn children(&self, alloc: Global, path: &Path) -> Result<Listing, AllocError> {
+        self.names(alloc, path)
     }
 }

@@ -1,17 +1,20 @@
-//! A tree of files.
-ghost use Rattle.std.specs.Prelude.{◌≡◌, ◌↔◌, ◌&&◌, IsTrue, IfOk, OnOk, OnErr, None};
+//! Trees of files.
+ghost use Rattle.std.specs.Prelude.{◌≡◌, ◌↔◌, ◌&&◌, IsTrue, IfOk, OnOk, OnErr, None, true};
 ghost use Rattle.std.specs.Option.{option_copied};
 ghost use Rattle.std.specs.FinMap as map;
 ghost use Rattle.retro_tree.specs.Path.{parent_of, may_exist};
-ghost use Rattle.retro_tree.specs.Node.{bytes_in, is_dir, kind_of, size_of, permit_at, grown};
+ghost use Rattle.retro_tree.specs.Node.{bytes_in, is_dir, is_present, kind_of, size_of, permit_at, grown};
 ghost use Rattle.retro_tree.specs.Tree.{node_in, put, has_child, entries_from};
 ghost use Rattle.retro_tree.specs.Ask.{names_in};
 ghost use Rattle.retro_tree.specs.Limits.{files_fit};
 ghost use Rattle.retro_tree.specs.Lawful.{IsLawfulTree, may_put, may_grow, is_lawful_tree, entry_passes};
+ghost use Rattle.retro_tree.specs.CommitSteps.{cut_at};
+ghost use Rattle.retro_tree.specs.declared.node.Node.TheVariants.{Missing};
 
-mod exchange;
-
-use crate::node::{Entry, FILE_LIMIT, Kind, Node, Permit};
+use crate::entry::{Entry, FILE_LIMIT};
+use crate::kind::Kind;
+use crate::node::Node;
+use crate::permit::Permit;
 use retro_path::{Bytes, Listing, Path};
 use std::alloc::{AllocError, Global};
 use std::collections::BTreeMap;
@@ -29,7 +32,7 @@ impl Model for Tree {
     ghost use Rattle.std.specs.FinMap as map;
     ghost use Rattle.std.specs.Coded.{coded_ℕ, coded_list};
     ghost use Rattle.retro_tree.specs.Order.{path_cmp};
-    ghost use Rattle.retro_tree.specs.declared.node.Entry.{Entry};
+    ghost use Rattle.retro_tree.specs.declared.entry.Entry.{Entry};
     ghost use Rattle.retro_tree.specs.Entry.{coded_entry};
 
     ghost Value = { map.FinMap path_cmp Entry };
@@ -44,7 +47,7 @@ impl Model for Tree {
 }
 
 impl Tree {
-    /// The tree in which nothing is, not even a root.
+    /// Returns a tree without entries, not even for the root.
     pub(crate) fn new(alloc: Global) -> Tree
         ensures { result ≡ map.empty }
     {
@@ -54,17 +57,17 @@ impl Tree {
         }
     }
 
-    /// What the tree holds at a path, where something is.
+    /// Returns the entry of a path, or `None` if nothing is there.
     pub fn get(&self, path: &Path) -> Option<&Entry>
         ensures { option_copied result ≡ map.get self.now path.now }
     {
         self.entries.get(path)
     }
 
-    /// Puts an entry at a path, and gives the one before. Forgets whether the tree is lawful. After
-    /// want of memory, which a path that has an entry doesn't need, the tree is as before.
+    /// Puts an entry at a path and returns the previous one. Forgets whether the tree is lawful. Takes
+    /// no memory if the path has an entry.
     fn insert(&mut self, path: Path, entry: Entry) -> Result<Option<Entry>, AllocError>
-        ensures before { IfOk result (λ before. before ≡ map.get self.old path) }
+        ensures previous { IfOk result (λ previous. previous ≡ map.get self.old path) }
         ensures ok { OnOk result (self.new ≡ map.insert self.old path entry) }
         ensures err { OnErr result (self.new ≡ self.old) }
         ensures absent { OnErr result (map.get self.old path ≡ None) }
@@ -73,7 +76,7 @@ impl Tree {
         Ok(self.entries.insert(path, entry)?)
     }
 
-    /// Takes away what is at a path, where something is. Forgets whether the tree is lawful.
+    /// Removes the entry of a path, if it has one. Forgets whether the tree is lawful.
     fn remove(&mut self, path: &Path)
         ensures { self.new ≡ map.remove self.old path.now }
     {
@@ -81,8 +84,8 @@ impl Tree {
         self.entries.remove(path);
     }
 
-    /// Puts a node at a path, where Missing removes. A tree that is known to be lawful stays so
-    /// where the node may be put. After want of memory the tree is as before.
+    /// Puts a node at a path, where `Missing` removes. A tree that is known to be lawful stays so if
+    /// the node may be put there.
     pub(crate) fn put(&mut self, path: Path, node: Node) -> Result<(), AllocError>
         ensures ok { OnOk result (self.new ≡ put path node self.old) }
         ensures err { OnErr result (self.new ≡ self.old) }
@@ -110,7 +113,7 @@ impl Tree {
         Ok(())
     }
 
-    /// Whether the tree is known to be lawful after a node is put at a path.
+    /// Returns whether the tree is known to be lawful after a node is put at a path.
     #[tactic(auto, using(crate::proofs::LawLemmas::lawful_put))]
     fn stays_lawful(&self, path: &Path, node: &Node) -> Result<bool, AllocError>
         ensures { IfOk result (λ stays. IsTrue stays
@@ -122,26 +125,22 @@ impl Tree {
         self.may_put(path, node)
     }
 
-    /// What the tree holds, in order of paths: by their names, and those by their bytes.
+    /// Returns the entries, in order of paths: by their names, and names by their bytes.
     pub fn iter(&self) -> Iter<'_, Path, Entry>
         ensures { result ≡ map.entries self.now }
     {
         self.entries.iter()
     }
 
-    /// What the tree holds at a path and behind it, in order of paths.
+    /// Returns the entries of a path and of the paths after it, in order.
     fn from(&self, path: &Path) -> Range<'_, Path, Entry>
         ensures { result ≡ entries_from path.now self.now }
     {
         self.entries.range(path..)
     }
 
-    /// The names of what stands right below a path, in byte order, whatever stands at the path
-    /// itself. Takes the time of what stands below it.
-    ///
-    /// # Errors
-    ///
-    /// `NoMem` where memory is wanting.
+    /// Returns the names of the children of a path, in byte order, whatever node is at the path
+    /// itself. Takes time in proportion to the entries below the path.
     pub fn names(&self, alloc: Global, path: &Path) -> Result<Listing, AllocError>
         ensures { IfOk result (λ names. names ≡ names_in path.now self.now) }
     {
@@ -157,8 +156,7 @@ impl Tree {
         Ok(Listing::of(names))
     }
 
-    /// Whether something stands right below a path. In a lawful tree the first that stands behind
-    /// the path tells.
+    /// Returns whether a path has children. In a lawful tree the first entry below the path decides.
     pub(crate) fn has_child(&self, path: &Path) -> bool
         ensures { result ≡ has_child path.now self.now }
     {
@@ -173,22 +171,7 @@ impl Tree {
         false
     }
 
-    /// The same tree once more.
-    ///
-    /// # Errors
-    ///
-    /// `NoMem` where memory is wanting.
-    pub fn copy(&self) -> Result<Tree, AllocError>
-        ensures { IfOk result (λ copy. copy ≡ self.now) }
-    {
-        self.clone()
-    }
-
-    /// What is at a path, copied.
-    ///
-    /// # Errors
-    ///
-    /// `NoMem` where memory is wanting.
+    /// Returns a copy of the node at a path.
     #[tactic(auto, unfolding(crate::specs::Tree::node_in))]
     pub fn node(&self, path: &Path) -> Result<Node, AllocError>
         ensures { IfOk result (λ node. node ≡ node_in path.now self.now) }
@@ -200,7 +183,7 @@ impl Tree {
         }
     }
 
-    /// Which kind of node is at a path.
+    /// Returns the kind of the node at a path.
     #[tactic(auto, unfolding(crate::specs::Tree::node_in))]
     pub fn kind(&self, path: &Path) -> Kind
         ensures { result ≡ kind_of (node_in path.now self.now) }
@@ -212,7 +195,7 @@ impl Tree {
         }
     }
 
-    /// Whether a directory is at a path.
+    /// Returns whether a directory is at a path.
     #[tactic(auto, unfolding(crate::specs::Tree::node_in))]
     pub(crate) fn is_dir(&self, path: &Path) -> bool
         ensures { result ≡ is_dir (node_in path.now self.now) }
@@ -220,7 +203,7 @@ impl Tree {
         matches!(self.get(path), Some(Entry::Dir))
     }
 
-    /// The bytes of the file at a path, where one is.
+    /// Returns the bytes of the file at a path, or `None` if no file is there.
     #[tactic(auto, unfolding(crate::specs::Tree::node_in))]
     pub fn file(&self, path: &Path) -> Option<&Bytes>
         ensures { option_copied result ≡ bytes_in (node_in path.now self.now) }
@@ -231,7 +214,7 @@ impl Tree {
         }
     }
 
-    /// How many bytes the file at a path has, or 0 where none is.
+    /// Returns the number of bytes of the file at a path, or 0 if no file is there.
     #[tactic(auto, unfolding(crate::specs::Tree::node_in))]
     pub(crate) fn size(&self, path: &Path) -> usize
         ensures { result ≡ size_of (node_in path.now self.now) }
@@ -242,8 +225,8 @@ impl Tree {
         }
     }
 
-    /// Whether so many bytes more may be written to the file at a path, by what is there and at
-    /// its parent.
+    /// Returns whether `more` bytes can be written to the file at a path, by the nodes there and at
+    /// the parent.
     pub(crate) fn permit(&self, path: &Path, parent: &Path, more: u64) -> Permit
         ensures { result ≡
             permit_at (node_in path.now self.now) (node_in parent.now self.now) more }
@@ -251,9 +234,8 @@ impl Tree {
         Permit::of(self.kind(path), self.size(path), self.kind(parent), more)
     }
 
-    /// Adds bytes at the end of a file, in place. A missing file is made, and a directory stays. A
-    /// tree that is known to be lawful stays so where the file may grow. After want of memory the
-    /// tree is as before.
+    /// Appends bytes to a file, in place. A missing file is created, and a directory stays unchanged.
+    /// A tree that is known to be lawful stays so if the file may grow.
     pub(crate) fn grow(&mut self, path: &Path, bytes: &Bytes) -> Result<(), AllocError>
         ensures ok { OnOk result
             (self.new ≡ put path.now (grown bytes.now (node_in path.now self.old)) self.old) }
@@ -265,7 +247,7 @@ impl Tree {
         Ok(())
     }
 
-    /// Adds bytes at the end of a file, and forgets whether the tree is lawful.
+    /// Appends bytes to a file, and forgets whether the tree is lawful.
     fn extend(&mut self, path: &Path, bytes: &Bytes) -> Result<(), AllocError>
         ensures ok { OnOk result
             (self.new ≡ put path.now (grown bytes.now (node_in path.now self.old)) self.old) }
@@ -281,7 +263,7 @@ impl Tree {
         Ok(())
     }
 
-    /// Whether the tree is known to be lawful after bytes are added to a file.
+    /// Returns whether the tree is known to be lawful after bytes are appended to a file.
     #[tactic(auto, using(crate::proofs::LawLemmas::growing))]
     fn stays_lawful_grown(&self, path: &Path, bytes: &Bytes) -> Result<bool, AllocError>
         ensures { IfOk result (λ stays. IsTrue stays → IsLawfulTree
@@ -293,7 +275,8 @@ impl Tree {
         self.may_grow(path, bytes)
     }
 
-    /// Whether a node may be put at a path of a lawful tree, by what is around it.
+    /// Returns whether a lawful tree stays lawful with a node at a path. Looks only at the path, its
+    /// parent and the first entry below it.
     pub(crate) fn may_put(&self, path: &Path, node: &Node) -> Result<bool, AllocError>
         ensures { IfOk result (λ may. may ≡ may_put path.now node.now self.now) }
     {
@@ -312,7 +295,8 @@ impl Tree {
         }
     }
 
-    /// Whether the file at a path of a lawful tree may grow by some bytes.
+    /// Returns whether a lawful tree stays lawful with bytes appended to a file. Looks only at the
+    /// path and its parent.
     #[tactic(auto, unfolding(crate::specs::Tree::node_in))]
     pub(crate) fn may_grow(&self, path: &Path, bytes: &Bytes) -> Result<bool, AllocError>
         ensures { IfOk result (λ may. may ≡ may_grow path.now bytes.now self.now) }
@@ -327,7 +311,7 @@ impl Tree {
         self.has_place_for(path)
     }
 
-    /// Whether something may stand at a path but for its size: its parent is a directory, and it
+    /// Returns whether a node of a lawful size can be at a path: its parent is a directory, and it
     /// isn't at `/dev/null` or below it.
     fn has_place_for(&self, path: &Path) -> Result<bool, AllocError>
         ensures { IfOk result (λ has. has
@@ -337,24 +321,24 @@ impl Tree {
         Ok(self.is_dir(&parent) && path.may_exist())
     }
 
-    /// Whether the tree is known to be lawful.
+    /// Returns whether the tree is known to be lawful.
     pub(crate) fn is_known_lawful(&self) -> bool
         ensures { IsTrue result → IsLawfulTree self.now }
     {
         self.known_lawful
     }
 
-    /// Whether the tree is lawful, which is known from then on.
-    pub(crate) fn judge(&mut self, alloc: Global) -> Result<bool, AllocError>
+    /// Returns whether the tree is lawful, and remembers it.
+    pub(crate) fn validate(&mut self, alloc: Global) -> Result<bool, AllocError>
         ensures exact { IfOk result (λ lawful. IsTrue lawful ↔ IsLawfulTree self.old) }
-        ensures same { self.new ≡ self.old }
+        ensures unchanged { self.new ≡ self.old }
     {
         let lawful = self.is_lawful(alloc)?;
         self.known_lawful = lawful;
         Ok(lawful)
     }
 
-    /// Whether each file is within the limit.
+    /// Returns whether each file is within the limit.
     #[tactic(auto, unfolding(crate::specs::Limits::files_fit))]
     pub(crate) fn fits(&self) -> bool
         ensures { result ≡ files_fit self.now }
@@ -367,12 +351,8 @@ impl Tree {
         true
     }
 
-    /// Whether the tree is lawful: the root is a directory, as is the parent of each other path,
-    /// nothing stands at `/dev/null` or below it, and each file is within the limit.
-    ///
-    /// # Errors
-    ///
-    /// `NoMem` where memory is wanting.
+    /// Returns whether the tree is lawful: the root is a directory, as is the parent of each other
+    /// path, nothing is at `/dev/null` or below it, and each file is within the limit.
     #[tactic(auto, unfolding(crate::specs::Lawful::is_lawful_tree))]
     pub fn is_lawful(&self, alloc: Global) -> Result<bool, AllocError>
         ensures { IfOk result (λ lawful. lawful ≡ is_lawful_tree self.now) }
@@ -389,7 +369,7 @@ impl Tree {
         Ok(true)
     }
 
-    /// Whether what stands at a path may stand there.
+    /// Returns whether a lawful tree may hold an entry at a path.
     #[tactic(auto, unfolding(crate::specs::Lawful::entry_passes))]
     fn entry_passes(&self, path: &Path, entry: &Entry) -> Result<bool, AllocError>
         ensures { IfOk result (λ passes. passes ≡ entry_passes self.now (path.now, entry.now)) }
@@ -401,5 +381,74 @@ impl Tree {
             return Ok(false);
         }
         self.has_place_for(path)
+    }
+
+    /// Puts a directory or a file at a path and returns the previous entry. A tree that is known to be
+    /// lawful stays so if the node may be put there.
+    pub(crate) fn exchange(&mut self, path: Path, node: Node) -> Result<Option<Entry>, AllocError>
+        requires { is_present node ≡ true }
+        ensures previous { IfOk result (λ previous. previous ≡ map.get self.old path) }
+        ensures ok { OnOk result (self.new ≡ put path node self.old) }
+        ensures err { OnErr result (self.new ≡ self.old) }
+    {
+        let stays = self.stays_lawful(&path, &node)?;
+        let entry = match node {
+            Node::Missing => unreachable!(),
+            Node::Dir => Entry::Dir,
+            Node::File(bytes) => Entry::File(bytes),
+        };
+        let previous = self.insert(path, entry)?;
+        self.known_lawful = stays;
+        Ok(previous)
+    }
+
+    /// Puts an entry at a path that has one, and forgets whether the tree is lawful. Takes no memory.
+    pub(crate) fn replace(&mut self, path: Path, entry: Entry)
+        requires { map.contains_key self.old path ≡ true }
+        ensures { self.new ≡ map.insert self.old path entry }
+    {
+        match self.insert(path, entry) {
+            Ok(_) => (),
+            Err(_) => unreachable!(),
+        }
+    }
+
+    /// Shortens the file at a path, if one is there, to `length` bytes, and forgets whether the tree is
+    /// lawful. Takes no memory.
+    pub(crate) fn cut(&mut self, path: &Path, length: usize)
+        ensures { self.new ≡ cut_at path.now length (map.get self.old path.now) self.old }
+    {
+        self.known_lawful = false;
+        if let Some(entry) = self.entries.get_mut(path) {
+            entry.cut(length);
+        }
+    }
+
+    /// Removes the entry of a path. Takes no memory. A tree that is known to be lawful stays so if the
+    /// path has no children.
+    pub(crate) fn erase(&mut self, path: &Path)
+        ensures { self.new ≡ map.remove self.old path.now }
+    {
+        let stays = self.stays_lawful_without(path);
+        self.remove(path);
+        self.known_lawful = stays;
+    }
+
+    /// Returns whether the tree is known to be lawful after the entry of a path is removed.
+    #[tactic(auto, using(crate::proofs::Erasing::lawful_erased))]
+    fn stays_lawful_without(&self, path: &Path) -> bool
+        ensures { IsTrue result → IsLawfulTree (map.remove self.now path.now) }
+    {
+        if !self.is_known_lawful() {
+            return false;
+        }
+        self.may_erase(path)
+    }
+
+    /// Returns whether a lawful tree stays lawful without the entry of a path.
+    fn may_erase(&self, path: &Path) -> bool
+        ensures { result ≡ may_put path.now Missing self.now }
+    {
+        !path.is_root() && !self.has_child(path)
     }
 }

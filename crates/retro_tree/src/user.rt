@@ -1,26 +1,34 @@
-//! The entries of the password file.
+//! The users of the password file.
 ghost use Rattle.std.specs.Prelude.{◌≡◌, ◌==◌, IfOk, map, option_map};
 ghost use Rattle.std.specs.List.{slice_split, list_all};
 ghost use Rattle.std.specs.Char.{is_ascii_digit};
 ghost use Rattle.retro_tree.specs.User.{plain_text, user_number, named, entry_by, entry_of_line, find_user};
 
-use crate::ask::User;
 use retro_path::Text;
 use std::alloc::{AllocError, Global};
 use std::str;
 
-/// The greatest count of digits in the number of a user.
-const MOST_DIGITS: usize = 10;
+/// The maximum number of digits in the number of a user.
+const MAX_DIGITS: usize = 10;
 
-/// What stands between separators.
-fn cut(alloc: Global, bytes: &[u8], separator: u8) -> Result<Vec<&[u8]>, AllocError>
+/// What the password file says of a login name.
+#[derive(Drop, Clone, PartialEq, Eq)]
+pub struct User {
+    /// The user's number.
+    pub number: u32,
+    /// The home directory, as the file has it.
+    pub home: Text,
+}
+
+/// Splits bytes at a separator.
+fn split(alloc: Global, bytes: &[u8], separator: u8) -> Result<Vec<&[u8]>, AllocError>
     ensures { IfOk result (λ parts. map (λ part. part.now) parts.items
         ≡ slice_split (λ b. b == separator) bytes.now) }
 {
     bytes.split(|byte| *byte == separator).collect(alloc)
 }
 
-/// The text of bytes that are UTF-8 without NUL.
+/// Returns the text of bytes that are UTF-8 without NUL.
 #[tactic(auto, using(crate::proofs::Users::texts))]
 fn plain_text(bytes: &[u8]) -> Option<&str>
     ensures { option_map (λ text. text.now) result ≡ plain_text bytes.now }
@@ -34,19 +42,19 @@ fn plain_text(bytes: &[u8]) -> Option<&str>
     Some(text)
 }
 
-/// Whether all bytes are decimal digits.
+/// Returns whether all bytes are decimal digits.
 fn are_digits(bytes: &[u8]) -> bool
     ensures { result ≡ list_all is_ascii_digit bytes.now }
 {
     bytes.iter().all(|byte| byte.is_ascii_digit())
 }
 
-/// The number that one to ten digits write, where it is at most 4,294,967,295.
+/// Returns the number that one to ten digits write, if it is at most 4,294,967,295.
 #[tactic(auto, using(crate::proofs::Users::numbers))]
 fn user_number(digits: &[u8]) -> Option<u32>
     ensures { result ≡ user_number digits.now }
 {
-    if digits.len() > MOST_DIGITS || !are_digits(digits) {
+    if digits.len() > MAX_DIGITS || !are_digits(digits) {
         return None;
     }
     match str::from_utf8(digits) {
@@ -55,7 +63,7 @@ fn user_number(digits: &[u8]) -> Option<u32>
     }
 }
 
-/// The user of these fields, where they are well formed and have the login name.
+/// Returns the user of these fields, if they are well formed and the login name is `name`.
 fn user_of_fields(
     alloc: Global,
     name: &Text,
@@ -79,20 +87,20 @@ fn user_of_fields(
     Ok(Some(User { number, home }))
 }
 
-/// The user of a line, where it is well formed and has the login name: seven fields, parted by
-/// colons.
+/// Returns the user of a line, if it is well formed and its login name is `name`. A line has seven
+/// fields, separated by colons.
 #[tactic(auto, unfolding(crate::specs::User::entry_of_line))]
 fn user_of_line(alloc: Global, name: &Text, line: &[u8]) -> Result<Option<User>, AllocError>
     ensures { IfOk result (λ user. user ≡ named name.now (entry_of_line line.now)) }
 {
-    let fields = cut(alloc, line, b':')?;
+    let fields = split(alloc, line, b':')?;
     match fields.as_slice() {
         [login, _, number, _, _, home, _] => user_of_fields(alloc, name, login, number, home),
         _ => Ok(None),
     }
 }
 
-/// The user with a login name: that of the first line that is well formed and has it.
+/// Returns the user with a login name: that of the first well-formed line that has it.
 #[tactic(auto, unfolding(crate::specs::User::find_user))]
 pub(crate) fn find_user(
     alloc: Global,
@@ -101,7 +109,7 @@ pub(crate) fn find_user(
 ) -> Result<Option<User>, AllocError>
     ensures { IfOk result (λ user. user ≡ find_user name.now bytes.now) }
 {
-    let lines = cut(alloc, bytes, b'\n')?;
+    let lines = split(alloc, bytes, b'\n')?;
     for line in &lines {
         if let Some(user) = user_of_line(alloc, name, line)? {
             return Ok(Some(user));

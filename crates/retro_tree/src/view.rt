@@ -1,31 +1,24 @@
-//! A state seen through questions.
+//! Views of a state.
 ghost use Rattle.std.specs.Prelude.{◌≡◌, IfOk};
 ghost use Rattle.retro_tree.specs.Ask.{answer, names_in};
 ghost use Rattle.retro_tree.specs.declared.state.State.{State};
 
-use crate::ask::{Answer, Ask};
+use crate::answer::Answer;
+use crate::ask::Ask;
 use retro_path::{Listing, Path};
 use std::alloc::{AllocError, Global};
 
-/// Something that shows one state, and answers every question as that state does.
+/// A source of answers about one state. `State` is a view of itself.
 pub trait View {
-    /// The state that is shown.
-    ghost shown: { Self → State };
+    /// The view's state.
+    ghost state: { Self → State };
 
-    /// What the shown state answers.
-    ///
-    /// # Errors
-    ///
-    /// `NoMem` where memory is wanting.
+    /// Returns the state's answer to a query.
     fn answer(&self, alloc: Global, ask: &Ask) -> Result<Answer, AllocError>
-        ensures { IfOk result (λ a. a ≡ answer ask.now (shown self.now)) };
+        ensures { IfOk result (λ a. a ≡ answer ask.now (state self.now)) };
 
-    /// The names of what stands right below a path in the shown state, in byte order, whatever
-    /// stands at the path itself.
-    ///
-    /// # Errors
-    ///
-    /// `NoMem` where memory is wanting.
+    /// Returns the names of the children of a path in byte order, whatever node is at the path
+    /// itself.
     fn children(&self, alloc: Global, path: &Path) -> Result<Listing, AllocError>
-        ensures { IfOk result (λ names. names ≡ names_in path.now (shown self.now).tree) };
+        ensures { IfOk result (λ names. names ≡ names_in path.now (state self.now).tree) };
 }

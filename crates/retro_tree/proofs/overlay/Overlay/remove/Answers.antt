@@ -5,7 +5,7 @@ use Rattle.retro_tree.specs.Overlay.{Overlays, Fits, AllValues}
 use Rattle.retro_tree.proofs.MapLemmas.{made_remove}
 use Rattle.retro_tree.proofs.Fitting.{fits_removed}
 use Rattle.retro_tree.proofs.ValueEntries.{values_removed}
-use Rattle.retro_tree.proofs.OverlayLaying.{shows_removed}
+use Rattle.retro_tree.proofs.OverlayChanges.{shows_removed}
 use Rattle.retro_tree.proofs.overlay.Overlay.remove.Goals as goal
 
 pub returns-clause-value : goal.returns-clause-value
@@ -13,8 +13,8 @@ returns-clause-value c =
     made_remove cell_total cell_exact c.self.inside.cells.entries c.remove.new.self.entries c.args.cell.now c.remove.ensures.updates.0
     ∙ ap (λ m. map.remove m c.args.cell.now) c.self.view_is
 
-pub returns-clause-shows : goal.returns-clause-shows
-returns-clause-shows c below now next h here there =
+pub returns-clause-overlays : goal.returns-clause-overlays
+returns-clause-overlays c below now next h here there =
     subst (λ m. Overlays m below next) (sym (returns-clause-value c)) (shows_removed c.args.self.now c.args.cell.now below now next h here there)
 
 pub returns-clause-fits : goal.returns-clause-fits

@@ -26,7 +26,7 @@ returns-in-Some-clause-new c =
     made_insert cell_total cell_exact es (c.get_mut.follows.lender c.replace.new.dest).entries k c.replace.new.dest (wrote.3 (subst IsSome (sym here) refl)).0
     ∙ ap (λ m. map.insert m k c.replace.new.dest) c.self.view_is
     ∙ ap (map.insert c.args.self.now k) c.replace.ensures.after
-    ∙ ap (λ x. replaced_at k c.args.laid x c.args.self.now) (sym found)
+    ∙ ap (λ x. replaced_at k c.args.entry x c.args.self.now) (sym found)
 
 pub returns-clause-previous : goal.returns-clause-previous
 returns-clause-previous c =
@@ -38,16 +38,16 @@ returns-clause-new c =
     let none = sym c.get_mut.ensures.value ∙ ap option_copied_mut c.in_default.is in
     let absent = ap (λ m. map.get m c.args.cell.now) (sym c.self.view_is) ∙ get_made cell_total c.self.inside.cells.entries c.args.cell.now ∙ none in
     ap (λ n. the_view (record { cells = n })) c.get_mut.follows.holds-at-none ∙ c.self.view_is
-    ∙ ap (λ x. replaced_at c.args.cell.now c.args.laid x c.args.self.now) (sym absent)
+    ∙ ap (λ x. replaced_at c.args.cell.now c.args.entry x c.args.self.now) (sym absent)
 
 pub returns-in-Some-clause-fits : goal.returns-in-Some-clause-fits
-returns-in-Some-clause-fits c of fit = subst Fits (sym (returns-in-Some-clause-new c)) (fits_replaced c.args.self.now c.args.cell.now c.args.laid of fit)
+returns-in-Some-clause-fits c of fit = subst Fits (sym (returns-in-Some-clause-new c)) (fits_replaced c.args.self.now c.args.cell.now c.args.entry of fit)
 
 pub returns-in-Some-clause-values : goal.returns-in-Some-clause-values
-returns-in-Some-clause-values c of all = subst AllValues (sym (returns-in-Some-clause-new c)) (values_replaced c.args.self.now c.args.cell.now c.args.laid of all)
+returns-in-Some-clause-values c of all = subst AllValues (sym (returns-in-Some-clause-new c)) (values_replaced c.args.self.now c.args.cell.now c.args.entry of all)
 
 pub returns-clause-fits : goal.returns-clause-fits
-returns-clause-fits c of fit = subst Fits (sym (returns-clause-new c)) (fits_replaced c.args.self.now c.args.cell.now c.args.laid of fit)
+returns-clause-fits c of fit = subst Fits (sym (returns-clause-new c)) (fits_replaced c.args.self.now c.args.cell.now c.args.entry of fit)
 
 pub returns-clause-values : goal.returns-clause-values
-returns-clause-values c of all = subst AllValues (sym (returns-clause-new c)) (values_replaced c.args.self.now c.args.cell.now c.args.laid of all)
+returns-clause-values c of all = subst AllValues (sym (returns-clause-new c)) (values_replaced c.args.self.now c.args.cell.now c.args.entry of all)

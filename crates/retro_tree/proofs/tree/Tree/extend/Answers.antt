@@ -3,7 +3,7 @@ use Rattle.std.specs.Prelude.{IsSome}
 use Rattle.std.specs.Option.{option_copied_mut}
 use Rattle.std.specs.FinMap as map
 use Rattle.retro_tree.specs.Order.{path_total, path_exact}
-use Rattle.retro_tree.specs.declared.node.Entry.TheVariants.{File as FileEntry}
+use Rattle.retro_tree.specs.declared.entry.Entry.TheVariants.{File as FileEntry}
 use Rattle.retro_tree.specs.contracts.tree.Tree.{the_view}
 use Rattle.retro_tree.proofs.MapLemmas.{made_insert, made_same, get_made}
 use Rattle.retro_tree.proofs.Lookups.{put_grown, put_new}

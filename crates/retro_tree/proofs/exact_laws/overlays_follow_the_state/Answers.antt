@@ -1,5 +1,0 @@
-use Rattle.retro_tree.proofs.ValueEntries.{values_hide}
-use Rattle.retro_tree.proofs.exact_laws.overlays_follow_the_state.Goals as goal
-
-pub returns-clause-hidden : goal.returns-clause-hidden
-returns-clause-hidden c = values_hide

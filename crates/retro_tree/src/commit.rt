@@ -1,0 +1,249 @@
+//! Commits of an overlay to a state.
+ghost use Rattle.std.specs.Prelude.{◌≡◌, [], IfOk, OnOk, OnErr, Some, true, false, reverse};
+ghost use Rattle.std.specs.List.{list_all};
+ghost use Rattle.std.specs.FinMap as map;
+ghost use Rattle.retro_tree.specs.Node.{is_present};
+ghost use Rattle.retro_tree.specs.State.{put_node, grow_file};
+ghost use Rattle.retro_tree.specs.Change.{put_setting};
+ghost use Rattle.retro_tree.specs.Commit.{put_cell, put_cells};
+ghost use Rattle.retro_tree.specs.CommitSteps.{removes, removals, writes, undo_all, CanUndoAll, Undoes};
+ghost use Rattle.retro_tree.specs.declared.overlay_entry.OverlayEntry.TheVariants as OverlayEntry;
+
+use crate::cell::Cell;
+use crate::kind::Kind;
+use crate::node::Node;
+use crate::overlay::Overlay;
+use crate::overlay_entry::OverlayEntry;
+use crate::setting::Setting;
+use crate::state::State;
+use crate::undo::Undo;
+use crate::value::Value;
+use retro_path::{Bytes, Path};
+use std::alloc::{AllocError, Global};
+
+/// A commit in progress. Writes come first, because they take memory. If memory runs out, they are
+/// undone, which takes none. Removals take none, so they come last.
+#[derive(Drop)]
+pub(crate) struct Commit {
+    undos: Vec<Undo>,
+    removals: Vec<(Cell, OverlayEntry)>,
+}
+
+impl Commit {
+    /// Returns a commit that has written nothing. Takes no memory.
+    pub(crate) fn new(alloc: Global) -> Commit
+        ensures undos { result.undos.items ≡ [] }
+        ensures removals { result.removals.items ≡ [] }
+    {
+        Commit {
+            undos: Vec::new(alloc),
+            removals: Vec::new(alloc),
+        }
+    }
+
+    /// Writes all entries of an overlay to a state but the removals, which it collects. The writes
+    /// can be undone, also if memory runs out.
+    pub(crate) fn write_all(
+        &mut self,
+        alloc: Global,
+        overlay: Overlay,
+        state: &mut State,
+    ) -> Result<(), AllocError>
+        requires undos { self.old.undos.items ≡ [] }
+        requires removals { self.old.removals.items ≡ [] }
+        ensures can { CanUndoAll (reverse self.new.undos.items) state.new }
+        ensures undone { undo_all (reverse self.new.undos.items) state.new ≡ state.old }
+        ensures ok { OnOk result (state.new ≡ put_cells (writes (map.entries overlay)) state.old) }
+        ensures removals { OnOk result
+            (self.new.removals.items ≡ removals (map.entries overlay)) }
+    {
+        for (cell, entry) in overlay.into_entries() {
+            if entry.removes() {
+                self.removals.push((cell, entry))?;
+            } else {
+                write_one(alloc, state, &mut self.undos, cell, entry)?;
+            }
+        }
+        Ok(())
+    }
+
+    /// Makes the removals, from the last to the first, so that the children of a directory are
+    /// removed before it. Takes no memory.
+    #[tactic(auto, using(crate::proofs::OverlayCommit::erasing))]
+    pub(crate) fn remove_all(&mut self, state: &mut State)
+        requires { list_all (λ e. removes e.1) self.old.removals.items ≡ true }
+        ensures { state.new ≡ put_cells (reverse self.old.removals.items) state.old }
+    {
+        while let Some((cell, entry)) = self.removals.pop() {
+            erase(state, &cell, &entry);
+        }
+    }
+
+    /// Undoes the writes, from the last to the first. Takes no memory.
+    pub(crate) fn undo_all(&mut self, state: &mut State)
+        requires { CanUndoAll (reverse self.old.undos.items) state.old }
+        ensures { state.new ≡ undo_all (reverse self.old.undos.items) state.old }
+    {
+        while let Some(undo) = self.undos.pop() {
+            undo.apply(state);
+        }
+    }
+}
+
+/// Writes an entry that is no removal to a state, and adds how that is undone.
+#[tactic(auto, using(crate::proofs::OverlayCommit::unwinding))]
+fn write_one(
+    alloc: Global,
+    state: &mut State,
+    undos: &mut Vec<Undo>,
+    cell: Cell,
+    entry: OverlayEntry,
+) -> Result<(), AllocError>
+    requires entry { removes entry ≡ false }
+    requires can { CanUndoAll (reverse undos.old.items) state.old }
+    ensures can { CanUndoAll (reverse undos.new.items) state.new }
+    ensures undone { undo_all (reverse undos.new.items) state.new
+        ≡ undo_all (reverse undos.old.items) state.old }
+    ensures ok { OnOk result (state.new ≡ put_cell cell entry state.old) }
+{
+    let Some(undo) = write_entry(alloc, state, cell, entry)? else {
+        return Ok(());
+    };
+    if let Err(failed) = undos.push(undo) {
+        failed.value.apply(state);
+        return Err(AllocError);
+    }
+    Ok(())
+}
+
+/// Writes an entry that is no removal to a state, and returns how that is undone, or `None` if it
+/// changes nothing.
+#[tactic(auto, unfolding(crate::specs::Commit::put_cell))]
+fn write_entry(
+    alloc: Global,
+    state: &mut State,
+    cell: Cell,
+    entry: OverlayEntry,
+) -> Result<Option<Undo>, AllocError>
+    requires { removes entry ≡ false }
+    ensures ok { OnOk result (state.new ≡ put_cell cell entry state.old) }
+    ensures undo { IfOk result (λ undo. Undoes undo state.new state.old) }
+    ensures err { OnErr result (state.new ≡ state.old) }
+{
+    match (cell, entry) {
+        (cell, OverlayEntry::Value(value)) => write_value(alloc, state, cell, value),
+        (Cell::At(path), OverlayEntry::Growth(bytes)) => write_growth(state, path, bytes),
+        (Cell::Cwd(_) | Cell::Var(..) | Cell::Status(_), OverlayEntry::Growth(_)) => Ok(None),
+    }
+}
+
+/// Writes a value that is no removal to a cell, and returns how that is undone, or `None` if the
+/// value isn't of the cell's kind.
+#[tactic(auto, unfolding(crate::specs::Commit::put_cell))]
+fn write_value(
+    alloc: Global,
+    state: &mut State,
+    cell: Cell,
+    value: Value,
+) -> Result<Option<Undo>, AllocError>
+    requires { removes (OverlayEntry.Value value) ≡ false }
+    ensures ok { OnOk result (state.new ≡ put_cell cell (OverlayEntry.Value value) state.old) }
+    ensures undo { IfOk result (λ undo. Undoes undo state.new state.old) }
+    ensures err { OnErr result (state.new ≡ state.old) }
+{
+    match cell {
+        Cell::At(path) => match value {
+            Value::Node(Node::Dir) => Ok(Some(write_node(state, path, Node::Dir)?)),
+            Value::Node(Node::File(bytes)) => {
+                Ok(Some(write_node(state, path, Node::File(bytes))?))
+            }
+            _ => Ok(None),
+        },
+        Cell::Cwd(sid) => match value {
+            Value::Cwd(path) => { Ok(Some(write_setting(alloc, state, sid, Setting::Cwd(path))?)) }
+            _ => Ok(None),
+        },
+        Cell::Var(sid, name) => match value {
+            Value::Text(Some(text)) => {
+                Ok(Some(write_setting(alloc, state, sid, Setting::Var(name, text))?))
+            }
+            _ => Ok(None),
+        },
+        Cell::Status(sid) => match value {
+            Value::Status(status) => {
+                Ok(Some(write_setting(alloc, state, sid, Setting::Status(status))?))
+            }
+            _ => Ok(None),
+        },
+    }
+}
+
+/// Appends bytes to the file at a path, in place, and returns how that is undone, or `None` if
+/// nothing changes. A missing file is made of the bytes themselves. A directory stays unchanged.
+#[tactic(auto, using(crate::proofs::Undoing::growing))]
+fn write_growth(state: &mut State, path: Path, bytes: Bytes) -> Result<Option<Undo>, AllocError>
+    ensures ok { OnOk result (state.new ≡ grow_file path bytes state.old) }
+    ensures undo { IfOk result (λ undo. Undoes undo state.new state.old) }
+    ensures err { OnErr result (state.new ≡ state.old) }
+{
+    match state.tree.kind(&path) {
+        Kind::Missing => Ok(Some(write_node(state, path, Node::File(bytes))?)),
+        Kind::Dir => Ok(None),
+        Kind::File => {
+            let length = state.tree.size(&path);
+            state.tree.grow(&path, &bytes)?;
+            Ok(Some(Undo::Length(path, length)))
+        }
+    }
+}
+
+/// Puts a directory or a file at a path, and returns how that is undone.
+fn write_node(state: &mut State, path: Path, node: Node) -> Result<Undo, AllocError>
+    requires { is_present node ≡ true }
+    ensures ok { OnOk result (state.new ≡ put_node path node state.old) }
+    ensures undo { IfOk result (λ undo. Undoes (Some undo) state.new state.old) }
+    ensures err { OnErr result (state.new ≡ state.old) }
+{
+    let key = path.copy()?;
+    let previous = state.tree.exchange(path, node)?;
+    Ok(Undo::Entry(key, previous))
+}
+
+/// Makes a setting in a session, and returns how that is undone.
+#[tactic(auto, using(crate::proofs::Undoing::undoing))]
+fn write_setting(
+    alloc: Global,
+    state: &mut State,
+    sid: u32,
+    setting: Setting,
+) -> Result<Undo, AllocError>
+    ensures ok { OnOk result (state.new ≡ put_setting sid setting state.old) }
+    ensures undo { IfOk result (λ undo. Undoes (Some undo) state.new state.old) }
+    ensures err { OnErr result (state.new ≡ state.old) }
+{
+    match state.sessions.set(alloc, sid, setting)? {
+        None => Ok(Undo::Session(sid)),
+        Some(previous) => Ok(Undo::Setting(sid, previous)),
+    }
+}
+
+/// Makes a removal. Takes no memory.
+#[tactic(auto, unfolding(crate::specs::Commit::put_cell))]
+fn erase(state: &mut State, cell: &Cell, entry: &OverlayEntry)
+    requires { removes entry.now ≡ true }
+    ensures { state.new ≡ put_cell cell.now entry.now state.old }
+{
+    match cell {
+        Cell::At(path) => {
+            if let OverlayEntry::Value(Value::Node(_)) = entry {
+                state.tree.erase(path);
+            }
+        }
+        Cell::Var(sid, name) => {
+            if let OverlayEntry::Value(Value::Text(_)) = entry {
+                state.sessions.unset(*sid, name);
+            }
+        }
+        Cell::Cwd(_) | Cell::Status(_) => (),
+    }
+}

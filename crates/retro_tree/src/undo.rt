@@ -1,0 +1,39 @@
+//! Undoing of the writes of a commit.
+ghost use Rattle.std.specs.Prelude.{◌≡◌, true};
+ghost use Rattle.retro_tree.specs.CommitSteps.{undo, can_undo};
+
+use crate::entry::Entry;
+use crate::previous::Previous;
+use crate::state::State;
+use retro_path::Path;
+
+/// How one write is undone.
+#[derive(Drop)]
+pub(crate) enum Undo {
+    /// The previous entry of a path.
+    Entry(Path, Option<Entry>),
+    /// The previous length of the file at a path.
+    Length(Path, usize),
+    /// The session didn't exist.
+    Session(u32),
+    /// The previous setting of a session.
+    Setting(u32, Previous),
+}
+
+impl Undo {
+    /// Undoes the write in a state. Takes no memory.
+    pub(crate) fn apply(self, state: &mut State)
+        requires { can_undo self state.old ≡ true }
+        ensures { state.new ≡ undo self state.old }
+    {
+        match self {
+            Undo::Entry(path, previous) => match previous {
+                None => state.tree.erase(&path),
+                Some(entry) => state.tree.replace(path, entry),
+            },
+            Undo::Length(path, length) => state.tree.cut(&path, length),
+            Undo::Session(sid) => state.sessions.remove(sid),
+            Undo::Setting(sid, previous) => state.sessions.restore(sid, previous),
+        }
+    }
+}
