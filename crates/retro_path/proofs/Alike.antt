@@ -14,7 +14,8 @@ resolve_alike p q [] h = refl
 resolve_alike p q (b ∷ text) h = go (b == 47) (list_any is_long (parts_of (b ∷ text))) h
   where
     go : (x y : Bool) → (not x && not y) ≡ false
-        → if y then LongName else Is (walk (if x then [] else p) (parts_of (b ∷ text))) ≡ if y then LongName else Is (walk (if x then [] else q) (parts_of (b ∷ text)))
+        → if y then LongName else Is (walk (if x then [] else p) (parts_of (b ∷ text)))
+        ≡ if y then LongName else Is (walk (if x then [] else q) (parts_of (b ∷ text)))
     go true y e = refl
     go false true e = refl
     go false false e = absurd (true≢false e)

@@ -7,7 +7,8 @@ map_append f [] ys = refl
 map_append f (x ∷ xs) ys = ap (λ zs. f x ∷ zs) (map_append f xs ys)
 
 -- one name more gives one prefix more: the whole path
-pub prefixes_of_child : (path : PathValue) (name : List ℕ) → prefixes_of (path ++ name ∷ []) ≡ prefixes_of path ++ (path ++ name ∷ []) ∷ []
+pub prefixes_of_child : (path : PathValue) (name : List ℕ) → prefixes_of (path ++ name ∷ []) ≡ prefixes_of path
+    ++ (path ++ name ∷ []) ∷ []
 prefixes_of_child [] name = refl
 prefixes_of_child (first ∷ rest) name =
     ap (λ ps. (first ∷ []) ∷ map (λ p. first ∷ p) ps) (prefixes_of_child rest name)

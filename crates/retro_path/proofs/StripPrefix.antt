@@ -6,7 +6,8 @@ use Rattle.std.specs.Bool.{if◌then◌else◌}
 use Rattle.std.proofs.lemmas.Cmp.{nat_list_eq_equiv}
 use Rattle.retro_path.specs.Path.{below}
 
-not_prefix : (b c : Bool) {A : Type 0} (s : Option A) → (c ≡ false → s ≡ None) → (b && c) ≡ false → if b then s else None ≡ None
+not_prefix : (b c : Bool) {A : Type 0} (s : Option A) → (c ≡ false → s ≡ None) → (b && c) ≡ false
+    → if b then s else None ≡ None
 not_prefix true true s h e = absurd (true≢false e)
 not_prefix true false s h e = h refl
 not_prefix false c s h e = refl
@@ -23,14 +24,18 @@ yes_here true true s t e h = h refl
 yes_here true false s t e h = absurd (false≢true e)
 yes_here false c s t e h = absurd (false≢true e)
 
-pub below_yes : (prefix path : List (List ℕ)) → length prefix ≤ length path → pointwise (pointwise nat_eq) (take (length prefix) path) prefix ≡ true → below prefix path ≡ Some (drop (length prefix) path)
+pub below_yes : (prefix path : List (List ℕ)) → length prefix ≤ length path
+    → pointwise (pointwise nat_eq) (take (length prefix) path) prefix ≡ true
+    → below prefix path ≡ Some (drop (length prefix) path)
 below_yes [] path h e = refl
 below_yes (x ∷ prefix) [] h e = absurd (omega arith)
 below_yes (x ∷ prefix) (y ∷ path) h e =
     ap (λ b. if b then below prefix path else None) (swapped x y)
-    ∙ yes_here (pointwise nat_eq y x) _ (below prefix path) (Some (drop (length prefix) path)) e (λ c. below_yes prefix path (omega arith) c)
+    ∙ yes_here (pointwise nat_eq y x) _ (below prefix path) (Some (drop (length prefix) path)) e
+    (λ c. below_yes prefix path (omega arith) c)
 
-pub below_no : (prefix path : List (List ℕ)) → length prefix ≤ length path → pointwise (pointwise nat_eq) (take (length prefix) path) prefix ≡ false → below prefix path ≡ None
+pub below_no : (prefix path : List (List ℕ)) → length prefix ≤ length path
+    → pointwise (pointwise nat_eq) (take (length prefix) path) prefix ≡ false → below prefix path ≡ None
 below_no [] path h e = absurd (true≢false e)
 below_no (x ∷ prefix) [] h e = refl
 below_no (x ∷ prefix) (y ∷ path) h e =
@@ -40,6 +45,7 @@ below_no (x ∷ prefix) (y ∷ path) h e =
 pub below_short : (prefix path : List (List ℕ)) → length path < length prefix → below prefix path ≡ None
 below_short [] path h = absurd (omega arith)
 below_short (x ∷ prefix) [] h = refl
-below_short (x ∷ prefix) (y ∷ path) h = no_rest (pointwise nat_eq x y) (below prefix path) (below_short prefix path (omega arith))
+below_short (x ∷ prefix) (y ∷ path) h =
+    no_rest (pointwise nat_eq x y) (below prefix path) (below_short prefix path (omega arith))
 
 pub ruleset strip_prefix = (below_yes, below_no, below_short)

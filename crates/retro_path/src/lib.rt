@@ -2,8 +2,8 @@
 //!
 //! A path is the list of the names from the root to a file or directory. `Name::of`, `Path::of` and
 //! `VarName::of` return a value exactly if the rule of its type holds, and the type keeps the rule
-//! from then on. In contracts a text and a name are the list of their bytes, and a path and a listing
-//! are lists of such lists. Texts, names and paths are ordered as these lists.
+//! from then on. In contracts a text and a name are the list of their bytes, and a path and a
+//! listing are lists of such lists. Texts, names and paths are ordered as these lists.
 //!
 //! `resolve` computes the path that a text names from a directory, from the text alone.
 //!

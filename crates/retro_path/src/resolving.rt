@@ -59,11 +59,12 @@ fn walk(alloc: Global, start: Path, parts: &[&str]) -> Result<Path, AllocError>
     Ok(path)
 }
 
-/// Returns the path that a text names from a directory. Only the text counts, not which files exist.
+/// Returns the path that a text names from a directory. Only the text counts, not which files
+/// exist.
 ///
-/// The text is split at slashes. A text that begins with a slash starts at the root. Empty parts and
-/// `.` are skipped, and `..` removes the last name, if there is one. A part of more than 255 bytes
-/// gives `LongName`, even if a later `..` removes it.
+/// The text is split at slashes. A text that begins with a slash starts at the root. Empty parts
+/// and `.` are skipped, and `..` removes the last name, if there is one. A part of more than 255
+/// bytes gives `LongName`, even if a later `..` removes it.
 pub fn resolve(alloc: Global, cwd: &Path, text: &str) -> Result<Resolved, AllocError>
     ensures { IfOk result (λ resolved. resolved ≡ resolve cwd.now text.now) }
 {

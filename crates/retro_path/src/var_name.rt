@@ -8,9 +8,9 @@ use std::alloc::{AllocError, Global};
 use std::cmp::Ordering;
 use std::marker::Model;
 
-/// The name of a variable that a line can assign: an ASCII letter or an underscore, followed by ASCII
-/// letters, digits and underscores (POSIX.1-2017 XBD 3.235). `IFS`, `PWD`, `OLDPWD` and `CDPATH` are
-/// refused.
+/// The name of a variable that a line can assign: an ASCII letter or an underscore, followed by
+/// ASCII letters, digits and underscores (POSIX.1-2017 XBD 3.235). `IFS`, `PWD`, `OLDPWD` and
+/// `CDPATH` are refused.
 #[derive(Drop, Clone, PartialEq, Eq, PartialOrd, Ord)]
 pub struct VarName {
     text: Text,

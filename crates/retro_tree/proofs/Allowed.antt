@@ -27,9 +27,12 @@ pub kept : (c : Change) (s : State) → IsLawful s → may_make c s ≡ true →
 unfolding apply may_make
 kept (changes.Put p node) s l may = record { tree = lawful_put p node s.tree l.tree may; sessions = l.sessions }
 kept (changes.Grow p bytes) s l may = record { tree = growing p bytes s.tree l.tree may; sessions = l.sessions }
-kept (changes.SetVar sid name text) s l may = record { tree = l.tree; sessions = settings s.sessions sid (Var name text) l.sessions may }
-kept (changes.SetCwd sid p) s l may = record { tree = l.tree; sessions = settings s.sessions sid (Cwd p) l.sessions refl }
-kept (changes.SetStatus sid status) s l may = record { tree = l.tree; sessions = settings s.sessions sid (Status status) l.sessions may }
+kept (changes.SetVar sid name text) s l may =
+    record { tree = l.tree; sessions = settings s.sessions sid (Var name text) l.sessions may }
+kept (changes.SetCwd sid p) s l may =
+    record { tree = l.tree; sessions = settings s.sessions sid (Cwd p) l.sessions refl }
+kept (changes.SetStatus sid status) s l may =
+    record { tree = l.tree; sessions = settings s.sessions sid (Status status) l.sessions may }
 
 no_growth : (c : Change) (s : State) → may_make c s ≡ true → grows_dir c s ≡ false
 unfolding may_make
@@ -39,11 +42,13 @@ no_growth (changes.SetVar sid name text) s may = refl
 no_growth (changes.SetCwd sid p) s may = refl
 no_growth (changes.SetStatus sid status) s may = refl
 
-pub sound : (c : Change) (s : State) → IsLawful s → has_its_session c s ≡ true → may_make c s ≡ true → IsLawfulChange c s
+pub sound : (c : Change) (s : State) → IsLawful s → has_its_session c s ≡ true → may_make c s ≡ true
+    → IsLawfulChange c s
 sound c s l there may = record { growth = no_growth c s may; session = there; after = kept c s l may }
 
--- the session of a change that left lawful sessions
-changed_session : (m : map.FinMap nat_cmp Session) (sid : ℕ) (f : Session → Session) → AreLawfulSessions (update m sid default_session f) → IsLawfulSession (f (session_in sid m))
+-- the session of a change after which the sessions are lawful
+changed_session : (m : map.FinMap nat_cmp Session) (sid : ℕ) (f : Session → Session)
+    → AreLawfulSessions (update m sid default_session f) → IsLawfulSession (f (session_in sid m))
 unfolding AreLawfulSessions
 changed_session m sid f l = l sid (f (session_in sid m)) (get_inserted nat_cmp_total m sid (f (session_in sid m)))
 
@@ -51,12 +56,14 @@ changed_session m sid f l = l sid (f (session_in sid m)) (get_inserted nat_cmp_t
 pub whole : (c : Change) (s : State) → IsLawfulChange c s → may_make c s ≡ true
 unfolding apply may_make
 whole (changes.Put p node) s l = may_put_back p node s.tree l.after.tree
-whole (changes.Grow p bytes) s l = and_true _ _ (ap not l.growth) (law_after p (grown bytes (node_in p s.tree)) s.tree l.after.tree)
+whole (changes.Grow p bytes) s l =
+    and_true _ _ (ap not l.growth) (law_after p (grown bytes (node_in p s.tree)) s.tree l.after.tree)
 whole (changes.SetVar sid name text) s l =
     let t = changed_session s.sessions sid (with_var name text) l.after.sessions in
     le-leb _ _ (t.values name text (get_inserted text_total (session_in sid s.sessions).vars name text))
 whole (changes.SetCwd sid p) s l = refl
-whole (changes.SetStatus sid status) s l = le-leb _ _ (changed_session s.sessions sid (with_status status) l.after.sessions).status
+whole (changes.SetStatus sid status) s l =
+    le-leb _ _ (changed_session s.sessions sid (with_status status) l.after.sessions).status
 
 pub its_session : (c : Change) (s : State) → IsLawfulChange c s → has_its_session c s ≡ true
 its_session c s l = l.session
@@ -73,10 +80,12 @@ without_session c s none = (λ t. absurd (false≢true t), λ l. absurd (true≢
 pub dir_grows : (c : Change) (s : State) → grows_dir c s ≡ true → IsTrue false ↔ IsLawfulChange c s
 dir_grows c s grows = (λ t. absurd (false≢true t), λ l. absurd (true≢false (sym grows ∙ l.growth)))
 
-pub by_test : (b : Bool) (c : Change) (s : State) → IsLawful s → has_its_session c s ≡ true → b ≡ may_make c s → IsTrue b ↔ IsLawfulChange c s
+pub by_test : (b : Bool) (c : Change) (s : State) → IsLawful s → has_its_session c s ≡ true → b ≡ may_make c s
+    → IsTrue b ↔ IsLawfulChange c s
 by_test b c s l there e = (λ t. sound c s l there (sym e ∙ t), λ l. e ∙ whole c s l)
 
-pub by_state : (b : Bool) (c : Change) (s : State) → has_its_session c s ≡ true → grows_dir c s ≡ false → (IsTrue b ↔ IsLawful (apply c s)) → IsTrue b ↔ IsLawfulChange c s
+pub by_state : (b : Bool) (c : Change) (s : State) → has_its_session c s ≡ true → grows_dir c s ≡ false
+    → (IsTrue b ↔ IsLawful (apply c s)) → IsTrue b ↔ IsLawfulChange c s
 by_state b c s there grows e = (λ t. record { growth = grows; session = there; after = e.0 t }, λ l. e.1 l.after)
 
 pub ruleset allowed = (without_session, dir_grows, by_test, by_state)

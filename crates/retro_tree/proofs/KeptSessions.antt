@@ -26,7 +26,8 @@ use Rattle.retro_tree.proofs.CommittedChanges.{key_changed, sets}
 pub same_key : (k sid : ℕ) → eq_by_cmp nat_cmp k sid ≡ true → k ≡ sid
 same_key k sid e = nat_cmp-IsAntisymmetric k sid (tied _ e)
 
-set_there : (c : Change) (s : State) (k : ℕ) → has_its_session c s ≡ true → sets k c ≡ true → map.contains_key s.sessions k ≡ true
+set_there : (c : Change) (s : State) (k : ℕ) → has_its_session c s ≡ true → sets k c ≡ true
+    → map.contains_key s.sessions k ≡ true
 set_there (changes.Put p node) s k h e = absurd (false≢true e)
 set_there (changes.Grow p bytes) s k h e = absurd (false≢true e)
 set_there (changes.SetVar sid name text) s k h e = ap (map.contains_key s.sessions) (same_key k sid e) ∙ h
@@ -43,28 +44,36 @@ change_keeps_sessions c s h k = key_changed c s k ∙ go (sets k c) refl
 pub notes_keep_sessions : (notes : List Note) (s : State) → AllAllowed notes s → SameSessions (after notes s) s
 notes_keep_sessions [] s h k = refl
 notes_keep_sessions (Asked a r ∷ notes) s h k = notes_keep_sessions notes s h k
-notes_keep_sessions (Made c ∷ notes) s h k = notes_keep_sessions notes (apply c s) h.1 k ∙ change_keeps_sessions c s h.0.session k
+notes_keep_sessions (Made c ∷ notes) s h k = notes_keep_sessions notes (apply c s) h.1 k
+    ∙ change_keeps_sessions c s h.0.session k
 
 -- ---- overlays
-pub any_of_none : (p : Cell × OverlayEntry → Bool) (es : List (Cell × OverlayEntry)) → list_all (λ e. not (p e)) es ≡ true → list_any p es ≡ false
+pub any_of_none : (p : Cell × OverlayEntry → Bool) (es : List (Cell × OverlayEntry))
+    → list_all (λ e. not (p e)) es ≡ true → list_any p es ≡ false
 any_of_none p [] h = refl
 any_of_none p (e ∷ es) h = go (p e) refl h (any_of_none p es)
   where
-    go : (b : Bool) → p e ≡ b → (not b && list_all (λ d. not (p d)) es) ≡ true → (list_all (λ d. not (p d)) es ≡ true → list_any p es ≡ false) → (b || list_any p es) ≡ false
+    go : (b : Bool) → p e ≡ b → (not b && list_all (λ d. not (p d)) es) ≡ true
+        → (list_all (λ d. not (p d)) es ≡ true → list_any p es ≡ false) → (b || list_any p es) ≡ false
     go true i k more = absurd (false≢true k)
     go false i k more = more k
 
-pub commit_keeps_sessions : (overlay : OverlayMap) (s : State) → ((sid : ℕ) (c : Cell) (l : OverlayEntry) → map.get overlay c ≡ Some l → makes sid c l ≡ true → map.contains_key s.sessions sid ≡ true) → SameSessions (committed overlay s) s
+pub commit_keeps_sessions : (overlay : OverlayMap) (s : State)
+    → ((sid : ℕ) (c : Cell) (l : OverlayEntry) → map.get overlay c ≡ Some l → makes sid c l ≡ true
+    → map.contains_key s.sessions sid ≡ true) → SameSessions (committed overlay s) s
 commit_keeps_sessions overlay s h k = sessions_made (map.entries overlay) s k ∙ go (map.contains_key s.sessions k) refl
   where
-    none_makes : map.contains_key s.sessions k ≡ false → (c : Cell) (l : OverlayEntry) → map.get overlay c ≡ Some l → not (makes k c l) ≡ true
+    none_makes : map.contains_key s.sessions k ≡ false → (c : Cell) (l : OverlayEntry)
+        → map.get overlay c ≡ Some l → not (makes k c l) ≡ true
     none_makes absent c l is = by_test (makes k c l) refl
       where
         by_test : (b : Bool) → makes k c l ≡ b → not b ≡ true
         by_test true e = absurd (true≢false (sym (h k c l is e) ∙ absent))
         by_test false e = refl
 
-    go : (b : Bool) → map.contains_key s.sessions k ≡ b → (list_any (λ e. makes k e.0 e.1) (map.entries overlay) || map.contains_key s.sessions k) ≡ map.contains_key s.sessions k
+    go : (b : Bool) → map.contains_key s.sessions k ≡ b
+        → (list_any (λ e. makes k e.0 e.1) (map.entries overlay) || map.contains_key s.sessions k)
+        ≡ map.contains_key s.sessions k
     go true e = or_last (list_any (λ e. makes k e.0 e.1) (map.entries overlay)) _ e ∙ sym e
     go false e =
         ap (λ b. b || map.contains_key s.sessions k) (any_of_none (λ e. makes k e.0 e.1) (map.entries overlay)

@@ -33,3 +33,4 @@ pub mod ValueEntries
 pub mod ExactOverlays
 pub mod Allowed
 pub mod Alike
+pub mod OverlayCalls

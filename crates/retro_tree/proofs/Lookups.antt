@@ -1,4 +1,4 @@
--- What the cells of a state hold after a change, and what its answers depend on.
+-- Look-ups in finite maps after a change.
 use Rattle.std.proofs.Common.{◌≡◌, ◌≢◌, ◌⊎◌, inl, inr, ℕ, true, false, cond, List, Some, None, refl, sym, ap, ◌∙◌, nat_cmp}
 use Rattle.std.proofs.lemmas.Bool.{true≢false}
 use Rattle.std.specs.Option.{unwrap_or}
@@ -31,7 +31,8 @@ apart {R = R} exact q k h = go (R q k) refl
     go Greater e = refl
 
 -- two keys are one or not
-pub one_or_two : {K : Type 0} {R : K → K → Ordering} → IsTotalOrder R → IsAntisymmetric R → (q k : K) → (q ≡ k) ⊎ (q ≢ k)
+pub one_or_two : {K : Type 0} {R : K → K → Ordering} → IsTotalOrder R → IsAntisymmetric R → (q k : K)
+    → (q ≡ k) ⊎ (q ≢ k)
 one_or_two {R = R} total exact q k =
     elim (eq_by_cmp R q k) as (λ b. eq_by_cmp R q k ≡ b → (q ≡ k) ⊎ (q ≢ k)) [
       | true ↦ λ t. inl (exact q k (tied _ t))
@@ -46,8 +47,10 @@ module _ {K X : Type 0} {R : K → K → Ordering} (total : IsTotalOrder R) wher
   get_removed m k = get-remove total m k k ∙ ap (λ r. cond (is_eq r) None (map.get m k)) (tied_itself total k)
 
   module _ (exact : IsAntisymmetric R) where
-    pub get_inserted_apart : (m : FinMap R X) (k : K) (v : X) (q : K) → q ≢ k → map.get (map.insert m k v) q ≡ map.get m q
-    get_inserted_apart m k v q h = get-insert total m k v q ∙ ap (λ b. cond b (Some v) (map.get m q)) (apart exact q k h)
+    pub get_inserted_apart : (m : FinMap R X) (k : K) (v : X) (q : K) → q ≢ k → map.get (map.insert m k v) q
+        ≡ map.get m q
+    get_inserted_apart m k v q h = get-insert total m k v q ∙ ap (λ b. cond b (Some v) (map.get m q))
+        (apart exact q k h)
 
     pub get_removed_apart : (m : FinMap R X) (k q : K) → q ≢ k → map.get (map.remove m k) q ≡ map.get m q
     get_removed_apart m k q h = get-remove total m k q ∙ ap (λ b. cond b None (map.get m q)) (apart exact q k h)
@@ -59,30 +62,37 @@ node_put p Missing tree = ap node_of (get_removed path_total tree p)
 node_put p Dir tree = ap node_of (get_inserted path_total tree p _)
 node_put p (File bytes) tree = ap node_of (get_inserted path_total tree p _)
 
-pub node_put_apart : (p q : PathValue) (node : Node) (tree : Tree) → q ≢ p → node_in q (put p node tree) ≡ node_in q tree
+pub node_put_apart : (p q : PathValue) (node : Node) (tree : Tree) → q ≢ p → node_in q (put p node tree)
+    ≡ node_in q tree
 unfolding node_in
 node_put_apart p q Missing tree h = ap node_of (get_removed_apart path_total path_exact tree p q h)
 node_put_apart p q Dir tree h = ap node_of (get_inserted_apart path_total path_exact tree p _ q h)
 node_put_apart p q (File bytes) tree h = ap node_of (get_inserted_apart path_total path_exact tree p _ q h)
 
 -- ---- sessions
-pub session_updated : (m : FinMap nat_cmp Session) (sid : ℕ) (f : Session → Session) → session_in sid (update m sid default_session f) ≡ f (session_in sid m)
+pub session_updated : (m : FinMap nat_cmp Session) (sid : ℕ) (f : Session → Session)
+    → session_in sid (update m sid default_session f) ≡ f (session_in sid m)
 session_updated m sid f = ap (λ o. unwrap_or o default_session) (get_inserted nat_cmp_total m sid _)
 
-pub session_updated_apart : (m : FinMap nat_cmp Session) (sid other : ℕ) (f : Session → Session) → other ≢ sid → session_in other (update m sid default_session f) ≡ session_in other m
-session_updated_apart m sid other f h = ap (λ o. unwrap_or o default_session) (get_inserted_apart nat_cmp_total nat_cmp-IsAntisymmetric m sid _ other h)
+pub session_updated_apart : (m : FinMap nat_cmp Session) (sid other : ℕ) (f : Session → Session) → other ≢ sid
+    → session_in other (update m sid default_session f) ≡ session_in other m
+session_updated_apart m sid other f h =
+    ap (λ o. unwrap_or o default_session) (get_inserted_apart nat_cmp_total nat_cmp-IsAntisymmetric m sid _ other h)
 
--- a session that isn't there has no variable
-pub var_of_none : (m : FinMap nat_cmp Session) (sid : ℕ) (name : List ℕ) → map.get m sid ≡ None → map.get (session_in sid m).vars name ≡ None
+-- a session that doesn't exist has no variables
+pub var_of_none : (m : FinMap nat_cmp Session) (sid : ℕ) (name : List ℕ) → map.get m sid ≡ None
+    → map.get (session_in sid m).vars name ≡ None
 unfolding default_session
 var_of_none m sid name e = ap (λ o. map.get (unwrap_or o default_session).vars name) e ∙ map.get-empty text_cmp name
 
 -- ---- growth
-pub put_grown : (p : PathValue) (bytes : List ℕ) (e : Entry) (tree : Tree) → map.get tree p ≡ Some e → put p (grown bytes (node_in p tree)) tree ≡ map.insert tree p (entry_grown bytes e)
+pub put_grown : (p : PathValue) (bytes : List ℕ) (e : Entry) (tree : Tree) → map.get tree p ≡ Some e
+    → put p (grown bytes (node_in p tree)) tree ≡ map.insert tree p (entry_grown bytes e)
 unfolding node_in
 put_grown p bytes DirEntry tree is = ap (λ o. put p (grown bytes (node_of o)) tree) is
 put_grown p bytes (FileEntry old) tree is = ap (λ o. put p (grown bytes (node_of o)) tree) is
 
-pub put_new : (p : PathValue) (bytes : List ℕ) (tree : Tree) → map.get tree p ≡ None → put p (grown bytes (node_in p tree)) tree ≡ map.insert tree p (FileEntry bytes)
+pub put_new : (p : PathValue) (bytes : List ℕ) (tree : Tree) → map.get tree p ≡ None
+    → put p (grown bytes (node_in p tree)) tree ≡ map.insert tree p (FileEntry bytes)
 unfolding node_in
 put_new p bytes tree is = ap (λ o. put p (grown bytes (node_of o)) tree) is

@@ -1,4 +1,4 @@
--- What is answered over what is laid.
+-- Answers of the combined state.
 use Rattle.std.proofs.Common.{◌≡◌, ℕ, ◌+◌, nat_lt, List, ◌++◌, length, Some, None, refl, sym, ap, ◌∙◌, arith, length-append}
 use Rattle.std.specs.Prelude.{min, if◌then◌else◌}
 use Rattle.std.specs.FinMap as map
@@ -23,20 +23,23 @@ kind_after bytes Dir = refl
 kind_after bytes (File old) = refl
 
 -- ---- permits
-pub same_under : (parent : Node) (a b : ℕ) → nat_lt file_limit a ≡ nat_lt file_limit b → permit_under parent a ≡ permit_under parent b
+pub same_under : (parent : Node) (a b : ℕ) → nat_lt file_limit a ≡ nat_lt file_limit b → permit_under parent a
+    ≡ permit_under parent b
 same_under Missing a b is = refl
 same_under (File bytes) a b is = refl
 same_under Dir a b is = ap (λ t. if t then TooLarge else Yes) is
 
--- the greatest number stands for all that are over the limit
+-- all numbers above the limit give the same permit
 pub over_least : (b : ℕ) → nat_lt file_limit (min b 4294967295) ≡ nat_lt file_limit b
 over_least b = grind arith
 
-over_all : (old bytes : List ℕ) (n : ℕ) → nat_lt file_limit (length old + min (length bytes + n) 4294967295) ≡ nat_lt file_limit (length (old ++ bytes) + n)
+over_all : (old bytes : List ℕ) (n : ℕ) → nat_lt file_limit (length old + min (length bytes + n) 4294967295)
+    ≡ nat_lt file_limit (length (old ++ bytes) + n)
 over_all old bytes n = grind (arith, length-append)
 
--- a growth that is overlay counts among the bytes that are to be written
-permit_grown : (node parent : Node) (bytes : List ℕ) (n : ℕ) → permit_at node parent (min (length bytes + n) 4294967295) ≡ permit_at (grown bytes node) parent n
+-- the bytes of a growth are added to those that are to be written
+permit_grown : (node parent : Node) (bytes : List ℕ) (n : ℕ)
+    → permit_at node parent (min (length bytes + n) 4294967295) ≡ permit_at (grown bytes node) parent n
 permit_grown Dir parent bytes n = refl
 permit_grown Missing parent bytes n = same_under parent _ _ (over_least (length bytes + n))
 permit_grown (File old) parent bytes n = same_under parent _ _ (over_all old bytes n)
@@ -47,25 +50,40 @@ node_held (values.Cwd p) = Missing
 node_held (values.Text t) = Missing
 node_held (values.Status n) = Missing
 
-node_kept : (p : PathValue) (overlay : OverlayMap) (below now : State) → Overlays overlay below now → map.get overlay (cells.At p) ≡ None → node_in p now.tree ≡ node_in p below.tree
+node_kept : (p : PathValue) (overlay : OverlayMap) (below now : State) → Overlays overlay below now
+    → map.get overlay (cells.At p) ≡ None → node_in p now.tree ≡ node_in p below.tree
 unfolding value
-node_kept p overlay below now h none = ap node_held (h (cells.At p) ∙ ap (λ x. combined_value x (value (cells.At p) below)) none)
+node_kept p overlay below now h none =
+    ap node_held (h (cells.At p) ∙ ap (λ x. combined_value x (value (cells.At p) below)) none)
 
-node_more : (p : PathValue) (bytes : List ℕ) (overlay : OverlayMap) (below now : State) → Overlays overlay below now → map.get overlay (cells.At p) ≡ Some (entries.Growth bytes) → node_in p now.tree ≡ grown bytes (node_in p below.tree)
+node_more : (p : PathValue) (bytes : List ℕ) (overlay : OverlayMap) (below now : State)
+    → Overlays overlay below now → map.get overlay (cells.At p) ≡ Some (entries.Growth bytes)
+    → node_in p now.tree ≡ grown bytes (node_in p below.tree)
 unfolding value
-node_more p bytes overlay below now h more = ap node_held (h (cells.At p) ∙ ap (λ x. combined_value x (value (cells.At p) below)) more)
+node_more p bytes overlay below now h more =
+    ap node_held (h (cells.At p) ∙ ap (λ x. combined_value x (value (cells.At p) below)) more)
 
-pub node_whole : (p : PathValue) (node : Node) (overlay : OverlayMap) (below now : State) → Overlays overlay below now → map.get overlay (cells.At p) ≡ Some (entries.Value (values.Node node)) → node ≡ node_in p now.tree
+pub node_whole : (p : PathValue) (node : Node) (overlay : OverlayMap) (below now : State)
+    → Overlays overlay below now → map.get overlay (cells.At p) ≡ Some (entries.Value (values.Node node))
+    → node ≡ node_in p now.tree
 unfolding value
-node_whole p node overlay below now h whole = sym (ap node_held (h (cells.At p) ∙ ap (λ x. combined_value x (value (cells.At p) below)) whole))
+node_whole p node overlay below now h whole =
+    sym (ap node_held (h (cells.At p) ∙ ap (λ x. combined_value x (value (cells.At p) below)) whole))
 
-pub permit_kept : (p : PathValue) (n : ℕ) (overlay : OverlayMap) (below now : State) → Overlays overlay below now → map.get overlay (cells.At p) ≡ None → map.get overlay (cells.At (parent_of p)) ≡ None → permit_of p n below ≡ permit_of p n now
+pub permit_kept : (p : PathValue) (n : ℕ) (overlay : OverlayMap) (below now : State)
+    → Overlays overlay below now → map.get overlay (cells.At p) ≡ None
+    → map.get overlay (cells.At (parent_of p)) ≡ None → permit_of p n below ≡ permit_of p n now
 permit_kept p n overlay below now h none above =
-    sym (λ i. permit_at (node_kept p overlay below now h none i) (node_kept (parent_of p) overlay below now h above i) n)
+    sym (λ i. permit_at (node_kept p overlay below now h none i)
+    (node_kept (parent_of p) overlay below now h above i) n)
 
-pub permit_more : (p : PathValue) (bytes : List ℕ) (n : ℕ) (overlay : OverlayMap) (below now : State) → Overlays overlay below now → map.get overlay (cells.At p) ≡ Some (entries.Growth bytes) → map.get overlay (cells.At (parent_of p)) ≡ None → permit_of p (min (length bytes + n) 4294967295) below ≡ permit_of p n now
+pub permit_more : (p : PathValue) (bytes : List ℕ) (n : ℕ) (overlay : OverlayMap) (below now : State)
+    → Overlays overlay below now → map.get overlay (cells.At p) ≡ Some (entries.Growth bytes)
+    → map.get overlay (cells.At (parent_of p)) ≡ None → permit_of p (min (length bytes + n) 4294967295) below
+    ≡ permit_of p n now
 permit_more p bytes n overlay below now h more above =
     permit_grown (node_in p below.tree) (node_in (parent_of p) below.tree) bytes n
-    ∙ sym (λ i. permit_at (node_more p bytes overlay below now h more i) (node_kept (parent_of p) overlay below now h above i) n)
+    ∙ sym (λ i. permit_at (node_more p bytes overlay below now h more i)
+    (node_kept (parent_of p) overlay below now h above i) n)
 
 pub ruleset permits = (permit_kept, permit_more, node_whole)

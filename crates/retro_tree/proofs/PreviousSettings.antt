@@ -1,4 +1,4 @@
--- Entries of a finite map put in twice, put back and taken away again; settings put back.
+-- Entries of a finite map inserted twice, restored and removed; settings restored.
 use Rattle.std.proofs.Common.{◌≡◌, ℕ, Bool, true, false, cond, List, Option, Some, None, refl, sym, ap, ◌∙◌, nat_cmp}
 use Rattle.std.specs.Option.{is_some, unwrap_or}
 use Rattle.std.specs.Ordering.{eq_by_cmp}
@@ -21,8 +21,9 @@ module _ {K X : Type 0} {R : K → K → Ordering} (total : IsTotalOrder R) (exa
   twice true x y z = refl
   twice false x y z = refl
 
-  -- what is found at a key that ties is what is found at the key
-  back : (m : FinMap R X) (k q : K) (o : Option X) → map.get m k ≡ o → cond (eq_by_cmp R q k) o (map.get m q) ≡ map.get m q
+  -- equal keys have equal values
+  back : (m : FinMap R X) (k q : K) (o : Option X) → map.get m k ≡ o → cond (eq_by_cmp R q k) o (map.get m q)
+      ≡ map.get m q
   back m k q o is = go (eq_by_cmp R q k) refl
     where
       go : (b : Bool) → eq_by_cmp R q k ≡ b → cond b o (map.get m q) ≡ map.get m q
@@ -35,11 +36,11 @@ module _ {K X : Type 0} {R : K → K → Ordering} (total : IsTotalOrder R) (exa
       get-insert total (map.insert m k x) k y q ∙ ap (cond (eq_by_cmp R q k) (Some y)) (get-insert total m k x q)
       ∙ twice (eq_by_cmp R q k) (Some y) (Some x) (map.get m q) ∙ sym (get-insert total m k y q))
 
-  -- an entry put in the place where it is
+  -- an entry inserted that the map has already
   pub inserted_again : (m : FinMap R X) (k : K) (x : X) → map.get m k ≡ Some x → map.insert m k x ≡ m
   inserted_again m k x is = same_map total exact _ _ (λ q. get-insert total m k x q ∙ back m k q (Some x) is)
 
-  -- a new entry, taken away
+  -- a new entry removed
   pub removed_again : (m : FinMap R X) (k : K) (x : X) → map.get m k ≡ None → map.remove (map.insert m k x) k ≡ m
   removed_again m k x is = same_map total exact _ _ (λ q.
       get-remove total (map.insert m k x) k q ∙ ap (cond (eq_by_cmp R q k) None) (get-insert total m k x q)
@@ -56,12 +57,13 @@ module _ {K X : Type 0} {R : K → K → Ordering} (total : IsTotalOrder R) (exa
 pub session_is : (m : FinMap nat_cmp Session) (sid : ℕ) (x : Session) → map.get m sid ≡ Some x → session_in sid m ≡ x
 session_is m sid x is = ap (λ o. unwrap_or o default_session) is
 
--- what was set, put back
+-- a previous setting restored
 pub set_back : (x : Setting) (s : Session) → with_previous (previous_of x s) (with_setting x s) ≡ s
 set_back (Cwd p) s = refl
 set_back (Status n) s = refl
 set_back (Var name text) s = go (map.get s.vars name) refl
   where
-    go : (o : Option (List ℕ)) → map.get s.vars name ≡ o → with_previous (previous_var name o) (with_setting (Var name text) s) ≡ s
+    go : (o : Option (List ℕ)) → map.get s.vars name ≡ o
+        → with_previous (previous_var name o) (with_setting (Var name text) s) ≡ s
     go None is = ap (λ vs. record s { vars = vs }) (removed_again text_total text_exact s.vars name text is)
     go (Some t) is = ap (λ vs. record s { vars = vs }) (put_back text_total text_exact s.vars name t text is)

@@ -27,11 +27,13 @@ and_false false b e = refl
 
 pub with_nul : (bytes : List ℕ) → list_any (λ b. b == 0) bytes ≡ true → plain_text bytes ≡ None
 unfolding is_plain_text
-with_nul bytes h = passed (is_utf8 bytes && not (list_any (λ b. b == 0) bytes)) bytes (and_false (is_utf8 bytes) _ (ap not h))
+with_nul bytes h = passed (is_utf8 bytes && not (list_any (λ b. b == 0) bytes)) bytes
+    (and_false (is_utf8 bytes) _ (ap not h))
 
 pub without_nul : (bytes : List ℕ) → IsUtf8 bytes → list_any (λ b. b == 0) bytes ≡ false → plain_text bytes ≡ Some bytes
 unfolding is_plain_text
-without_nul bytes u h = chosen (is_utf8 bytes && not (list_any (λ b. b == 0) bytes)) bytes (and_true _ _ (is_utf8-from_IsUtf8 bytes u) (ap not h))
+without_nul bytes u h = chosen (is_utf8 bytes && not (list_any (λ b. b == 0) bytes)) bytes
+    (and_true _ _ (is_utf8-from_IsUtf8 bytes u) (ap not h))
 
 pub no_utf8 : (bytes : List ℕ) → (IsUtf8 bytes → ⊥) → plain_text bytes ≡ None
 unfolding is_plain_text
@@ -71,21 +73,30 @@ first_false true b e = absurd (true≢false e)
 first_false false b e = refl
 
 abbrev passes : List ℕ → Bool
-passes bytes = nat_le 1 (length bytes) && (nat_le (length bytes) 10 && (all_ascii_digits bytes && nat_le (digits_value 10 bytes) 4294967295))
+passes bytes =
+    nat_le 1 (length bytes)
+    && (nat_le (length bytes) 10 && (all_ascii_digits bytes && nat_le (digits_value 10 bytes) 4294967295))
 
 pub too_long : (bytes : List ℕ) → 10 < length bytes → user_number bytes ≡ None
 unfolding user_number
-too_long bytes h = passed (passes bytes) (digits_value 10 bytes) (and_false (nat_le 1 (length bytes)) _ (first_false (nat_le (length bytes) 10) _ (le_false _ _ h)))
+too_long bytes h =
+    passed (passes bytes) (digits_value 10 bytes)
+    (and_false (nat_le 1 (length bytes)) _ (first_false (nat_le (length bytes) 10) _ (le_false _ _ h)))
 
 pub no_digits : (bytes : List ℕ) → list_all is_ascii_digit bytes ≡ false → user_number bytes ≡ None
 unfolding user_number
 no_digits bytes h =
     passed (passes bytes) (digits_value 10 bytes)
-    (and_false (nat_le 1 (length bytes)) _ (and_false (nat_le (length bytes) 10) _ (first_false (all_ascii_digits bytes) _ (sym (all_digits bytes) ∙ h))))
+    (and_false (nat_le 1 (length bytes)) _
+    (and_false (nat_le (length bytes) 10) _ (first_false (all_ascii_digits bytes) _ (sym (all_digits bytes) ∙ h))))
 
-pub number_read : {E : Type 0} (bytes : List ℕ) (r : Result ℕ E) → length bytes ≤ 10 → list_all is_ascii_digit bytes ≡ true → ParsesUnsigned 32 10 bytes r → result_ok r ≡ user_number bytes
+pub number_read : {E : Type 0} (bytes : List ℕ) (r : Result ℕ E) → length bytes ≤ 10
+    → list_all is_ascii_digit bytes ≡ true → ParsesUnsigned 32 10 bytes r → result_ok r ≡ user_number bytes
 unfolding user_number
-number_read {E} bytes r short digits h = go r (parse_digits (numerals_by_value (λ ds. all_ascii_digits ds ≡ true) tells_all_ascii_digits) 32 bytes r h (sym (all_digits bytes) ∙ digits))
+number_read {E} bytes r short digits h =
+    go r (parse_digits
+    (numerals_by_value (λ ds. all_ascii_digits ds ≡ true) tells_all_ascii_digits) 32 bytes r h
+    (sym (all_digits bytes) ∙ digits))
   where
     fits : 0 < length bytes → digits_value 10 bytes < 2 ^ 32 → passes bytes ≡ true
     fits some small =
@@ -97,10 +108,13 @@ number_read {E} bytes r short digits h = go r (parse_digits (numerals_by_value (
 
     small : passes bytes ≡ true → digits_value 10 bytes < 2 ^ 32
     small e =
-        let l = leb-true (digits_value 10 bytes) 4294967295 (both_true (all_ascii_digits bytes) _ (both_true (nat_le (length bytes) 10) _ (both_true (nat_le 1 (length bytes)) _ e))) in
+        let l = leb-true (digits_value 10 bytes) 4294967295
+        (both_true (all_ascii_digits bytes) _
+        (both_true (nat_le (length bytes) 10) _ (both_true (nat_le 1 (length bytes)) _ e))) in
         omega arith
 
-    go : (q : Result ℕ E) → OkIff q ((0 < length bytes) × (digits_value 10 bytes < 2 ^ 32)) (digits_value 10 bytes) → result_ok q ≡ if passes bytes then Some (digits_value 10 bytes) else None
+    go : (q : Result ℕ E) → OkIff q ((0 < length bytes) × (digits_value 10 bytes < 2 ^ 32))
+        (digits_value 10 bytes) → result_ok q ≡ if passes bytes then Some (digits_value 10 bytes) else None
     go (Ok x) k = ap Some k.1 ∙ sym (chosen (passes bytes) (digits_value 10 bytes) (fits k.0.0 k.0.1))
     go (Err e) k = sym (without (passes bytes) refl)
       where

@@ -22,12 +22,14 @@ use Rattle.retro_tree.proofs.Small.{first_true, both_true, and_true}
 use Rattle.retro_tree.proofs.Entries.{tested, all_tested}
 
 -- ---- trees
-law_of_node : (p : PathValue) (tree : Tree) (o : Option Entry) → map.get tree p ≡ o → is_lawful_tree tree ≡ true → law_at p (node_of o) (node_in (parent_of p) tree) ≡ true
+law_of_node : (p : PathValue) (tree : Tree) (o : Option Entry) → map.get tree p ≡ o → is_lawful_tree tree ≡ true
+    → law_at p (node_of o) (node_in (parent_of p) tree) ≡ true
 unfolding is_lawful_tree entry_passes node_in
 law_of_node [] tree o is h = ap (λ n. is_dir (node_of n)) (sym is) ∙ first_true (is_dir (node_of (map.get tree []))) _ h
 law_of_node (name ∷ rest) tree None is h = refl
 law_of_node (name ∷ rest) tree (Some e) is h =
-    tested path_total path_exact (entry_passes tree) tree (both_true (is_dir (node_of (map.get tree []))) _ h) (name ∷ rest) e is
+    tested path_total path_exact (entry_passes tree) tree (both_true (is_dir (node_of (map.get tree []))) _ h)
+    (name ∷ rest) e is
 
 pub tree_from_test : (tree : Tree) → is_lawful_tree tree ≡ true → IsLawfulTree tree
 unfolding IsLawfulTree node_in
@@ -40,15 +42,20 @@ test_from_tree tree h =
     (λ q e is. ap (λ o. law_at q (node_of o) (node_in (parent_of q) tree)) (sym is) ∙ h q))
 
 -- ---- sessions
-pub values_from_test : (vars : map.FinMap text_cmp (List ℕ)) → values_fit vars ≡ true → (name value : List ℕ) → map.get vars name ≡ Some value → length value ≤ value_limit
+pub values_from_test : (vars : map.FinMap text_cmp (List ℕ)) → values_fit vars ≡ true → (name value : List ℕ)
+    → map.get vars name ≡ Some value → length value ≤ value_limit
 unfolding values_fit
-values_from_test vars h name value is = leb-true _ _ (tested text_total text_exact (λ e. nat_le (length e.1) value_limit) vars h name value is)
+values_from_test vars h name value is =
+    leb-true _ _ (tested text_total text_exact (λ e. nat_le (length e.1) value_limit) vars h name value is)
 
-test_from_values : (vars : map.FinMap text_cmp (List ℕ)) → ((name value : List ℕ) → map.get vars name ≡ Some value → length value ≤ value_limit) → values_fit vars ≡ true
+test_from_values : (vars : map.FinMap text_cmp (List ℕ))
+    → ((name value : List ℕ) → map.get vars name ≡ Some value → length value ≤ value_limit) → values_fit vars ≡ true
 unfolding values_fit
-test_from_values vars h = all_tested text_total text_exact (λ e. nat_le (length e.1) value_limit) vars (λ name value is. le-leb _ _ (h name value is))
+test_from_values vars h = all_tested text_total text_exact (λ e. nat_le (length e.1) value_limit) vars
+    (λ name value is. le-leb _ _ (h name value is))
 
-pub sessions_from_test : (sessions : map.FinMap nat_cmp Session) → are_lawful_sessions sessions ≡ true → AreLawfulSessions sessions
+pub sessions_from_test : (sessions : map.FinMap nat_cmp Session) → are_lawful_sessions sessions ≡ true
+    → AreLawfulSessions sessions
 unfolding are_lawful_sessions AreLawfulSessions
 sessions_from_test sessions h sid session is =
     let passes = tested nat_cmp_total nat_cmp-IsAntisymmetric session_fits sessions h sid session is in
@@ -57,14 +64,16 @@ sessions_from_test sessions h sid session is =
       values = values_from_test session.vars (both_true (nat_le session.status 255) _ passes);
     }
 
-pub test_from_sessions : (sessions : map.FinMap nat_cmp Session) → AreLawfulSessions sessions → are_lawful_sessions sessions ≡ true
+pub test_from_sessions : (sessions : map.FinMap nat_cmp Session) → AreLawfulSessions sessions
+    → are_lawful_sessions sessions ≡ true
 unfolding are_lawful_sessions AreLawfulSessions
 test_from_sessions sessions h =
     all_tested nat_cmp_total nat_cmp-IsAntisymmetric session_fits sessions (λ sid session is.
     and_true _ _ (le-leb _ _ (h sid session is).status) (test_from_values session.vars (h sid session is).values))
 
 -- ---- limits
-size_of_node : (tree : Tree) (p : PathValue) (o : Option Entry) → map.get tree p ≡ o → files_fit tree ≡ true → size_of (node_of o) ≤ file_limit
+size_of_node : (tree : Tree) (p : PathValue) (o : Option Entry) → map.get tree p ≡ o → files_fit tree ≡ true
+    → size_of (node_of o) ≤ file_limit
 unfolding files_fit
 size_of_node tree p None is h = omega arith
 size_of_node tree p (Some e) is h = leb-true _ _ (tested path_total path_exact entry_fits tree h p e is)
@@ -79,7 +88,8 @@ limits_from_test s h = record {
 files_test : (tree : Tree) → ((p : PathValue) → size_of (node_in p tree) ≤ file_limit) → files_fit tree ≡ true
 unfolding files_fit node_in
 files_test tree h =
-    all_tested path_total path_exact entry_fits tree (λ p e is. ap (λ o. nat_le (size_of (node_of o)) file_limit) (sym is) ∙ le-leb _ _ (h p))
+    all_tested path_total path_exact entry_fits tree
+    (λ p e is. ap (λ o. nat_le (size_of (node_of o)) file_limit) (sym is) ∙ le-leb _ _ (h p))
 
 pub test_from_limits : (s : State) → IsWithinLimits s → within_limits s ≡ true
 unfolding within_limits
@@ -101,7 +111,8 @@ pub size_under_law : (p : PathValue) (node above : Node) → law_at p node above
 size_under_law p Missing above h = omega arith
 size_under_law p Dir above h = omega arith
 size_under_law [] (File bytes) above h = cc
-size_under_law (name ∷ rest) (File bytes) above h = leb-true _ _ (both_true (may_exist (name ∷ rest)) _ (both_true (is_dir above) _ h))
+size_under_law (name ∷ rest) (File bytes) above h =
+    leb-true _ _ (both_true (may_exist (name ∷ rest)) _ (both_true (is_dir above) _ h))
 
 -- a lawful state is within the limits
 pub limits_of_lawful : (s : State) → IsLawful s → IsWithinLimits s
@@ -117,7 +128,7 @@ pub ruleset whole_state = (state_from_test, test_from_state)
 
 pub ruleset whole_limits = (limits_from_test, test_from_limits, limits_of_lawful)
 
--- ---- each test and what it tells, as the code's clauses say it
+-- ---- each test is exact, as the contracts say it
 pub tree_exact : (b : Bool) (tree : Tree) → b ≡ is_lawful_tree tree → IsTrue b ↔ IsLawfulTree tree
 tree_exact b tree e = (λ t. tree_from_test tree (sym e ∙ t), λ l. e ∙ test_from_tree tree l)
 
@@ -127,5 +138,6 @@ limits_exact b s e = (λ t. limits_from_test s (sym e ∙ t), λ l. e ∙ test_f
 pub state_exact : (b : Bool) (s : State) → b ≡ is_lawful s → IsTrue b ↔ IsLawful s
 state_exact b s e = (λ t. state_from_test s (sym e ∙ t), λ l. e ∙ test_from_state s l)
 
-pub sessions_exact : (b : Bool) (sessions : map.FinMap nat_cmp Session) → b ≡ are_lawful_sessions sessions → IsTrue b ↔ AreLawfulSessions sessions
+pub sessions_exact : (b : Bool) (sessions : map.FinMap nat_cmp Session) → b ≡ are_lawful_sessions sessions
+    → IsTrue b ↔ AreLawfulSessions sessions
 sessions_exact b sessions e = (λ t. sessions_from_test sessions (sym e ∙ t), λ l. e ∙ test_from_sessions sessions l)

@@ -14,7 +14,7 @@ use Rattle.retro_tree.specs.declared.overlay_entry.OverlayEntry.{OverlayEntry}
 use Rattle.retro_tree.specs.contracts.cell.CellOrd.TheImpl as cell_ord
 use Rattle.retro_tree.specs.contracts.cell.CellOrd.TheImpl.Laws as cell_laws
 use Rattle.retro_tree.specs.contracts.cell.Cell as cell_type
-use Rattle.retro_tree.specs.contracts.overlay_entry.OverlayEntry as laid_type
+use Rattle.retro_tree.specs.contracts.overlay_entry.OverlayEntry as overlay_entry_type
 
 abbrev pub cell_cmp : Cell → Cell → Ordering
 cell_cmp = (cell_ord.ghosts).cmp
@@ -26,7 +26,7 @@ abbrev pub coded_cell : Coded Cell
 coded_cell = (cell_type.the_row).coded
 
 abbrev pub coded_overlay_entry : Coded OverlayEntry
-coded_overlay_entry = (laid_type.the_row).coded
+coded_overlay_entry = (overlay_entry_type.the_row).coded
 
 both_equal : (a b : Ordering) → ordering_then a b ≡ Equal → (a ≡ Equal) × (b ≡ Equal)
 both_equal Less b e = (e, cc)
@@ -45,7 +45,8 @@ cell_exact (cells.Cwd s) (cells.Var t y) e = cc
 cell_exact (cells.Cwd s) (cells.Status t) e = cc
 cell_exact (cells.Var s x) (cells.At q) e = cc
 cell_exact (cells.Var s x) (cells.Cwd t) e = cc
-cell_exact (cells.Var s x) (cells.Var t y) e = let h = both_equal (nat_cmp s t) (text_cmp x y) e in λ i. cells.Var (nat_cmp-IsAntisymmetric s t h.0 i) (text_exact x y h.1 i)
+cell_exact (cells.Var s x) (cells.Var t y) e = let h = both_equal (nat_cmp s t) (text_cmp x y) e in
+    λ i. cells.Var (nat_cmp-IsAntisymmetric s t h.0 i) (text_exact x y h.1 i)
 cell_exact (cells.Var s x) (cells.Status t) e = cc
 cell_exact (cells.Status s) (cells.At q) e = cc
 cell_exact (cells.Status s) (cells.Cwd t) e = cc

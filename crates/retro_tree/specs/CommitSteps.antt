@@ -51,8 +51,8 @@ undo (undos.Entry p None) s = record s { tree = map.remove s.tree p }
 undo (undos.Entry p (Some entry)) s = record s { tree = map.insert s.tree p entry }
 undo (undos.Length p n) s = record s { tree = cut_at p n (map.get s.tree p) s.tree }
 undo (undos.Session sid) s = record s { sessions = map.remove s.sessions sid }
-undo (undos.Setting sid former) s =
-    record s { sessions = update s.sessions sid default_session (with_previous former) }
+undo (undos.Setting sid previous) s =
+    record s { sessions = update s.sessions sid default_session (with_previous previous) }
 
 -- whether undoing takes no memory
 abbrev pub can_undo : Undo → State → Bool
@@ -60,8 +60,8 @@ can_undo (undos.Entry p None) s = true
 can_undo (undos.Entry p (Some entry)) s = map.contains_key s.tree p
 can_undo (undos.Length p n) s = true
 can_undo (undos.Session sid) s = true
-can_undo (undos.Setting sid former) s =
-    map.contains_key s.sessions sid && has_place former (session_in sid s.sessions)
+can_undo (undos.Setting sid previous) s =
+    map.contains_key s.sessions sid && has_place previous (session_in sid s.sessions)
 
 -- undoing a write, if there was one, takes no memory and gives the previous state
 abbrev pub Undoes : Option Undo → State → State → Type 0

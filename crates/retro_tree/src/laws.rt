@@ -16,9 +16,9 @@ ghost use Rattle.retro_tree.specs.declared.node.Node.TheVariants.{Missing, Dir, 
 ghost use Rattle.retro_tree.specs.declared.permit.Permit.TheVariants.{Yes};
 ghost use Rattle.retro_tree.specs.declared.state.State.{State};
 
-/// A tree is lawful exactly if its root is a directory, the parent of each other path with a node is
-/// a directory, none of these paths is at `/dev/null` or below it, their names can be names, and files
-/// are within the limit.
+/// A tree is lawful exactly if its root is a directory, the parent of each other path with a node
+/// is a directory, none of these paths is at `/dev/null` or below it, their names can be names, and
+/// files are within the limit.
 #[tactic(auto, using(crate::proofs::TreeLaw::tree_law))]
 pub fn lawful_trees()
     ensures sound { (tree : Tree) → IsLawfulTree tree → KeepsTreeLaw tree }
@@ -75,8 +75,8 @@ pub fn lawful_statuses()
 {}
 
 /// In a lawful state a change is lawful exactly if its session exists and `may_make` is true. The
-/// state after a lawful change is lawful, and so is the state after a change for which `may_make` is
-/// true.
+/// state after a lawful change is lawful, and so is the state after a change for which `may_make`
+/// is true.
 #[tactic(auto, using(crate::proofs::Allowed::lawful_changes))]
 pub fn lawful_changes()
     ensures sound { (c : Change) (s : State) → IsLawful s → has_its_session c s ≡ true
@@ -112,8 +112,8 @@ pub fn directory_changes_pass()
         → may_make (Put p Dir) s ≡ true }
 {}
 
-/// `may_make` is true for removing a path that isn't the root and has no children. In a lawful state
-/// only directories have children.
+/// `may_make` is true for removing a path that isn't the root and has no children. In a lawful
+/// state only directories have children.
 #[tactic(auto, using(crate::proofs::MayMake::may_making))]
 pub fn removals_pass()
     ensures childless { (p : PathValue) (s : State)

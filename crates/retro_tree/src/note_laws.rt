@@ -9,8 +9,8 @@ ghost use Rattle.retro_tree.specs.declared.value.Value.{Value};
 ghost use Rattle.retro_tree.specs.declared.note.Note.{Note};
 ghost use Rattle.retro_tree.specs.declared.state.State.{State};
 
-/// Notes act on each cell alone: its value after them follows from its value before them. A cell that
-/// they don't change keeps its value.
+/// Notes act on each cell alone: its value after them follows from its value before them. A cell
+/// that they don't change keeps its value.
 #[tactic(auto, using(crate::proofs::NoteLaws::one_cell))]
 pub fn notes_act_on_each_cell()
     ensures alone { (notes : List Note) (c : Cell) (s : State)
@@ -21,8 +21,8 @@ pub fn notes_act_on_each_cell()
         → changes notes c ≡ false → value c (after notes s) ≡ value c s }
 {}
 
-/// Notes that hold in a state hold in every state that agrees with it on the cells of the notes. The
-/// cells that notes change are among their cells.
+/// Notes that hold in a state hold in every state that agrees with it on the cells of the notes.
+/// The cells that notes change are among their cells.
 #[tactic(auto, using(crate::proofs::NoteLaws::by_cells))]
 pub fn notes_hold_by_their_cells()
     ensures agreed { (notes : List Note) (s t : State)

@@ -7,7 +7,8 @@ use std::marker::Model;
 
 /// A trace of reads and writes with their values, in the order in which they happened.
 ///
-/// Notes hold in a state if each query, asked after the changes noted before it, has the noted answer.
+/// Notes hold in a state if each query, asked after the changes noted before it, has the noted
+/// answer.
 #[derive(Drop)]
 pub struct Notes {
     notes: Vec<Note>,

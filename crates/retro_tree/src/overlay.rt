@@ -56,7 +56,7 @@ impl Model for Overlay {
 
 impl Overlay {
     /// Returns an overlay without entries. Takes no memory.
-    #[tactic(auto, using(crate::proofs::OverlayLemmas::nothing_laid, crate::proofs::CommittedChanges::lasts_none, crate::proofs::Fitting::fits_none, crate::proofs::ValueEntries::values))]
+    #[tactic(auto, using(crate::proofs::OverlayCalls::new_overlay))]
     pub fn new(alloc: Global) -> Overlay
         ensures value { result ≡ map.empty }
         ensures overlays { (s : StateValue) → Overlays result s s }
@@ -76,7 +76,8 @@ impl Overlay {
         self.cells.get(cell)
     }
 
-    /// Returns the value of a cell's entry, or `None` if the cell has none. No entry may be a growth.
+    /// Returns the value of a cell's entry, or `None` if the cell has none. No entry may be a
+    /// growth.
     pub fn get_value(&self, cell: &Cell) -> Option<&Value>
         requires { AllValues self.now }
         ensures { option_map OverlayEntry.Value (option_copied result)
@@ -90,7 +91,7 @@ impl Overlay {
     }
 
     /// Sets the value of a cell.
-    #[tactic(auto, using(crate::proofs::OverlayChanges::shows_laid, crate::proofs::Fitting::fitting, crate::proofs::ValueEntries::values))]
+    #[tactic(auto, using(crate::proofs::OverlayCalls::insertion))]
     pub fn insert(&mut self, cell: Cell, value: Value) -> Result<(), AllocError>
         ensures ok { OnOk result
             (self.new ≡ map.insert self.old cell (OverlayEntry.Value value)) }
@@ -131,8 +132,8 @@ impl Overlay {
         self.cells.remove(cell);
     }
 
-    /// Replaces the entry of a cell and returns the previous one, or does nothing and returns `None`
-    /// if the cell has no entry. Takes no memory.
+    /// Replaces the entry of a cell and returns the previous one, or does nothing and returns
+    /// `None` if the cell has no entry. Takes no memory.
     pub fn replace(&mut self, cell: &Cell, entry: OverlayEntry) -> Option<OverlayEntry>
         ensures previous { result ≡ map.get self.old cell.now }
         ensures new { self.new
@@ -165,7 +166,7 @@ impl Overlay {
 
     /// Makes a change in the combined state. The entries of other cells stay unchanged. A growth
     /// takes time in proportion to its own bytes: no file is read or copied.
-    #[tactic(auto, using(crate::proofs::OverlayChanges::laying, crate::proofs::CommittedChanges::lasting, crate::proofs::Fitting::fitting))]
+    #[tactic(auto, using(crate::proofs::OverlayCalls::changes))]
     pub fn apply(&mut self, change: Change) -> Result<(), AllocError>
         ensures ok { OnOk result ((below now : StateValue)
             → Overlays self.old below now
@@ -196,7 +197,7 @@ impl Overlay {
     }
 
     /// Makes a growth: appends the bytes to the entry of the path, or makes them its entry.
-    #[tactic(auto, using(crate::proofs::OverlayChanges::laying, crate::proofs::CommittedChanges::lasting, crate::proofs::Fitting::fitting))]
+    #[tactic(auto, using(crate::proofs::OverlayCalls::changes))]
     fn apply_growth(&mut self, path: Path, bytes: Bytes) -> Result<(), AllocError>
         ensures ok { OnOk result ((below now : StateValue)
             → Overlays self.old below now
@@ -310,7 +311,7 @@ impl Overlay {
 
     /// Commits all entries to a state. Files grow in place. Cells without an entry are neither
     /// copied nor read.
-    #[tactic(auto, using(crate::proofs::PutCells::cells_shown))]
+    #[tactic(auto, using(crate::proofs::PutCells::cells_committed))]
     pub fn commit(self, alloc: Global, state: &mut State) -> Result<(), AllocError>
         ensures ok { OnOk result (state.new ≡ committed self state.old) }
         ensures cells { OnOk result ((now : StateValue)

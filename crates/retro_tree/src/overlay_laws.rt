@@ -13,9 +13,9 @@ ghost use Rattle.retro_tree.specs.declared.overlay_entry.OverlayEntry.{OverlayEn
 ghost use Rattle.retro_tree.specs.declared.note.Note.{Note};
 ghost use Rattle.retro_tree.specs.declared.state.State.{State};
 
-/// The committed state has the values of the combined state. Its sessions are those of the state and
-/// those that entries create, so it is the combined state with these sessions. If entries create no
-/// session, it has the sessions of the state.
+/// The committed state has the values of the combined state. Its sessions are those of the state
+/// and those that entries create, so it is the combined state with these sessions. If entries
+/// create no session, it has the sessions of the state.
 #[tactic(auto, using(crate::proofs::PutCells::commits))]
 pub fn committed_states()
     ensures cells { (overlay : OverlayMap) (s now : State)
@@ -37,7 +37,7 @@ pub fn committed_states()
 {}
 
 /// If each entry fits its cell, the committed state is the combined state.
-#[tactic(auto, using(crate::proofs::Fitting::fits_shows))]
+#[tactic(auto, using(crate::proofs::Fitting::fits_overlays))]
 pub fn fitting_overlays_combine()
     ensures { (overlay : OverlayMap) (s : State) → Fits overlay → Overlays overlay s (committed overlay s) }
 {}
@@ -88,8 +88,8 @@ pub fn lines_keep_overlays_exact()
         → IsExact overlay (after notes s) (after notes t) }
 {}
 
-/// In an exact overlay each entry is of its cell's kind. Committed to the recorded state, the overlay
-/// makes the repaired state, if both have the same sessions.
+/// In an exact overlay each entry is of its cell's kind. Committed to the recorded state, the
+/// overlay makes the repaired state, if both have the same sessions.
 #[tactic(auto, using(crate::proofs::ExactOverlays::making))]
 pub fn exact_overlays_make_the_state()
     ensures fits { (overlay : OverlayMap) (s t : State) → IsExact overlay s t → Fits overlay }

@@ -224,7 +224,7 @@ impl Sessions {
     }
 
     /// Returns whether the sessions are known to be lawful after a variable is unset.
-    #[tactic(auto, using(crate::proofs::Keeping::taken_away))]
+    #[tactic(auto, using(crate::proofs::Keeping::unset_keeps))]
     fn stays_lawful_without(&self, sid: u32, name: &VarName) -> bool
         ensures { IsTrue result
             → AreLawfulSessions (unset (map.get self.now sid) sid name.now self.now) }

@@ -85,7 +85,8 @@ impl State {
         self.tree.put(path, node)
     }
 
-    /// Appends bytes to a file, in place. A missing file is created, and a directory stays unchanged.
+    /// Appends bytes to a file, in place. A missing file is created, and a directory stays
+    /// unchanged.
     pub fn grow(&mut self, path: &Path, bytes: &Bytes) -> Result<(), AllocError>
         ensures ok { OnOk result (self.new ≡ grow_file path.now bytes.now self.old) }
         ensures err { OnErr result (self.new ≡ self.old) }
@@ -339,8 +340,8 @@ impl State {
         self.tree.is_known_lawful() && self.sessions.is_known_lawful()
     }
 
-    /// Validates a state that was known to be lawful and no longer is. If allocation fails, it stays
-    /// unknown.
+    /// Validates a state that was known to be lawful and no longer is. If allocation fails, it
+    /// stays unknown.
     pub(crate) fn revalidate(&mut self, alloc: Global, was_known: bool)
         ensures { self.new ≡ self.old }
     {

@@ -64,8 +64,8 @@ impl Tree {
         self.entries.get(path)
     }
 
-    /// Puts an entry at a path and returns the previous one. Forgets whether the tree is lawful. Takes
-    /// no memory if the path has an entry.
+    /// Puts an entry at a path and returns the previous one. Forgets whether the tree is lawful.
+    /// Takes no memory if the path has an entry.
     fn insert(&mut self, path: Path, entry: Entry) -> Result<Option<Entry>, AllocError>
         ensures previous { IfOk result (λ previous. previous ≡ map.get self.old path) }
         ensures ok { OnOk result (self.new ≡ map.insert self.old path entry) }
@@ -84,8 +84,8 @@ impl Tree {
         self.entries.remove(path);
     }
 
-    /// Puts a node at a path, where `Missing` removes. A tree that is known to be lawful stays so if
-    /// the node may be put there.
+    /// Puts a node at a path, where `Missing` removes. A tree that is known to be lawful stays so
+    /// if the node may be put there.
     pub(crate) fn put(&mut self, path: Path, node: Node) -> Result<(), AllocError>
         ensures ok { OnOk result (self.new ≡ put path node self.old) }
         ensures err { OnErr result (self.new ≡ self.old) }
@@ -156,7 +156,8 @@ impl Tree {
         Ok(Listing::of(names))
     }
 
-    /// Returns whether a path has children. In a lawful tree the first entry below the path decides.
+    /// Returns whether a path has children. In a lawful tree the first entry below the path
+    /// decides.
     pub(crate) fn has_child(&self, path: &Path) -> bool
         ensures { result ≡ has_child path.now self.now }
     {
@@ -234,8 +235,8 @@ impl Tree {
         Permit::of(self.kind(path), self.size(path), self.kind(parent), more)
     }
 
-    /// Appends bytes to a file, in place. A missing file is created, and a directory stays unchanged.
-    /// A tree that is known to be lawful stays so if the file may grow.
+    /// Appends bytes to a file, in place. A missing file is created, and a directory stays
+    /// unchanged. A tree that is known to be lawful stays so if the file may grow.
     pub(crate) fn grow(&mut self, path: &Path, bytes: &Bytes) -> Result<(), AllocError>
         ensures ok { OnOk result
             (self.new ≡ put path.now (grown bytes.now (node_in path.now self.old)) self.old) }
@@ -275,8 +276,8 @@ impl Tree {
         self.may_grow(path, bytes)
     }
 
-    /// Returns whether a lawful tree stays lawful with a node at a path. Looks only at the path, its
-    /// parent and the first entry below it.
+    /// Returns whether a lawful tree stays lawful with a node at a path. Looks only at the path,
+    /// its parent and the first entry below it.
     pub(crate) fn may_put(&self, path: &Path, node: &Node) -> Result<bool, AllocError>
         ensures { IfOk result (λ may. may ≡ may_put path.now node.now self.now) }
     {
@@ -383,8 +384,8 @@ impl Tree {
         self.has_place_for(path)
     }
 
-    /// Puts a directory or a file at a path and returns the previous entry. A tree that is known to be
-    /// lawful stays so if the node may be put there.
+    /// Puts a directory or a file at a path and returns the previous entry. A tree that is known to
+    /// be lawful stays so if the node may be put there.
     pub(crate) fn exchange(&mut self, path: Path, node: Node) -> Result<Option<Entry>, AllocError>
         requires { is_present node ≡ true }
         ensures previous { IfOk result (λ previous. previous ≡ map.get self.old path) }
@@ -402,7 +403,8 @@ impl Tree {
         Ok(previous)
     }
 
-    /// Puts an entry at a path that has one, and forgets whether the tree is lawful. Takes no memory.
+    /// Puts an entry at a path that has one, and forgets whether the tree is lawful. Takes no
+    /// memory.
     pub(crate) fn replace(&mut self, path: Path, entry: Entry)
         requires { map.contains_key self.old path ≡ true }
         ensures { self.new ≡ map.insert self.old path entry }
@@ -413,8 +415,8 @@ impl Tree {
         }
     }
 
-    /// Shortens the file at a path, if one is there, to `length` bytes, and forgets whether the tree is
-    /// lawful. Takes no memory.
+    /// Shortens the file at a path, if one is there, to `length` bytes, and forgets whether the
+    /// tree is lawful. Takes no memory.
     pub(crate) fn cut(&mut self, path: &Path, length: usize)
         ensures { self.new ≡ cut_at path.now length (map.get self.old path.now) self.old }
     {
@@ -424,8 +426,8 @@ impl Tree {
         }
     }
 
-    /// Removes the entry of a path. Takes no memory. A tree that is known to be lawful stays so if the
-    /// path has no children.
+    /// Removes the entry of a path. Takes no memory. A tree that is known to be lawful stays so if
+    /// the path has no children.
     pub(crate) fn erase(&mut self, path: &Path)
         ensures { self.new ≡ map.remove self.old path.now }
     {

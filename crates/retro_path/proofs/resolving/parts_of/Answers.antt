@@ -6,4 +6,5 @@ use Rattle.retro_path.proofs.resolving.parts_of.Goals as goal
 
 pub returns : goal.returns
 unfolding parts_of
-returns c = map_from_collect _ c.collect.ensures.ran (YieldsList-from_str_split 47 c.args.text.now (lit< tt) c.split.ensures.text c.split.ensures.has_more c.split.ensures.pattern)
+returns c = map_from_collect _ c.collect.ensures.ran (YieldsList-from_str_split 47 c.args.text.now
+    (lit< tt) c.split.ensures.text c.split.ensures.has_more c.split.ensures.pattern)

@@ -16,4 +16,5 @@ returns c =
     let k = c.args.cell.now in
     c.range.ensures.between tt
     ∙ (λ i. filter (λ e. right (is_le (cell_cmp k e.0)) i) es)
-    ∙ ap (filter (λ e. is_le (cell_cmp k e.0))) (sym (made_entries cell_total cell_exact es c.range.ensures.ordered) ∙ ap map.entries c.self.view_is)
+    ∙ ap (filter (λ e. is_le (cell_cmp k e.0)))
+    (sym (made_entries cell_total cell_exact es c.range.ensures.ordered) ∙ ap map.entries c.self.view_is)

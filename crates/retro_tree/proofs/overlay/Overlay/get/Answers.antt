@@ -5,4 +5,5 @@ use Rattle.retro_tree.proofs.MapLemmas.{get_made}
 use Rattle.retro_tree.proofs.overlay.Overlay.get.Goals as goal
 
 pub returns : goal.returns
-returns c = c.get.ensures.value ∙ sym (get_made cell_total c.self.inside.cells.entries c.args.cell.now) ∙ ap (λ m. map.get m c.args.cell.now) c.self.view_is
+returns c = c.get.ensures.value ∙ sym (get_made cell_total c.self.inside.cells.entries c.args.cell.now)
+    ∙ ap (λ m. map.get m c.args.cell.now) c.self.view_is

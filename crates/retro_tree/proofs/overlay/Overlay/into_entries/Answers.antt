@@ -7,4 +7,5 @@ use Rattle.retro_tree.proofs.overlay.Overlay.into_entries.Goals as goal
 pub returns : goal.returns
 returns c =
     let given = c.into_iter.ensures.into_iter_gives in
-    given.0 ∙ sym (made_entries cell_total cell_exact c.self.inside.cells.entries given.5) ∙ ap map.entries c.self.view_is
+    given.0 ∙ sym (made_entries cell_total cell_exact c.self.inside.cells.entries given.5)
+    ∙ ap map.entries c.self.view_is

@@ -5,4 +5,5 @@ use Rattle.retro_tree.proofs.MapLemmas.{get_made}
 use Rattle.retro_tree.proofs.sessions.Sessions.get.Goals as goal
 
 pub returns : goal.returns
-returns c = c.get.ensures.value ∙ sym (get_made nat_cmp_total c.self.inside.sessions.entries c.args.sid) ∙ ap (λ m. map.get m c.args.sid) c.self.view_is
+returns c = c.get.ensures.value ∙ sym (get_made nat_cmp_total c.self.inside.sessions.entries c.args.sid)
+    ∙ ap (λ m. map.get m c.args.sid) c.self.view_is

@@ -34,5 +34,8 @@ returns c =
     let es = c.self.inside.sessions.entries in
     let here = sym c.get_mut.ensures.value ∙ ap option_copied_mut c.in-Some.is in
     let wrote = c.get_mut.follows.holds c.restore.new.self in
-    made_written nat_cmp_total nat_cmp-IsAntisymmetric es (c.get_mut.follows.lender c.restore.new.self).entries c.args.sid default_session (with_previous c.args.previous) c.in-Some.session.now c.restore.new.self here c.restore.ensures (wrote.3 (subst IsSome (sym here) refl)).0
+    made_written nat_cmp_total nat_cmp-IsAntisymmetric es
+    (c.get_mut.follows.lender c.restore.new.self).entries c.args.sid default_session
+    (with_previous c.args.previous) c.in-Some.session.now c.restore.new.self here c.restore.ensures
+    (wrote.3 (subst IsSome (sym here) refl)).0
     ∙ ap (λ m. update m c.args.sid default_session (with_previous c.args.previous)) c.self.view_is

@@ -19,7 +19,8 @@ returns-in_err-set-clause-err c =
     let here = sym c.get_mut.ensures.value ∙ ap option_copied_mut c.in-Some.is in
     let wrote = c.get_mut.follows.holds c.set.new.self in
     any_err c.from_residual.result _ (
-    made_same nat_cmp_total nat_cmp-IsAntisymmetric es (c.get_mut.follows.lender c.set.new.self).entries c.args.sid c.in-Some.session.now c.set.new.self here c.in_err-set.ensures.err (wrote.3 (subst IsSome (sym here) refl)).0
+    made_same nat_cmp_total nat_cmp-IsAntisymmetric es
+    (c.get_mut.follows.lender c.set.new.self).entries c.args.sid c.in-Some.session.now c.set.new.self here c.in_err-set.ensures.err (wrote.3 (subst IsSome (sym here) refl)).0
     ∙ c.self.view_is)
 
 pub returns-in-Some-clause-previous : goal.returns-in-Some-clause-previous
@@ -34,7 +35,10 @@ returns-in-Some-clause-ok c =
     let es = c.self.inside.sessions.entries in
     let here = sym c.get_mut.ensures.value ∙ ap option_copied_mut c.in-Some.is in
     let wrote = c.get_mut.follows.holds c.set.new.self in
-    made_written nat_cmp_total nat_cmp-IsAntisymmetric es (c.get_mut.follows.lender c.set.new.self).entries c.args.sid default_session (with_setting c.args.setting) c.in-Some.session.now c.set.new.self here c.in_ok-set.ensures.ok (wrote.3 (subst IsSome (sym here) refl)).0
+    made_written nat_cmp_total nat_cmp-IsAntisymmetric es
+    (c.get_mut.follows.lender c.set.new.self).entries c.args.sid default_session
+    (with_setting c.args.setting) c.in-Some.session.now c.set.new.self here c.in_ok-set.ensures.ok
+    (wrote.3 (subst IsSome (sym here) refl)).0
     ∙ ap (λ m. update m c.args.sid default_session (with_setting c.args.setting)) c.self.view_is
 
 pub returns-clause-previous : goal.returns-clause-previous
@@ -48,8 +52,10 @@ pub returns-clause-ok : goal.returns-clause-ok
 returns-clause-ok c =
     let es = c.self.inside.sessions.entries in
     let none = sym c.get_mut.ensures.value ∙ ap option_copied_mut c.in_default.is in
-    let same = ap (λ n. the_view (record { sessions = n; known_lawful = false })) c.get_mut.follows.holds-at-none ∙ c.self.view_is in
+    let same = ap
+    (λ n. the_view (record { sessions = n; known_lawful = false })) c.get_mut.follows.holds-at-none ∙ c.self.view_is in
     let absent = ap (λ m. map.get m c.args.sid) (sym c.self.view_is) ∙ get_made nat_cmp_total es c.args.sid ∙ none in
     let made = c.in_ok-set-2.ensures.ok ∙ ap (with_setting c.args.setting) c.new-session.ensures in
     c.in_ok-insert.ensures.ok ∙ ap (λ m. map.insert m c.args.sid c.set-2.new.self) same
-    ∙ made_new nat_cmp_total nat_cmp-IsAntisymmetric c.args.self.now c.args.sid default_session (with_setting c.args.setting) c.set-2.new.self absent made
+    ∙ made_new nat_cmp_total nat_cmp-IsAntisymmetric c.args.self.now c.args.sid default_session
+    (with_setting c.args.setting) c.set-2.new.self absent made

@@ -21,7 +21,8 @@ returns c =
           let wrote = c.get_mut.follows.holds w.cut.new.self in
           let found = ap (λ m. map.get m p) (sym c.self.view_is) ∙ get_made path_total es p ∙ here in
           ap the_view w.self-inside-is
-          ∙ made_insert path_total path_exact es (c.get_mut.follows.lender w.cut.new.self).entries p w.cut.new.self (wrote.3 (subst IsSome (sym here) refl)).0
+          ∙ made_insert path_total path_exact es
+          (c.get_mut.follows.lender w.cut.new.self).entries p w.cut.new.self (wrote.3 (subst IsSome (sym here) refl)).0
           ∙ ap (λ m. map.insert m p w.cut.new.self) c.self.view_is
           ∙ ap (map.insert old p) w.cut.ensures
           ∙ ap (λ o. cut_at p n o old) (sym found)

@@ -16,4 +16,5 @@ returns c =
     let p = c.args.path.now in
     c.range.ensures.between tt
     ∙ (λ i. filter (λ e. right (is_le (path_cmp p e.0)) i) es)
-    ∙ ap (filter (λ e. is_le (path_cmp p e.0))) (sym (made_entries path_total path_exact es c.range.ensures.ordered) ∙ ap map.entries c.self.view_is)
+    ∙ ap (filter (λ e. is_le (path_cmp p e.0)))
+    (sym (made_entries path_total path_exact es c.range.ensures.ordered) ∙ ap map.entries c.self.view_is)

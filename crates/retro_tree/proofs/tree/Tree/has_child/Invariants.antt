@@ -6,4 +6,5 @@ use Rattle.retro_tree.proofs.Together.{together}
 use Rattle.retro_tree.proofs.tree.Tree.has_child.Given as goal
 
 abbrev pub invariant-loop-other : goal.invariant-loop-other
-invariant-loop-other l = has_child l.path l.self ≡ list_any (is_child l.path) (together l.path (map (λ e. e.0) l.other-iterator))
+invariant-loop-other l =
+    has_child l.path l.self ≡ list_any (is_child l.path) (together l.path (map (λ e. e.0) l.other-iterator))

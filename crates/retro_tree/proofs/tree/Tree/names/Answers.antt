@@ -8,4 +8,5 @@ pub loop-other-init : goal.loop-other-init
 loop-other-init c =
     let p = c.args.path.now in
     let all = c.into_iter-other-iterator.ensures.into_iter_gives ∙ c.from-other-items.ensures in
-    (λ i. c.new-names.ensures.items i ++ filter_map (child_name p) (together p (map (λ e. e.0) (all i)))) ∙ names_together p c.args.self.now
+    (λ i. c.new-names.ensures.items i ++ filter_map (child_name p) (together p (map (λ e. e.0) (all i))))
+    ∙ names_together p c.args.self.now

@@ -6,4 +6,6 @@ use Rattle.retro_tree.proofs.Together.{together}
 use Rattle.retro_tree.proofs.tree.Tree.names.Given as goal
 
 abbrev pub invariant-loop-other : goal.invariant-loop-other
-invariant-loop-other l = l.names.items ++ filter_map (child_name l.path) (together l.path (map (λ e. e.0) l.other-iterator)) ≡ names_in l.path l.self
+invariant-loop-other l =
+    l.names.items ++ filter_map (child_name l.path) (together l.path (map (λ e. e.0) l.other-iterator))
+    ≡ names_in l.path l.self

@@ -12,8 +12,10 @@ returns-clause-ok c =
 
 pub returns-clause-previous : goal.returns-clause-previous
 returns-clause-previous c =
-    c.in_ok-insert.ensures.old ∙ sym (get_made text_total c.self.inside.values.entries c.args.name) ∙ ap (λ m. map.get m c.args.name) c.self.view_is
+    c.in_ok-insert.ensures.old ∙ sym (get_made text_total c.self.inside.values.entries c.args.name)
+    ∙ ap (λ m. map.get m c.args.name) c.self.view_is
 
 pub returns-in_err-insert-clause-absent : goal.returns-in_err-insert-clause-absent
 returns-in_err-insert-clause-absent c =
-    any_err c.from_residual.result _ (ap (λ m. map.get m c.args.name) (sym c.self.view_is) ∙ get_made text_total c.self.inside.values.entries c.args.name ∙ c.in_err-insert.ensures.absent)
+    any_err c.from_residual.result _ (ap (λ m. map.get m c.args.name) (sym c.self.view_is)
+    ∙ get_made text_total c.self.inside.values.entries c.args.name ∙ c.in_err-insert.ensures.absent)
