@@ -1,6 +1,6 @@
 -- What is written for a tree is read as that tree.
 use Rattle.std.proofs.Common.{◌≡◌, ℕ, Bool, true, false, ◌&&◌, List, [], ◌∷◌, ◌++◌, Some, None, cond, option_map, subst, refl, sym, ap, ◌∙◌, append_assoc, append-nil}
-use Rattle.retro_syntax.specs.Tree.{plain, Word, Assignment, assignment_word, assignments_then, Token, semicolon, bar, connector, redirection, word, whole, key, Item, argument, redirect, Simple, assignments, command, Commands, last, more, AndOr, end, chain, Pipeline, pipeline, Command, simples, conditional, loop, Arms, fi, otherwise, elif, items_then, words_then, simple_then, stages_then, commands_then, andor_then, pipeline_then, command_then, arms_then, for_then}
+use Rattle.retro_syntax.specs.Tree.{plain, Word, Assignment, assignment_word, assignments_then, Token, semicolon, bar, connector, redirection, word, plain_token, key, Item, argument, redirect, Simple, assignments, command, Commands, last, more, AndOr, end, chain, Pipeline, pipeline, Command, simples, conditional, loop, Arms, fi, otherwise, elif, items_then, words_then, simple_then, stages_then, commands_then, andor_then, pipeline_then, command_then, arms_then, for_then}
 use Rattle.retro_syntax.specs.declared.tree.Direction.{Direction}
 use Rattle.retro_syntax.specs.declared.tree.Connector.{Connector}
 use Rattle.retro_syntax.specs.declared.tree.ReservedWord.{ReservedWord}
@@ -8,7 +8,7 @@ use Rattle.retro_syntax.specs.declared.tree.ReservedWord.TheVariants.{Bang as ba
 use Rattle.retro_syntax.specs.declared.words.Class.{Class}
 use Rattle.retro_syntax.specs.declared.words.Class.TheVariants.{Reserved as reserved, Forbidden as forbidden, Assignment as assignment, Ordinary as ordinary}
 use Rattle.retro_syntax.specs.Words.{class, name_of, is_ordinary}
-use Rattle.retro_syntax.specs.Parsing.{Open, Frame, condition, consequence, alternative, body, Place, start, in_simple, target, after_bar, after_compound, for_name, for_in, for_words, for_do, State, at, step, run, join, and_or, listed, arms_up_to, nothing, no_argument, finish, commands_of, close, close_some, begin_reserved, may_end, all_closed, finish_at, go_on}
+use Rattle.retro_syntax.specs.Parsing.{Open, Frame, condition, consequence, alternative, body, Place, start, in_simple, target, after_bar, after_compound, for_name, for_in, for_words, for_do, State, at, step, run, join, and_or, listed, arms_up_to, empty_list, no_argument, finish, commands_of, close, close_some, begin_reserved, may_end, all_closed, finish_at, go_on}
 use Rattle.retro_syntax.specs.Spells.{is_assigned, are_assigned, begins_well, is_simple, are_simple, are_stages, is_compound, ends_compound, ends_itself, Spells, IsCommands, IsAndOr, IsPipeline, IsCommand, IsArms}
 use Rattle.retro_syntax.proofs.WordLemmas.{class_key, class_assigned, assignment_of_word}
 
@@ -214,7 +214,7 @@ record One (st : Stack) (o : Open) (ts : List Token → List Token) (ds : List A
   place_now : Place
   ending : Command
   done_is : open_now.and_ors ≡ ds
-  joined_is : open_now.pipelines ≡ js
+  pipelines_are : open_now.pipelines ≡ js
   whole_is : pipeline open_now.negated ending ≡ p
   holds : Holds place_now ending
   compound : ends_compound (end p) ≡ is_compound ending
@@ -246,17 +246,17 @@ go_whole st o (for_in n) c h = absurd h
 go_whole st o (for_words n ws) c h = absurd h
 go_whole st o (for_do n ws) c h = absurd h
 
-go_joined : (st : Stack) (o : Open) (p : Place) (c : Command) (op : Connector) → Holds p c → step (at st o p) (connector op) ≡ go_on st o c (connector op)
+go_connector : (st : Stack) (o : Open) (p : Place) (c : Command) (op : Connector) → Holds p c → step (at st o p) (connector op) ≡ go_on st o c (connector op)
 unfolding step
-go_joined st o start c op h = absurd h
-go_joined st o (in_simple ss s) c op h = rw h refl
-go_joined st o (target ss is d) c op h = absurd h
-go_joined st o (after_bar ss) c op h = absurd h
-go_joined st o (after_compound d) c op h = rw h refl
-go_joined st o for_name c op h = absurd h
-go_joined st o (for_in n) c op h = absurd h
-go_joined st o (for_words n ws) c op h = absurd h
-go_joined st o (for_do n ws) c op h = absurd h
+go_connector st o start c op h = absurd h
+go_connector st o (in_simple ss s) c op h = rw h refl
+go_connector st o (target ss is d) c op h = absurd h
+go_connector st o (after_bar ss) c op h = absurd h
+go_connector st o (after_compound d) c op h = rw h refl
+go_connector st o for_name c op h = absurd h
+go_connector st o (for_in n) c op h = absurd h
+go_connector st o (for_words n ws) c op h = absurd h
+go_connector st o (for_do n ws) c op h = absurd h
 
 finish_whole : (o : Open) (p : Place) (c : Command) → Holds p c → finish_at [] o p ≡ Some (listed o.and_ors (and_or o c) false)
 finish_whole o start c h = absurd h
@@ -311,7 +311,7 @@ step_for : (st : Stack) (o : Open) → step (at st o start) (key key_for) ≡ So
 unfolding step
 step_for st o = rw (class_key key_for) refl
 
-step_name : (st : Stack) (o : Open) (n : List ℕ) → name_of (plain n ∷ []) ≡ Some n → step (at st o for_name) (whole n) ≡ Some (at st o (for_in n))
+step_name : (st : Stack) (o : Open) (n : List ℕ) → name_of (plain n ∷ []) ≡ Some n → step (at st o for_name) (plain_token n) ≡ Some (at st o (for_in n))
 unfolding step
 step_name st o n h = rw h refl
 
@@ -323,26 +323,26 @@ step_words_end : (st : Stack) (o : Open) (n : List ℕ) (ws : List Word) → ste
 unfolding step
 step_words_end st o n ws = refl
 
-step_do : (st : Stack) (o : Open) (n : List ℕ) (ws : List Word) → step (at st o (for_do n ws)) (key key_do) ≡ Some (at ((o, body n ws) ∷ st) nothing start)
+step_do : (st : Stack) (o : Open) (n : List ℕ) (ws : List Word) → step (at st o (for_do n ws)) (key key_do) ≡ Some (at ((o, body n ws) ∷ st) empty_list start)
 unfolding step
 step_do st o n ws = rw (class_key key_do) refl
 
 for_on : (st : Stack) (o : Open) (n : List ℕ) (ws : List Word) (r : List Token) → name_of (plain n ∷ []) ≡ Some n
-    → run (Some (at st o start)) (for_then n ws r) ≡ run (Some (at ((o, body n ws) ∷ st) nothing start)) r
+    → run (Some (at st o start)) (for_then n ws r) ≡ run (Some (at ((o, body n ws) ∷ st) empty_list start)) r
 for_on st o n ws r h =
     let after : List Token = semicolon ∷ key key_do ∷ r in
-    next _ _ (key key_for) (whole n ∷ key key_in ∷ words_then ws after) (step_for st o)
-    ∙ next _ _ (whole n) (key key_in ∷ words_then ws after) (step_name st o n h)
+    next _ _ (key key_for) (plain_token n ∷ key key_in ∷ words_then ws after) (step_for st o)
+    ∙ next _ _ (plain_token n) (key key_in ∷ words_then ws after) (step_name st o n h)
     ∙ next _ _ (key key_in) (words_then ws after) (step_in st o n)
     ∙ for_words_on st o n [] ws after
     ∙ next _ _ semicolon (key key_do ∷ r) (step_words_end st o n ws)
     ∙ next _ _ (key key_do) r (step_do st o n ws)
 
-inner_of : (st : Stack) (ts : List Token → List Token) (c : Commands) (k : ReservedWord) (r : List Token) (b : Bool) → Ended st nothing ts c b → b ≡ true → IsCloser k
-    → run (Some (at st nothing start)) (ts (key k ∷ r)) ≡ run (close st c k) r
+inner_of : (st : Stack) (ts : List Token → List Token) (c : Commands) (k : ReservedWord) (r : List Token) (b : Bool) → Ended st empty_list ts c b → b ≡ true → IsCloser k
+    → run (Some (at st empty_list start)) (ts (key k ∷ r)) ≡ run (close st c k) r
 inner_of st ts c k r b e t closer = e.runs (key k ∷ r) ∙ ap (λ x. run x r) (e.closes t k closer)
 
-step_if : (st : Stack) (o : Open) → step (at st o start) (key key_if) ≡ Some (at ((o, condition []) ∷ st) nothing start)
+step_if : (st : Stack) (o : Open) → step (at st o start) (key key_if) ≡ Some (at ((o, condition []) ∷ st) empty_list start)
 unfolding step
 step_if st o = rw (class_key key_if) refl
 
@@ -386,7 +386,7 @@ mutual
         place_now = one.place_now;
         ending = one.ending;
         done_is = one.done_is;
-        whole_is = rw (one.joined_is, one.whole_is) (join-join_all js p);
+        whole_is = rw (one.pipelines_are, one.whole_is) (join-join_all js p);
         holds = one.holds;
         compound = ends_compound-join_all js (end p) ∙ one.compound;
         runs = one.runs;
@@ -394,7 +394,7 @@ mutual
   and_or_on (chain p op a) h st ds js =
       let one = pipeline_on p h.0 st ds js in
       let w = and_or_on a h.1 st ds (js ++ (p, op) ∷ []) in
-      let pipelines : go_on st one.open_now one.ending (connector op) ≡ Some (at st (opened ds (js ++ (p, op) ∷ []) false) start) = rw (one.done_is, one.joined_is, one.whole_is) refl in
+      let pipelines : go_on st one.open_now one.ending (connector op) ≡ Some (at st (opened ds (js ++ (p, op) ∷ []) false) start) = rw (one.done_is, one.pipelines_are, one.whole_is) refl in
       record {
         open_now = w.open_now;
         place_now = w.place_now;
@@ -403,7 +403,7 @@ mutual
         whole_is = w.whole_is ∙ join_all-push js p op a;
         holds = w.holds;
         compound = sym (ap ends_compound (join_all-push js p op a)) ∙ w.compound;
-        runs = λ r. one.runs (connector op ∷ andor_then a r) ∙ next _ _ (connector op) (andor_then a r) (go_joined st one.open_now one.place_now one.ending op one.holds ∙ pipelines) ∙ w.runs r;
+        runs = λ r. one.runs (connector op ∷ andor_then a r) ∙ next _ _ (connector op) (andor_then a r) (go_connector st one.open_now one.place_now one.ending op one.holds ∙ pipelines) ∙ w.runs r;
       }
 
   pipeline_on : (p : Pipeline) → IsPipeline p → (st : Stack) (ds : List AndOr) (js : List (Pipeline × Connector)) → One st (opened ds js false) (pipeline_then p) ds js p
@@ -414,7 +414,7 @@ mutual
         place_now = read.0;
         ending = c;
         done_is = refl;
-        joined_is = refl;
+        pipelines_are = refl;
         whole_is = refl;
         holds = read.1;
         compound = refl;
@@ -427,7 +427,7 @@ mutual
         place_now = read.0;
         ending = c;
         done_is = refl;
-        joined_is = refl;
+        pipelines_are = refl;
         whole_is = refl;
         holds = read.1;
         compound = refl;
@@ -445,7 +445,7 @@ mutual
   )
 
   arms_on : (a : Arms) → IsArms a → (st : Stack) (o : Open) (xs : List (Commands × Commands)) (r : List Token)
-      → run (Some (at ((o, condition xs) ∷ st) nothing start)) (arms_then a r) ≡ run (Some (at st o (after_compound (conditional (arms_up_to xs a))))) r
+      → run (Some (at ((o, condition xs) ∷ st) empty_list start)) (arms_then a r) ≡ run (Some (at st o (after_compound (conditional (arms_up_to xs a))))) r
   arms_on (fi c t) h st o xs r =
       inner_of ((o, condition xs) ∷ st) (commands_then c) c key_then (commands_then t (key key_fi ∷ r)) _ (commands_on c h.0.0 ((o, condition xs) ∷ st) []) h.0.1 (λ s p. refl)
       ∙ inner_of ((o, consequence xs c) ∷ st) (commands_then t) t key_fi r _ (commands_on t h.1.0 ((o, consequence xs c) ∷ st) []) h.1.1 (λ s p. refl)

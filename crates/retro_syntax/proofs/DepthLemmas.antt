@@ -7,7 +7,7 @@ use Rattle.std.specs.declared.alloc.Global.{Global}
 use Rattle.retro_syntax.specs.Tree as T
 use Rattle.retro_syntax.specs.Parsing.{join, listed, arms_up_to}
 use Rattle.retro_syntax.specs.Depth as D
-use Rattle.retro_syntax.specs.Fits.{command_fits, joined_fit, and_or_fits, and_ors_fit, list_fits, arms_fit, conditional_fits}
+use Rattle.retro_syntax.specs.Fits.{command_fits, pipelines_fit, and_or_fits, and_ors_fit, list_fits, arms_fit, conditional_fits}
 use Rattle.retro_syntax.specs.View.{view, commands_of, and_or_of, pipeline_of, arms_of, arms_else_of}
 use Rattle.retro_syntax.specs.declared.tree.AndOr.{AndOr}
 use Rattle.retro_syntax.specs.declared.tree.Pipeline.{Pipeline}
@@ -29,12 +29,12 @@ max_fits : (a b n : ℕ) → nat_le (max a b) n ≡ (nat_le a n && nat_le b n)
 max_fits a b n = grind (arith, leb_tells)
 
 join-fits : (js : List (Pipeline Command × Connector)) (p : T.Pipeline) (n : ℕ)
-    → nat_le (D.and_or_depth (join (map (λ j. (pipeline_of view j.0, j.1)) js) p)) n ≡ (joined_fit js n && nat_le (D.pipeline_depth p) n)
+    → nat_le (D.and_or_depth (join (map (λ j. (pipeline_of view j.0, j.1)) js) p)) n ≡ (pipelines_fit js n && nat_le (D.pipeline_depth p) n)
 join-fits [] p n = refl
 join-fits (j ∷ js) p n =
     max_fits (D.command_depth (view j.0.command)) (D.and_or_depth (join (map (λ i. (pipeline_of view i.0, i.1)) js) p)) n
     ∙ ap (λ b. command_fits j.0.command n && b) (join-fits js p n)
-    ∙ and_assoc (command_fits j.0.command n) (joined_fit js n) (nat_le (D.pipeline_depth p) n)
+    ∙ and_assoc (command_fits j.0.command n) (pipelines_fit js n) (nat_le (D.pipeline_depth p) n)
 
 and_or-fits : (a : AndOr Command) (n : ℕ) → nat_le (D.and_or_depth (and_or_of view a)) n ≡ and_or_fits a n
 and_or-fits a n = join-fits a.before.items (pipeline_of view a.last) n

@@ -3,10 +3,10 @@ use Rattle.std.proofs.Common.{◌≡◌, ℕ, Bool, true, false, not, ◌&&◌, 
 use Rattle.std.specs.Char.{encode_utf8}
 use Rattle.retro_syntax.specs.Tree as T
 use Rattle.retro_syntax.specs.Quoting.{add_plain, add_quoted}
-use Rattle.retro_syntax.specs.Writing.{Part, unquoted, quoted, parameter, Written, word, bytes_of, pieces_of, word_of, token_of, fits, stands_alone, are_unquoted, are_quoted, is_parameter, are_parameters, is_part, is_unquoted_parameter, are_apart, are_parts, begins_no_comment, is_writable, are_writable, HasWriting}
+use Rattle.retro_syntax.specs.Writing.{Part, unquoted, quoted, parameter, Written, word, bytes_of, pieces_of, word_of, token_of, fits, is_literal_dollar, are_unquoted, are_quoted, is_parameter, are_parameters, is_part, is_unquoted_parameter, are_apart, are_parts, begins_no_comment, is_writable, are_writable, HasWriting}
 use Rattle.retro_syntax.proofs.QuotingLemmas.{add_quoted_push}
 use Rattle.retro_syntax.proofs.ParserLemmas.{map-push}
-use Rattle.retro_syntax.proofs.WritingLemmas.{and_left, and_right, add_all, add_all_plain, ready_behind}
+use Rattle.retro_syntax.proofs.WritingLemmas.{and_left, and_right, add_all, add_all_plain, ready_after}
 
 -- ---- tests
 
@@ -37,17 +37,17 @@ word_of-push : (fs : List Part) (p : Part) → word_of (fs ++ p ∷ []) ≡ word
 word_of-push [] p = append-nil (pieces_of p)
 word_of-push (f ∷ fs) p = ap (λ x. pieces_of f ++ x) (word_of-push fs p) ∙ sym (append_assoc (pieces_of f) (word_of fs) (pieces_of p))
 
-stands_more : (followed : Bool) (cs ds : List ℕ) → stands_alone true cs ≡ true → stands_alone followed (cs ++ ds) ≡ true
-stands_more followed [] ds h = cc
-stands_more followed (c ∷ cs) ds h = h
+literal_dollar_more : (followed : Bool) (cs ds : List ℕ) → is_literal_dollar true cs ≡ true → is_literal_dollar followed (cs ++ ds) ≡ true
+literal_dollar_more followed [] ds h = cc
+literal_dollar_more followed (c ∷ cs) ds h = h
 
 unquoted_append : (followed : Bool) (cs ds : List ℕ) → are_unquoted true cs ≡ true → are_unquoted followed ds ≡ true → are_unquoted followed (cs ++ ds) ≡ true
 unquoted_append followed [] ds h k = k
 unquoted_append followed (c ∷ cs) ds h k =
-    let one = and_left (fits c || ((c == 36) && stands_alone true cs)) (are_unquoted true cs) h in
-    let rest = and_right (fits c || ((c == 36) && stands_alone true cs)) (are_unquoted true cs) h in
-    and_both (fits c || ((c == 36) && stands_alone followed (cs ++ ds))) (are_unquoted followed (cs ++ ds))
-    (or_and (fits c) (c == 36) (stands_alone true cs) (stands_alone followed (cs ++ ds)) one (stands_more followed cs ds))
+    let one = and_left (fits c || ((c == 36) && is_literal_dollar true cs)) (are_unquoted true cs) h in
+    let rest = and_right (fits c || ((c == 36) && is_literal_dollar true cs)) (are_unquoted true cs) h in
+    and_both (fits c || ((c == 36) && is_literal_dollar followed (cs ++ ds))) (are_unquoted followed (cs ++ ds))
+    (or_and (fits c) (c == 36) (is_literal_dollar true cs) (is_literal_dollar followed (cs ++ ds)) one (literal_dollar_more followed cs ds))
     (unquoted_append followed cs ds rest k)
 
 quoted_append : (cs ds : List ℕ) → are_quoted cs ≡ true → are_quoted ds ≡ true → are_quoted (cs ++ ds) ≡ true
@@ -174,11 +174,11 @@ start_unquoted f d ds h b =
     let begins : not (d == 35) ≡ true = rw b refl in
     subst (Word f) (sym (all_added [] d ds refl)) (start_part f (unquoted (d ∷ ds)) h begins)
 
-behind_other : (f : Bool) (ps : List T.Piece) (d : ℕ) (ds : List ℕ) (w : Word true ps) → are_unquoted f (d ∷ ds) ≡ true → are_apart w.last (unquoted (d ∷ ds)) ≡ true → Word f (add_all ps (d ∷ ds))
-behind_other f ps d ds w h a =
-    let fresh_one : add_plain ps d ≡ ps ++ T.plain (encode_utf8 d) ∷ [] =
-    subst (λ x. add_plain x d ≡ x ++ T.plain (encode_utf8 d) ∷ []) w.same (ready_behind w.last (unquoted (d ∷ ds)) (word_of w.front) a d) in
-    subst (Word f) (sym (all_added ps d ds fresh_one)) (push_part true f ps w (unquoted (d ∷ ds)) (part_weak true w.last w.whole) a h)
+add_after_other : (f : Bool) (ps : List T.Piece) (d : ℕ) (ds : List ℕ) (w : Word true ps) → are_unquoted f (d ∷ ds) ≡ true → are_apart w.last (unquoted (d ∷ ds)) ≡ true → Word f (add_all ps (d ∷ ds))
+add_after_other f ps d ds w h a =
+    let new_piece : add_plain ps d ≡ ps ++ T.plain (encode_utf8 d) ∷ [] =
+    subst (λ x. add_plain x d ≡ x ++ T.plain (encode_utf8 d) ∷ []) w.same (ready_after w.last (unquoted (d ∷ ds)) (word_of w.front) a d) in
+    subst (Word f) (sym (all_added ps d ds new_piece)) (push_part true f ps w (unquoted (d ∷ ds)) (part_weak true w.last w.whole) a h)
 
 grow_by : (f : Bool) (ps : List T.Piece) (d : ℕ) (ds : List ℕ) (w : Word true ps) (p : Part) → w.last ≡ p → are_unquoted f (d ∷ ds) ≡ true → Word f (add_all ps (d ∷ ds))
 grow_by f ps d ds w (unquoted []) e h = absurd (let x : is_part true (unquoted []) ≡ true = subst (λ q. is_part true q ≡ true) e w.whole in let y : false ≡ true = x in cc)
@@ -195,31 +195,31 @@ grow_by f ps d ds w (unquoted (c ∷ cs)) e h =
       begins = begins_last w.front (unquoted (c ∷ cs)) (unquoted ((c ∷ cs) ++ (d ∷ ds))) (λ x. x) (subst (λ q. begins_no_comment (w.front ++ q ∷ []) ≡ true) e w.begins);
       whole = unquoted_append f (c ∷ cs) (d ∷ ds) (subst (λ q. is_part true q ≡ true) e w.whole) h;
     }
-grow_by f ps d ds w (quoted cs ns) e h = behind_other f ps d ds w h (subst (λ q. are_apart q (unquoted (d ∷ ds)) ≡ true) (sym e) (apart_of ns))
+grow_by f ps d ds w (quoted cs ns) e h = add_after_other f ps d ds w h (subst (λ q. are_apart q (unquoted (d ∷ ds)) ≡ true) (sym e) (apart_of ns))
   where
     apart_of : (ms : List T.Parameter) → are_apart (quoted cs ms) (unquoted (d ∷ ds)) ≡ true
     apart_of [] = refl
     apart_of (m ∷ ms) = refl
-grow_by f ps d ds w (parameter n) e h = behind_other f ps d ds w h (subst (λ q. are_apart q (unquoted (d ∷ ds)) ≡ true) (sym e) refl)
+grow_by f ps d ds w (parameter n) e h = add_after_other f ps d ds w h (subst (λ q. are_apart q (unquoted (d ∷ ds)) ≡ true) (sym e) refl)
 
 pub grow_unquoted : (f : Bool) (ps : List T.Piece) (d : ℕ) (ds : List ℕ) → Word true ps → are_unquoted f (d ∷ ds) ≡ true → Word f (add_all ps (d ∷ ds))
 grow_unquoted f ps d ds w h = grow_by f ps d ds w w.last refl h
 
 -- ---- quoted characters behind it
 
-quote_behind : (g : Bool) (ps : List T.Piece) (s ds : List ℕ) (w : Word g ps) → s ≡ bytes_of ds → are_quoted ds ≡ true → are_apart w.last (quoted ds []) ≡ true → QuotedWord (add_quoted ps s)
+quote_after : (g : Bool) (ps : List T.Piece) (s ds : List ℕ) (w : Word g ps) → s ≡ bytes_of ds → are_quoted ds ≡ true → are_apart w.last (quoted ds []) ≡ true → QuotedWord (add_quoted ps s)
 unfolding push_part
-quote_behind g ps s ds w e h a =
-    let fresh_one : add_quoted ps s ≡ ps ++ T.quoted s ∷ [] =
-    subst (λ x. add_quoted x s ≡ x ++ T.quoted s ∷ []) w.same (ready_behind w.last (quoted ds []) (word_of w.front) a s) in
-    let grown : ps ++ T.quoted (bytes_of ds) ∷ [] ≡ add_quoted ps s = ap (λ t. ps ++ T.quoted t ∷ []) (sym e) ∙ sym fresh_one in
+quote_after g ps s ds w e h a =
+    let new_piece : add_quoted ps s ≡ ps ++ T.quoted s ∷ [] =
+    subst (λ x. add_quoted x s ≡ x ++ T.quoted s ∷ []) w.same (ready_after w.last (quoted ds []) (word_of w.front) a s) in
+    let grown : ps ++ T.quoted (bytes_of ds) ∷ [] ≡ add_quoted ps s = ap (λ t. ps ++ T.quoted t ∷ []) (sym e) ∙ sym new_piece in
     subst QuotedWord grown (record {
       given = push_part g true ps w (quoted ds []) (part_weak g w.last w.whole) a (and_both (are_quoted ds) true h refl);
       kind = refl;
     })
 
 quote_by : (g : Bool) (ps : List T.Piece) (s ds : List ℕ) (w : Word g ps) (p : Part) → w.last ≡ p → s ≡ bytes_of ds → are_quoted ds ≡ true → QuotedWord (add_quoted ps s)
-quote_by g ps s ds w (unquoted cs) e f h = quote_behind g ps s ds w f h (subst (λ q. are_apart q (quoted ds []) ≡ true) (sym e) refl)
+quote_by g ps s ds w (unquoted cs) e f h = quote_after g ps s ds w f h (subst (λ q. are_apart q (quoted ds []) ≡ true) (sym e) refl)
 quote_by g ps s ds w (quoted cs []) e f h =
     let same : word_of w.front ++ T.quoted (bytes_of cs) ∷ [] ≡ ps = subst (λ q. word_of w.front ++ pieces_of q ≡ ps) e w.same in
     let grown : word_of w.front ++ T.quoted (bytes_of (cs ++ ds)) ∷ [] ≡ add_quoted ps s =
@@ -237,8 +237,8 @@ quote_by g ps s ds w (quoted cs []) e f h =
       };
       kind = refl;
     }
-quote_by g ps s ds w (quoted cs (n ∷ ns)) e f h = quote_behind g ps s ds w f h (subst (λ q. are_apart q (quoted ds []) ≡ true) (sym e) refl)
-quote_by g ps s ds w (parameter n) e f h = quote_behind g ps s ds w f h (subst (λ q. are_apart q (quoted ds []) ≡ true) (sym e) refl)
+quote_by g ps s ds w (quoted cs (n ∷ ns)) e f h = quote_after g ps s ds w f h (subst (λ q. are_apart q (quoted ds []) ≡ true) (sym e) refl)
+quote_by g ps s ds w (parameter n) e f h = quote_after g ps s ds w f h (subst (λ q. are_apart q (quoted ds []) ≡ true) (sym e) refl)
 
 pub grow_quoted : (g : Bool) (ps : List T.Piece) (s ds : List ℕ) → Begun g ps → s ≡ bytes_of ds → are_quoted ds ≡ true → QuotedWord (add_quoted ps s)
 unfolding start_part

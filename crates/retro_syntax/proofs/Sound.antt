@@ -1,6 +1,6 @@
 -- What is read as a tree is what is written for it.
 use Rattle.std.proofs.Common.{◌≡◌, ℕ, Bool, true, false, ◌&&◌, List, [], ◌∷◌, ◌++◌, Option, Some, None, cond, option_map, subst, refl, sym, ap, ◌∙◌}
-use Rattle.retro_syntax.specs.Tree.{plain, Word, Assignment, assignment_word, assignments_then, Token, semicolon, bar, connector, redirection, word, whole, key, Item, argument, redirect, Simple, assignments, command, Commands, last, more, AndOr, Pipeline, pipeline, Command, simples, Arms, fi, otherwise, items_then, words_then, simple_then, stages_then, commands_then, andor_then, pipeline_then, command_then, arms_then, bang_then, closing_then, for_then}
+use Rattle.retro_syntax.specs.Tree.{plain, Word, Assignment, assignment_word, assignments_then, Token, semicolon, bar, connector, redirection, word, plain_token, key, Item, argument, redirect, Simple, assignments, command, Commands, last, more, AndOr, Pipeline, pipeline, Command, simples, Arms, fi, otherwise, items_then, words_then, simple_then, stages_then, commands_then, andor_then, pipeline_then, command_then, arms_then, bang_then, closing_then, for_then}
 use Rattle.retro_syntax.specs.declared.tree.Direction.{Direction}
 use Rattle.retro_syntax.specs.declared.tree.Connector.{Connector}
 use Rattle.retro_syntax.specs.declared.tree.ReservedWord.{ReservedWord}
@@ -8,7 +8,7 @@ use Rattle.retro_syntax.specs.declared.tree.ReservedWord.TheVariants.{Bang as ba
 use Rattle.retro_syntax.specs.declared.words.Class.{Class}
 use Rattle.retro_syntax.specs.declared.words.Class.TheVariants.{Reserved as reserved, Forbidden as forbidden, Assignment as assignment, Ordinary as ordinary}
 use Rattle.retro_syntax.specs.Words.{class, name_of, assignment_of, is_ordinary, is_assignment}
-use Rattle.retro_syntax.specs.Parsing.{Open, Frame, condition, consequence, alternative, body, Place, start, in_simple, target, after_bar, after_compound, for_name, for_in, for_words, for_do, State, at, step, step_at, run, join, and_or, listed, arms_up_to, nothing, no_argument, finish, commands_of, close, close_by, close_some, begin, begin_simple, push_assignment, begin_reserved, may_end, all_closed, finish_at, go_on, close_word, only_key, end_of}
+use Rattle.retro_syntax.specs.Parsing.{Open, Frame, condition, consequence, alternative, body, Place, start, in_simple, target, after_bar, after_compound, for_name, for_in, for_words, for_do, State, at, step, step_at, run, join, and_or, listed, arms_up_to, empty_list, no_argument, finish, commands_of, close, close_by, close_some, begin, begin_simple, push_assignment, begin_reserved, may_end, all_closed, finish_at, go_on, close_word, only_key, end_of}
 use Rattle.retro_syntax.specs.Spells.{Spells, is_assigned, are_assigned, begins_well, is_simple, are_simple, are_stages, is_compound, ends_compound, ends_itself, EndsItself, IsCommands, IsAndOr, IsPipeline, IsCommand, IsArms}
 use Rattle.retro_syntax.proofs.WordLemmas.{key_of_class, name_of_is, Assigns, assigns}
 
@@ -17,16 +17,16 @@ Stack = List (Open × Frame)
 
 -- ---- what stands written so far, before the tokens `r` that follow
 
-abbrev done_then : List AndOr → List Token → List Token
-done_then [] r = r
-done_then (a ∷ ds) r = andor_then a (semicolon ∷ done_then ds r)
+abbrev and_ors_then : List AndOr → List Token → List Token
+and_ors_then [] r = r
+and_ors_then (a ∷ ds) r = andor_then a (semicolon ∷ and_ors_then ds r)
 
-abbrev joined_then : List (Pipeline × Connector) → List Token → List Token
-joined_then [] r = r
-joined_then (j ∷ js) r = pipeline_then j.0 (connector j.1 ∷ joined_then js r)
+abbrev pipelines_then : List (Pipeline × Connector) → List Token → List Token
+pipelines_then [] r = r
+pipelines_then (j ∷ js) r = pipeline_then j.0 (connector j.1 ∷ pipelines_then js r)
 
 abbrev open_then : Open → List Token → List Token
-open_then o r = done_then o.and_ors (joined_then o.pipelines (bang_then o.negated r))
+open_then o r = and_ors_then o.and_ors (pipelines_then o.pipelines (bang_then o.negated r))
 
 abbrev piped_then : List Simple → List Token → List Token
 piped_then [] r = r
@@ -50,9 +50,9 @@ place_then (target ss is d) r = piped_then ss (items_then is (redirection d ∷ 
 place_then (after_bar ss) r = piped_then ss r
 place_then (after_compound c) r = command_then c r
 place_then for_name r = key key_for ∷ r
-place_then (for_in n) r = key key_for ∷ whole n ∷ r
-place_then (for_words n ws) r = key key_for ∷ whole n ∷ key key_in ∷ words_then ws r
-place_then (for_do n ws) r = key key_for ∷ whole n ∷ key key_in ∷ words_then ws (semicolon ∷ r)
+place_then (for_in n) r = key key_for ∷ plain_token n ∷ r
+place_then (for_words n ws) r = key key_for ∷ plain_token n ∷ key key_in ∷ words_then ws r
+place_then (for_do n ws) r = key key_for ∷ plain_token n ∷ key key_in ∷ words_then ws (semicolon ∷ r)
 
 abbrev stack_then : Stack → List Token → List Token
 stack_then [] r = r
@@ -113,13 +113,13 @@ Sound s t (Some n) = Takes s t n
 
 -- ---- ends of lists
 
-done_then-push : (ds : List AndOr) (a : AndOr) (r : List Token) → done_then (ds ++ a ∷ []) r ≡ done_then ds (andor_then a (semicolon ∷ r))
-done_then-push [] a r = refl
-done_then-push (d ∷ ds) a r = ap (λ x. andor_then d (semicolon ∷ x)) (done_then-push ds a r)
+and_ors_then-push : (ds : List AndOr) (a : AndOr) (r : List Token) → and_ors_then (ds ++ a ∷ []) r ≡ and_ors_then ds (andor_then a (semicolon ∷ r))
+and_ors_then-push [] a r = refl
+and_ors_then-push (d ∷ ds) a r = ap (λ x. andor_then d (semicolon ∷ x)) (and_ors_then-push ds a r)
 
-joined_then-push : (js : List (Pipeline × Connector)) (p : Pipeline) (op : Connector) (r : List Token) → joined_then (js ++ (p, op) ∷ []) r ≡ joined_then js (pipeline_then p (connector op ∷ r))
-joined_then-push [] p op r = refl
-joined_then-push (j ∷ js) p op r = ap (λ x. pipeline_then j.0 (connector j.1 ∷ x)) (joined_then-push js p op r)
+pipelines_then-push : (js : List (Pipeline × Connector)) (p : Pipeline) (op : Connector) (r : List Token) → pipelines_then (js ++ (p, op) ∷ []) r ≡ pipelines_then js (pipeline_then p (connector op ∷ r))
+pipelines_then-push [] p op r = refl
+pipelines_then-push (j ∷ js) p op r = ap (λ x. pipeline_then j.0 (connector j.1 ∷ x)) (pipelines_then-push js p op r)
 
 piped_then-push : (ss : List Simple) (s : Simple) (r : List Token) → piped_then (ss ++ s ∷ []) r ≡ piped_then ss (simple_then s (bar ∷ r))
 piped_then-push [] s r = refl
@@ -152,16 +152,16 @@ arms_then-up_to : (xs : List (Commands × Commands)) (a : Arms) (r : List Token)
 arms_then-up_to [] a r = refl
 arms_then-up_to (x ∷ xs) a r = ap (λ y. commands_then x.0 (key key_then ∷ commands_then x.1 (key key_elif ∷ y))) (arms_then-up_to xs a r)
 
-join-written : (js : List (Pipeline × Connector)) (p : Pipeline) (r : List Token) → andor_then (join js p) r ≡ joined_then js (pipeline_then p r)
+join-written : (js : List (Pipeline × Connector)) (p : Pipeline) (r : List Token) → andor_then (join js p) r ≡ pipelines_then js (pipeline_then p r)
 join-written [] p r = refl
 join-written (j ∷ js) p r = ap (λ y. pipeline_then j.0 (connector j.1 ∷ y)) (join-written js p r)
 
-listed-written : (ds : List AndOr) (a : AndOr) (b : Bool) (r : List Token) → commands_then (listed ds a b) r ≡ done_then ds (andor_then a (closing_then b r))
+listed-written : (ds : List AndOr) (a : AndOr) (b : Bool) (r : List Token) → commands_then (listed ds a b) r ≡ and_ors_then ds (andor_then a (closing_then b r))
 listed-written [] a b r = refl
 listed-written (d ∷ ds) a b r = ap (λ y. andor_then d (semicolon ∷ y)) (listed-written ds a b r)
 
 -- a command behind what is open
-and_or-written : (o : Open) (c : Command) (r : List Token) → andor_then (and_or o c) r ≡ joined_then o.pipelines (bang_then o.negated (command_then c r))
+and_or-written : (o : Open) (c : Command) (r : List Token) → andor_then (and_or o c) r ≡ pipelines_then o.pipelines (bang_then o.negated (command_then c r))
 and_or-written o c r = join-written o.pipelines (pipeline o.negated c) r
 
 -- ---- wholeness, kept
@@ -275,7 +275,7 @@ close_sound s (x ∷ st) l k e hs hl = close_by_sound s st x.0 x.1 l k e hs.2 hs
 
 -- what stands at a place where a list may end is that list
 record Ends (ds : List AndOr) (l : Commands) : Type 0 where
-  same : (r : List Token) → done_then ds r ≡ commands_then l r
+  same : (r : List Token) → and_ors_then ds r ≡ commands_then l r
   whole_list : IsCommands l
   itself : EndsItself l
 
@@ -296,7 +296,7 @@ all_closed_ends (a ∷ []) l e h = subst (λ x. Ends (a ∷ []) x) (Some_inj (la
 all_closed_ends (a ∷ b ∷ ds) l e h = mapped_ends a (b ∷ ds) l (all_closed (b ∷ ds)) e h.0 (λ m f. all_closed_ends (b ∷ ds) m f h.1)
 
 may_end_ends : (ds : List AndOr) (js : List (Pipeline × Connector)) (b : Bool) (l : Commands) → end_of ds js b ≡ Some l → AreDone ds
-    → ((r : List Token) → done_then ds (joined_then js (bang_then b r)) ≡ commands_then l r) × (IsCommands l × EndsItself l)
+    → ((r : List Token) → and_ors_then ds (pipelines_then js (bang_then b r)) ≡ commands_then l r) × (IsCommands l × EndsItself l)
 may_end_ends ds [] false l e h = let x = all_closed_ends ds l e h in (x.same, (x.whole_list, x.itself))
 may_end_ends ds [] true l e h = absurd (let f : None ≡ Some l = e in cc)
 may_end_ends ds (j ∷ js) b l e h = absurd (let f : None ≡ Some l = e in cc)
@@ -311,7 +311,7 @@ closing_sound st o k (Some l) e hs ho =
 
 bang_sound : (st : Stack) (o : Open) (b : Bool) → o.negated ≡ b → IsStack st → IsOpen o → Sound (at st o start) (key bang) (cond b None (Some (at st (record o { negated = true }) start)))
 bang_sound st o true e hs ho = tt
-bang_sound st o false e hs ho = record { written = λ r. ap (λ b. stack_then st (done_then o.and_ors (joined_then o.pipelines (bang_then b (key bang ∷ r))))) e; kept = (hs, ho, tt) }
+bang_sound st o false e hs ho = record { written = λ r. ap (λ b. stack_then st (and_ors_then o.and_ors (pipelines_then o.pipelines (bang_then b (key bang ∷ r))))) e; kept = (hs, ho, tt) }
 
 key_sound : (st : Stack) (o : Open) (k : ReservedWord) → IsStack st → IsOpen o → Sound (at st o start) (key k) (begin_reserved st o k)
 key_sound st o bang hs ho = bang_sound st o o.negated refl hs ho
@@ -357,34 +357,34 @@ begin_sound st o w ordinary e hs ho = simple_sound st o start [] w ordinary e (r
 -- ---- behind a whole command
 
 -- a whole command stands at the place
-record Stands (p : Place) (c : Command) : Type 0 where
+record IsWholeAt (p : Place) (c : Command) : Type 0 where
   is_whole : IsCommand c
   then_is : (r : List Token) → place_then p r ≡ command_then c r
 
-go_on_sound : (st : Stack) (o : Open) (p : Place) (c : Command) (t : Token) → Stands p c → IsStack st → IsOpen o → Sound (at st o p) t (go_on st o c t)
+go_on_sound : (st : Stack) (o : Open) (p : Place) (c : Command) (t : Token) → IsWholeAt p c → IsStack st → IsOpen o → Sound (at st o p) t (go_on st o c t)
 go_on_sound st o p c semicolon b hs ho = record {
   written = λ r. ap (λ x. stack_then st (open_then o x)) (b.then_is (semicolon ∷ r))
-      ∙ ap (stack_then st) (sym (done_then-push o.and_ors (and_or o c) r ∙ ap (done_then o.and_ors) (and_or-written o c (semicolon ∷ r))));
+      ∙ ap (stack_then st) (sym (and_ors_then-push o.and_ors (and_or o c) r ∙ ap (and_ors_then o.and_ors) (and_or-written o c (semicolon ∷ r))));
   kept = (hs, (AreDone-push o.and_ors (and_or o c) ho.0 (IsAndOr-join o.pipelines (pipeline o.negated c) ho.1 b.is_whole), tt), tt);
 }
 go_on_sound st o p c (connector op) b hs ho = record {
   written = λ r. ap (λ x. stack_then st (open_then o x)) (b.then_is (connector op ∷ r))
-      ∙ ap (λ x. stack_then st (done_then o.and_ors x)) (sym (joined_then-push o.pipelines (pipeline o.negated c) op r));
+      ∙ ap (λ x. stack_then st (and_ors_then o.and_ors x)) (sym (pipelines_then-push o.pipelines (pipeline o.negated c) op r));
   kept = (hs, (ho.0, AreJoined-push o.pipelines (pipeline o.negated c) op ho.1 b.is_whole), tt);
 }
 go_on_sound st o p c bar b hs ho = tt
 go_on_sound st o p c (redirection d) b hs ho = tt
 go_on_sound st o p c (word w) b hs ho = tt
 
-stands_simple : (ss : List Simple) (s : Simple) → are_simple ss ≡ true → is_simple s ≡ true → Stands (in_simple ss s) (simples (ss ++ s ∷ []))
-stands_simple ss s h k = record { is_whole = are_stages-push ss s (are_simple-push ss s h k); then_is = λ r. sym (stages_then-push ss s r) }
+whole_simple : (ss : List Simple) (s : Simple) → are_simple ss ≡ true → is_simple s ≡ true → IsWholeAt (in_simple ss s) (simples (ss ++ s ∷ []))
+whole_simple ss s h k = record { is_whole = are_stages-push ss s (are_simple-push ss s h k); then_is = λ r. sym (stages_then-push ss s r) }
 
 close_word_sound : (st : Stack) (o : Open) (d : Command) (w : Word) (c : Class) → class w ≡ c → IsCommand d × (is_compound d ≡ true) → IsStack st → IsOpen o
     → Sound (at st o (after_compound d)) (word w) (close_word st o d c)
 close_word_sound st o d w (reserved k) e h hs ho =
     let l = listed o.and_ors (and_or o d) false in
     let written : (r : List Token) → state_then (at st o (after_compound d)) r ≡ stack_then st (commands_then l r) =
-    λ r. ap (stack_then st) (sym (listed-written o.and_ors (and_or o d) false r ∙ ap (done_then o.and_ors) (and_or-written o d r))) in
+    λ r. ap (stack_then st) (sym (listed-written o.and_ors (and_or o d) false r ∙ ap (and_ors_then o.and_ors) (and_or-written o d r))) in
     let whole_list : IsCommands l = IsCommands-listed o.and_ors (and_or o d) false ho.0 (IsAndOr-join o.pipelines (pipeline o.negated d) ho.1 h.0) in
     let itself : EndsItself l = ends-listed o.and_ors (and_or o d) ∙ ends_compound-join o.pipelines o.negated d ∙ h.1 in
     subst (λ v. Sound (at st o (after_compound d)) (word v) (close st l k)) (sym (key_of_class w k e)) (close_sound (at st o (after_compound d)) st l k written hs (whole_list, itself))
@@ -443,7 +443,7 @@ in_key st o n key_in hs ho h = record { written = λ r. refl; kept = (hs, ho, h)
 in_key st o n k hs ho h = tt
 
 do_key : (st : Stack) (o : Open) (n : List ℕ) (ws : List Word) (k : ReservedWord) → IsStack st → IsOpen o → name_of (plain n ∷ []) ≡ Some n
-    → Sound (at st o (for_do n ws)) (key k) (only_key key_do (reserved k) (Some (at ((o, body n ws) ∷ st) nothing start)))
+    → Sound (at st o (for_do n ws)) (key k) (only_key key_do (reserved k) (Some (at ((o, body n ws) ∷ st) empty_list start)))
 do_key st o n ws key_do hs ho h = record { written = λ r. refl; kept = ((ho, h, hs), (tt, tt), tt) }
 do_key st o n ws k hs ho h = tt
 
@@ -456,9 +456,9 @@ in_sound st o n w assignment e hs ho h = tt
 in_sound st o n w ordinary e hs ho h = tt
 
 do_sound : (st : Stack) (o : Open) (n : List ℕ) (ws : List Word) (w : Word) (c : Class) → class w ≡ c → IsStack st → IsOpen o → name_of (plain n ∷ []) ≡ Some n
-    → Sound (at st o (for_do n ws)) (word w) (only_key key_do c (Some (at ((o, body n ws) ∷ st) nothing start)))
+    → Sound (at st o (for_do n ws)) (word w) (only_key key_do c (Some (at ((o, body n ws) ∷ st) empty_list start)))
 do_sound st o n ws w (reserved k) e hs ho h =
-    subst (λ v. Sound (at st o (for_do n ws)) (word v) (only_key key_do (reserved k) (Some (at ((o, body n ws) ∷ st) nothing start)))) (sym (key_of_class w k e)) (do_key st o n ws k hs ho h)
+    subst (λ v. Sound (at st o (for_do n ws)) (word v) (only_key key_do (reserved k) (Some (at ((o, body n ws) ∷ st) empty_list start)))) (sym (key_of_class w k e)) (do_key st o n ws k hs ho h)
 do_sound st o n ws w forbidden e hs ho h = tt
 do_sound st o n ws w assignment e hs ho h = tt
 do_sound st o n ws w ordinary e hs ho h = tt
@@ -477,8 +477,8 @@ step_sound st o (in_simple ss s) bar hs ho h = record {
   written = λ r. ap (λ x. stack_then st (open_then o x)) (sym (piped_then-push ss s r));
   kept = (hs, ho, are_simple-push ss s h.0 h.1);
 }
-step_sound st o (in_simple ss s) semicolon hs ho h = go_on_sound st o (in_simple ss s) (simples (ss ++ s ∷ [])) semicolon (stands_simple ss s h.0 h.1) hs ho
-step_sound st o (in_simple ss s) (connector op) hs ho h = go_on_sound st o (in_simple ss s) (simples (ss ++ s ∷ [])) (connector op) (stands_simple ss s h.0 h.1) hs ho
+step_sound st o (in_simple ss s) semicolon hs ho h = go_on_sound st o (in_simple ss s) (simples (ss ++ s ∷ [])) semicolon (whole_simple ss s h.0 h.1) hs ho
+step_sound st o (in_simple ss s) (connector op) hs ho h = go_on_sound st o (in_simple ss s) (simples (ss ++ s ∷ [])) (connector op) (whole_simple ss s h.0 h.1) hs ho
 step_sound st o (target ss is d) (word w) hs ho h = record {
   written = λ r. ap (λ x. stack_then st (open_then o (piped_then ss x))) (sym (items_then-push is (redirect d w) r));
   kept = (hs, ho, (h.0, simple_from_well is (redirect d w) (well-target is d w h.1)));
@@ -496,7 +496,7 @@ step_sound st o for_name t hs ho h = tt
 step_sound st o (for_in n) (word w) hs ho h = in_sound st o n w (class w) refl hs ho h
 step_sound st o (for_in n) t hs ho h = tt
 step_sound st o (for_words n ws) (word w) hs ho h = record {
-  written = λ r. ap (λ x. stack_then st (open_then o (key key_for ∷ whole n ∷ key key_in ∷ x))) (sym (words_then-push ws w r));
+  written = λ r. ap (λ x. stack_then st (open_then o (key key_for ∷ plain_token n ∷ key key_in ∷ x))) (sym (words_then-push ws w r));
   kept = (hs, ho, h);
 }
 step_sound st o (for_words n ws) semicolon hs ho h = record { written = λ r. refl; kept = (hs, ho, h) }
@@ -524,18 +524,18 @@ run_sound (t ∷ ts) s n h e =
 
 -- ---- the end
 
-listed_end : (o : Open) (c : Command) (p : Place) (l : Commands) → Stands p c → IsOpen o → Some (listed o.and_ors (and_or o c) false) ≡ Some l
+listed_end : (o : Open) (c : Command) (p : Place) (l : Commands) → IsWholeAt p c → IsOpen o → Some (listed o.and_ors (and_or o c) false) ≡ Some l
     → (open_then o (place_then p []) ≡ commands_then l []) × IsCommands l
 listed_end o c p l b ho e =
     let same = Some_inj (listed o.and_ors (and_or o c) false) l e in
     let written : open_then o (place_then p []) ≡ commands_then (listed o.and_ors (and_or o c) false) [] =
-    ap (open_then o) (b.then_is []) ∙ sym (listed-written o.and_ors (and_or o c) false [] ∙ ap (done_then o.and_ors) (and_or-written o c [])) in
+    ap (open_then o) (b.then_is []) ∙ sym (listed-written o.and_ors (and_or o c) false [] ∙ ap (and_ors_then o.and_ors) (and_or-written o c [])) in
     (written ∙ ap (λ x. commands_then x []) same, subst IsCommands same (IsCommands-listed o.and_ors (and_or o c) false ho.0 (IsAndOr-join o.pipelines (pipeline o.negated c) ho.1 b.is_whole)))
 
 finish_sound : (st : Stack) (o : Open) (p : Place) (l : Commands) → IsOpen o → IsPlace p → finish_at st o p ≡ Some l
     → (state_then (at st o p) [] ≡ commands_then l []) × IsCommands l
 finish_sound [] o start l ho h e = let x = may_end_ends o.and_ors o.pipelines o.negated l e ho.0 in (x.0 [], x.1.0)
-finish_sound [] o (in_simple ss s) l ho h e = listed_end o (simples (ss ++ s ∷ [])) (in_simple ss s) l (stands_simple ss s h.0 h.1) ho e
+finish_sound [] o (in_simple ss s) l ho h e = listed_end o (simples (ss ++ s ∷ [])) (in_simple ss s) l (whole_simple ss s h.0 h.1) ho e
 finish_sound [] o (after_compound c) l ho h e = listed_end o c (after_compound c) l (record { is_whole = h.0; then_is = λ r. refl }) ho e
 finish_sound [] o (target ss is d) l ho h e = absurd (let f : None ≡ Some l = e in cc)
 finish_sound [] o (after_bar ss) l ho h e = absurd (let f : None ≡ Some l = e in cc)
@@ -545,14 +545,14 @@ finish_sound [] o (for_words n ws) l ho h e = absurd (let f : None ≡ Some l = 
 finish_sound [] o (for_do n ws) l ho h e = absurd (let f : None ≡ Some l = e in cc)
 finish_sound (x ∷ st) o p l ho h e = absurd (let f : None ≡ Some l = e in cc)
 
-from_end : (ts : List Token) (m : Option State) (l : Commands) → run (Some (at [] nothing start)) ts ≡ m → finish m ≡ Some l → Spells ts l
+from_end : (ts : List Token) (m : Option State) (l : Commands) → run (Some (at [] empty_list start)) ts ≡ m → finish m ≡ Some l → Spells ts l
 from_end ts None l e f = absurd (let g : None ≡ Some l = f in cc)
 from_end ts (Some n) l e f =
-    let x = run_sound ts (at [] nothing start) n (tt, (tt, tt), tt) e in
+    let x = run_sound ts (at [] empty_list start) n (tt, (tt, tt), tt) e in
     let y = finish_sound n.stack n.here n.place l x.1.1 x.1.2 f in
     record { tree = y.1; written = x.0 ∙ y.0 }
 
 -- What is read as a tree is what is written for it.
 pub Spells-commands_of : (ts : List Token) (c : Commands) → commands_of ts ≡ Some c → Spells ts c
 unfolding commands_of
-Spells-commands_of ts c e = from_end ts (run (Some (at [] nothing start)) ts) c refl e
+Spells-commands_of ts c e = from_end ts (run (Some (at [] empty_list start)) ts) c refl e

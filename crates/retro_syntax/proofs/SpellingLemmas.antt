@@ -5,7 +5,7 @@ use Rattle.std.proofs.lemmas.Bool.{eqb-true}
 use Rattle.retro_syntax.specs.Ascii.{is_among}
 use Rattle.retro_syntax.specs.Tree as T
 use Rattle.retro_path.specs.VarName.{starts_name, continues_name, is_var_name}
-use Rattle.retro_syntax.specs.Quoting.{Quote, unquoted as Unquoted, single as Single, double as Double, Operator, one_semicolon, one_ampersand, one_bar, one_less, one_greater, Lexing, Reading, Pending, with_pending, between, comment, operator, reading, in_word, dollar, named, braced, question, add_plain, add_quoted, is_other_parameter, is_special_inside, is_blank, is_operator, is_refused, with_parameter, with_variable, unquoted_at, fresh, settled, word_at, after_variable, reading_at, operator_at, plain_at, escaped_in, escaped_reading, escaped_operator, escaped_at, takes_backslash, lex_step, lex_run, reading_end, lex_end_at, lex_end, tokens_of}
+use Rattle.retro_syntax.specs.Quoting.{Quote, unquoted as Unquoted, single as Single, double as Double, Operator, one_semicolon, one_ampersand, one_bar, one_less, one_greater, Lexing, Reading, Pending, with_pending, between, comment, operator, reading, in_word, dollar, dollar_name, dollar_brace, dollar_question, add_plain, add_quoted, is_other_parameter, is_special_inside, is_blank, is_operator, is_refused, with_parameter, with_variable, unquoted_at, begin_token, end_operator, word_at, after_variable, reading_at, operator_at, plain_at, escaped_in, escaped_reading, escaped_operator, escaped_at, takes_backslash, lex_step, lex_run, reading_end, lex_end_at, lex_end, tokens_of}
 use Rattle.retro_syntax.specs.declared.tree.Direction.TheVariants.{From, Onto, Append}
 use Rattle.retro_syntax.specs.declared.tree.Connector.TheVariants.{AndIf, OrIf}
 use Rattle.retro_syntax.specs.Writing.{semicolon, bar, connector, redirection, fits, begins_parameter, is_parameter, HasWriting}
@@ -27,9 +27,9 @@ InWord Double ps = QuotedWord ps
 abbrev IsReading : Reading → Type 0
 IsReading (in_word ps digits q) = InWord q ps
 IsReading (dollar ps inside) = Before inside ps
-IsReading (named ps inside n) = Before inside ps
-IsReading (braced ps inside n) = Before inside ps
-IsReading (question ps inside) = Before inside ps
+IsReading (dollar_name ps inside n) = Before inside ps
+IsReading (dollar_brace ps inside n) = Before inside ps
+IsReading (dollar_question ps inside) = Before inside ps
 
 abbrev IsPending : Pending → Type 0
 IsPending between = Unit {0}
@@ -70,8 +70,8 @@ unquoted_kept ts g ps digits c x b d p a bl op =
 first_plain : (c : ℕ) → fits c ≡ true → (c == 35) ≡ false → Word true (add_plain [] c)
 first_plain c f h = start_unquoted true c [] (rw f refl) h
 
-fresh_kept : (ts : List T.Token) (c : ℕ) → HasWriting ts → (c == 92) ≡ false → Kept (fresh ts c)
-fresh_kept ts c x a =
+begin_token_kept : (ts : List T.Token) (c : ℕ) → HasWriting ts → (c == 92) ≡ false → Kept (begin_token ts c)
+begin_token_kept ts c x a =
     by_bool (is_blank c) (λ e. rw e (x, tt)) (λ bl. rw bl
     (by_bool (c == 59) (λ e. rw e (x, tt)) (λ o1. rw o1
     (by_bool (c == 38) (λ e. rw e (x, tt)) (λ o2. rw o2
@@ -87,7 +87,7 @@ word_kept : (ts : List T.Token) (g : Bool) (ps : List T.Piece) (digits : Bool) (
     → (c == 92) ≡ false → Kept (word_at ts ps digits Unquoted c)
 word_kept ts g ps digits c x w d p a =
     by_bool (is_blank c || is_operator c)
-    (λ e. rw e (by_bool (digits && ((c == 60) || (c == 62))) (λ f. rw f tt) (λ f. rw f (fresh_kept (ts ++ T.word ps ∷ []) c (push_word ts g ps x w) a))))
+    (λ e. rw e (by_bool (digits && ((c == 60) || (c == 62))) (λ f. rw f tt) (λ f. rw f (begin_token_kept (ts ++ T.word ps ∷ []) c (push_word ts g ps x w) a))))
     (λ e. rw e (unquoted_kept ts g ps digits c x (going w) d p a (or_left (is_blank c) (is_operator c) e) (or_right (is_blank c) (is_operator c) e)))
 
 grow_one : (ps : List T.Piece) (c : ℕ) → Word true ps → fits c ≡ true → Word true (add_plain ps c)
@@ -154,19 +154,19 @@ dollar_inside ts ps c x w =
     (by_bool (is_other_parameter c) (λ e. rw e tt) (λ p. rw p
     (double_kept ts (add_quoted ps (encode_utf8 36)) false c x (quote_one true ps 36 (going w.given) refl)))))))))
 
-named_kept : (ts : List T.Token) (ps : List T.Piece) (inside : Bool) (n : List ℕ) (c : ℕ) → HasWriting ts → Before inside ps → (c == 92) ≡ false → Kept (reading_at ts (named ps inside n) c)
-named_kept ts ps inside n c x b a =
+dollar_name_kept : (ts : List T.Token) (ps : List T.Piece) (inside : Bool) (n : List ℕ) (c : ℕ) → HasWriting ts → Before inside ps → (c == 92) ≡ false → Kept (reading_at ts (dollar_name ps inside n) c)
+dollar_name_kept ts ps inside n c x b a =
     by_bool (continues_name c) (λ e. rw e (x, b)) (λ e. rw e (after_variable_kept ts ps inside n c x b a))
 
-braced_kept : (ts : List T.Token) (ps : List T.Piece) (inside : Bool) (n : List ℕ) (c : ℕ) → HasWriting ts → Before inside ps → Kept (reading_at ts (braced ps inside n) c)
-braced_kept ts ps inside [] c x b =
+dollar_brace_kept : (ts : List T.Token) (ps : List T.Piece) (inside : Bool) (n : List ℕ) (c : ℕ) → HasWriting ts → Before inside ps → Kept (reading_at ts (dollar_brace ps inside n) c)
+dollar_brace_kept ts ps inside [] c x b =
     by_bool (c == 63) (λ e. rw e (x, b)) (λ q. rw q (by_bool (starts_name c) (λ e. rw e (x, b)) (λ e. rw e tt)))
-braced_kept ts ps inside (d ∷ n) c x b =
+dollar_brace_kept ts ps inside (d ∷ n) c x b =
     by_bool (c == 125) (λ e. rw e (with_variable_kept ts ps inside (d ∷ n) x b)) (λ q. rw q
     (by_bool (continues_name c) (λ e. rw e (x, b)) (λ e. rw e tt)))
 
-question_kept : (ts : List T.Token) (ps : List T.Piece) (inside : Bool) (c : ℕ) → HasWriting ts → Before inside ps → Kept (reading_at ts (question ps inside) c)
-question_kept ts ps inside c x b = by_bool (c == 125) (λ e. rw e (with_parameter_kept ts ps inside T.status x b refl)) (λ e. rw e tt)
+dollar_question_kept : (ts : List T.Token) (ps : List T.Piece) (inside : Bool) (c : ℕ) → HasWriting ts → Before inside ps → Kept (reading_at ts (dollar_question ps inside) c)
+dollar_question_kept ts ps inside c x b = by_bool (c == 125) (λ e. rw e (with_parameter_kept ts ps inside T.status x b refl)) (λ e. rw e tt)
 
 -- whether a backslash quotes there, told by the state
 reading_kept : (ts : List T.Token) (r : Reading) (c : ℕ) → HasWriting ts → IsReading r → ((c == 92) && takes_backslash (reading r)) ≡ false → Kept (reading_at ts r c)
@@ -175,9 +175,9 @@ reading_kept ts (in_word ps digits Single) c x h a = single_kept ts ps digits c 
 reading_kept ts (in_word ps digits Double) c x h a = double_kept ts ps digits c x h
 reading_kept ts (dollar ps true) c x h a = dollar_inside ts ps c x h
 reading_kept ts (dollar ps false) c x h a = dollar_outside ts ps c x h (and_taken (c == 92) a)
-reading_kept ts (named ps inside n) c x h a = named_kept ts ps inside n c x h (and_taken (c == 92) a)
-reading_kept ts (braced ps inside n) c x h a = braced_kept ts ps inside n c x h
-reading_kept ts (question ps inside) c x h a = question_kept ts ps inside c x h
+reading_kept ts (dollar_name ps inside n) c x h a = dollar_name_kept ts ps inside n c x h (and_taken (c == 92) a)
+reading_kept ts (dollar_brace ps inside n) c x h a = dollar_brace_kept ts ps inside n c x h
+reading_kept ts (dollar_question ps inside) c x h a = dollar_question_kept ts ps inside c x h
 
 -- ---- operators
 
@@ -186,27 +186,27 @@ kept_cond true l m f g = f refl
 kept_cond false l m f g = g refl
 
 operator_kept : (ts : List T.Token) (op : Operator) (c : ℕ) → HasWriting ts → (c == 92) ≡ false → Kept (operator_at ts op c)
-operator_kept ts one_semicolon c x a = kept_cond (c == 59) None (fresh (ts ++ T.semicolon ∷ []) c) (λ e. tt) (λ e. fresh_kept (ts ++ T.semicolon ∷ []) c (push_token ts semicolon x refl) a)
+operator_kept ts one_semicolon c x a = kept_cond (c == 59) None (begin_token (ts ++ T.semicolon ∷ []) c) (λ e. tt) (λ e. begin_token_kept (ts ++ T.semicolon ∷ []) c (push_token ts semicolon x refl) a)
 operator_kept ts one_ampersand c x a = by_bool (c == 38) (λ e. rw e (push_token ts (connector AndIf) x refl, tt)) (λ e. rw e tt)
 operator_kept ts one_bar c x a =
-    kept_cond (c == 124) (Some (with_pending (ts ++ T.connector OrIf ∷ []) between)) (fresh (ts ++ T.bar ∷ []) c) (λ e. (push_token ts (connector OrIf) x refl, tt))
-    (λ e. fresh_kept (ts ++ T.bar ∷ []) c (push_token ts bar x refl) a)
+    kept_cond (c == 124) (Some (with_pending (ts ++ T.connector OrIf ∷ []) between)) (begin_token (ts ++ T.bar ∷ []) c) (λ e. (push_token ts (connector OrIf) x refl, tt))
+    (λ e. begin_token_kept (ts ++ T.bar ∷ []) c (push_token ts bar x refl) a)
 operator_kept ts one_less c x a =
-    kept_cond (((c == 60) || (c == 38)) || (c == 62)) None (fresh (ts ++ T.redirection From ∷ []) c) (λ e. tt) (λ e. fresh_kept (ts ++ T.redirection From ∷ []) c (push_token ts (redirection From) x refl) a)
+    kept_cond (((c == 60) || (c == 38)) || (c == 62)) None (begin_token (ts ++ T.redirection From ∷ []) c) (λ e. tt) (λ e. begin_token_kept (ts ++ T.redirection From ∷ []) c (push_token ts (redirection From) x refl) a)
 operator_kept ts one_greater c x a =
-    let onto = fresh (ts ++ T.redirection Onto ∷ []) c in
+    let onto = begin_token (ts ++ T.redirection Onto ∷ []) c in
     kept_cond (c == 62) (Some (with_pending (ts ++ T.redirection Append ∷ []) between)) (cond ((c == 38) || (c == 124)) None onto) (λ e. (push_token ts (redirection Append) x refl, tt))
-    (λ g. kept_cond ((c == 38) || (c == 124)) None onto (λ e. tt) (λ e. fresh_kept (ts ++ T.redirection Onto ∷ []) c (push_token ts (redirection Onto) x refl) a))
+    (λ g. kept_cond ((c == 38) || (c == 124)) None onto (λ e. tt) (λ e. begin_token_kept (ts ++ T.redirection Onto ∷ []) c (push_token ts (redirection Onto) x refl) a))
 
-settled_kept : (ts : List T.Token) (op : Operator) → HasWriting ts → KeptTokens (settled ts op)
-settled_kept ts one_semicolon x = push_token ts semicolon x refl
-settled_kept ts one_ampersand x = tt
-settled_kept ts one_bar x = push_token ts bar x refl
-settled_kept ts one_less x = push_token ts (redirection From) x refl
-settled_kept ts one_greater x = push_token ts (redirection Onto) x refl
+end_operator_kept : (ts : List T.Token) (op : Operator) → HasWriting ts → KeptTokens (end_operator ts op)
+end_operator_kept ts one_semicolon x = push_token ts semicolon x refl
+end_operator_kept ts one_ampersand x = tt
+end_operator_kept ts one_bar x = push_token ts bar x refl
+end_operator_kept ts one_less x = push_token ts (redirection From) x refl
+end_operator_kept ts one_greater x = push_token ts (redirection Onto) x refl
 
 plain_kept : (ts : List T.Token) (p : Pending) (c : ℕ) → HasWriting ts → IsPending p → ((c == 92) && takes_backslash p) ≡ false → Kept (plain_at ts p c)
-plain_kept ts between c x h a = fresh_kept ts c x (and_taken (c == 92) a)
+plain_kept ts between c x h a = begin_token_kept ts c x (and_taken (c == 92) a)
 plain_kept ts comment c x h a = by_bool ((c == 0) || (c == 10)) (λ e. rw e tt) (λ e. rw e (x, tt))
 plain_kept ts (operator op) c x h a = operator_kept ts op c x (and_taken (c == 92) a)
 plain_kept ts (reading r) c x h a = reading_kept ts r c x h a
@@ -227,16 +227,16 @@ escaped_reading_kept ts (in_word ps digits Single) c x h z = tt
 escaped_reading_kept ts (in_word ps digits Double) c x h z = escaped_in_kept ts true ps Double c x (going h.given) z
 escaped_reading_kept ts (dollar ps true) c x h z = escaped_in_kept ts true (add_quoted ps (encode_utf8 36)) Double c x (going (quote_one true ps 36 (going h.given) refl).given) z
 escaped_reading_kept ts (dollar ps false) c x h z = escaped_in_kept ts false (add_plain ps 36) Unquoted c x (going (lone_dollar ps h)) z
-escaped_reading_kept ts (named ps true n) c x h z =
+escaped_reading_kept ts (dollar_name ps true n) c x h z =
     by_bool (is_var_name n)
     (λ e. rw e (escaped_in_kept ts true (ps ++ T.quoted_parameter (T.variable n) ∷ []) Double c x (going (push_quoted_parameter ps (T.variable n) h e).given) z))
     (λ e. rw e tt)
-escaped_reading_kept ts (named ps false n) c x h z =
+escaped_reading_kept ts (dollar_name ps false n) c x h z =
     by_bool (is_var_name n)
     (λ e. rw e (escaped_in_kept ts true (ps ++ T.parameter (T.variable n) ∷ []) Unquoted c x (going (push_parameter ps (T.variable n) h e)) z))
     (λ e. rw e tt)
-escaped_reading_kept ts (braced ps inside n) c x h z = tt
-escaped_reading_kept ts (question ps inside) c x h z = tt
+escaped_reading_kept ts (dollar_brace ps inside n) c x h z = tt
+escaped_reading_kept ts (dollar_question ps inside) c x h z = tt
 
 escaped_operator_kept : (m : Option (List T.Token)) (c : ℕ) → KeptTokens m → (c == 0) ≡ false → Kept (escaped_operator m c)
 escaped_operator_kept None c x z = tt
@@ -245,7 +245,7 @@ escaped_operator_kept (Some ts) c x z = escaped_in_kept ts true [] Unquoted c x 
 escaped_kept : (ts : List T.Token) (p : Pending) (c : ℕ) → HasWriting ts → IsPending p → (c == 0) ≡ false → Kept (escaped_at ts p c)
 escaped_kept ts between c x h z = escaped_in_kept ts true [] Unquoted c x (empty refl) z
 escaped_kept ts comment c x h z = tt
-escaped_kept ts (operator op) c x h z = escaped_operator_kept (settled ts op) c (settled_kept ts op x) z
+escaped_kept ts (operator op) c x h z = escaped_operator_kept (end_operator ts op) c (end_operator_kept ts op x) z
 escaped_kept ts (reading r) c x h z = escaped_reading_kept ts r c x h z
 
 -- ---- a whole text
@@ -267,17 +267,17 @@ reading_end_kept ts (in_word ps digits Single) x h = tt
 reading_end_kept ts (in_word ps digits Double) x h = tt
 reading_end_kept ts (dollar ps true) x h = tt
 reading_end_kept ts (dollar ps false) x h = push_word ts false (add_plain ps 36) x (lone_dollar ps h)
-reading_end_kept ts (named ps true n) x h = tt
-reading_end_kept ts (named ps false n) x h =
+reading_end_kept ts (dollar_name ps true n) x h = tt
+reading_end_kept ts (dollar_name ps false n) x h =
     by_bool (is_var_name n) (λ e. rw e (push_word ts true (ps ++ T.parameter (T.variable n) ∷ []) x (push_parameter ps (T.variable n) h e))) (λ e. rw e tt)
-reading_end_kept ts (braced ps inside n) x h = tt
-reading_end_kept ts (question ps inside) x h = tt
+reading_end_kept ts (dollar_brace ps inside n) x h = tt
+reading_end_kept ts (dollar_question ps inside) x h = tt
 
 end_kept : (ts : List T.Token) (p : Pending) (b : Bool) → HasWriting ts → IsPending p → KeptTokens (lex_end_at ts p b)
 end_kept ts p true x h = tt
 end_kept ts between false x h = x
 end_kept ts comment false x h = x
-end_kept ts (operator op) false x h = settled_kept ts op x
+end_kept ts (operator op) false x h = end_operator_kept ts op x
 end_kept ts (reading r) false x h = reading_end_kept ts r x h
 
 lex_end_kept : (m : Option Lexing) → Kept m → KeptTokens (lex_end m)

@@ -24,10 +24,10 @@ viewed j = (record { negated = j.0.negated; command = view j.0.command }, j.1)
 abbrev joint : {C : Type 0} → (C → T.Command) → Pipeline C × Connector → T.Pipeline × Connector
 joint of j = (pipeline_of of j.0, j.1)
 
-joined-fuse : (h : Pipeline Command × Connector → Pipeline T.Command × Connector)
+pipelines-fuse : (h : Pipeline Command × Connector → Pipeline T.Command × Connector)
     → ((j : Pipeline Command × Connector) → h j ≡ viewed j)
     → (js : List (Pipeline Command × Connector)) → map (joint (λ c. c)) (map h js) ≡ map (joint view) js
-joined-fuse h e js = map-fuse h (joint (λ c. c)) (joint view) (λ j. ap (joint (λ c. c)) (e j)) js
+pipelines-fuse h e js = map-fuse h (joint (λ c. c)) (joint view) (λ j. ap (joint (λ c. c)) (e j)) js
 
 commands-fuse : (hb : AndOr Command → AndOr T.Command) (hj : Pipeline Command × Connector → Pipeline T.Command × Connector)
     → ((a : AndOr Command) → and_or_of (λ c. c) (hb a) ≡ and_or_of view a)
@@ -35,16 +35,16 @@ commands-fuse : (hb : AndOr Command → AndOr T.Command) (hj : Pipeline Command 
     → (c : Commands Command)
     → listed (map (and_or_of (λ x. x)) (map hb c.before.items)) (join (map (joint (λ x. x)) (map hj c.last.before.items)) (T.pipeline c.last.last.negated (view c.last.last.command))) c.final_semicolon
     ≡ commands_of view c
-commands-fuse hb hj eb ej c = ap₂ (λ ds a. listed ds a c.final_semicolon) (map-fuse hb (and_or_of (λ x. x)) (and_or_of view) eb c.before.items) (ap (λ js. join js (pipeline_of view c.last.last)) (joined-fuse hj ej c.last.before.items))
+commands-fuse hb hj eb ej c = ap₂ (λ ds a. listed ds a c.final_semicolon) (map-fuse hb (and_or_of (λ x. x)) (and_or_of view) eb c.before.items) (ap (λ js. join js (pipeline_of view c.last.last)) (pipelines-fuse hj ej c.last.before.items))
 
 pub view_if : (x : Box (Conditional Command) Global) → view (If x) ≡ T.conditional (arms_of view x.value)
 unfolding view
 view_if x = ap (fold-Command T.Command view_step) (sym (rolls-If x)) ∙ (fold-roll-Command T.Command view_step (Command-F.If x) ∙ ap T.conditional
     (ap₂ arms_up_to
-    (map-fuse _ _ _ (λ a. ap₂ (λ c t. (c, t)) (commands-fuse _ _ (λ b. ap (λ js. join js (pipeline_of view b.last)) (joined-fuse _ (λ j. refl) b.before.items)) (λ j. refl) a.0) (commands-fuse _ _ (λ b. ap (λ js. join js (pipeline_of view b.last)) (joined-fuse _ (λ j. refl) b.before.items)) (λ j. refl) a.1)) x.value.before.items)
+    (map-fuse _ _ _ (λ a. ap₂ (λ c t. (c, t)) (commands-fuse _ _ (λ b. ap (λ js. join js (pipeline_of view b.last)) (pipelines-fuse _ (λ j. refl) b.before.items)) (λ j. refl) a.0) (commands-fuse _ _ (λ b. ap (λ js. join js (pipeline_of view b.last)) (pipelines-fuse _ (λ j. refl) b.before.items)) (λ j. refl) a.1)) x.value.before.items)
     (ap₂ T.fi
-    (commands-fuse _ _ (λ b. ap (λ js. join js (pipeline_of view b.last)) (joined-fuse _ (λ j. refl) b.before.items)) (λ j. refl) x.value.condition)
-    (commands-fuse _ _ (λ b. ap (λ js. join js (pipeline_of view b.last)) (joined-fuse _ (λ j. refl) b.before.items)) (λ j. refl) x.value.consequence))))
+    (commands-fuse _ _ (λ b. ap (λ js. join js (pipeline_of view b.last)) (pipelines-fuse _ (λ j. refl) b.before.items)) (λ j. refl) x.value.condition)
+    (commands-fuse _ _ (λ b. ap (λ js. join js (pipeline_of view b.last)) (pipelines-fuse _ (λ j. refl) b.before.items)) (λ j. refl) x.value.consequence))))
 
 pub view_for : (x : Box (Loop Command) Global) → view (For x) ≡ T.loop x.value.name (map word_view x.value.words.items) (commands_of view x.value.body)
 unfolding view
@@ -58,11 +58,11 @@ pub view_if_else : (x : Box (Conditional Command) Global) (y : Box (Commands Com
 unfolding view
 view_if_else x y = ap (fold-Command T.Command view_step) (sym (rolls-IfElse x y)) ∙ (fold-roll-Command T.Command view_step (Command-F.IfElse x y) ∙ ap T.conditional
     (ap₂ arms_up_to
-    (map-fuse _ _ _ (λ a. ap₂ (λ c t. (c, t)) (commands-fuse _ _ (λ b. ap (λ js. join js (pipeline_of view b.last)) (joined-fuse _ (λ j. refl) b.before.items)) (λ j. refl) a.0) (commands-fuse _ _ (λ b. ap (λ js. join js (pipeline_of view b.last)) (joined-fuse _ (λ j. refl) b.before.items)) (λ j. refl) a.1)) x.value.before.items)
+    (map-fuse _ _ _ (λ a. ap₂ (λ c t. (c, t)) (commands-fuse _ _ (λ b. ap (λ js. join js (pipeline_of view b.last)) (pipelines-fuse _ (λ j. refl) b.before.items)) (λ j. refl) a.0) (commands-fuse _ _ (λ b. ap (λ js. join js (pipeline_of view b.last)) (pipelines-fuse _ (λ j. refl) b.before.items)) (λ j. refl) a.1)) x.value.before.items)
     (ap₂ (λ (ct : T.Commands × T.Commands) e. T.otherwise ct.0 ct.1 e)
-    (ap₂ (λ c t. (c, t)) (commands-fuse _ _ (λ b. ap (λ js. join js (pipeline_of view b.last)) (joined-fuse _ (λ j. refl) b.before.items)) (λ j. refl) x.value.condition)
-    (commands-fuse _ _ (λ b. ap (λ js. join js (pipeline_of view b.last)) (joined-fuse _ (λ j. refl) b.before.items)) (λ j. refl) x.value.consequence))
-    (commands-fuse _ _ (λ b. ap (λ js. join js (pipeline_of view b.last)) (joined-fuse _ (λ j. refl) b.before.items)) (λ j. refl) y.value))))
+    (ap₂ (λ c t. (c, t)) (commands-fuse _ _ (λ b. ap (λ js. join js (pipeline_of view b.last)) (pipelines-fuse _ (λ j. refl) b.before.items)) (λ j. refl) x.value.condition)
+    (commands-fuse _ _ (λ b. ap (λ js. join js (pipeline_of view b.last)) (pipelines-fuse _ (λ j. refl) b.before.items)) (λ j. refl) x.value.consequence))
+    (commands-fuse _ _ (λ b. ap (λ js. join js (pipeline_of view b.last)) (pipelines-fuse _ (λ j. refl) b.before.items)) (λ j. refl) y.value))))
 
 pub view_pipe : (ss : Vec Simple Global) → view (Pipe ss) ≡ T.simples (map simple_view ss.items)
 unfolding view

@@ -7,7 +7,7 @@ use Rattle.retro_path.specs.VarName.{starts_name, continues_name, is_shell_name,
 use Rattle.retro_syntax.specs.Spells.{is_assigned, begins_unquoted}
 use Rattle.std.proofs.lemmas.Slice.Eq.{bytes_eq-Decides}
 use Rattle.std.specs.Prelude.{cond}
-use Rattle.retro_syntax.specs.Tree.{Piece, Word, Assignment, assignment_word, behind_equals, plain, quoted, parameter, quoted_parameter, spelling}
+use Rattle.retro_syntax.specs.Tree.{Piece, Word, Assignment, assignment_word, equals_then, plain, quoted, parameter, quoted_parameter, spelling}
 use Rattle.retro_syntax.specs.declared.tree.ReservedWord.{ReservedWord}
 use Rattle.retro_syntax.specs.declared.tree.ReservedWord.TheVariants.{Bang as bang, If as key_if, Then as key_then, Elif as key_elif, Else as key_else, Fi as key_fi, For as key_for, In as key_in, Do as key_do, Done as key_done}
 use Rattle.retro_syntax.specs.declared.words.Class.TheVariants.{Reserved as reserved, Forbidden as forbidden, Assignment as assignment, Ordinary as ordinary}
@@ -116,7 +116,7 @@ pub shell_name : (n : List ℕ) → is_var_name n ≡ true → is_shell_name n �
 unfolding is_var_name
 shell_name n h = and_left (is_shell_name n) _ h
 
-assigned_word : (n : List ℕ) (v : Word) → is_shell_name n ≡ true → begins_unquoted v ≡ true → assignment_form (behind_equals n v) ≡ Some (record { name = n; value = v })
+assigned_word : (n : List ℕ) (v : Word) → is_shell_name n ≡ true → begins_unquoted v ≡ true → assignment_form (equals_then n v) ≡ Some (record { name = n; value = v })
 assigned_word n [] h k = cc
 assigned_word n (plain text ∷ ps) h k = ap (option_map (λ s. assigned s.0 s.1 ps)) (split_name_is (n ++ 61 ∷ text) n text true (split_written n text h) h)
 assigned_word n (quoted text ∷ ps) h k = cc

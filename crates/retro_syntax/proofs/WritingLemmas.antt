@@ -8,10 +8,10 @@ use Rattle.retro_syntax.specs.Ascii.{is_among}
 use Rattle.retro_syntax.specs.Tree as T
 use Rattle.std.specs.List.{list_all}
 use Rattle.retro_path.specs.VarName.{starts_name, continues_name, is_shell_name, is_var_name}
-use Rattle.retro_syntax.specs.Quoting.{unquoted as Unquoted, double as Double, Lexing, Reading, with_pending, between, reading, in_word, dollar, braced, add_plain, add_quoted, parameter_piece, quote_of, is_other_parameter, is_special_inside, lex_step, lex_run, lex_end, tokens_of}
+use Rattle.retro_syntax.specs.Quoting.{unquoted as Unquoted, double as Double, Lexing, Reading, with_pending, between, reading, in_word, dollar, dollar_brace, add_plain, add_quoted, parameter_piece, quote_of, is_other_parameter, is_special_inside, lex_step, lex_run, lex_end, tokens_of}
 use Rattle.retro_syntax.specs.declared.tree.Direction.TheVariants.{From, Onto, Append}
 use Rattle.retro_syntax.specs.declared.tree.Connector.TheVariants.{AndIf, OrIf}
-use Rattle.retro_syntax.specs.Writing.{Part, unquoted, quoted, parameter, Written, semicolon, bar, connector, redirection, word, bytes_of, pieces_of, word_of, token_of, parameter_text, parameters_then, escaped_then, part_then, parts_then, token_then, written, breaking_characters, fits, begins_parameter, stands_alone, are_unquoted, are_quoted, is_parameter, are_parameters, is_part, is_unquoted_parameter, are_apart, are_parts, begins_no_comment, is_writable, are_writable}
+use Rattle.retro_syntax.specs.Writing.{Part, unquoted, quoted, parameter, Written, semicolon, bar, connector, redirection, word, bytes_of, pieces_of, word_of, token_of, parameter_text, parameters_then, escaped_then, part_then, parts_then, token_then, written, breaking_characters, fits, begins_parameter, is_literal_dollar, are_unquoted, are_quoted, is_parameter, are_parameters, is_part, is_unquoted_parameter, are_apart, are_parts, begins_no_comment, is_writable, are_writable}
 use Rattle.retro_syntax.proofs.WordLemmas.{shell_name}
 use Rattle.retro_syntax.proofs.QuotingLemmas.{add_plain_push, add_quoted_push}
 
@@ -90,17 +90,17 @@ step_dollar ts ps digits = refl
 abbrev IsNoName : ℕ → Type 0
 IsNoName c = ((c == 92) ≡ false) × (starts_name c ≡ false) × ((c == 123) ≡ false) × ((c == 63) ≡ false) × (is_other_parameter c ≡ false)
 
-abbrev StandsBefore : List ℕ → Type 0
-StandsBefore [] = ⊥
-StandsBefore (c ∷ cs) = IsNoName c
+abbrev NoParameterNext : List ℕ → Type 0
+NoParameterNext [] = ⊥
+NoParameterNext (c ∷ cs) = IsNoName c
 
-step_behind : (ts : List T.Token) (ps : List T.Piece) (c : ℕ) → IsNoName c → lex_step (at ts (dollar ps false)) c ≡ lex_step (inside_word ts (add_plain ps 36) false) c
+step_after_dollar : (ts : List T.Token) (ps : List T.Piece) (c : ℕ) → IsNoName c → lex_step (at ts (dollar ps false)) c ≡ lex_step (inside_word ts (add_plain ps 36) false) c
 unfolding lex_step
-step_behind ts ps c h = rw (h.0, h.1, h.2, h.3, h.4) refl
+step_after_dollar ts ps c h = rw (h.0, h.1, h.2, h.3, h.4) refl
 
-dollar_on : (ts : List T.Token) (ps : List T.Piece) (cs : List ℕ) → StandsBefore cs → lex_run (Some (at ts (dollar ps false))) cs ≡ lex_run (Some (inside_word ts (add_plain ps 36) false)) cs
+dollar_on : (ts : List T.Token) (ps : List T.Piece) (cs : List ℕ) → NoParameterNext cs → lex_run (Some (at ts (dollar ps false))) cs ≡ lex_run (Some (inside_word ts (add_plain ps 36) false)) cs
 dollar_on ts ps [] h = absurd h
-dollar_on ts ps (c ∷ cs) h = ap (λ x. lex_run x cs) (step_behind ts ps c h)
+dollar_on ts ps (c ∷ cs) h = ap (λ x. lex_run x cs) (step_after_dollar ts ps c h)
 
 no_name : (c : ℕ) → (c == 92) ≡ false → begins_parameter c ≡ false → IsNoName c
 no_name c b e =
@@ -109,43 +109,43 @@ no_name c b e =
     (b, or_left (starts_name c) ((c == 123) || ((c == 63) || is_other_parameter c)) e, or_left (c == 123) ((c == 63) || is_other_parameter c) one, or_left (c == 63) (is_other_parameter c) two, or_right (c == 63) (is_other_parameter c) two)
 
 -- what may stand behind an unquoted part
-abbrev Behind : Bool → List ℕ → Type 0
-Behind followed r = followed ≡ false → StandsBefore r
+abbrev Follows : Bool → List ℕ → Type 0
+Follows followed r = followed ≡ false → NoParameterNext r
 
 -- an unquoted character fits, or is a `$` that stands for itself
-no_backslash : (followed : Bool) (c : ℕ) (cs : List ℕ) (t : Bool) → fits c ≡ t → (t || ((c == 36) && stands_alone followed cs)) ≡ true → (c == 92) ≡ false
+no_backslash : (followed : Bool) (c : ℕ) (cs : List ℕ) (t : Bool) → fits c ≡ t → (t || ((c == 36) && is_literal_dollar followed cs)) ≡ true → (c == 92) ≡ false
 no_backslash followed c cs true f e = (outside_of c f).0
-no_backslash followed c cs false f e = let same : c ≡ 36 = eqb-true c 36 (and_left (c == 36) (stands_alone followed cs) e) in rw same refl
+no_backslash followed c cs false f e = let same : c ≡ 36 = eqb-true c 36 (and_left (c == 36) (is_literal_dollar followed cs) e) in rw same refl
 
-alone_before : (followed : Bool) (cs r : List ℕ) → stands_alone followed cs ≡ true → are_unquoted followed cs ≡ true → Behind followed r → StandsBefore (cs ++ r)
+alone_before : (followed : Bool) (cs r : List ℕ) → is_literal_dollar followed cs ≡ true → are_unquoted followed cs ≡ true → Follows followed r → NoParameterNext (cs ++ r)
 alone_before followed [] r a u b = b (not_true followed a)
 alone_before followed (c ∷ cs) r a u b =
-    no_name c (no_backslash followed c cs (fits c) refl (and_left (fits c || ((c == 36) && stands_alone followed cs)) (are_unquoted followed cs) u)) (not_true (begins_parameter c) a)
+    no_name c (no_backslash followed c cs (fits c) refl (and_left (fits c || ((c == 36) && is_literal_dollar followed cs)) (are_unquoted followed cs) u)) (not_true (begins_parameter c) a)
 
 abbrev pub add_all : List T.Piece → List ℕ → List T.Piece
 add_all ps [] = ps
 add_all ps (c ∷ cs) = add_all (add_plain ps c) cs
 
 unquoted_by : (ts : List T.Token) (ps : List T.Piece) (digits followed : Bool) (c : ℕ) (cs r : List ℕ) (t : Bool) → fits c ≡ t
-    → (t || ((c == 36) && stands_alone followed cs)) ≡ true → are_unquoted followed cs ≡ true → Behind followed r
+    → (t || ((c == 36) && is_literal_dollar followed cs)) ≡ true → are_unquoted followed cs ≡ true → Follows followed r
     → ((qs : List T.Piece) (d : Bool) → Reaches ts (inside_word ts qs d) (cs ++ r) (add_all qs cs) r)
     → Reaches ts (inside_word ts ps digits) (c ∷ (cs ++ r)) (add_all (add_plain ps c) cs) r
 unquoted_by ts ps digits followed c cs r true f e u b rest =
     let x = rest (add_plain ps c) (digits && is_ascii_digit c) in
     (x.0, next _ _ c (cs ++ r) (step_plain ts ps digits c (outside_of c f)) ∙ x.1)
 unquoted_by ts ps digits followed c cs r false f e u b rest =
-    let same : c ≡ 36 = eqb-true c 36 (and_left (c == 36) (stands_alone followed cs) e) in
+    let same : c ≡ 36 = eqb-true c 36 (and_left (c == 36) (is_literal_dollar followed cs) e) in
     let x = rest (add_plain ps 36) false in
-    let alone = alone_before followed cs r (and_right (c == 36) (stands_alone followed cs) e) u b in
+    let alone = alone_before followed cs r (and_right (c == 36) (is_literal_dollar followed cs) e) u b in
     subst (λ d. Reaches ts (inside_word ts ps digits) (d ∷ (cs ++ r)) (add_all (add_plain ps d) cs) r) (sym same)
     (x.0, next _ _ 36 (cs ++ r) (step_dollar ts ps digits) ∙ dollar_on ts ps (cs ++ r) alone ∙ x.1)
 
-unquoted_on : (ts : List T.Token) (ps : List T.Piece) (digits followed : Bool) (cs r : List ℕ) → are_unquoted followed cs ≡ true → Behind followed r
+unquoted_on : (ts : List T.Token) (ps : List T.Piece) (digits followed : Bool) (cs r : List ℕ) → are_unquoted followed cs ≡ true → Follows followed r
     → Reaches ts (inside_word ts ps digits) (cs ++ r) (add_all ps cs) r
 unquoted_on ts ps digits followed [] r u b = (digits, refl)
 unquoted_on ts ps digits followed (c ∷ cs) r u b =
-    let one = and_left (fits c || ((c == 36) && stands_alone followed cs)) (are_unquoted followed cs) u in
-    let rest = and_right (fits c || ((c == 36) && stands_alone followed cs)) (are_unquoted followed cs) u in
+    let one = and_left (fits c || ((c == 36) && is_literal_dollar followed cs)) (are_unquoted followed cs) u in
+    let rest = and_right (fits c || ((c == 36) && is_literal_dollar followed cs)) (are_unquoted followed cs) u in
     unquoted_by ts ps digits followed c cs r (fits c) refl one rest b (λ qs d. unquoted_on ts qs d followed cs r rest b)
 
 -- ---- a parameter
@@ -161,18 +161,18 @@ pub name_begins : (c : ℕ) → starts_name c ≡ true → (is_ascii_alphanumeri
 name_begins c e = grind (arith, leb_tells, eqb_tells)
 
 step_name : (ts : List T.Token) (ps : List T.Piece) (inside : Bool) (b : ℕ) (n : List ℕ) (c : ℕ) → (is_ascii_alphanumeric c || (c == 95)) ≡ true
-    → lex_step (at ts (braced ps inside (b ∷ n))) c ≡ Some (at ts (braced ps inside (b ∷ (n ++ c ∷ []))))
+    → lex_step (at ts (dollar_brace ps inside (b ∷ n))) c ≡ Some (at ts (dollar_brace ps inside (b ∷ (n ++ c ∷ []))))
 unfolding lex_step
 step_name ts ps inside b n c h =
     rw (differs (λ x. is_ascii_alphanumeric x || (x == 95)) c 92 h refl, differs (λ x. is_ascii_alphanumeric x || (x == 95)) c 125 h refl, h, name_is_ascii c h) refl
 
 step_brace : (ts : List T.Token) (ps : List T.Piece) (inside : Bool) (b : ℕ) (n : List ℕ) → is_var_name (b ∷ n) ≡ true
-    → lex_step (at ts (braced ps inside (b ∷ n))) 125 ≡ Some (at ts (in_word (ps ++ parameter_piece inside (T.variable (b ∷ n)) ∷ []) false (quote_of inside)))
+    → lex_step (at ts (dollar_brace ps inside (b ∷ n))) 125 ≡ Some (at ts (in_word (ps ++ parameter_piece inside (T.variable (b ∷ n)) ∷ []) false (quote_of inside)))
 unfolding lex_step
 step_brace ts ps inside b n h = rw h refl
 
 step_first : (ts : List T.Token) (ps : List T.Piece) (inside : Bool) (c : ℕ) → starts_name c ≡ true
-    → lex_step (at ts (braced ps inside [])) c ≡ Some (at ts (braced ps inside (c ∷ [])))
+    → lex_step (at ts (dollar_brace ps inside [])) c ≡ Some (at ts (dollar_brace ps inside (c ∷ [])))
 unfolding lex_step
 step_first ts ps inside c h =
     rw (differs starts_name c 92 h refl, differs starts_name c 63 h refl, h, name_is_ascii c (name_begins c h)) refl
@@ -182,7 +182,7 @@ abbrev after : List T.Token → List T.Piece → Bool → List ℕ → Lexing
 after ts ps inside n = at ts (in_word (ps ++ parameter_piece inside (T.variable n) ∷ []) false (quote_of inside))
 
 name_on : (ts : List T.Token) (ps : List T.Piece) (inside : Bool) (b : ℕ) (n cs r : List ℕ) → list_all continues_name cs ≡ true → is_var_name (b ∷ (n ++ cs)) ≡ true
-    → lex_run (Some (at ts (braced ps inside (b ∷ n)))) (cs ++ 125 ∷ r) ≡ lex_run (Some (after ts ps inside (b ∷ (n ++ cs)))) r
+    → lex_run (Some (at ts (dollar_brace ps inside (b ∷ n)))) (cs ++ 125 ∷ r) ≡ lex_run (Some (after ts ps inside (b ∷ (n ++ cs)))) r
 name_on ts ps inside b n [] r g u =
     let plain : is_var_name (b ∷ n) ≡ true = subst (λ m. is_var_name (b ∷ m) ≡ true) (append-nil n) u in
     next _ _ 125 r (step_brace ts ps inside b n plain) ∙ ap (λ m. lex_run (Some (after ts ps inside (b ∷ m))) r) (sym (append-nil n))
@@ -197,7 +197,7 @@ name_on ts ps inside b n (c ∷ cs) r g u =
 -- the parameter in braces, and `}`
 abbrev Named : List T.Token → List T.Piece → Bool → T.Parameter → List ℕ → Type 0
 Named ts ps inside p r =
-    lex_run (Some (at ts (braced ps inside []))) (parameter_text p ++ 125 ∷ r) ≡ lex_run (Some (at ts (in_word (ps ++ parameter_piece inside p ∷ []) false (quote_of inside)))) r
+    lex_run (Some (at ts (dollar_brace ps inside []))) (parameter_text p ++ 125 ∷ r) ≡ lex_run (Some (at ts (in_word (ps ++ parameter_piece inside p ∷ []) false (quote_of inside)))) r
 
 variable_by : (ts : List T.Token) (ps : List T.Piece) (inside : Bool) (n r : List ℕ) → is_shell_name n ≡ true → is_var_name n ≡ true → Named ts ps inside (T.variable n) r
 unfolding is_shell_name
@@ -211,11 +211,11 @@ unfolding lex_step
 named_on ts ps inside T.status r h = refl
 named_on ts ps inside (T.variable n) r h = variable_by ts ps inside n r (shell_name n h) h
 
-step_outside : (ts : List T.Token) (ps : List T.Piece) (digits : Bool) (r : List ℕ) → lex_run (Some (inside_word ts ps digits)) (36 ∷ 123 ∷ r) ≡ lex_run (Some (at ts (braced ps false []))) r
+step_outside : (ts : List T.Token) (ps : List T.Piece) (digits : Bool) (r : List ℕ) → lex_run (Some (inside_word ts ps digits)) (36 ∷ 123 ∷ r) ≡ lex_run (Some (at ts (dollar_brace ps false []))) r
 unfolding lex_step
 step_outside ts ps digits r = refl
 
-step_inside : (ts : List T.Token) (ps : List T.Piece) (r : List ℕ) → lex_run (Some (inside_quotes ts ps)) (36 ∷ 123 ∷ r) ≡ lex_run (Some (at ts (braced ps true []))) r
+step_inside : (ts : List T.Token) (ps : List T.Piece) (r : List ℕ) → lex_run (Some (inside_quotes ts ps)) (36 ∷ 123 ∷ r) ≡ lex_run (Some (at ts (dollar_brace ps true []))) r
 unfolding lex_step
 step_inside ts ps r = refl
 
@@ -286,10 +286,10 @@ Ready (unquoted cs) ps = (c : ℕ) → add_plain ps c ≡ ps ++ T.plain (encode_
 Ready (quoted cs ns) ps = (s : List ℕ) → add_quoted ps s ≡ ps ++ T.quoted s ∷ []
 Ready (parameter n) ps = Unit {0}
 
-abbrev BehindPart : Part → Bool → List ℕ → Type 0
-BehindPart (unquoted cs) followed r = Behind followed r
-BehindPart (quoted cs ns) followed r = Unit {0}
-BehindPart (parameter n) followed r = Unit {0}
+abbrev FollowsPart : Part → Bool → List ℕ → Type 0
+FollowsPart (unquoted cs) followed r = Follows followed r
+FollowsPart (quoted cs ns) followed r = Unit {0}
+FollowsPart (parameter n) followed r = Unit {0}
 
 open_quotes : (ts : List T.Token) (ps : List T.Piece) (digits : Bool) (r : List ℕ) → lex_run (Some (inside_word ts ps digits)) (34 ∷ r) ≡ lex_run (Some (inside_quotes ts (add_quoted ps []))) r
 unfolding lex_step
@@ -299,7 +299,7 @@ close_quotes : (ts : List T.Token) (ps : List T.Piece) (r : List ℕ) → lex_ru
 unfolding lex_step
 close_quotes ts ps r = refl
 
-part_on : (ts : List T.Token) (ps : List T.Piece) (digits followed : Bool) (p : Part) (r : List ℕ) → is_part followed p ≡ true → Ready p ps → BehindPart p followed r
+part_on : (ts : List T.Token) (ps : List T.Piece) (digits followed : Bool) (p : Part) (r : List ℕ) → is_part followed p ≡ true → Ready p ps → FollowsPart p followed r
     → Reaches ts (inside_word ts ps digits) (part_then p r) (ps ++ pieces_of p) r
 part_on ts ps digits followed (unquoted []) r h k b = cc
 part_on ts ps digits followed (unquoted (c ∷ cs)) r h k b =
@@ -321,43 +321,43 @@ part_on ts ps digits followed (quoted cs ns) r h k b =
 part_on ts ps digits followed (parameter n) r h k b = (false, step_outside ts ps digits (parameter_text n ++ 125 ∷ r) ∙ named_on ts ps false n r h)
 
 -- behind a parameter in quotes
-plain_behind : (ps : List T.Piece) (n : T.Parameter) (ns : List T.Parameter) (c : ℕ)
+plain_after : (ps : List T.Piece) (n : T.Parameter) (ns : List T.Parameter) (c : ℕ)
     → add_plain (ps ++ map T.quoted_parameter (n ∷ ns)) c ≡ (ps ++ map T.quoted_parameter (n ∷ ns)) ++ T.plain (encode_utf8 c) ∷ []
-plain_behind ps n [] c = add_plain_push ps (T.quoted_parameter n) c ∙ sym (append_assoc ps (T.quoted_parameter n ∷ []) (T.plain (encode_utf8 c) ∷ []))
-plain_behind ps n (m ∷ ns) c =
+plain_after ps n [] c = add_plain_push ps (T.quoted_parameter n) c ∙ sym (append_assoc ps (T.quoted_parameter n ∷ []) (T.plain (encode_utf8 c) ∷ []))
+plain_after ps n (m ∷ ns) c =
     let same = append_assoc ps (T.quoted_parameter n ∷ []) (map T.quoted_parameter (m ∷ ns)) in
-    subst (λ qs. add_plain qs c ≡ qs ++ T.plain (encode_utf8 c) ∷ []) same (plain_behind (ps ++ T.quoted_parameter n ∷ []) m ns c)
+    subst (λ qs. add_plain qs c ≡ qs ++ T.plain (encode_utf8 c) ∷ []) same (plain_after (ps ++ T.quoted_parameter n ∷ []) m ns c)
 
-quoted_behind : (ps : List T.Piece) (n : T.Parameter) (ns : List T.Parameter) (s : List ℕ)
+quoted_after : (ps : List T.Piece) (n : T.Parameter) (ns : List T.Parameter) (s : List ℕ)
     → add_quoted (ps ++ map T.quoted_parameter (n ∷ ns)) s ≡ (ps ++ map T.quoted_parameter (n ∷ ns)) ++ T.quoted s ∷ []
-quoted_behind ps n [] s = add_quoted_push ps (T.quoted_parameter n) s ∙ sym (append_assoc ps (T.quoted_parameter n ∷ []) (T.quoted s ∷ []))
-quoted_behind ps n (m ∷ ns) s =
+quoted_after ps n [] s = add_quoted_push ps (T.quoted_parameter n) s ∙ sym (append_assoc ps (T.quoted_parameter n ∷ []) (T.quoted s ∷ []))
+quoted_after ps n (m ∷ ns) s =
     let same = append_assoc ps (T.quoted_parameter n ∷ []) (map T.quoted_parameter (m ∷ ns)) in
-    subst (λ qs. add_quoted qs s ≡ qs ++ T.quoted s ∷ []) same (quoted_behind (ps ++ T.quoted_parameter n ∷ []) m ns s)
+    subst (λ qs. add_quoted qs s ≡ qs ++ T.quoted s ∷ []) same (quoted_after (ps ++ T.quoted_parameter n ∷ []) m ns s)
 
-pub ready_behind : (p q : Part) (ps : List T.Piece) → are_apart p q ≡ true → Ready q (ps ++ pieces_of p)
-ready_behind (unquoted cs) (unquoted ds) ps h = cc
-ready_behind (unquoted cs) (quoted ds ms) ps h = λ s. add_quoted_push ps (T.plain (bytes_of cs)) s ∙ sym (append_assoc ps (T.plain (bytes_of cs) ∷ []) (T.quoted s ∷ []))
-ready_behind (unquoted cs) (parameter m) ps h = tt
-ready_behind (quoted cs []) (unquoted ds) ps h = λ c. add_plain_push ps (T.quoted (bytes_of cs)) c ∙ sym (append_assoc ps (T.quoted (bytes_of cs) ∷ []) (T.plain (encode_utf8 c) ∷ []))
-ready_behind (quoted cs (n ∷ ns)) (unquoted ds) ps h = λ c.
-    subst (λ qs. add_plain qs c ≡ qs ++ T.plain (encode_utf8 c) ∷ []) (append_assoc ps (T.quoted (bytes_of cs) ∷ []) (map T.quoted_parameter (n ∷ ns))) (plain_behind (ps ++ T.quoted (bytes_of cs) ∷ []) n ns c)
-ready_behind (quoted cs []) (quoted ds ms) ps h = cc
-ready_behind (quoted cs (n ∷ ns)) (quoted ds ms) ps h = λ s.
-    subst (λ qs. add_quoted qs s ≡ qs ++ T.quoted s ∷ []) (append_assoc ps (T.quoted (bytes_of cs) ∷ []) (map T.quoted_parameter (n ∷ ns))) (quoted_behind (ps ++ T.quoted (bytes_of cs) ∷ []) n ns s)
-ready_behind (quoted cs ns) (parameter m) ps h = tt
-ready_behind (parameter n) (unquoted ds) ps h = λ c. add_plain_push ps (T.parameter n) c ∙ sym (append_assoc ps (T.parameter n ∷ []) (T.plain (encode_utf8 c) ∷ []))
-ready_behind (parameter n) (quoted ds ms) ps h = λ s. add_quoted_push ps (T.parameter n) s ∙ sym (append_assoc ps (T.parameter n ∷ []) (T.quoted s ∷ []))
-ready_behind (parameter n) (parameter m) ps h = tt
+pub ready_after : (p q : Part) (ps : List T.Piece) → are_apart p q ≡ true → Ready q (ps ++ pieces_of p)
+ready_after (unquoted cs) (unquoted ds) ps h = cc
+ready_after (unquoted cs) (quoted ds ms) ps h = λ s. add_quoted_push ps (T.plain (bytes_of cs)) s ∙ sym (append_assoc ps (T.plain (bytes_of cs) ∷ []) (T.quoted s ∷ []))
+ready_after (unquoted cs) (parameter m) ps h = tt
+ready_after (quoted cs []) (unquoted ds) ps h = λ c. add_plain_push ps (T.quoted (bytes_of cs)) c ∙ sym (append_assoc ps (T.quoted (bytes_of cs) ∷ []) (T.plain (encode_utf8 c) ∷ []))
+ready_after (quoted cs (n ∷ ns)) (unquoted ds) ps h = λ c.
+    subst (λ qs. add_plain qs c ≡ qs ++ T.plain (encode_utf8 c) ∷ []) (append_assoc ps (T.quoted (bytes_of cs) ∷ []) (map T.quoted_parameter (n ∷ ns))) (plain_after (ps ++ T.quoted (bytes_of cs) ∷ []) n ns c)
+ready_after (quoted cs []) (quoted ds ms) ps h = cc
+ready_after (quoted cs (n ∷ ns)) (quoted ds ms) ps h = λ s.
+    subst (λ qs. add_quoted qs s ≡ qs ++ T.quoted s ∷ []) (append_assoc ps (T.quoted (bytes_of cs) ∷ []) (map T.quoted_parameter (n ∷ ns))) (quoted_after (ps ++ T.quoted (bytes_of cs) ∷ []) n ns s)
+ready_after (quoted cs ns) (parameter m) ps h = tt
+ready_after (parameter n) (unquoted ds) ps h = λ c. add_plain_push ps (T.parameter n) c ∙ sym (append_assoc ps (T.parameter n ∷ []) (T.plain (encode_utf8 c) ∷ []))
+ready_after (parameter n) (quoted ds ms) ps h = λ s. add_quoted_push ps (T.parameter n) s ∙ sym (append_assoc ps (T.parameter n ∷ []) (T.quoted s ∷ []))
+ready_after (parameter n) (parameter m) ps h = tt
 
-behind_part : (p q : Part) (qs : List Part) (r : List ℕ) → are_apart p q ≡ true → BehindPart p (is_unquoted_parameter q) (parts_then (q ∷ qs) r)
-behind_part (unquoted cs) (unquoted ds) qs r h = cc
-behind_part (unquoted cs) (quoted ds ms) qs r h = λ e. (refl, refl, refl, refl, refl)
-behind_part (unquoted cs) (parameter m) qs r h = λ e. absurd (let both : true ≡ false = e in cc)
-behind_part (quoted cs ns) q qs r h = tt
-behind_part (parameter n) q qs r h = tt
+follows_part : (p q : Part) (qs : List Part) (r : List ℕ) → are_apart p q ≡ true → FollowsPart p (is_unquoted_parameter q) (parts_then (q ∷ qs) r)
+follows_part (unquoted cs) (unquoted ds) qs r h = cc
+follows_part (unquoted cs) (quoted ds ms) qs r h = λ e. (refl, refl, refl, refl, refl)
+follows_part (unquoted cs) (parameter m) qs r h = λ e. absurd (let both : true ≡ false = e in cc)
+follows_part (quoted cs ns) q qs r h = tt
+follows_part (parameter n) q qs r h = tt
 
-before_end : (p : Part) (r : List ℕ) → BehindPart p false (32 ∷ r)
+before_end : (p : Part) (r : List ℕ) → FollowsPart p false (32 ∷ r)
 before_end (unquoted cs) r = λ e. (refl, refl, refl, refl, refl)
 before_end (quoted cs ns) r = tt
 before_end (parameter n) r = tt
@@ -372,16 +372,16 @@ parts_on ts ps digits p [] r h k =
 parts_on ts ps digits p (q ∷ qs) r h k =
     let rest = and_right (is_part (is_unquoted_parameter q) p) (are_apart p q && are_parts (q ∷ qs)) h in
     let apart = and_left (are_apart p q) (are_parts (q ∷ qs)) rest in
-    let x = part_on ts ps digits (is_unquoted_parameter q) p (parts_then (q ∷ qs) (32 ∷ r)) (and_left (is_part (is_unquoted_parameter q) p) (are_apart p q && are_parts (q ∷ qs)) h) k (behind_part p q qs (32 ∷ r) apart) in
-    let y = parts_on ts (ps ++ pieces_of p) x.0 q qs r (and_right (are_apart p q) (are_parts (q ∷ qs)) rest) (ready_behind p q ps apart) in
+    let x = part_on ts ps digits (is_unquoted_parameter q) p (parts_then (q ∷ qs) (32 ∷ r)) (and_left (is_part (is_unquoted_parameter q) p) (are_apart p q && are_parts (q ∷ qs)) h) k (follows_part p q qs (32 ∷ r) apart) in
+    let y = parts_on ts (ps ++ pieces_of p) x.0 q qs r (and_right (are_apart p q) (are_parts (q ∷ qs)) rest) (ready_after p q ps apart) in
     (y.0, x.1 ∙ y.1 ∙ ap (λ ys. lex_run (Some (inside_word ts ys y.0)) (32 ∷ r)) (append_assoc ps (pieces_of p) (word_of (q ∷ qs))))
 
 -- a word's first character is read as if the word had begun
-start_by : (ts : List T.Token) (followed : Bool) (c : ℕ) (cs r : List ℕ) (t : Bool) → fits c ≡ t → (t || ((c == 36) && stands_alone followed cs)) ≡ true → (c == 35) ≡ false
+start_by : (ts : List T.Token) (followed : Bool) (c : ℕ) (cs r : List ℕ) (t : Bool) → fits c ≡ t → (t || ((c == 36) && is_literal_dollar followed cs)) ≡ true → (c == 35) ≡ false
     → lex_run (Some (with_pending ts between)) (c ∷ r) ≡ lex_run (Some (inside_word ts [] true)) (c ∷ r)
 unfolding lex_step
 start_by ts followed c cs r true f e h = ap (λ x. lex_run x r) (start_plain ts c (outside_of c f) h ∙ sym (step_plain ts [] true c (outside_of c f)))
-start_by ts followed c cs r false f e h = let same : c ≡ 36 = eqb-true c 36 (and_left (c == 36) (stands_alone followed cs) e) in rw same refl
+start_by ts followed c cs r false f e h = let same : c ≡ 36 = eqb-true c 36 (and_left (c == 36) (is_literal_dollar followed cs) e) in rw same refl
 
 first_part : (p : Part) (qs : List Part) → are_parts (p ∷ qs) ≡ true → (followed : Bool) × (is_part followed p ≡ true)
 first_part p [] h = (false, h)
@@ -393,7 +393,7 @@ unfolding lex_step
 word_starts ts (unquoted []) qs r h k = cc
 word_starts ts (unquoted (c ∷ cs)) qs r h k =
     let x = first_part (unquoted (c ∷ cs)) qs k in
-    start_by ts x.0 c cs (cs ++ parts_then qs r) (fits c) refl (and_left (fits c || ((c == 36) && stands_alone x.0 cs)) (are_unquoted x.0 cs) x.1) (not_true (c == 35) h)
+    start_by ts x.0 c cs (cs ++ parts_then qs r) (fits c) refl (and_left (fits c || ((c == 36) && is_literal_dollar x.0 cs)) (are_unquoted x.0 cs) x.1) (not_true (c == 35) h)
 word_starts ts (quoted cs ns) qs r h k = refl
 word_starts ts (parameter n) qs r h k = refl
 

@@ -1,4 +1,4 @@
--- Whether what the code's values hold nests no deeper than a number.
+-- For proofs only: whether a value of the code nests no deeper than a number.
 use Rattle.std.specs.Prelude.{ℕ, Bool, true, ◌&&◌, nat_le, List, [], ◌∷◌}
 use Rattle.retro_syntax.specs.Depth as D
 use Rattle.retro_syntax.specs.View.{view}
@@ -12,12 +12,12 @@ use Rattle.retro_syntax.specs.declared.tree.Command.{Command}
 abbrev pub command_fits : Command → ℕ → Bool
 command_fits c n = nat_le (D.command_depth (view c)) n
 
-abbrev pub joined_fit : List (Pipeline Command × Connector) → ℕ → Bool
-joined_fit [] n = true
-joined_fit (j ∷ js) n = command_fits j.0.command n && joined_fit js n
+abbrev pub pipelines_fit : List (Pipeline Command × Connector) → ℕ → Bool
+pipelines_fit [] n = true
+pipelines_fit (j ∷ js) n = command_fits j.0.command n && pipelines_fit js n
 
 abbrev pub and_or_fits : AndOr Command → ℕ → Bool
-and_or_fits a n = joined_fit a.before.items n && command_fits a.last.command n
+and_or_fits a n = pipelines_fit a.before.items n && command_fits a.last.command n
 
 abbrev pub and_ors_fit : List (AndOr Command) → ℕ → Bool
 and_ors_fit [] n = true

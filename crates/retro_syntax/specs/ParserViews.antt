@@ -1,4 +1,4 @@
--- The state of the definition that a state of the parser stands for.
+-- For proofs only: the state of the definition that a parser represents.
 use Rattle.std.specs.Prelude.{List, map, reverse, Option, Result, Vec}
 use Rattle.std.specs.declared.alloc.Global.{Global}
 use Rattle.retro_syntax.specs.Failing.{Gives}

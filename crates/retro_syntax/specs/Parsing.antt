@@ -1,4 +1,5 @@
--- A line read token by token: what stands open, and where in it the next token comes.
+-- The tree of a list of tokens, read token by token. `reading_is_spelling` says that this finds exactly
+-- the trees of specs/Spells.antt, so that a reader need not trust this file.
 use Rattle.std.specs.Prelude.{ℕ, Bool, true, false, List, [], ◌∷◌, ◌++◌, Option, Some, None, if◌then◌else◌, option_map}
 use Rattle.retro_syntax.specs.Tree.{Word, Assignment, Token, semicolon, bar, connector, redirection, word, Item, argument, redirect, Simple, assignments, command, Commands, last, more, AndOr, end, chain, Pipeline, pipeline, Command, simples, conditional, loop, Arms, fi, otherwise, elif}
 use Rattle.retro_syntax.specs.Words.{class, name_of, assignment_of, is_ordinary, is_assignment}
@@ -9,42 +10,42 @@ use Rattle.retro_syntax.specs.declared.tree.ReservedWord.TheVariants.{Bang as ba
 use Rattle.retro_syntax.specs.declared.words.Class.{Class}
 use Rattle.retro_syntax.specs.declared.words.Class.TheVariants.{Reserved as reserved, Assignment as assignment, Ordinary as ordinary}
 
--- ---- what is open
+-- ---- What is being read.
 
--- a list that isn't at its end: whole and-or lists, pipelines with what joins them to the next, and
--- whether `!` stands here
+-- a list that is being read: its and-or lists that a `;` follows, the pipelines of the pending and-or
+-- list with the connectors after them, and whether the pending pipeline begins with `!`
 pub record Open : Type 0 where
   pub and_ors : List AndOr
   pub pipelines : List (Pipeline × Connector)
   pub negated : Bool
 
-abbrev pub nothing : Open
-nothing = record { and_ors = []; pipelines = []; negated = false }
+abbrev pub empty_list : Open
+empty_list = record { and_ors = []; pipelines = []; negated = false }
 
--- what a list is read for, with what stands before it
+-- what an inner list is a part of
 pub data Frame : Type 0 where
-  -- the condition of an `if` or `elif`, behind these arms
+  -- the condition of an `if` or `elif`, after these arms
   condition : List (Commands × Commands) → Frame
-  -- what a `then` leads to, behind its condition
+  -- the list after `then`, after these arms and this condition
   consequence : List (Commands × Commands) → Commands → Frame
-  -- what an `else` leads to, behind the last arm
+  -- the list after `else`, after these arms, the last condition and its consequence
   alternative : List (Commands × Commands) → Commands → Commands → Frame
-  -- what a `for` repeats
+  -- the list that a `for` repeats
   body : List ℕ → List Word → Frame
 
--- where in a list the next token comes
+-- where in a list the next token is
 pub data Place : Type 0 where
   -- where a command may begin
   start : Place
-  -- behind a part of a simple command, with the stages before it
+  -- after a part of a simple command, with the stages of the pipe before it
   in_simple : List Simple → Simple → Place
-  -- behind a redirection's operator, with the items before it
+  -- after a redirection's operator, with the stages and the items before it
   target : List Simple → List Item → Direction → Place
-  -- behind a `|`
+  -- after a `|`, with the stages before it
   after_bar : List Simple → Place
-  -- behind a whole compound command
+  -- after a compound command
   after_compound : Command → Place
-  -- behind `for`, its name, `in` or a word, and the `;` after them
+  -- after `for`, after its variable, among its words, and after the `;` that follows them
   for_name : Place
   for_in : List ℕ → Place
   for_words : List ℕ → List Word → Place
@@ -59,7 +60,7 @@ pub record State : Type 0 where
 abbrev pub at : List (Open × Frame) → Open → Place → State
 at st o p = record { stack = st; here = o; place = p }
 
--- ---- what was read, put together
+-- ---- Trees from what was read.
 
 abbrev pub join : List (Pipeline × Connector) → Pipeline → AndOr
 join [] p = end p
@@ -72,7 +73,7 @@ abbrev pub listed : List AndOr → AndOr → Bool → Commands
 listed [] a closing = last a closing
 listed (d ∷ ds) a closing = more d (listed ds a closing)
 
--- the list of these, each with a `;` behind it
+-- the list of these, each followed by `;`
 abbrev pub all_closed : List AndOr → Option Commands
 all_closed [] = None
 all_closed (a ∷ []) = Some (last a true)
@@ -82,13 +83,13 @@ abbrev pub arms_up_to : List (Commands × Commands) → Arms → Arms
 arms_up_to [] a = a
 arms_up_to (x ∷ xs) a = elif x.0 x.1 (arms_up_to xs a)
 
--- ---- steps
+-- ---- Steps.
 
 abbrev pub close_by : List (Open × Frame) → Open → Frame → Commands → ReservedWord → Option State
-close_by st o (condition xs) l key_then = Some (at ((o, consequence xs l) ∷ st) nothing start)
+close_by st o (condition xs) l key_then = Some (at ((o, consequence xs l) ∷ st) empty_list start)
 close_by st o (consequence xs c) l key_elif =
-    Some (at ((o, condition (xs ++ (c, l) ∷ [])) ∷ st) nothing start)
-close_by st o (consequence xs c) l key_else = Some (at ((o, alternative xs c l) ∷ st) nothing start)
+    Some (at ((o, condition (xs ++ (c, l) ∷ [])) ∷ st) empty_list start)
+close_by st o (consequence xs c) l key_else = Some (at ((o, alternative xs c l) ∷ st) empty_list start)
 close_by st o (consequence xs c) l key_fi =
     Some (at st o (after_compound (conditional (arms_up_to xs (fi c l)))))
 close_by st o (alternative xs c t) l key_fi =
@@ -96,7 +97,7 @@ close_by st o (alternative xs c t) l key_fi =
 close_by st o (body n ws) l key_done = Some (at st o (after_compound (loop n ws l)))
 close_by st o f l k = None
 
--- a word that ends the list
+-- after a reserved word that ends the innermost list
 abbrev pub close : List (Open × Frame) → Commands → ReservedWord → Option State
 close [] l k = None
 close (x ∷ st) l k = close_by st x.0 x.1 l k
@@ -105,7 +106,7 @@ abbrev pub close_some : List (Open × Frame) → Option Commands → ReservedWor
 close_some st None k = None
 close_some st (Some l) k = close st l k
 
--- the list at a place where a command may begin, if it may end there
+-- the list that ends where a command may begin, if it may end there
 abbrev pub end_of : List AndOr → List (Pipeline × Connector) → Bool → Option Commands
 end_of and_ors [] false = all_closed and_ors
 end_of and_ors [] true = None
@@ -117,11 +118,11 @@ may_end o = end_of o.and_ors o.pipelines o.negated
 abbrev pub begin_reserved : List (Open × Frame) → Open → ReservedWord → Option State
 begin_reserved st o bang =
     if o.negated then None else Some (at st (record o { negated = true }) start)
-begin_reserved st o key_if = Some (at ((o, condition []) ∷ st) nothing start)
+begin_reserved st o key_if = Some (at ((o, condition []) ∷ st) empty_list start)
 begin_reserved st o key_for = Some (at st o for_name)
 begin_reserved st o k = close_some st (may_end o) k
 
--- behind one more assignment, where the word is one
+-- after a further assignment, if the word is one
 abbrev pub push_assignment : List (Open × Frame) → Open → List Simple → List Assignment
     → Option Assignment → Option State
 push_assignment st o ss xs None = None
@@ -136,7 +137,7 @@ abbrev pub begin : List (Open × Frame) → Open → Word → Class → Option S
 begin st o w (reserved k) = begin_reserved st o k
 begin st o w c = begin_simple st o [] w c
 
--- whether no word stands there yet, targets aside
+-- whether the items are redirections only
 abbrev pub no_argument : List Item → Bool
 no_argument [] = true
 no_argument (argument w ∷ is) = false
@@ -156,7 +157,7 @@ abbrev pub add_direction : List (Open × Frame) → Open → List Simple → Sim
 add_direction st o ss (assignments ws) d = None
 add_direction st o ss (command is) d = Some (at st o (target ss is d))
 
--- an operator behind a whole command
+-- after an operator that follows a command
 abbrev pub go_on : List (Open × Frame) → Open → Command → Token → Option State
 go_on st o c semicolon =
     Some (at st (record { and_ors = o.and_ors ++ and_or o c ∷ []; pipelines = []; negated = false }) start)
@@ -198,7 +199,7 @@ step_at st o (for_words n ws) (word w) = Some (at st o (for_words n (ws ++ w ∷
 step_at st o (for_words n ws) semicolon = Some (at st o (for_do n ws))
 step_at st o (for_words n ws) t = None
 step_at st o (for_do n ws) (word w) =
-    only_key key_do (class w) (Some (at ((o, body n ws) ∷ st) nothing start))
+    only_key key_do (class w) (Some (at ((o, body n ws) ∷ st) empty_list start))
 step_at st o (for_do n ws) t = None
 
 unfoldable pub step : State → Token → Option State
@@ -209,7 +210,7 @@ run None ts = None
 run (Some s) [] = Some s
 run (Some s) (t ∷ ts) = run (step s t) ts
 
--- ---- the end of the text
+-- ---- At the end of the line.
 
 abbrev pub finish_at : List (Open × Frame) → Open → Place → Option Commands
 finish_at [] o start = may_end o
@@ -223,4 +224,4 @@ finish (Some s) = finish_at s.stack s.here s.place
 
 -- the list that the tokens are
 unfoldable pub commands_of : List Token → Option Commands
-commands_of ts = finish (run (Some (at [] nothing start)) ts)
+commands_of ts = finish (run (Some (at [] empty_list start)) ts)

@@ -1,4 +1,5 @@
--- The simple commands of a line that is a list of plain ones.
+-- Lines of plain commands only: no quotes, parameters, tildes, pipes, compound commands, assignments
+-- or `<`. Such a line is a list of lists of items.
 use Rattle.std.specs.Prelude.{ℕ, true, false, List, [], ◌∷◌, Option, Some, None, option_map, option_and_then, if◌then◌else◌}
 use Rattle.retro_syntax.specs.Tree as T
 use Rattle.retro_syntax.specs.Tree.{plain, quoted, parameter, quoted_parameter, argument, redirect, assignments, command, simples, conditional, loop, pipeline, end, chain, last, more}
@@ -12,24 +13,24 @@ pub data PlainItem : Type 0 where
   truncate : List ℕ → PlainItem
   append : List ℕ → PlainItem
 
--- what each gives, where each gives one
+-- all values of `f`, or None if one is missing
 abbrev pub all_of : {A B : Type 0} → (A → Option B) → List A → Option (List B)
 all_of f [] = Some []
 all_of f (x ∷ xs) = option_and_then (λ y. option_map (λ ys. y ∷ ys) (all_of f xs)) (f x)
 
--- the bytes of a word that is one unquoted literal, without a tilde at its start
+-- the text of a word that is unquoted text without a tilde at its start
 abbrev pub plain_word : T.Word → Option (List ℕ)
 plain_word (plain text ∷ []) = if begins_tilde text then None else Some text
 plain_word w = None
 
-abbrev pub redirected : Direction → List ℕ → Option PlainItem
-redirected From text = None
-redirected Onto text = Some (truncate text)
-redirected Append text = Some (append text)
+abbrev pub redirect_item : Direction → List ℕ → Option PlainItem
+redirect_item From text = None
+redirect_item Onto text = Some (truncate text)
+redirect_item Append text = Some (append text)
 
 abbrev pub plain_item : T.Item → Option PlainItem
 plain_item (argument w) = option_map word (plain_word w)
-plain_item (redirect d w) = option_and_then (redirected d) (plain_word w)
+plain_item (redirect d w) = option_and_then (redirect_item d) (plain_word w)
 
 abbrev pub plain_simple : T.Simple → Option (List PlainItem)
 plain_simple (assignments ws) = None
@@ -58,9 +59,8 @@ abbrev pub and_ors : T.Commands → List T.AndOr
 and_ors (last a closed) = a ∷ []
 and_ors (more a c) = a ∷ and_ors c
 
--- Some where no pipeline is negated, joined, a pipe of several stages or compound, where nothing is
--- assigned or read from a file, and where each word is one unquoted literal that begins with no
--- tilde. A blank line has no commands.
+-- The items of each command of a plain line, or None if the line isn't plain. A blank line has no
+-- commands.
 abbrev pub plain_commands : Option T.Commands → Option (List (List PlainItem))
 plain_commands None = Some []
 plain_commands (Some c) = all_of plain_and_or (and_ors c)

@@ -1,4 +1,4 @@
--- The plain commands that values of the code stand for.
+-- The plain commands that values of the code represent.
 use Rattle.std.specs.Prelude.{List, map, Vec}
 use Rattle.std.specs.declared.alloc.Global.{Global}
 use Rattle.retro_syntax.specs.Plain as P

@@ -1,4 +1,4 @@
--- The state of the definition that a state of the lexer stands for.
+-- For proofs only: the state of the definition that a lexer represents.
 use Rattle.std.specs.Prelude.{ℕ, List, Option, Result, map, string_bytes, Vec}
 use Rattle.std.specs.declared.alloc.Global.{Global}
 use Rattle.retro_syntax.specs.Failing.{Gives}
@@ -37,9 +37,9 @@ pending_view p.Comment ps n = Q.comment
 pending_view (p.Operator op) ps n = Q.operator (operator_view op)
 pending_view (p.Word digits q) ps n = Q.reading (Q.in_word ps digits (quote_view q))
 pending_view (p.Dollar inside) ps n = Q.reading (Q.dollar ps inside)
-pending_view (p.Name inside) ps n = Q.reading (Q.named ps inside n)
-pending_view (p.Brace inside) ps n = Q.reading (Q.braced ps inside n)
-pending_view (p.Question inside) ps n = Q.reading (Q.question ps inside)
+pending_view (p.Name inside) ps n = Q.reading (Q.dollar_name ps inside n)
+pending_view (p.Brace inside) ps n = Q.reading (Q.dollar_brace ps inside n)
+pending_view (p.Question inside) ps n = Q.reading (Q.dollar_question ps inside)
 
 -- the state before the next character, whatever the last one was
 abbrev pub unescaped_view : Lexer → Q.Lexing

@@ -1,4 +1,5 @@
--- Which trees the grammar has, and what a list of tokens spells.
+-- The grammar (XCU 2.10): which trees are lists of commands, and which tokens spell such a list. No
+-- state machine is mentioned here: tokens spell a tree if they are that tree written out.
 use Rattle.std.specs.Prelude.{◌≡◌, Bool, true, false, ◌&&◌, List, [], ◌∷◌, Some}
 use Rattle.retro_syntax.specs.Tree.{plain, quoted, parameter, quoted_parameter, Word, Assignment, Token, Item, argument, redirect, Simple, assignments, command, Commands, last, more, AndOr, end, chain, Pipeline, pipeline, Command, simples, conditional, loop, Arms, fi, otherwise, elif, commands_then}
 use Rattle.retro_syntax.specs.Words.{class, name_of, is_ordinary, is_supported}
@@ -18,7 +19,7 @@ abbrev pub are_assigned : List Assignment → Bool
 are_assigned [] = true
 are_assigned (a ∷ more_of) = is_assigned a && are_assigned more_of
 
--- The first word, targets aside, is neither reserved nor an assignment.
+-- The first word, redirections aside, is an ordinary word.
 abbrev pub begins_well : List Item → Bool
 begins_well [] = true
 begins_well (argument w ∷ is) = is_ordinary (class w)
@@ -43,8 +44,8 @@ is_compound (simples ss) = false
 is_compound (conditional a) = true
 is_compound (loop n ws c) = true
 
--- A simple command ends only at an operator, so in `if` and `for` a list is closed by `;` or ends
--- in `fi` or `done`.
+-- A reserved word is recognized only where a command may begin. So a list that a reserved word
+-- follows ends with `;`, or with the `fi` or `done` of a compound command.
 abbrev pub ends_compound : AndOr → Bool
 ends_compound (end (pipeline negated c)) = is_compound c
 ends_compound (chain p op a) = ends_compound a
@@ -81,7 +82,7 @@ abbrev mutual
       (IsCommands c × EndsItself c) × (IsCommands t × EndsItself t) × (IsCommands e × EndsItself e)
   IsArms (elif c t a) = (IsCommands c × EndsItself c) × (IsCommands t × EndsItself t) × IsArms a
 
--- the tokens are the list written out
+-- The tokens spell the list: the grammar has it, and the tokens are the list written out.
 pub record Spells (ts : List Token) (c : Commands) : Type 0 where
   pub tree : IsCommands c
   pub written : ts ≡ commands_then c []

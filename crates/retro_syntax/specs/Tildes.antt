@@ -4,7 +4,7 @@ use Rattle.retro_syntax.specs.Ascii as ascii
 use Rattle.retro_syntax.specs.Tree.{plain, quoted, parameter, quoted_parameter, Word}
 use Rattle.retro_syntax.specs.declared.tildes.TildePrefix as code
 
--- the login name behind the `~`, and what follows it in the word's first piece
+-- the login name after the `~`, and the rest of the word's first piece
 pub record TildePrefix : Type 0 where
   pub login : List ℕ
   pub rest : List ℕ
@@ -12,7 +12,7 @@ pub record TildePrefix : Type 0 where
 abbrev pub tilde_prefix_view : code.TildePrefix → TildePrefix
 tilde_prefix_view p = record { login = p.login.now; rest = p.rest.now }
 
--- a slash, and in an assigned value a colon too
+-- A slash ends a login name, and in an assigned value a colon too.
 abbrev pub ends_login : Bool → ℕ → Bool
 ends_login in_value c = c == ascii.slash || (in_value && c == ascii.colon)
 
@@ -22,27 +22,27 @@ login_of in_value [] = []
 login_of in_value (c ∷ cs) = if ends_login in_value c then [] else c ∷ login_of in_value cs
 
 -- the text from it on
-abbrev pub behind_login : Bool → List ℕ → List ℕ
-behind_login in_value [] = []
-behind_login in_value (c ∷ cs) = if ends_login in_value c then c ∷ cs else behind_login in_value cs
+abbrev pub after_login : Bool → List ℕ → List ℕ
+after_login in_value [] = []
+after_login in_value (c ∷ cs) = if ends_login in_value c then c ∷ cs else after_login in_value cs
 
 abbrev pub is_empty : {A : Type 0} → List A → Bool
 is_empty [] = true
 is_empty (x ∷ xs) = false
 
--- a prefix that ends in the piece, or with it where it is the only one
-abbrev pub if_whole : Bool → List ℕ → List ℕ → Option TildePrefix
-if_whole alone login rest =
-    if alone || not (is_empty rest) then Some (record { login = login; rest = rest }) else None
+-- the prefix, if it ends inside the piece or the piece is the word's only one
+abbrev pub if_ends : Bool → List ℕ → List ℕ → Option TildePrefix
+if_ends is_only login rest =
+    if is_only || not (is_empty rest) then Some (record { login = login; rest = rest }) else None
 
 abbrev pub prefix_of : Bool → Bool → List ℕ → Option TildePrefix
-prefix_of in_value alone [] = None
-prefix_of in_value alone (c ∷ cs) =
-    if c == ascii.tilde then if_whole alone (login_of in_value cs) (behind_login in_value cs)
+prefix_of in_value is_only [] = None
+prefix_of in_value is_only (c ∷ cs) =
+    if c == ascii.tilde then if_ends is_only (login_of in_value cs) (after_login in_value cs)
     else None
 
--- An unquoted `~` at the word's start, with all that follows up to the first unquoted slash (in an
--- assigned value a slash or colon) or the word's end, where all of it is unquoted literals.
+-- An unquoted `~` at the word's start and the unquoted text up to the first slash (in an assigned
+-- value a slash or colon), or up to the word's end.
 abbrev pub tilde_prefix : Bool → Word → Option TildePrefix
 tilde_prefix in_value [] = None
 tilde_prefix in_value (plain text ∷ ps) = prefix_of in_value (is_empty ps) text

@@ -1,4 +1,4 @@
--- The tree that a value of the code stands for.
+-- The tree that a value of the code represents, field by field.
 use Rattle.std.specs.Prelude.{List, map, string_bytes, Vec}
 use Rattle.std.specs.declared.alloc.Global.{Global}
 use Rattle.retro_syntax.specs.Tree as T
@@ -76,7 +76,7 @@ module _ {C : Type 0} (of : C → T.Command) where
       arms_up_to (map (λ a. (commands_of a.0, commands_of a.1)) x.before.items)
       (T.otherwise (commands_of x.condition) (commands_of x.consequence) (commands_of e))
 
--- one level, with each command inside already seen as its tree
+-- one level of a command, whose inner commands are trees already
 abbrev pub view_step : Command-F T.Command → T.Command
 view_step (Command-F.Pipe ss) = T.simples (map simple_view ss.items)
 view_step (Command-F.If x) = T.conditional (arms_of (λ c. c) x.value)
@@ -85,5 +85,6 @@ view_step (Command-F.For x) =
     T.loop x.value.name (map word_view x.value.words.items)
     (commands_of (λ c. c) x.value.body)
 
+-- a command's tree
 unfoldable pub view : Command → T.Command
 view = fold-Command T.Command view_step

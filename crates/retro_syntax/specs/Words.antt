@@ -1,4 +1,5 @@
--- What a word is where a command may begin (XCU 2.4, 2.10.2), and names (XBD 3.235).
+-- What a word is where a command may begin: a reserved word, an assignment, a word that this shell
+-- refuses, or an ordinary word (XCU 2.4, 2.10.2). The rule on names is that of `VarName`.
 use Rattle.std.specs.Prelude.{ℕ, Bool, true, false, not, List, [], ◌∷◌, Option, Some, None, option_map, option_and_then, if◌then◌else◌, codes, ◌||◌, ◌&&◌, ◌==◌}
 use Rattle.std.specs.Str.{bytes_eq}
 use Rattle.retro_path.specs.VarName.{is_shell_name, is_var_name, var_name_of}
@@ -9,10 +10,12 @@ use Rattle.retro_syntax.specs.declared.tree.ReservedWord.TheVariants.{Bang as ba
 use Rattle.retro_syntax.specs.declared.words.Class.{Class}
 use Rattle.retro_syntax.specs.declared.words.Class.TheVariants.{Reserved as reserved, Forbidden as forbidden, Assignment as assignment, Ordinary as ordinary}
 
+-- the first of these reserved words that is spelled like the text
 abbrev pub lookup : List ReservedWord → List ℕ → Option ReservedWord
 lookup [] text = None
 lookup (k ∷ ks) text = if bytes_eq (spelling k) text then Some k else lookup ks text
 
+-- the reserved words that the grammar has a rule for
 abbrev pub reserved_words : List ReservedWord
 reserved_words =
     bang ∷ key_if ∷ key_then ∷ key_elif ∷ key_else ∷ key_fi
@@ -22,14 +25,14 @@ abbrev pub is_one_of : List (List ℕ) → List ℕ → Bool
 is_one_of [] text = false
 is_one_of (t ∷ ts) text = bytes_eq t text || is_one_of ts text
 
--- reserved words that no rule names
+-- The other reserved words. Where a reserved word is recognized, they are refused.
 abbrev pub other_reserved : List (List ℕ)
 other_reserved =
     codes "{" ∷ codes "}" ∷ codes "case" ∷ codes "esac" ∷ codes "until" ∷ codes "while" ∷ []
 
 -- ---- assignments
 
--- the texts before and behind the first `=`
+-- the texts before and after the first `=`
 abbrev pub split_equals : List ℕ → Option (List ℕ × List ℕ)
 split_equals [] = None
 split_equals (c ∷ cs) =
@@ -39,11 +42,11 @@ split_equals (c ∷ cs) =
 abbrev pub if_named : List ℕ × List ℕ → Option (List ℕ × List ℕ)
 if_named s = if is_shell_name s.0 then Some s else None
 
--- the name, and what stands behind the `=`, of a text that begins with `name=`
+-- The name and the rest of a text that begins with `name=`, where the name has the shell's grammar.
 abbrev pub split_name : List ℕ → Option (List ℕ × List ℕ)
 split_name text = option_and_then if_named (split_equals text)
 
--- `name=text`, with these pieces behind it
+-- the assignment `name=text`, whose value continues with these pieces
 abbrev pub assigned : List ℕ → List ℕ → List Piece → Assignment
 assigned n text ps = record { name = n; value = plain text ∷ ps }
 
@@ -66,11 +69,13 @@ abbrev pub begins_tilde : List ℕ → Bool
 begins_tilde [] = false
 begins_tilde (c ∷ cs) = c == ascii.tilde
 
+-- whether `:~` is in the text
 abbrev pub has_colon_tilde : List ℕ → Bool
 has_colon_tilde [] = false
 has_colon_tilde (c ∷ cs) = (c == ascii.colon && begins_tilde cs) || has_colon_tilde cs
 
--- whether `:~` stands unquoted in the word
+-- Whether an unquoted `:~` is in the word. A shell would expand that tilde (XCU 2.6.1); this one
+-- refuses the assignment.
 abbrev pub has_unquoted_colon_tilde : Word → Bool
 has_unquoted_colon_tilde [] = false
 has_unquoted_colon_tilde (plain text ∷ ps) = has_colon_tilde text || has_unquoted_colon_tilde ps
@@ -85,19 +90,22 @@ is_supported a = is_var_name a.name && not (has_unquoted_colon_tilde a.value)
 
 -- ---- what a word is
 
+-- An assignment that isn't supported is refused, and is no command's name.
 abbrev pub assignment_class : Assignment → Class
 assignment_class a = if is_supported a then assignment else forbidden
 
+-- an unquoted word of one piece, by the reserved word that it spells
 abbrev pub plain_class : List ℕ → Option ReservedWord → Class
 plain_class text (Some k) = reserved k
 plain_class text None = if is_one_of other_reserved text then forbidden else ordinary
 
--- a word, by what it assigns
+-- a word, by the assignment that it has the form of
 abbrev pub class_by : Word → Option Assignment → Class
 class_by w (Some a) = assignment_class a
 class_by (plain text ∷ []) None = plain_class text (lookup reserved_words text)
 class_by w None = ordinary
 
+-- what a word is where a command may begin
 unfoldable pub class : Word → Class
 class w = class_by w (assignment_form w)
 

@@ -1,5 +1,5 @@
--- A writing of tokens that is read as them: quotes around quoted parts, `${name}` for parameters, and
--- a blank behind each token.
+-- The canonical writing of tokens: quoted parts in double quotes, parameters as `${name}`, and a blank
+-- after each token. `writing_is_read` says that the lexer reads tokens back from their writing.
 use Rattle.std.specs.Prelude.{◌≡◌, ℕ, Bool, true, false, not, ◌&&◌, ◌||◌, ◌==◌, List, [], ◌∷◌, ◌++◌, map, codes, if◌then◌else◌}
 use Rattle.std.specs.Char.{encode_utf8}
 use Rattle.retro_syntax.specs.Ascii as ascii
@@ -19,6 +19,7 @@ pub data Part : Type 0 where
   -- a parameter outside quotes
   parameter : T.Parameter → Part
 
+-- a token, with its words by their parts
 pub data Written : Type 0 where
   semicolon : Written
   bar : Written
@@ -26,7 +27,7 @@ pub data Written : Type 0 where
   redirection : Direction → Written
   word : List Part → Written
 
--- ---- the tokens
+-- ---- The tokens that are written.
 
 abbrev pub bytes_of : List ℕ → List ℕ
 bytes_of [] = []
@@ -48,9 +49,9 @@ token_of (connector op) = T.connector op
 token_of (redirection d) = T.redirection d
 token_of (word ps) = T.word (word_of ps)
 
--- ---- the characters, before those `r` that follow
+-- ---- How they are written, followed by the characters `r`.
 
--- what stands in the braces
+-- the text in the braces
 abbrev pub parameter_text : T.Parameter → List ℕ
 parameter_text T.status = codes "?"
 parameter_text (T.variable n) = n
@@ -62,7 +63,7 @@ abbrev pub parameters_then : List T.Parameter → List ℕ → List ℕ
 parameters_then [] r = r
 parameters_then (p ∷ ps) r = braces_then p (parameters_then ps r)
 
--- a backslash stands before each of $ ` " and the backslash
+-- with a backslash before each of $ ` " and the backslash
 abbrev pub escaped_then : List ℕ → List ℕ → List ℕ
 escaped_then [] r = r
 escaped_then (c ∷ cs) r =
@@ -98,9 +99,9 @@ abbrev pub written : List Written → List ℕ
 written [] = []
 written (w ∷ ws) = token_then w (ascii.space ∷ written ws)
 
--- ---- what can be written so
+-- ---- What has a canonical writing.
 
--- what stands in no unquoted part; a `$` may where it stands for itself
+-- What no unquoted part has, but for a `$` that begins no parameter.
 abbrev pub breaking_characters : List ℕ
 breaking_characters =
     ascii.backslash ∷ ascii.space ∷ ascii.tab ∷ ascii.semicolon ∷ ascii.ampersand ∷ ascii.bar
@@ -111,22 +112,23 @@ breaking_characters =
 abbrev pub fits : ℕ → Bool
 fits c = not (ascii.is_among breaking_characters c)
 
--- whether a `$` before it doesn't stand for itself
+-- whether a character after `$` begins a parameter
 abbrev pub begins_parameter : ℕ → Bool
 begins_parameter c =
     starts_name c || (c == ascii.left_brace || (c == ascii.question || is_other_parameter c))
 
--- a `$` before this stands for itself; `followed` says whether a parameter comes behind the part
-abbrev pub stands_alone : Bool → List ℕ → Bool
-stands_alone followed [] = not followed
-stands_alone followed (c ∷ cs) = not (begins_parameter c)
+-- Whether a `$` before these characters begins no parameter. `followed` says whether a parameter
+-- follows the part.
+abbrev pub is_literal_dollar : Bool → List ℕ → Bool
+is_literal_dollar followed [] = not followed
+is_literal_dollar followed (c ∷ cs) = not (begins_parameter c)
 
 abbrev pub are_unquoted : Bool → List ℕ → Bool
 are_unquoted followed [] = true
 are_unquoted followed (c ∷ cs) =
-    (fits c || (c == ascii.dollar && stands_alone followed cs)) && are_unquoted followed cs
+    (fits c || (c == ascii.dollar && is_literal_dollar followed cs)) && are_unquoted followed cs
 
--- all but NUL
+-- quoted characters: any but NUL
 abbrev pub are_quoted : List ℕ → Bool
 are_quoted [] = true
 are_quoted (c ∷ cs) = not (c == ascii.nul) && are_quoted cs
@@ -150,7 +152,8 @@ is_unquoted_parameter (unquoted cs) = false
 is_unquoted_parameter (quoted cs ns) = false
 is_unquoted_parameter (parameter n) = true
 
--- Two unquoted parts would be one, and two quoted ones without parameters between.
+-- Two adjacent unquoted parts would be one part, and so would two quoted parts without parameters
+-- between them.
 abbrev pub are_apart : Part → Part → Bool
 are_apart (unquoted cs) (unquoted ds) = false
 are_apart (unquoted cs) (quoted ds ms) = true
@@ -167,7 +170,7 @@ are_parts (p ∷ []) = is_part false p
 are_parts (p ∷ q ∷ ps) =
     is_part (is_unquoted_parameter q) p && (are_apart p q && are_parts (q ∷ ps))
 
--- A word has a part, and begins no comment.
+-- a word that has a part, and that begins no comment
 abbrev pub begins_no_comment : List Part → Bool
 begins_no_comment [] = false
 begins_no_comment (unquoted [] ∷ ps) = false
@@ -186,7 +189,7 @@ abbrev pub are_writable : List Written → Bool
 are_writable [] = true
 are_writable (w ∷ ws) = is_writable w && are_writable ws
 
--- The tokens are those of something that can be written so.
+-- The tokens have a canonical writing.
 pub record HasWriting (ts : List T.Token) : Type 0 where
   pub tokens : List Written
   pub writable : are_writable tokens ≡ true

@@ -1,8 +1,15 @@
-//! Commands that are put together.
+//! Constructors of commands.
 
 ghost use Rattle.std.specs.Prelude.{◌≡◌, IfOk, map};
 ghost use Rattle.retro_syntax.specs.Tree;
-ghost use Rattle.retro_syntax.specs.View.{view, arms_of, arms_else_of, commands_of, word_view, simple_view};
+ghost use Rattle.retro_syntax.specs.View.{
+  view,
+  arms_of,
+  arms_else_of,
+  commands_of,
+  word_view,
+  simple_view,
+};
 
 use crate::tree::{Command, Commands, Conditional, Loop, Simple};
 use std::alloc::{AllocError, Global};
@@ -22,7 +29,7 @@ pub fn pipe(stages: Vec<Simple>) -> Command
     Command::Pipe(stages)
 }
 
-/// An `if` with what its `else` leads to.
+/// An `if` with the list after its `else`.
 pub fn conditional_else(
     alloc: Global,
     parts: Conditional<Command>,

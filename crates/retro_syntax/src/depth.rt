@@ -7,12 +7,12 @@ ghost use Rattle.retro_syntax.specs.View.{commands_of, view};
 
 use crate::tree::{AndOr, Command, Commands, Conditional, Connector, Pipeline};
 
-/// Whether nothing in these pipelines nests deeper than `room`.
+/// Whether these pipelines nest at most `room` deep.
 #[cycle(depth)]
-fn joined_fit(joined: &[(Pipeline<Command>, Connector)], room: u8) -> bool
-    ensures { result ≡ Fits.joined_fit joined.now room }
+fn pipelines_fit(pipelines: &[(Pipeline<Command>, Connector)], room: u8) -> bool
+    ensures { result ≡ Fits.pipelines_fit pipelines.now room }
 {
-    let mut rest = joined;
+    let mut rest = pipelines;
     while let [first, more @ ..] = rest {
         if !command_fits(&first.0.command, room) {
             return false;
@@ -22,15 +22,15 @@ fn joined_fit(joined: &[(Pipeline<Command>, Connector)], room: u8) -> bool
     true
 }
 
-/// The same of an and-or list.
+/// Whether an and-or list nests at most `room` deep.
 #[cycle(depth)]
 fn and_or_fits(and_or: &AndOr<Command>, room: u8) -> bool
     ensures { result ≡ Fits.and_or_fits and_or.now room }
 {
-    joined_fit(&and_or.before, room) && command_fits(&and_or.last.command, room)
+    pipelines_fit(&and_or.before, room) && command_fits(&and_or.last.command, room)
 }
 
-/// The same of and-or lists.
+/// Whether these and-or lists nest at most `room` deep.
 #[cycle(depth)]
 fn and_ors_fit(list: &[AndOr<Command>], room: u8) -> bool
     ensures { result ≡ Fits.and_ors_fit list.now room }
@@ -45,7 +45,7 @@ fn and_ors_fit(list: &[AndOr<Command>], room: u8) -> bool
     true
 }
 
-/// The same of a list.
+/// Whether a list nests at most `room` deep.
 #[cycle(depth)]
 fn list_fits(list: &Commands<Command>, room: u8) -> bool
     ensures { result ≡ Fits.list_fits list.now room }
@@ -53,7 +53,7 @@ fn list_fits(list: &Commands<Command>, room: u8) -> bool
     and_ors_fit(&list.before, room) && and_or_fits(&list.last, room)
 }
 
-/// The same of conditions and what they lead to.
+/// Whether these arms of an `if` nest at most `room` deep.
 #[cycle(depth)]
 fn arms_fit(arms: &[(Commands<Command>, Commands<Command>)], room: u8) -> bool
     ensures { result ≡ Fits.arms_fit arms.now room }
@@ -68,7 +68,7 @@ fn arms_fit(arms: &[(Commands<Command>, Commands<Command>)], room: u8) -> bool
     true
 }
 
-/// The same of all conditions of an `if`, and what they lead to.
+/// Whether the lists of an `if` nest at most `room` deep, but for its `else`.
 #[cycle(depth)]
 fn conditional_fits(parts: &Conditional<Command>, room: u8) -> bool
     ensures { result ≡ Fits.conditional_fits parts.now room }
@@ -78,7 +78,7 @@ fn conditional_fits(parts: &Conditional<Command>, room: u8) -> bool
         && list_fits(&parts.consequence, room)
 }
 
-/// The same of a command. An `if` or a `for` nests one deeper than what is in it.
+/// Whether a command nests at most `room` deep. An `if` or a `for` is one deeper than its lists.
 #[cycle(depth)]
 fn command_fits(command: &Command, room: u8) -> bool
     ensures { result ≡ Fits.command_fits command.now room }
@@ -112,9 +112,9 @@ fn command_fits(command: &Command, room: u8) -> bool
 /// How deep `if` and `for` may nest in a line.
 pub const DEEPEST_NESTING: u8 = 32;
 
-/// Whether `if` and `for` nest no deeper than that.
+/// Whether `if` and `for` nest no deeper than [`DEEPEST_NESTING`].
 pub fn is_shallow(list: &Commands<Command>) -> bool
-    ensures { result ≡ nat_le (Depth.depth (commands_of view list.now)) 32 }
+    ensures { result ≡ nat_le (Depth.depth (commands_of view list.now)) Depth.deepest_nesting }
 {
     list_fits(list, DEEPEST_NESTING)
 }

@@ -6,7 +6,20 @@
 mod characters;
 mod pieces;
 
-ghost use Rattle.std.specs.Prelude.{◌≡◌, ◌∷◌, [], ◌++◌, ℕ, List, OnOk, Some, MatchOption, true, false, string_bytes};
+ghost use Rattle.std.specs.Prelude.{
+  ◌≡◌,
+  ◌∷◌,
+  [],
+  ◌++◌,
+  ℕ,
+  List,
+  OnOk,
+  Some,
+  MatchOption,
+  true,
+  false,
+  string_bytes,
+};
 ghost use Rattle.std.specs.Char.{encode_utf8};
 ghost use Rattle.std.specs.Str.{chars};
 ghost use Rattle.retro_path.specs.VarName.{is_var_name};
@@ -14,7 +27,14 @@ ghost use Rattle.retro_syntax.specs.Quoting;
 ghost use Rattle.retro_syntax.specs.Tree;
 ghost use Rattle.retro_syntax.specs.Failing.{Gives};
 ghost use Rattle.retro_syntax.specs.View.{parameter_view, piece_view, token_view, tokens_view};
-ghost use Rattle.retro_syntax.specs.QuotingViews.{Reads, lexer_view, operator_view, pending_view, pieces_view, quote_view};
+ghost use Rattle.retro_syntax.specs.QuotingViews.{
+  Reads,
+  lexer_view,
+  operator_view,
+  pending_view,
+  pieces_view,
+  quote_view,
+};
 
 use crate::lexer::characters::{
     is_blank, is_operator, is_other_parameter, is_refused, is_special_inside,
@@ -179,7 +199,7 @@ impl Lexer {
     /// Ends the pending operator, which no character continues.
     fn end_operator(&mut self, operator: Operator) -> Result<(), SyntaxError>
         ensures { Gives (λ _. tokens_view self.new.tokens) result
-            (Quoting.settled (tokens_view self.old.tokens) (operator_view operator)) }
+            (Quoting.end_operator (tokens_view self.old.tokens) (operator_view operator)) }
     {
         let token = match operator {
             Operator::Semicolon => Token::Semicolon,
@@ -226,7 +246,7 @@ impl Lexer {
 
     /// Reads a character where a token may begin.
     fn begin_token(&mut self, c: char) -> Result<(), SyntaxError>
-        ensures { Reads self.new result (Quoting.fresh (tokens_view self.old.tokens) c) }
+        ensures { Reads self.new result (Quoting.begin_token (tokens_view self.old.tokens) c) }
     {
         self.pending = if is_blank(c) {
             Pending::Between
@@ -378,7 +398,7 @@ impl Lexer {
     fn read_name(&mut self, quoted: bool, c: char) -> Result<(), SyntaxError>
         ensures { Reads self.new result
             (Quoting.reading_at (tokens_view self.old.tokens)
-            (Quoting.named (pieces_view self.old.pieces) quoted (string_bytes self.old.name)) c) }
+            (Quoting.dollar_name (pieces_view self.old.pieces) quoted (string_bytes self.old.name)) c) }
     {
         if VarName::may_continue_with(c) {
             self.name.push(c)?;
@@ -397,7 +417,7 @@ impl Lexer {
     fn read_first_in_braces(&mut self, quoted: bool, c: char) -> Result<(), SyntaxError>
         ensures { Reads self.new result
             (Quoting.reading_at (tokens_view self.old.tokens)
-            (Quoting.braced (pieces_view self.old.pieces) quoted []) c) }
+            (Quoting.dollar_brace (pieces_view self.old.pieces) quoted []) c) }
     {
         if c == '?' {
             self.pending = Pending::Question { quoted };
@@ -414,7 +434,7 @@ impl Lexer {
     fn read_brace(&mut self, quoted: bool, c: char) -> Result<(), SyntaxError>
         ensures { Reads self.new result
             (Quoting.reading_at (tokens_view self.old.tokens)
-            (Quoting.braced (pieces_view self.old.pieces) quoted (string_bytes self.old.name)) c) }
+            (Quoting.dollar_brace (pieces_view self.old.pieces) quoted (string_bytes self.old.name)) c) }
     {
         match self.name.as_bytes() {
             [] => self.read_first_in_braces(quoted, c),

@@ -1,16 +1,17 @@
-//! The lines of a shell: a text is read as the one line that it spells, or refused.
+//! The grammar of the shell: which texts are lines, and the tree of each.
 //!
-//! [`parse`] answers the line's tree exactly where the text spells one within the limits, and each
-//! refusal exactly where it applies; a [`Parsed`] keeps a text with that answer. No text spells two
-//! lines.
+//! [`parse`] returns the tree of the line that a text spells, or says why the text is refused. A
+//! [`Parsed`] keeps a text with that result. No text spells two lines.
 //!
-//! A line is spelled in two steps. Its text is a list of tokens (XCU 2.2, 2.3), defined character by
-//! character; [`writing_is_read`] says of the definition that tokens written with quotes, braces
-//! and blanks are read as themselves. The tokens are a tree written out (XCU 2.4, 2.10);
-//! [`reading_is_spelling`] says that the reader finds just that tree.
+//! The lexer splits a text into tokens (XCU 2.2, 2.3). `specs/Quoting.antt` defines the tokens
+//! character by character; [`writing_is_read`] pins that definition by the canonical writing of
+//! tokens. The parser reads the tokens' tree (XCU 2.4, 2.10); [`reading_is_spelling`] says that it
+//! finds exactly the tree that the tokens are, written out.
 //!
-//! Words are lists of pieces, and [`tree::Word::tilde_prefix`] finds their tilde prefix.
-//! [`plain_commands`] takes the commands out of a line that is a list of plain ones.
+//! A word is a list of pieces. [`tree::Word::tilde_prefix`] finds its tilde prefix.
+//! [`plain_commands`] returns the commands of a line of plain commands only.
+//!
+//! If allocation fails, calls return `NoMem` and leave their arguments unchanged.
 #![tactic(auto)]
 
 mod build;
@@ -37,7 +38,7 @@ pub use parsed::Parsed;
 pub use plain::{PlainCommand, PlainItem, plain_commands};
 pub use tildes::TildePrefix;
 
-/// Reading answers exactly the tree that is spelled, and no two trees are spelled alike.
+/// The parser finds exactly the tree that tokens spell, and no tokens spell two trees.
 pub fn reading_is_spelling()
     ensures read { (ts : List Token) (c : Commands) → commands_of ts ≡ Some c → Spells ts c }
     ensures spelled { (ts : List Token) (c : Commands) → Spells ts c → commands_of ts ≡ Some c }

@@ -2,7 +2,7 @@
 
 ghost use Rattle.std.specs.Prelude.{◌≡◌, Option, Some, List, ℕ, map, nat_le, true};
 ghost use Rattle.retro_syntax.specs.Failing.{Gives};
-ghost use Rattle.retro_syntax.specs.Depth.{line_depth};
+ghost use Rattle.retro_syntax.specs.Depth.{deepest_nesting, line_depth};
 ghost use Rattle.retro_syntax.specs.Lines as Lines;
 ghost use Rattle.retro_syntax.specs.Lines.{
   Answers,
@@ -23,26 +23,26 @@ use crate::syntax_error::SyntaxError;
 use crate::tree::{Command, Commands};
 use std::alloc::Global;
 
-/// How many bytes a line may have.
+/// The greatest length of a line, in bytes.
 pub const LONGEST_LINE: usize = 4096;
 
-/// Why a text is no line.
+/// Why a text is not a line.
 #[derive(Clone, Copy, Debug, PartialEq, Eq)]
 pub enum Refused {
     /// Refusal 5: the text spells no line of the grammar.
     Unsupported,
-    /// Refusal 6: the text has over 4,096 bytes.
+    /// Refusal 6: the text is longer than [`LONGEST_LINE`].
     TooLong,
-    /// Refusal 7: `if` and `for` nest over 32 deep.
+    /// Refusal 7: `if` and `for` nest deeper than 32.
     TooDeep,
-    /// Memory is wanting.
+    /// Allocation failed.
     NoMem,
 }
 
-/// The tree of a line.
+/// A line.
 #[derive(Drop)]
 pub struct Line {
-    /// The line's list; a blank line has none.
+    /// The line's list, or `None` for a blank line.
     pub commands: Option<Commands<Command>>,
 }
 
@@ -74,9 +74,9 @@ fn line_of(alloc: Global, text: &str) -> Result<Line, SyntaxError>
     })
 }
 
-/// Whether `if` and `for` nest no deeper than they may.
+/// Whether `if` and `for` nest no deeper than the limit.
 fn is_shallow_line(line: &Line) -> bool
-    ensures { result ≡ nat_le (line_depth (line_view line.now)) 32 }
+    ensures { result ≡ nat_le (line_depth (line_view line.now)) deepest_nesting }
 {
     match &line.commands {
         None => true,
@@ -84,13 +84,12 @@ fn is_shallow_line(line: &Line) -> bool
     }
 }
 
-/// The line that the text spells (XCU 2.2, 2.3, 2.10), where it has at most 4,096 bytes, and `if`
-/// and `for` nest at most 32 deep.
+/// The line that a text spells (XCU 2.2, 2.3, 2.10), if the text and the line keep the limits.
 ///
 /// # Errors
 ///
-/// `TooLong` for a text of over 4,096 bytes; else `Unsupported` where it spells no line of the
-/// grammar; else `TooDeep` where its line nests deeper; `NoMem` where memory is wanting.
+/// The first of these that applies: `TooLong` if the text is longer than [`LONGEST_LINE`],
+/// `Unsupported` if it spells no line of the grammar, `TooDeep` if its line nests deeper than 32.
 pub fn parse(alloc: Global, text: &str) -> Result<Line, Refused>
     ensures meets { Meets text.now result }
     ensures function { Answers text.now result }
@@ -111,8 +110,7 @@ pub fn one_line()
         → TextSpells text l → k ≡ l }
 {}
 
-/// `parsed`, which gives the line that is answered for a text as a function, gives exactly the line
-/// that the text spells within the limits.
+/// The function `parsed` gives exactly the line that a text spells within the limits.
 pub fn parsed_is_spelling()
     ensures read { (text : List ℕ) (line : Option Tree.Commands) → parsed text ≡ Some line
         → SpellsWithin text line }
@@ -120,8 +118,8 @@ pub fn parsed_is_spelling()
         → parsed text ≡ Some line }
 {}
 
-/// Tokens written with quotes around quoted parts, `${name}` for parameters and a blank behind each
-/// token are read as they were written; and all tokens that a text is read as can be written so.
+/// Tokens are read back from their canonical writing: quoted parts in double quotes, parameters as
+/// `${name}`, a blank after each token. All tokens that a text has can be written so.
 pub fn writing_is_read()
     ensures read { (ws : List Written) → are_writable ws ≡ true
         → tokens_of (written ws) ≡ Some (map token_of ws) }

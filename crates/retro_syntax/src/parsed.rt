@@ -1,6 +1,17 @@
 //! A text together with its line.
 
-ghost use Rattle.std.specs.Prelude.{◌≡◌, ◌≢◌, IfOk, IfSome, Err, Some, is_none, is_some, option_map, string_bytes};
+ghost use Rattle.std.specs.Prelude.{
+  ◌≡◌,
+  ◌≢◌,
+  IfOk,
+  IfSome,
+  Err,
+  Some,
+  is_none,
+  is_some,
+  option_map,
+  string_bytes,
+};
 ghost use Rattle.retro_syntax.specs.Lines.{Meets, line_view, parsed};
 ghost use Rattle.retro_syntax.specs.declared.lines.Refused.TheVariants.{NoMem};
 
@@ -8,7 +19,7 @@ use crate::lines::{Line, Refused, parse};
 use std::alloc::{AllocError, Global};
 use std::marker::Model;
 
-/// A text, together with what [`parse`] answers for it. Contracts see it as the text.
+/// A text with the result of [`parse`] for it. Contracts see it as the text.
 #[derive(Drop)]
 pub struct Parsed {
     text: String,
@@ -27,11 +38,7 @@ impl Model for Parsed {
 }
 
 impl Parsed {
-    /// The text with its answer.
-    ///
-    /// # Errors
-    ///
-    /// `NoMem` where memory is wanting.
+    /// Parses a text.
     pub fn of(alloc: Global, text: String) -> Result<Parsed, AllocError>
         ensures { IfOk result (λ p. p ≡ string_bytes text) }
     {
@@ -48,7 +55,7 @@ impl Parsed {
         &self.text
     }
 
-    /// The line that the text spells within the limits; none where the text is refused.
+    /// The line that the text spells, or `None` if the text is refused.
     pub fn line(&self) -> Option<&Line>
         ensures { option_map (λ line. line_view line.now) result ≡ parsed self.now }
     {
@@ -58,7 +65,7 @@ impl Parsed {
         }
     }
 
-    /// Why the text is refused, where it is. It is never `NoMem`.
+    /// Why the text is refused, or `None` if it is a line. It is never `NoMem`.
     pub fn refused(&self) -> Option<Refused>
         ensures meets { IfSome result (λ why. Meets self.now (Err why) × (why ≢ NoMem)) }
         ensures found { is_some result ≡ is_none (parsed self.now) }

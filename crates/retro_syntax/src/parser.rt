@@ -10,8 +10,29 @@ ghost use Rattle.retro_syntax.specs.Failing.{Gives};
 ghost use Rattle.retro_syntax.specs.Parsing;
 ghost use Rattle.retro_syntax.specs.Tree;
 ghost use Rattle.retro_syntax.specs.Words;
-ghost use Rattle.retro_syntax.specs.View.{assignment_view, commands_of, item_view, simple_view, token_view, tokens_view, view, word_view};
-ghost use Rattle.retro_syntax.specs.ParserViews.{Parses, ParsesAt, arm_view, frame_view, items_view, open_view, parser_view, place_view, stack_view, stages_view, words_view};
+ghost use Rattle.retro_syntax.specs.View.{
+  assignment_view,
+  commands_of,
+  item_view,
+  simple_view,
+  token_view,
+  tokens_view,
+  view,
+  word_view,
+};
+ghost use Rattle.retro_syntax.specs.ParserViews.{
+  Parses,
+  ParsesAt,
+  arm_view,
+  frame_view,
+  items_view,
+  open_view,
+  parser_view,
+  place_view,
+  stack_view,
+  stages_view,
+  words_view,
+};
 
 use crate::build::{conditional, conditional_else, pipe, repetition};
 use crate::syntax_error::SyntaxError;
@@ -92,9 +113,9 @@ fn no_argument(items: &[Item]) -> bool
 }
 
 impl Parser {
-    /// A parser that has read nothing.
+    /// A parser that has read empty_list.
     fn new(alloc: Global) -> Parser
-        ensures { parser_view result ≡ Parsing.at [] Parsing.nothing Parsing.start }
+        ensures { parser_view result ≡ Parsing.at [] Parsing.empty_list Parsing.start }
     {
         Parser {
             alloc,
@@ -111,7 +132,7 @@ impl Parser {
         ensures { Parses self.new result
             (Some (Parsing.at
             ((open_view self.old.here, frame_view frame) ∷ stack_view self.old.stack)
-            Parsing.nothing Parsing.start)) }
+            Parsing.empty_list Parsing.start)) }
     {
         let here = mem::replace(&mut self.here, Open::new(self.alloc));
         self.stack.push((here, frame))?;

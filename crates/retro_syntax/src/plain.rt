@@ -1,17 +1,28 @@
-//! The commands of a line that is a list of plain ones.
+//! Lines of plain commands only.
 
 ghost use Rattle.std.specs.Prelude.{◌≡◌, [], ◌∷◌, ◌++◌, IfOk, Option, Some, None, map, option_map};
 ghost use Rattle.retro_syntax.specs.Lines.{line_view};
 ghost use Rattle.retro_syntax.specs.Plain as Plain;
-ghost use Rattle.retro_syntax.specs.PlainViews.{plain_command_view, plain_commands_view, plain_item_view};
-ghost use Rattle.retro_syntax.specs.View.{and_or_of, item_view, pipeline_of, simple_view, view, word_view};
+ghost use Rattle.retro_syntax.specs.PlainViews.{
+  plain_command_view,
+  plain_commands_view,
+  plain_item_view,
+};
+ghost use Rattle.retro_syntax.specs.View.{
+  and_or_of,
+  item_view,
+  pipeline_of,
+  simple_view,
+  view,
+  word_view,
+};
 
 use crate::lines::Line;
 use crate::tree::{AndOr, Command, Direction, Item, Piece, Pipeline, Simple, Word};
 use crate::words::begins_tilde;
 use std::alloc::{AllocError, Global};
 
-/// A part of a plain command, in the order in which it is written.
+/// A part of a plain command.
 #[derive(Clone, Copy, Debug, PartialEq, Eq)]
 pub enum PlainItem<'a> {
     /// A word: the command's name or an operand.
@@ -22,14 +33,14 @@ pub enum PlainItem<'a> {
     Append(&'a str),
 }
 
-/// A simple command of words and output redirections alone (XCU 2.9.1).
+/// A simple command of words and output redirections only (XCU 2.9.1).
 #[derive(Drop)]
 pub struct PlainCommand<'a> {
     /// Its words and redirections, as written.
     pub items: Vec<PlainItem<'a>>,
 }
 
-/// The text of a word that is one unquoted literal, without a tilde at its start.
+/// The text of a word that is unquoted text without a tilde at its start.
 fn plain_word<'a>(word: &'a Word) -> Option<&'a str>
     ensures { option_map (λ text. text.now) result ≡ Plain.plain_word (word_view word.now) }
 {
@@ -51,7 +62,7 @@ fn plain_word<'a>(word: &'a Word) -> Option<&'a str>
     }
 }
 
-/// A word or an output redirection, of such a word.
+/// An argument or an output redirection whose word is plain.
 fn plain_item<'a>(item: &'a Item) -> Option<PlainItem<'a>>
     ensures { option_map plain_item_view result ≡ Plain.plain_item (item_view item.now) }
 {
@@ -68,7 +79,7 @@ fn plain_item<'a>(item: &'a Item) -> Option<PlainItem<'a>>
     }
 }
 
-/// A command whose parts are all plain.
+/// The command of items that are all plain.
 fn plain_items<'a>(alloc: Global, items: &'a [Item]) -> Result<Option<PlainCommand<'a>>, AllocError>
     ensures { IfOk result (λ found. option_map plain_command_view found
         ≡ Plain.all_of Plain.plain_item (map item_view items.now)) }
@@ -85,7 +96,7 @@ fn plain_items<'a>(alloc: Global, items: &'a [Item]) -> Result<Option<PlainComma
     Ok(Some(PlainCommand { items: found }))
 }
 
-/// The command of a pipe that is one plain command.
+/// The command of a pipe of one plain command.
 fn plain_stages<'a>(
     alloc: Global,
     stages: &'a [Simple],
@@ -105,7 +116,7 @@ fn plain_stages<'a>(
     }
 }
 
-/// The same of a command.
+/// The plain command that a command is.
 fn plain_command<'a>(
     alloc: Global,
     command: &'a Command,
@@ -121,7 +132,7 @@ fn plain_command<'a>(
     }
 }
 
-/// The same of a pipeline.
+/// The plain command that a pipeline runs, unless `!` negates it.
 fn plain_pipeline<'a>(
     alloc: Global,
     pipeline: &'a Pipeline<Command>,
@@ -135,7 +146,7 @@ fn plain_pipeline<'a>(
     plain_command(alloc, &pipeline.command)
 }
 
-/// The same of an and-or list.
+/// The plain command of an and-or list of one pipeline.
 fn plain_and_or<'a>(
     alloc: Global,
     and_or: &'a AndOr<Command>,
@@ -149,7 +160,7 @@ fn plain_and_or<'a>(
     }
 }
 
-/// The commands of a list, where each and-or list is one plain command.
+/// The commands of a list whose and-or lists are each one plain command.
 fn plain_list<'a>(
     alloc: Global,
     before: &'a [AndOr<Command>],
@@ -177,16 +188,10 @@ fn plain_list<'a>(
     }
 }
 
-/// The simple commands of a line that is a list of plain ones, in the order in which they are
-/// written. A blank line has none.
+/// The commands of a line of plain commands only, in order. A blank line has none.
 ///
-/// `None` where a pipeline is negated, joined by `&&` or `||`, of several stages or compound, where
-/// something is assigned or read from a file, or where a word isn't one unquoted literal or begins
-/// with a tilde.
-///
-/// # Errors
-///
-/// `NoMem` where memory is wanting.
+/// Returns `None` if the line has anything else: `!`, `&&`, `||`, `|`, a compound command, an
+/// assignment, `<`, a quote, a parameter, or a word that begins with a tilde.
 pub fn plain_commands<'a>(
     alloc: Global,
     line: &'a Line,

@@ -1,6 +1,17 @@
 //! Tilde prefixes (XCU 2.6.1).
 
-ghost use Rattle.std.specs.Prelude.{◌≡◌, Option, None, Some, map, option_map, take, drop, false, true};
+ghost use Rattle.std.specs.Prelude.{
+  ◌≡◌,
+  Option,
+  None,
+  Some,
+  map,
+  option_map,
+  take,
+  drop,
+  false,
+  true,
+};
 ghost use Rattle.std.specs.Str.{IsCharBoundary};
 ghost use Rattle.retro_syntax.specs.Tildes;
 ghost use Rattle.retro_syntax.specs.Tildes.{tilde_prefix_view};
@@ -8,28 +19,28 @@ ghost use Rattle.retro_syntax.specs.View.{piece_view, word_view};
 
 use crate::tree::{Assignment, Piece, Word};
 
-/// A tilde prefix, and what follows it in the word's first piece.
+/// A tilde prefix, and the rest of the word's first piece.
 #[derive(Clone, Copy)]
 pub struct TildePrefix<'a> {
-    /// The login name behind the `~`; empty where the `~` stands alone.
+    /// The login name after the `~`. Empty for a bare `~`.
     pub login: &'a str,
-    /// What follows in the piece: nothing, or a slash (in an assigned value a slash or colon) and
-    /// what stands behind it.
+    /// The rest of the piece: empty, or a slash (in an assigned value a slash or colon) and the text
+    /// after it.
     pub rest: &'a str,
 }
 
-/// Whether the byte ends a login name.
+/// Whether a byte ends a login name.
 fn ends_login(in_value: bool, byte: u8) -> bool
     ensures { result ≡ Tildes.ends_login in_value byte }
 {
     byte == b'/' || (in_value && byte == b':')
 }
 
-/// How many bytes the login name has at the text's start.
+/// The length of the login name at a text's start, in bytes.
 fn login_length(in_value: bool, text: &str) -> usize
     ensures boundary { IsCharBoundary text.now result }
     ensures login { take result text.now ≡ Tildes.login_of in_value text.now }
-    ensures rest { drop result text.now ≡ Tildes.behind_login in_value text.now }
+    ensures rest { drop result text.now ≡ Tildes.after_login in_value text.now }
 {
     let mut length = 0;
     let mut rest = text.as_bytes();
@@ -43,13 +54,14 @@ fn login_length(in_value: bool, text: &str) -> usize
     length
 }
 
-/// The tilde prefix of a text that is a word's first piece, and its only one or not.
-fn prefix_of<'a>(in_value: bool, alone: bool, text: &'a str) -> Option<TildePrefix<'a>>
-    ensures { option_map tilde_prefix_view result ≡ Tildes.prefix_of in_value alone text.now }
+/// The tilde prefix of a word whose first piece is this unquoted text. `is_only` says whether the
+/// word has no other piece.
+fn prefix_of<'a>(in_value: bool, is_only: bool, text: &'a str) -> Option<TildePrefix<'a>>
+    ensures { option_map tilde_prefix_view result ≡ Tildes.prefix_of in_value is_only text.now }
 {
-    let behind = text.strip_prefix('~')?;
-    let (login, rest) = behind.split_at(login_length(in_value, behind));
-    if alone || !rest.is_empty() {
+    let after = text.strip_prefix('~')?;
+    let (login, rest) = after.split_at(login_length(in_value, after));
+    if is_only || !rest.is_empty() {
         Some(TildePrefix { login, rest })
     } else {
         None
@@ -71,8 +83,8 @@ fn prefix_at<'a>(in_value: bool, pieces: &'a [Piece]) -> Option<TildePrefix<'a>>
 }
 
 impl Word {
-    /// The word's tilde prefix: an unquoted `~` at its start with all that follows up to the first
-    /// unquoted slash, or to the end where there is none, all of it unquoted and no parameter.
+    /// The word's tilde prefix: an unquoted `~` at its start and the unquoted text up to the first
+    /// slash, or up to the end of the word. `None` if a quote or a parameter comes before that.
     pub fn tilde_prefix(&self) -> Option<TildePrefix<'_>>
         ensures { option_map tilde_prefix_view result
             ≡ Tildes.tilde_prefix false (word_view self.now) }
@@ -82,7 +94,7 @@ impl Word {
 }
 
 impl Assignment {
-    /// The tilde prefix of the value, which a colon ends too.
+    /// The tilde prefix of the value. A colon ends it too.
     pub fn tilde_prefix(&self) -> Option<TildePrefix<'_>>
         ensures { option_map tilde_prefix_view result
             ≡ Tildes.tilde_prefix true (word_view self.now.value) }

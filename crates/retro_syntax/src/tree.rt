@@ -27,7 +27,8 @@ impl Parameter {
     }
 }
 
-/// A piece of a word (XCU 2.2, 2.6.2). A pair of quotes with nothing in it is an empty quoted piece.
+/// A piece of a word (XCU 2.2, 2.6.2). A pair of quotes with nothing between them is an empty quoted
+/// piece.
 #[derive(Drop)]
 pub enum Piece {
     /// Unquoted text.
@@ -40,7 +41,7 @@ pub enum Piece {
     QuotedParameter(Parameter),
 }
 
-/// A word: one piece or more.
+/// A word (XCU 2.3): at least one piece.
 #[derive(Drop)]
 pub struct Word {
     /// Its pieces, in order.
@@ -54,11 +55,11 @@ pub enum Direction {
     From,
     /// `>`: empty the file and write to it.
     Onto,
-    /// `>>`: write behind the file's end.
+    /// `>>`: write at the file's end.
     Append,
 }
 
-/// What joins a pipeline to the next (XCU 2.9.3).
+/// The operator between two pipelines (XCU 2.9.3).
 #[derive(Clone, Copy, Debug, PartialEq, Eq)]
 pub enum Connector {
     /// `&&`
@@ -121,7 +122,7 @@ pub enum Item {
 pub struct Assignment {
     /// The variable's name.
     pub name: VarName,
-    /// The value. Its first piece is what stands unquoted behind the `=`, which may be nothing.
+    /// The value. Its first piece is the unquoted text right after the `=`, which may be empty.
     pub value: Word,
 }
 
@@ -137,9 +138,9 @@ pub enum Simple {
 /// A pipeline (XCU 2.9.2).
 #[derive(Drop)]
 pub struct Pipeline<C> {
-    /// Whether `!` stands before it.
+    /// Whether it begins with `!`.
     pub negated: bool,
-    /// What is run.
+    /// What the pipeline runs.
     pub command: C,
 }
 
@@ -148,29 +149,29 @@ pub struct Pipeline<C> {
 pub struct AndOr<C> {
     /// The pipelines before the last, in order, each with the connector after it.
     pub before: Vec<(Pipeline<C>, Connector)>,
-    /// The last one.
+    /// The last pipeline.
     pub last: Pipeline<C>,
 }
 
-/// A list of one and-or list or more, with `;` between them (XCU 2.9.3).
+/// A list: and-or lists with `;` between them (XCU 2.9.3).
 #[derive(Drop)]
 pub struct Commands<C> {
-    /// Those before the last, in order.
+    /// The and-or lists before the last, in order.
     pub before: Vec<AndOr<C>>,
-    /// The last one.
+    /// The last and-or list.
     pub last: AndOr<C>,
     /// Whether a `;` follows the last.
     pub final_semicolon: bool,
 }
 
-/// The conditions of an `if`, each with the list that it leads to (XCU 2.9.4.4).
+/// The conditions of an `if`, each with the list that runs if it holds (XCU 2.9.4.4).
 #[derive(Drop)]
 pub struct Conditional<C> {
-    /// Those that an `elif` follows, in order.
+    /// The conditions before the last, in order, each with its list.
     pub before: Vec<(Commands<C>, Commands<C>)>,
     /// The last condition.
     pub condition: Commands<C>,
-    /// What the last condition leads to.
+    /// The list that runs if the last condition holds.
     pub consequence: Commands<C>,
 }
 
@@ -179,20 +180,20 @@ pub struct Conditional<C> {
 pub struct Loop<C> {
     /// The variable's name.
     pub name: VarName,
-    /// The words behind `in`.
+    /// The words after `in`.
     pub words: Vec<Word>,
-    /// What is run for each.
+    /// The list that runs for each word.
     pub body: Commands<C>,
 }
 
 /// What a pipeline runs: a pipe of simple commands, or a compound command (XCU 2.9.4).
 #[derive(Drop)]
 pub enum Command {
-    /// Simple commands, with `|` between them; one at least.
+    /// Simple commands with `|` between them, at least one.
     Pipe(Vec<Simple>),
     /// An `if` without `else`.
     If(Box<Conditional<Command>>),
-    /// An `if` with what its `else` leads to.
+    /// An `if` with the list after its `else`.
     IfElse(Box<Conditional<Command>>, Box<Commands<Command>>),
     /// A `for`.
     For(Box<Loop<Command>>),

@@ -1,6 +1,16 @@
-//! What a word is where a command may begin.
+//! What a word is where a command may begin (XCU 2.4, 2.10.2).
 
-ghost use Rattle.std.specs.Prelude.{◌≡◌, ◌∷◌, [], MatchOption, Option, map, option_map, string_bytes, IfOk};
+ghost use Rattle.std.specs.Prelude.{
+  ◌≡◌,
+  ◌∷◌,
+  [],
+  MatchOption,
+  Option,
+  map,
+  option_map,
+  string_bytes,
+  IfOk,
+};
 ghost use Rattle.retro_syntax.specs.Failing.{Gives};
 ghost use Rattle.retro_syntax.specs.Words;
 ghost use Rattle.retro_syntax.specs.Tree;
@@ -11,16 +21,20 @@ use crate::tree::{Assignment, Piece, ReservedWord, Word};
 use retro_path::VarName;
 use std::alloc::Global;
 
-/// What a word can be where a command may begin.
+/// What a word is where a command may begin.
 #[derive(Clone, Copy, Debug, PartialEq, Eq)]
 pub enum Class {
+    /// A reserved word that the grammar has a rule for.
     Reserved(ReservedWord),
+    /// Another reserved word, or an assignment that a line may not have.
     Forbidden,
+    /// An assignment.
     Assignment,
+    /// Any other word.
     Ordinary,
 }
 
-/// How a reserved word is spelled.
+/// How a reserved word is written.
 fn spelling(reserved: ReservedWord) -> &'static [u8]
     ensures { result.now ≡ Tree.spelling reserved }
 {
@@ -38,7 +52,7 @@ fn spelling(reserved: ReservedWord) -> &'static [u8]
     }
 }
 
-/// The reserved word with a rule that the text spells.
+/// The reserved word that the grammar has a rule for and the text spells.
 fn reserved_word_of(text: &[u8]) -> Option<ReservedWord>
     ensures { result ≡ Words.lookup Words.reserved_words text.now }
 {
@@ -67,7 +81,7 @@ fn reserved_word_of(text: &[u8]) -> Option<ReservedWord>
     }
 }
 
-/// Whether the text spells a reserved word without a rule.
+/// Whether the text spells a reserved word that the grammar has no rule for.
 fn is_other_reserved(text: &[u8]) -> bool
     ensures { result ≡ Words.is_one_of Words.other_reserved text.now }
 {
@@ -79,7 +93,7 @@ fn is_other_reserved(text: &[u8]) -> bool
         || b"while".as_slice() == text
 }
 
-/// The name, and what stands behind the `=`, of a text that begins with a name and `=`.
+/// The name and the rest of a text that begins with `name=`.
 fn split_name<'a>(text: &'a str) -> Option<(&'a str, &'a str)>
     ensures { option_map (λ s. (s.0.now, s.1.now)) result ≡ Words.split_name text.now }
 {
@@ -91,7 +105,7 @@ fn split_name<'a>(text: &'a str) -> Option<(&'a str, &'a str)>
     }
 }
 
-/// Whether `:~` stands in the text.
+/// Whether `:~` is in the text.
 fn has_colon_tilde(text: &[u8]) -> bool
     ensures { result ≡ Words.has_colon_tilde text.now }
 {
@@ -115,7 +129,7 @@ pub fn begins_tilde(text: &[u8]) -> bool
     }
 }
 
-/// Whether `:~` stands unquoted in a word of these pieces.
+/// Whether an unquoted `:~` is in these pieces.
 fn has_unquoted_colon_tilde(pieces: &[Piece]) -> bool
     ensures { result ≡ Words.has_unquoted_colon_tilde (map piece_view pieces.now) }
 {
@@ -134,7 +148,7 @@ fn has_unquoted_colon_tilde(pieces: &[Piece]) -> bool
     false
 }
 
-/// What `name=value` is, with these pieces behind it.
+/// What the word `name=value` is, whose value continues with `more`.
 fn assignment_class(name: &str, value: &str, more: &[Piece]) -> Class
     ensures { result
         ≡ Words.assignment_class (Words.assigned name.now value.now (map piece_view more.now)) }
@@ -149,7 +163,7 @@ fn assignment_class(name: &str, value: &str, more: &[Piece]) -> Class
     }
 }
 
-/// What a word without quotes and parameters is, which assigns nothing.
+/// What an unquoted word without `name=` is.
 fn plain_class(text: &[u8]) -> Class
     ensures { result ≡ Words.plain_class text.now (Words.lookup Words.reserved_words text.now) }
 {
@@ -160,7 +174,7 @@ fn plain_class(text: &[u8]) -> Class
     }
 }
 
-/// What the word is where a command may begin (XCU 2.10.2).
+/// What a word is where a command may begin.
 #[tactic(auto, unfolding(crate::specs::Words::class))]
 pub fn class_of(word: &Word) -> Class
     ensures { result ≡ Words.class (word_view word.now) }
@@ -180,7 +194,7 @@ pub fn class_of(word: &Word) -> Class
     }
 }
 
-/// The word's first piece, and those behind it.
+/// Splits a word into its first piece and the others.
 fn first_piece(word: Word) -> Option<(Piece, Vec<Piece>)>
     ensures { MatchOption result (word.pieces.items ≡ [])
         (λ x. word.pieces.items ≡ x.0 ∷ x.1.items) }
@@ -193,7 +207,8 @@ fn first_piece(word: Word) -> Option<(Piece, Vec<Piece>)>
     Some((first, pieces))
 }
 
-/// What the word assigns, where it begins with a name and `=`.
+/// What a word assigns. `Unsupported` if it doesn't begin with `name=`, or if a line may not assign
+/// the variable.
 pub fn assignment_of(alloc: Global, word: Word) -> Result<Assignment, SyntaxError>
     ensures { Gives assignment_view result (Words.assignment_of (word_view word)) }
 {
@@ -220,7 +235,7 @@ pub fn assignment_of(alloc: Global, word: Word) -> Result<Assignment, SyntaxErro
     }
 }
 
-/// Whether the word is an assignment.
+/// Whether the class is that of assignments.
 pub fn is_assignment(class: Class) -> bool
     ensures { result ≡ Words.is_assignment class }
 {
@@ -230,7 +245,7 @@ pub fn is_assignment(class: Class) -> bool
     }
 }
 
-/// Whether the word is neither reserved nor an assignment.
+/// Whether the class is that of ordinary words.
 pub fn is_ordinary(class: Class) -> bool
     ensures { result ≡ Words.is_ordinary class }
 {
@@ -240,7 +255,7 @@ pub fn is_ordinary(class: Class) -> bool
     }
 }
 
-/// The name that the word is, for `for`.
+/// The variable that a word names, for `for`. `Unsupported` if it names none that a line may assign.
 #[tactic(auto, unfolding(crate::specs::Words::name_of))]
 pub fn name_of(alloc: Global, word: &Word) -> Result<VarName, SyntaxError>
     ensures { Gives (λ name. name) result (Words.name_of (word_view word.now)) }

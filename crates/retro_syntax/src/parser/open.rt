@@ -22,7 +22,7 @@ pub struct Open {
 impl Open {
     /// An empty list.
     pub fn new(alloc: Global) -> Open
-        ensures { open_view result ≡ Parsing.nothing }
+        ensures { open_view result ≡ Parsing.empty_list }
     {
         Open {
             and_ors: Vec::new(alloc),

@@ -1,5 +1,5 @@
 use Rattle.std.proofs.Common.{◌≡◌, ◌+◌, ◌*◌, length}
-use Rattle.retro_syntax.specs.Fits.{joined_fit, and_ors_fit, arms_fit}
+use Rattle.retro_syntax.specs.Fits.{pipelines_fit, and_ors_fit, arms_fit}
 use Rattle.retro_syntax.proofs.depth.+depth.Given as goal
 
 abbrev pub invariant-and_ors_fit-loop-rest : goal.invariant-and_ors_fit-loop-rest
@@ -14,17 +14,17 @@ invariant-arms_fit-loop-rest l = arms_fit l.rest l.room ≡ arms_fit l.arms l.ro
 abbrev pub decreases-arms_fit-loop-rest : goal.decreases-arms_fit-loop-rest
 decreases-arms_fit-loop-rest l = length l.rest
 
-abbrev pub invariant-joined_fit-loop-rest : goal.invariant-joined_fit-loop-rest
-invariant-joined_fit-loop-rest l = joined_fit l.rest l.room ≡ joined_fit l.joined l.room
+abbrev pub invariant-pipelines_fit-loop-rest : goal.invariant-pipelines_fit-loop-rest
+invariant-pipelines_fit-loop-rest l = pipelines_fit l.rest l.room ≡ pipelines_fit l.pipelines l.room
 
-abbrev pub decreases-joined_fit-loop-rest : goal.decreases-joined_fit-loop-rest
-decreases-joined_fit-loop-rest l = length l.rest
+abbrev pub decreases-pipelines_fit-loop-rest : goal.decreases-pipelines_fit-loop-rest
+decreases-pipelines_fit-loop-rest l = length l.rest
 
 abbrev pub decreases-command_fits : goal.decreases-command_fits
 decreases-command_fits l = 8 * l.room
 
-abbrev pub decreases-joined_fit : goal.decreases-joined_fit
-decreases-joined_fit l = 8 * l.room + 1
+abbrev pub decreases-pipelines_fit : goal.decreases-pipelines_fit
+decreases-pipelines_fit l = 8 * l.room + 1
 
 abbrev pub decreases-and_or_fits : goal.decreases-and_or_fits
 decreases-and_or_fits l = 8 * l.room + 2

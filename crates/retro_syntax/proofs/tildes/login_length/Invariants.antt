@@ -6,7 +6,7 @@ pub record Read (in_value : Bool) (text rest : List ℕ) (n : ℕ) : Type 0 wher
   pub count : n + length rest ≡ length text
   pub left : rest ≡ drop n text
   pub login : take n text ++ T.login_of in_value rest ≡ T.login_of in_value text
-  pub behind : T.behind_login in_value rest ≡ T.behind_login in_value text
+  pub after : T.after_login in_value rest ≡ T.after_login in_value text
 
 abbrev pub invariant-loop-rest : goal.invariant-loop-rest
 invariant-loop-rest l = Read l.in_value l.text l.rest l.length
