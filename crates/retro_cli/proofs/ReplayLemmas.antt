@@ -1,63 +1,49 @@
--- Loops over the lines of a script.
-use Rattle.std.proofs.Common.{◌≡◌, ℕ, ◌+◌, ◌<◌, Bool, List, [], ◌∷◌, ◌++◌, ◌&&◌, not, length, get_or, map, drop, filter, cond, true, false, IsTrue, refl, ap, ◌∙◌, sym, append_assoc}
-use denote.Bor.{Bor}
+-- A loop over the lines of a script.
+use Rattle.std.proofs.Common.{◌≡◌, ℕ, ◌+◌, ◌<◌, Bool, List, [], ◌∷◌, ◌++◌, length, get_or, map, drop, drop-cons, add-one, IsTrue, refl, ap, ◌∙◌, sym, append_assoc}
 use Rattle.std.specs.List.{list_all}
-use Rattle.std.specs.Ordering.{nat_cmp}
-use Rattle.std.specs.BTreeSet.{BTreeSet, contains}
 use Rattle.std.specs.FinMap as finmap
 use Rattle.retro_tree.specs.declared.state.State.{State}
 use Rattle.retro_tree.proofs.Small.{first_true, both_true}
 use Rattle.retro_shell.specs.Line.{line, HasSameSessions}
-use Rattle.retro_keep.specs.Script.{has_session}
-use Rattle.retro_keep.specs.Runs.{Output, with_output, after_line, whole, is_among, others}
+use Rattle.retro_keep.specs.Script.{have_sessions, sid_of}
+use Rattle.retro_keep.specs.Runs.{Output, with_output, after_line, outcome}
 use Rattle.retro_keep.specs.declared.script.ScriptLine.{ScriptLine}
-use Rattle.retro_cli.specs.Replay.{are_there, number_of}
-use Rattle.retro_log.proofs.Each.{at_item}
 
 -- outputs before those of a run
 abbrev pub with_front : List Output → State × List Output → State × List Output
-with_front before (s, outputs) = (s, before ++ outputs)
+with_front front (s, outputs) = (s, front ++ outputs)
 
--- where the sessions of the lines from a place on are there, that of the line there is
-pub session_there : (state : State) (items : List (Bor ScriptLine)) (i : ℕ) (d : Bor ScriptLine) → i < length items → d ≡ get_or items i d
-    → IsTrue (list_all (has_session state) (map (λ x. x.now) (drop i items))) → IsTrue (finmap.contains_key state.sessions d.now.sid)
-session_there state items i d lt is known =
-    first_true _ (list_all (has_session state) (map (λ x. x.now) (drop (i + 1) items))) (ap (list_all (has_session state)) (sym (at_item (λ x. x.now) items i d d lt is)) ∙ known)
+-- the lines from a place on: the one there, and the rest
+at_line : (lines : List ScriptLine) (i : ℕ) (d : ScriptLine) → i < length lines → d ≡ get_or lines i d → drop i lines ≡ d ∷ drop (i + 1) lines
+at_line lines i d lt is = drop-cons lines i d lt ∙ rw (sym is, add-one i) refl
 
--- and those of the rest are, in a state with the same sessions
-pub rest_there : (state next : State) (items : List (Bor ScriptLine)) (i : ℕ) (d : Bor ScriptLine) → i < length items → d ≡ get_or items i d → HasSameSessions state next
-    → IsTrue (list_all (has_session state) (map (λ x. x.now) (drop i items))) → IsTrue (list_all (has_session next) (map (λ x. x.now) (drop (i + 1) items)))
-rest_there state next items i d lt is same known =
-    ap (λ (p : ScriptLine → Bool). list_all p (map (λ x. x.now) (drop (i + 1) items))) (λ j l. same.same l.sid j)
-    ∙ both_true (has_session state d.now) _ (ap (list_all (has_session state)) (sym (at_item (λ x. x.now) items i d d lt is)) ∙ known)
+known_at : (state : State) (lines : List ScriptLine) (i : ℕ) (d : ScriptLine) → i < length lines → d ≡ get_or lines i d
+    → IsTrue (have_sessions state (map sid_of (drop i lines))) → IsTrue (have_sessions state (map sid_of (d ∷ drop (i + 1) lines)))
+known_at state lines i d lt is known = ap (λ ls. have_sessions state (map sid_of ls)) (sym (at_line lines i d lt is)) ∙ known
+
+-- if the sessions of the lines from a place on exist, so does that of the line there
+pub session_at : (state : State) (lines : List ScriptLine) (i : ℕ) (d : ScriptLine) → i < length lines → d ≡ get_or lines i d
+    → IsTrue (have_sessions state (map sid_of (drop i lines))) → IsTrue (finmap.contains_key state.sessions d.sid)
+session_at state lines i d lt is known =
+    first_true _ (have_sessions state (map sid_of (drop (i + 1) lines))) (known_at state lines i d lt is known)
+
+-- and so do those of the rest, in a state with the same sessions
+pub sessions_after : (state next : State) (lines : List ScriptLine) (i : ℕ) (d : ScriptLine) → i < length lines → d ≡ get_or lines i d → HasSameSessions state next
+    → IsTrue (have_sessions state (map sid_of (drop i lines))) → IsTrue (have_sessions next (map sid_of (drop (i + 1) lines)))
+sessions_after state next lines i d lt is same known =
+    ap (λ (p : ℕ → Bool). list_all p (map sid_of (drop (i + 1) lines))) (λ j sid. same.same sid j)
+    ∙ both_true (finmap.contains_key state.sessions d.sid) _ (known_at state lines i d lt is known)
 
 regrouped : (out : List Output) (number : ℕ) (text : List ℕ) (r : State × List Output) → with_front out (with_output number text r) ≡ with_front (out ++ (number, text) ∷ []) r
 regrouped out number text (s, outputs) = ap (λ (os : List Output). (s, os)) (sym (append_assoc out ((number, text) ∷ []) outputs))
 
 -- one more line is run
-pub runs_on : (s next : State) (text : List ℕ) (out new : List Output) (items : List (Bor ScriptLine)) (i : ℕ) (d : Bor ScriptLine) (total : State × List Output)
-    → i < length items → d ≡ get_or items i d → ◌≡◌ {A = State × List ℕ} (next, text) (line d.now.sid d.now.text s) → new ≡ out ++ (d.now.number, text) ∷ []
-    → with_front out (whole (map (λ x. x.now) (drop i items)) s) ≡ total → with_front new (whole (map (λ x. x.now) (drop (i + 1) items)) next) ≡ total
-runs_on s next text out new items i d total lt is means push so_far =
-    ap (λ os. with_front os (whole (map (λ x. x.now) (drop (i + 1) items)) next)) push
-    ∙ sym (regrouped out d.now.number text (whole (map (λ x. x.now) (drop (i + 1) items)) next))
-    ∙ ap (λ r. with_front out (after_line d.now.number r (whole (map (λ x. x.now) (drop (i + 1) items))))) means
-    ∙ ap (λ ls. with_front out (whole ls s)) (sym (at_item (λ x. x.now) items i d d lt is))
+pub runs_next : (s next : State) (text : List ℕ) (out new : List Output) (lines : List ScriptLine) (i : ℕ) (d : ScriptLine) (total : State × List Output)
+    → i < length lines → d ≡ get_or lines i d → ◌≡◌ {A = State × List ℕ} (next, text) (line d.sid d.text s) → new ≡ out ++ (d.number, text) ∷ []
+    → with_front out (outcome (drop i lines) s) ≡ total → with_front new (outcome (drop (i + 1) lines) next) ≡ total
+runs_next s next text out new lines i d total lt is means push so_far =
+    ap (λ os. with_front os (outcome (drop (i + 1) lines) next)) push
+    ∙ sym (regrouped out d.number text (outcome (drop (i + 1) lines) next))
+    ∙ ap (λ r. with_front out (after_line d.number r (outcome (drop (i + 1) lines)))) means
+    ∙ ap (λ ls. with_front out (outcome ls s)) (sym (at_line lines i d lt is))
     ∙ so_far
-
--- numbers that a set of the lines' numbers has are the lines'
-pub known_are_there : (known : BTreeSet ℕ) (numbers : List ℕ) (lines : List ScriptLine) → ((n : ℕ) → contains nat_cmp known n ≡ is_among (map number_of lines) n) → list_all (contains nat_cmp known) numbers ≡ are_there numbers lines
-unfolding are_there
-known_are_there known numbers lines same = ap (λ (p : ℕ → Bool). list_all p numbers) (λ i n. same n i)
-
-kept_known : (first : State) (p : ScriptLine → Bool) (lines : List ScriptLine) → IsTrue (list_all (has_session first) lines) → IsTrue (list_all (has_session first) (filter p lines))
-kept_known first p [] all = refl
-kept_known first p (l ∷ lines) all =
-    elim (p l) as (λ b. IsTrue (list_all (has_session first) (cond b (l ∷ filter p lines) (filter p lines)))) [
-      | true ↦ ap (λ b. b && list_all (has_session first) (filter p lines)) (first_true (has_session first l) _ all) ∙ kept_known first p lines (both_true (has_session first l) _ all)
-      | false ↦ kept_known first p lines (both_true (has_session first l) _ all)
-    ]
-
--- sessions that are there for each line are there for those that aren't cancelled
-pub others_known : (first : State) (cancelled : List ℕ) (lines : List ScriptLine) → IsTrue (list_all (has_session first) lines) → IsTrue (list_all (has_session first) (others cancelled lines))
-others_known first cancelled lines all = kept_known first (λ l. not (is_among cancelled l.number)) lines all

@@ -3,7 +3,6 @@ pub mod Input
 pub mod Numbers
 pub mod Output
 pub mod Program
-pub mod Replay
 pub mod Report
 pub mod Stop
 pub mod Words

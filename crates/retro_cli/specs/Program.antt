@@ -1,16 +1,16 @@
 -- What the program does: the first refusal of words and an input, the texts that answer a request, and
 -- what a run leaves. Each command adds a row to `request_refusal` and to `Answered`.
-use Rattle.std.specs.Prelude.{◌≡◌, ℕ, List, Option, Some, None, IsSome, Result, Ok, Err, if◌then◌else◌}
+use Rattle.std.specs.Prelude.{◌≡◌, ℕ, List, Option, Some, None, IsSome, Result, Ok, Err}
 use Rattle.std.specs.Result.{result_err}
 use Rattle.std.specs.Io.KnownBytes.{Appends}
 use Rattle.retro_tree.specs.declared.state.State.{State}
 use Rattle.retro_keep.specs.Script.{ScriptValue}
-use Rattle.retro_keep.specs.Runs.{Output, others, whole}
+use Rattle.retro_keep.specs.Edit.{without}
+use Rattle.retro_keep.specs.Runs.{Output, outcome}
 use Rattle.retro_log.specs.Document.{script_in}
 use Rattle.retro_log.specs.Numbers.{refusal_number}
 use Rattle.retro_log.specs.declared.fault.Refusal.{Refusal}
 use Rattle.retro_cli.specs.Output.{AppendsPart}
-use Rattle.retro_cli.specs.Replay.{are_there}
 use Rattle.retro_cli.specs.Report.{replay_text}
 use Rattle.retro_cli.specs.Words.{Request, replay, requested}
 use Rattle.retro_cli.specs.declared.stop.TheConstants.{BAD_WORDS, UNKNOWN_LINE}
@@ -25,15 +25,13 @@ Text = List ℕ
 abbrev pub report : State × List Output → Text
 report (state, outputs) = replay_text outputs state
 
--- the report of running a script's lines but the cancelled ones, which must be lines of it
-abbrev pub replay_script : List ℕ → ScriptValue → Result Text ℕ
-replay_script cancelled script =
-    if are_there cancelled script.lines
-    then Ok (report (whole (others cancelled script.lines) script.first))
-    else Err UNKNOWN_LINE
+-- the report of running all lines of a script, unless a cancelled number wasn't among them
+abbrev pub replay_script : Result ScriptValue ℕ → Result Text ℕ
+replay_script (Ok script) = Ok (report (outcome script.lines script.first))
+replay_script (Err number) = Err UNKNOWN_LINE
 
 abbrev pub replay_document : List ℕ → Result ScriptValue Refusal → Result Text ℕ
-replay_document cancelled (Ok script) = replay_script cancelled script
+replay_document cancelled (Ok script) = replay_script (without cancelled script)
 replay_document cancelled (Err refusal) = Err (refusal_number refusal)
 
 -- the report, or the number of the first refusal: of the document, then of the cancelled numbers

@@ -1,10 +1,12 @@
 -- What stops a run, by the faults of its parts.
 use Rattle.std.specs.Prelude.{◌≡◌, ℕ, Option, Some, None, Result, Ok, Err}
 use Rattle.retro_tree.specs.OutOfMemory.{UnlessOutOfMemory}
+use Rattle.retro_keep.specs.declared.script.EditFault.{EditFault}
+use Rattle.retro_keep.specs.declared.script.EditFault.TheVariants as edits
 use Rattle.retro_log.specs.Numbers.{refusal_number}
 use Rattle.retro_log.specs.declared.fault.LogFault.{LogFault}
 use Rattle.retro_log.specs.declared.fault.LogFault.TheVariants as documents
-use Rattle.retro_cli.specs.declared.stop.TheConstants.{BAD_WORDS}
+use Rattle.retro_cli.specs.declared.stop.TheConstants.{BAD_WORDS, UNKNOWN_LINE}
 use Rattle.retro_cli.specs.declared.stop.Stop.{Stop}
 use Rattle.retro_cli.specs.declared.stop.Stop.TheVariants as stops
 use Rattle.retro_cli.specs.declared.words.WordsFault.{WordsFault}
@@ -17,6 +19,10 @@ stop_of_words words.BadWords = stops.Refused BAD_WORDS
 abbrev pub stop_of_document : LogFault → Stop
 stop_of_document documents.NoMem = stops.NoMem
 stop_of_document (documents.Refused refusal) = stops.Refused (refusal_number refusal)
+
+abbrev pub stop_of_edit : EditFault → Stop
+stop_of_edit edits.NoMem = stops.NoMem
+stop_of_edit (edits.UnknownLine number) = stops.Refused UNKNOWN_LINE
 
 -- a stop says that a request is refused by a number, unless memory ran out
 abbrev pub Refuses : Stop → Option ℕ → Type 0

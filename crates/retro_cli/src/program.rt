@@ -11,24 +11,21 @@ ghost use Rattle.retro_cli.specs.declared.stop.Stop.TheVariants as stops;
 use crate::exit::Exit;
 use crate::input::Input;
 use crate::output::Output;
-use crate::replay::{are_there, replay};
+use crate::replay::replay;
 use crate::report::replay_report;
-use crate::stop::{Stop, UNKNOWN_LINE};
+use crate::stop::Stop;
 use crate::words::{Request, read_words};
 use retro_log::read_script;
 use std::alloc::{AllocGlobal, Global};
 use std::io::{Read, Write};
 
-/// The report of a replay of the script that the input is.
+/// The report of a replay of the script that the input is, without the cancelled lines.
 #[tactic(auto, unfolding(crate::specs::Program::replay_answer))]
 fn replay_input(alloc: Global, cancel: &[u32], input: &[u8]) -> Result<Vec<u8>, Stop>
     ensures { ReturnsAs (λ text. text.items) result (replay_answer cancel.now input.now) }
 {
-    let script = read_script(alloc, input)?;
-    if !are_there(alloc, cancel, script.lines())? {
-        return Err(Stop::Refused(UNKNOWN_LINE));
-    }
-    let (state, outputs) = replay(alloc, script, cancel)?;
+    let script = read_script(alloc, input)?.without(alloc, cancel)?;
+    let (state, outputs) = replay(alloc, script)?;
     Ok(replay_report(alloc, &state, &outputs)?)
 }
 

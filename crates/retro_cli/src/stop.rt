@@ -1,9 +1,10 @@
 //! Why a run ends before its answer is written.
 ghost use Rattle.std.specs.Prelude.{◌≡◌};
 ghost use Rattle.retro_cli.specs.declared.stop.Stop.TheVariants as stops;
-ghost use Rattle.retro_cli.specs.Stop.{stop_of_words, stop_of_document};
+ghost use Rattle.retro_cli.specs.Stop.{stop_of_words, stop_of_document, stop_of_edit};
 
 use crate::words::WordsFault;
+use retro_keep::EditFault;
 use retro_log::LogFault;
 use retro_tree::NoMem;
 
@@ -49,6 +50,17 @@ impl From<LogFault> for Stop {
         match fault {
             LogFault::NoMem => Stop::NoMem,
             LogFault::Refused(refusal) => Stop::Refused(refusal.number()),
+        }
+    }
+}
+
+impl From<EditFault> for Stop {
+    ghost from_gives = { λ fault stop. stop ≡ stop_of_edit fault };
+
+    fn from(fault: EditFault) -> Stop {
+        match fault {
+            EditFault::NoMem => Stop::NoMem,
+            EditFault::UnknownLine(_) => Stop::Refused(UNKNOWN_LINE),
         }
     }
 }

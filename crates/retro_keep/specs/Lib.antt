@@ -1,3 +1,4 @@
 pub mod Script
 pub mod ScriptCode
+pub mod Edit
 pub mod Runs

@@ -1,12 +1,16 @@
 //! Scripts.
-ghost use Rattle.std.specs.Prelude.{◌≡◌, ◌≢◌, IsTrue, IfOk, IfErr, Ok, Err};
-ghost use Rattle.std.specs.List.{list_all};
+ghost use Rattle.std.specs.Prelude.{◌≡◌, ℕ, IfOk, filter, map, not, Ok};
+ghost use Rattle.std.specs.Ordering.{nat_cmp};
+ghost use Rattle.std.specs.BTreeSet.{contains};
 ghost use Rattle.retro_tree.specs.Lawful.{IsLawful};
-ghost use Rattle.retro_keep.specs.Script.{rises_from, has_session, script_of, IsScript};
-ghost use Rattle.retro_keep.specs.declared.script.ScriptFault.TheVariants.{NoMem};
+ghost use Rattle.retro_keep.specs.Edit.{Edits, first_unknown, is_among, without};
+ghost use Rattle.retro_keep.specs.Script.{IsScript, Makes, number_of, have_sessions, rises_from, script_fault, script_of, script_of_lines, sid_of};
+ghost use Rattle.retro_keep.specs.declared.script.EditFault.TheVariants as edits;
+ghost use Rattle.retro_keep.specs.declared.script.ScriptFault.TheVariants as faults;
 
 use retro_tree::{State, Text};
 use std::alloc::{AllocError, Global};
+use std::collections::BTreeSet;
 use std::marker::Model;
 use thiserror::Error;
 
@@ -24,8 +28,8 @@ pub enum ScriptFault {
     /// Line numbers don't rise, or the first is 0 (refusal 8).
     #[error("line numbers don't rise")]
     NumbersNotRising,
-    /// A line's session isn't in the first state (refusal 9).
-    #[error("a line's session isn't there")]
+    /// A line's session is missing in the first state (refusal 9).
+    #[error("a line's session is missing")]
     UnknownSession,
     /// The tree of the first state isn't lawful (refusal 10).
     #[error("the tree isn't lawful")]
@@ -33,16 +37,55 @@ pub enum ScriptFault {
     /// A file or the value of a variable is over its limit (refusal 11).
     #[error("over a limit")]
     OverLimit,
-    /// Memory was wanted and refused.
     #[error("out of memory")]
     NoMem,
 }
 
 impl From<AllocError> for ScriptFault {
-    ghost from_gives = { λ _ e. e ≡ NoMem };
+    ghost from_gives = { λ _ fault. fault ≡ faults.NoMem };
 
-    fn from(_e: AllocError) -> ScriptFault {
+    fn from(_error: AllocError) -> ScriptFault {
         ScriptFault::NoMem
+    }
+}
+
+/// Why lines don't fit a first state.
+#[derive(Clone, Copy, Debug, Drop, PartialEq, Eq, Error)]
+pub enum LinesFault {
+    /// Line numbers don't rise, or the first is 0 (refusal 8).
+    #[error("line numbers don't rise")]
+    NumbersNotRising,
+    /// A line's session is missing in the first state (refusal 9).
+    #[error("a line's session is missing")]
+    UnknownSession,
+}
+
+impl From<LinesFault> for ScriptFault {
+    ghost from_gives = { λ lines fault. fault ≡ script_fault lines };
+
+    fn from(fault: LinesFault) -> ScriptFault {
+        match fault {
+            LinesFault::NumbersNotRising => ScriptFault::NumbersNotRising,
+            LinesFault::UnknownSession => ScriptFault::UnknownSession,
+        }
+    }
+}
+
+/// Why lines can't be left out of a script.
+#[derive(Clone, Copy, Debug, Drop, PartialEq, Eq, Error)]
+pub enum EditFault {
+    /// No line has this number (refusal 21).
+    #[error("no line has the number {0}")]
+    UnknownLine(u32),
+    #[error("out of memory")]
+    NoMem,
+}
+
+impl From<AllocError> for EditFault {
+    ghost from_gives = { λ _ fault. fault ≡ edits.NoMem };
+
+    fn from(_error: AllocError) -> EditFault {
+        EditFault::NoMem
     }
 }
 
@@ -67,42 +110,42 @@ impl Model for Script {
 }
 
 impl Script {
-    /// The script of these parts. The refusals are judged in the order limits, law of the tree,
-    /// numbers, sessions; want of memory may come in place of any answer.
-    #[tactic(auto, unfolding(crate::specs::Script::script_of))]
+    /// The script of these parts, or the first refusal in the order limits, law of the tree, line
+    /// numbers, sessions. The script's first state is known to be lawful.
+    #[tactic(auto, using(crate::proofs::Parts::lawless, crate::proofs::Parts::by_lines), unfolding(crate::specs::Script::script_of))]
     pub fn new(alloc: Global, first: State, lines: Vec<ScriptLine>) -> Result<Script, ScriptFault>
-        ensures ok { IfOk result (λ script. script_of first lines.items ≡ Ok script) }
-        ensures err { IfErr result (λ e. e ≢ NoMem → script_of first lines.items ≡ Err e) }
+        ensures { Makes result (script_of first lines.items) }
     {
+        let mut first = first;
         if !first.is_within_limits() {
             return Err(ScriptFault::OverLimit);
         }
-        if !first.is_lawful(alloc)? {
+        if !first.validate(alloc)? {
             return Err(ScriptFault::LawlessTree);
         }
-        if !are_rising(lines.as_slice()) {
-            return Err(ScriptFault::NumbersNotRising);
-        }
-        if !have_sessions(&first, lines.as_slice()) {
-            return Err(ScriptFault::UnknownSession);
-        }
-        Ok(Script::of_parts(first, lines))
+        Ok(Script::of_lawful(first, lines)?)
     }
 
-    /// The script of parts that are known to make one.
-    pub fn of_parts(first: State, lines: Vec<ScriptLine>) -> Script
-        requires lawful { IsLawful first }
-        requires rising { IsTrue (rises_from 0 lines.items) }
-        requires known { IsTrue (list_all (has_session first) lines.items) }
-        ensures { result ≡ record { first = first; lines = lines.items } }
+    /// The script of a lawful state and lines, or the first refusal in the order line numbers,
+    /// sessions.
+    #[tactic(auto, unfolding(crate::specs::Script::script_of_lines))]
+    pub fn of_lawful(first: State, lines: Vec<ScriptLine>) -> Result<Script, LinesFault>
+        requires { IsLawful first }
+        ensures { result ≡ script_of_lines first lines.items }
     {
-        Script { first, lines }
+        if !are_rising(0, lines.as_slice()) {
+            return Err(LinesFault::NumbersNotRising);
+        }
+        if !have_sessions(&first, lines.as_slice()) {
+            return Err(LinesFault::UnknownSession);
+        }
+        Ok(Script { first, lines })
     }
 
     /// The state before the first line.
     pub fn first(&self) -> &State
         ensures value { result.now ≡ self.now.first }
-        ensures kept { IsScript self.now }
+        ensures lawful { IsScript self.now }
     {
         &self.first
     }
@@ -110,7 +153,7 @@ impl Script {
     /// The lines, in order.
     pub fn lines(&self) -> &[ScriptLine]
         ensures value { result.now ≡ self.now.lines }
-        ensures kept { IsScript self.now }
+        ensures lawful { IsScript self.now }
     {
         self.lines.as_slice()
     }
@@ -119,18 +162,34 @@ impl Script {
     pub fn into_parts(self) -> (State, Vec<ScriptLine>)
         ensures first { result.0 ≡ self.first }
         ensures lines { result.1.items ≡ self.lines }
-        ensures kept { IsScript self }
+        ensures lawful { IsScript self }
     {
         let Script { first, lines } = self;
         (first, lines)
     }
+
+    /// The script without the lines that have these numbers, or the first of the numbers that no
+    /// line has.
+    #[tactic(auto, using(crate::proofs::Edits::unknown_by_set, crate::proofs::Edits::kept_by_set), unfolding(crate::specs::Edit::without))]
+    pub fn without(self, alloc: Global, numbers: &[u32]) -> Result<Script, EditFault>
+        ensures { Edits result (without numbers.now self) }
+    {
+        let Script { first, mut lines } = self;
+        let known = line_numbers(alloc, lines.as_slice())?;
+        if let Some(number) = first_unknown(&known, numbers) {
+            return Err(EditFault::UnknownLine(number));
+        }
+        let removed = number_set(alloc, numbers)?;
+        remove_lines(&mut lines, &removed);
+        Ok(Script { first, lines })
+    }
 }
 
-/// Whether line numbers rise, from 1 on.
-pub fn are_rising(lines: &[ScriptLine]) -> bool
-    ensures { result ≡ rises_from 0 lines.now }
+/// Whether line numbers rise, the first above a number.
+fn are_rising(above: u32, lines: &[ScriptLine]) -> bool
+    ensures { result ≡ rises_from above (map number_of lines.now) }
 {
-    let mut last = 0;
+    let mut last = above;
     for line in lines {
         if line.number <= last {
             return false;
@@ -141,8 +200,48 @@ pub fn are_rising(lines: &[ScriptLine]) -> bool
 }
 
 /// Whether each line's session is in a state.
-pub fn have_sessions(state: &State, lines: &[ScriptLine]) -> bool
-    ensures { result ≡ list_all (has_session state.now) lines.now }
+fn have_sessions(state: &State, lines: &[ScriptLine]) -> bool
+    ensures { result ≡ have_sessions state.now (map sid_of lines.now) }
 {
-    lines.iter().all(|line| state.has_session(line.sid))
+    for line in lines {
+        if !state.has_session(line.sid) {
+            return false;
+        }
+    }
+    true
+}
+
+/// The numbers of a list as a set.
+fn number_set(alloc: Global, numbers: &[u32]) -> Result<BTreeSet<u32>, AllocError>
+    ensures { IfOk result (λ set. (n : ℕ) → contains nat_cmp set n ≡ is_among numbers.now n) }
+{
+    numbers.iter().copied().collect(alloc)
+}
+
+/// The numbers of lines as a set.
+fn line_numbers(alloc: Global, lines: &[ScriptLine]) -> Result<BTreeSet<u32>, AllocError>
+    ensures { IfOk result (λ set. (n : ℕ) →
+        contains nat_cmp set n ≡ is_among (map number_of lines.now) n) }
+{
+    lines.iter().map(|line| line.number).collect(alloc)
+}
+
+/// The first of the numbers that isn't known.
+fn first_unknown(known: &BTreeSet<u32>, numbers: &[u32]) -> Option<u32>
+    ensures { result ≡ first_unknown (contains nat_cmp known.now) numbers.now }
+{
+    for number in numbers {
+        if !known.contains(number) {
+            return Some(*number);
+        }
+    }
+    None
+}
+
+/// Removes the lines that have these numbers.
+fn remove_lines(lines: &mut Vec<ScriptLine>, numbers: &BTreeSet<u32>)
+    ensures { lines.new.items
+        ≡ filter (λ line. not (contains nat_cmp numbers.now line.number)) lines.old.items }
+{
+    lines.retain(|line| !numbers.contains(&line.number));
 }

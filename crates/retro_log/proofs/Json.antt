@@ -7,16 +7,16 @@ use Rattle.serde_json.specs.Data.{Data}
 use Rattle.serde_json.specs.View.{view, items_of, items_view, members_view}
 use Rattle.serde_json.specs.declared.value.Value.{Value}
 use Rattle.retro_keep.specs.declared.script.ScriptLine.{ScriptLine}
-use Rattle.retro_log.specs.Shape.{listed}
+use Rattle.retro_log.specs.Shape.{item_list}
 use Rattle.retro_log.specs.Document.{has_keys}
 
 -- the items of an array that was made of a list are the list
-pub listed-items_of : (ds : List Data) → listed (items_of ds) ≡ ds
-listed-items_of [] = refl
-listed-items_of (d ∷ ds) = ap (λ (es : List Data). d ∷ es) (listed-items_of ds)
+pub item_list-items_of : (ds : List Data) → item_list (items_of ds) ≡ ds
+item_list-items_of [] = refl
+item_list-items_of (d ∷ ds) = ap (λ (es : List Data). d ∷ es) (item_list-items_of ds)
 
-pub listed-items_view : (vs : List Value) → listed (items_view vs) ≡ map view vs
-listed-items_view vs = listed-items_of (map view vs)
+pub item_list-items_view : (vs : List Value) → item_list (items_view vs) ≡ map view vs
+item_list-items_view vs = item_list-items_of (map view vs)
 
 -- a test of all keys of an object
 pub keys_of_entries : (p : List ℕ → Bool) (es : List (String Global × Value)) → has_keys p (members_view es) ≡ list_all (λ k. p (string_bytes k)) (keys_of es)

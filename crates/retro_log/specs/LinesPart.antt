@@ -1,13 +1,10 @@
 -- The lines of a script's document: a list of `[number,sid,text]`.
 use Rattle.std.specs.Prelude.{◌^◌, List, [], ◌∷◌, Result, Ok, Err, nat_lt}
-use Rattle.std.specs.List.{list_all}
 use Rattle.serde_json.specs.Data.{Data}
-use Rattle.retro_tree.specs.declared.state.State.{State}
 use Rattle.retro_keep.specs.declared.script.ScriptLine.{ScriptLine}
-use Rattle.retro_keep.specs.Script.{rises_from, has_session}
 use Rattle.retro_log.specs.declared.fault.Part.TheVariants.{Lines}
 use Rattle.retro_log.specs.declared.fault.Refusal.{Refusal}
-use Rattle.retro_log.specs.declared.fault.Refusal.TheVariants.{WrongShape, NumbersNotRising, UnknownSession}
+use Rattle.retro_log.specs.declared.fault.Refusal.TheVariants.{WrongShape}
 use Rattle.retro_log.specs.Steps.{◌>>=◌, each, guard}
 use Rattle.retro_log.specs.Shape.{cells, text_in, number_in}
 
@@ -23,10 +20,8 @@ line_cells _ = Err (WrongShape Lines)
 unfoldable pub line_of : Data → Result ScriptLine Refusal
 line_of d = cells Lines d >>= line_cells
 
-unfoldable pub lines_of : State → Data → Result (List ScriptLine) Refusal
-lines_of first d = do
+-- the lines, whatever their numbers and sessions
+unfoldable pub lines_of : Data → Result (List ScriptLine) Refusal
+lines_of d = do
   items ← cells Lines d
-  lines ← each line_of items
-  rising ← guard (rises_from 0 lines) NumbersNotRising
-  known ← guard (list_all (has_session first) lines) UnknownSession
-  Ok lines
+  each line_of items

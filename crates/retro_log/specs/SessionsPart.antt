@@ -37,7 +37,7 @@ vars_of d = do
   vars ← each var_of items
   ok_or (map_of text_cmp vars) (WrongShape Sessions)
 
--- ---- one session, whose directory is none where a name of it is too long
+-- ---- one session, whose directory is none if a name of it is too long
 
 pub record SessionCells : Type 0 where
   pub sid : ℕ
@@ -62,14 +62,14 @@ session_of d = cells Sessions d >>= session_cells
 abbrev pub has_short_cwd : SessionCells → Bool
 has_short_cwd row = is_some row.cwd
 
-abbrev pub numbered : SessionCells → ℕ × Session
-numbered row = (row.sid, record { cwd = unwrap_or row.cwd []; vars = row.vars; status = row.status })
+abbrev pub session_entry : SessionCells → ℕ × Session
+session_entry row = (row.sid, record { cwd = unwrap_or row.cwd []; vars = row.vars; status = row.status })
 
 unfoldable pub sessions_of : Data → Result (FinMap nat_cmp Session) Refusal
 sessions_of d = do
   items ← cells Sessions d
   rows ← each session_of items
-  sessions ← ok_or (map_of nat_cmp (map numbered rows)) (WrongShape Sessions)
+  sessions ← ok_or (map_of nat_cmp (map session_entry rows)) (WrongShape Sessions)
   short ← guard (list_all has_short_cwd rows) OverLimit
   fit ← guard (are_lawful_sessions sessions) OverLimit
   Ok sessions

@@ -11,23 +11,23 @@ abbrev pub Text : Type 0
 Text = List ℕ
 
 -- the items of an array
-abbrev pub listed : Items → List Data
-listed no_items = []
-listed (item d ds) = d ∷ listed ds
+abbrev pub item_list : Items → List Data
+item_list no_items = []
+item_list (item d ds) = d ∷ item_list ds
 
 abbrev pub cells : Part → Data → Result (List Data) Refusal
-cells part d = ok_or (option_map listed (as_array d)) (WrongShape part)
+cells part d = ok_or (option_map item_list (as_array d)) (WrongShape part)
 
 abbrev pub text_in : Part → Data → Result Text Refusal
 text_in part d = ok_or (as_str d) (WrongShape part)
 
 -- a whole number, of 64 bits
-abbrev pub whole : Data → Option ℕ
-whole d = option_and_then as_u64 (as_number d)
+abbrev pub unsigned_in : Data → Option ℕ
+unsigned_in d = option_and_then as_u64 (as_number d)
 
 abbrev pub below : ℕ → ℕ → Option ℕ
 below limit n = if nat_lt n limit then Some n else None
 
 -- a whole number below a limit
 abbrev pub number_in : Part → ℕ → Data → Result ℕ Refusal
-number_in part limit d = ok_or (option_and_then (below limit) (whole d)) (WrongShape part)
+number_in part limit d = ok_or (option_and_then (below limit) (unsigned_in d)) (WrongShape part)

@@ -1,5 +1,8 @@
 -- The tree of a document: a list of directories `["/d"]` and files `["/f","hex"]`.
-use Rattle.std.specs.Prelude.{ℕ, List, [], ◌∷◌, length, Bool, true, Option, Some, None, Result, Ok, Err, nat_le, ok_or}
+use Rattle.std.specs.Prelude.{ℕ, List, [], ◌∷◌, length, map, Bool, true, ◌&&◌, Option, Some, Result, Ok, Err, is_some, nat_le, ok_or, option_map}
+use Rattle.std.specs.List.{list_all}
+use Rattle.std.specs.Option.{unwrap_or}
+use Rattle.std.specs.Result.{result_ok}
 use Rattle.hex.specs.Hex.{decode_of}
 use Rattle.serde_json.specs.Data.{Data}
 use Rattle.retro_tree.specs.Order.{path_cmp}
@@ -17,68 +20,64 @@ use Rattle.retro_log.specs.Keyed.{map_of}
 use Rattle.retro_log.specs.Shape.{Text, cells, text_in}
 use Rattle.retro_log.specs.PathText.{path_in}
 
--- ---- the shape: a path, and hex for a file
+-- ---- a row: a path, none if a name of it is too long, and a directory or a file, none if its hex is bad
 
-abbrev pub row_cells : List Data → Result (Option PathValue × Option Text) Refusal
+abbrev pub Row : Type 0
+Row = Option PathValue × Option Entry
+
+-- the bytes that hex stands for, in either case
+abbrev pub bytes_in : Text → Option (List ℕ)
+bytes_in hex = result_ok (decode_of hex)
+
+abbrev pub file_in : Text → Option Entry
+file_in hex = option_map File (bytes_in hex)
+
+abbrev pub row_cells : List Data → Result Row Refusal
 row_cells (p ∷ []) = do
   path ← path_in Tree p
-  Ok (path, None)
+  Ok (path, Some Dir)
 row_cells (p ∷ h ∷ []) = do
   path ← path_in Tree p
   hex ← text_in Tree h
-  Ok (path, Some hex)
+  Ok (path, file_in hex)
 row_cells _ = Err (WrongShape Tree)
 
-unfoldable pub row_of : Data → Result (Option PathValue × Option Text) Refusal
+unfoldable pub row_of : Data → Result Row Refusal
 row_of d = cells Tree d >>= row_cells
 
--- ---- the hex of files, in either case
+-- ---- the hex of files
 
-abbrev pub hex_cases : {E : Type 0} → Result (List ℕ) E → Result (List ℕ) Refusal
-hex_cases (Ok bytes) = Ok bytes
-hex_cases (Err e) = Err BadHex
-
-abbrev pub decoded : Text → Result (List ℕ) Refusal
-decoded hex = hex_cases (decode_of hex)
-
-abbrev pub entry_of : Option Text → Result Entry Refusal
-entry_of None = Ok Dir
-entry_of (Some hex) = do
-  bytes ← decoded hex
-  Ok (File bytes)
-
-unfoldable pub place_of : Option PathValue × Option Text → Result (Option PathValue × Entry) Refusal
-place_of row = do
-  entry ← entry_of row.1
-  Ok (row.0, entry)
+abbrev pub has_entry : Row → Bool
+has_entry row = is_some row.1
 
 -- ---- the limits of names and files
 
-abbrev pub fits : Entry → Bool
-fits Dir = true
-fits (File bytes) = nat_le (length bytes) file_limit
+abbrev pub entry_fits : Entry → Bool
+entry_fits Dir = true
+entry_fits (File bytes) = nat_le (length bytes) file_limit
 
-abbrev pub place_within : Option PathValue → Entry → Result (PathValue × Entry) Refusal
-place_within None entry = Err OverLimit
-place_within (Some path) entry = do
-  fits ← guard (fits entry) OverLimit
-  Ok (path, entry)
+abbrev pub entry_or_dir : Row → Entry
+entry_or_dir row = unwrap_or row.1 Dir
 
-unfoldable pub within : Option PathValue × Entry → Result (PathValue × Entry) Refusal
-within place = place_within place.0 place.1
+abbrev pub is_within_limits : Row → Bool
+is_within_limits row = is_some row.0 && entry_fits (entry_or_dir row)
 
--- ---- the law: no path twice, the root not listed, and what stands is a lawful tree
+-- ---- the law: no path twice, the root not listed, and the whole a lawful tree
 
--- the root isn't listed, and is there
+abbrev pub path_entry : Row → PathValue × Entry
+path_entry row = (unwrap_or row.0 [], entry_or_dir row)
+
+-- the root isn't listed, but exists
 abbrev pub root_entry : PathValue × Entry
 root_entry = ([], Dir)
 
+-- the tree, or the first refusal over the whole list: of the shape, of the hex, of the limits, of the law
 unfoldable pub tree_of : Data → Result TreeValue Refusal
 tree_of d = do
   items ← cells Tree d
   rows ← each row_of items
-  places ← each place_of rows
-  listed ← each within places
-  tree ← ok_or (map_of path_cmp (root_entry ∷ listed)) LawlessTree
+  hex ← guard (list_all has_entry rows) BadHex
+  limits ← guard (list_all is_within_limits rows) OverLimit
+  tree ← ok_or (map_of path_cmp (root_entry ∷ map path_entry rows)) LawlessTree
   law ← guard (is_lawful_tree tree) LawlessTree
   Ok tree

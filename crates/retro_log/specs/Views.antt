@@ -1,5 +1,5 @@
 -- What the reader's rows stand for.
-use Rattle.std.specs.Prelude.{ℕ, List, Option, option_map}
+use Rattle.std.specs.Prelude.{ℕ, List, Option}
 use Rattle.retro_tree.specs.Path.{PathValue}
 use Rattle.retro_tree.specs.declared.entry.Entry.{Entry}
 use Rattle.std.specs.FinMap.{from_entries}
@@ -7,19 +7,10 @@ use Rattle.retro_log.specs.SessionsPart.{SessionCells}
 use Rattle.retro_log.specs.declared.reading.sessions.Var.{Var}
 use Rattle.retro_log.specs.declared.reading.sessions.SessionRow.{SessionRow}
 use Rattle.retro_log.specs.declared.reading.tree.Row.{Row}
-use Rattle.retro_log.specs.declared.reading.tree.Place.{Place}
-use Rattle.retro_log.specs.declared.reading.tree.Listed.{Listed}
 
--- a path and the hex of a file
-abbrev pub row_view : Row → Option PathValue × Option (List ℕ)
-row_view r = (r.path, option_map (λ hex. hex.now) r.hex)
-
--- a path and what stands there
-abbrev pub place_view : Place → Option PathValue × Entry
-place_view p = (p.path, p.entry)
-
-abbrev pub listed_view : Listed → PathValue × Entry
-listed_view l = (l.path, l.entry)
+-- a path and a directory or file
+abbrev pub row_view : Row → Option PathValue × Option Entry
+row_view r = (r.path, r.entry)
 
 abbrev pub var_view : Var → List ℕ × List ℕ
 var_view v = (v.name, v.value)

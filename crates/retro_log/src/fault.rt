@@ -1,15 +1,17 @@
-//! Why a document could not be read.
+//! Why a document isn't read.
 ghost use Rattle.std.specs.Prelude.{◌≡◌};
 ghost use Rattle.retro_log.specs.Numbers.{refusal_number};
-ghost use Rattle.retro_log.specs.declared.fault.LogFault.TheVariants.{NoMem};
+ghost use Rattle.retro_log.specs.Document.{lines_refusal};
+ghost use Rattle.retro_log.specs.declared.fault.LogFault.TheVariants as faults;
 
+use retro_keep::LinesFault;
 use std::alloc::{AllocError, AllocFailed};
 use thiserror::Error;
 
-/// The part of a document in which a wrong shape stands.
+/// The part of a document that has a wrong shape.
 #[derive(Clone, Copy, Debug, PartialEq, Eq)]
 pub enum Part {
-    /// The whole: no object, or a key that is missing.
+    /// The whole document: no object, or a missing key.
     Document,
     /// The version's number.
     Version,
@@ -21,12 +23,12 @@ pub enum Part {
     Lines,
 }
 
-/// What is wrong with a document: the first fault in the order of the rules.
+/// Why a document is refused.
 #[derive(Clone, Copy, Debug, PartialEq, Eq)]
 pub enum Refusal {
     /// Line numbers don't rise.
     NumbersNotRising,
-    /// A line's session isn't among the sessions.
+    /// A line's session is missing among the sessions.
     UnknownSession,
     /// The directories and files don't make a tree.
     LawlessTree,
@@ -34,13 +36,13 @@ pub enum Refusal {
     OverLimit,
     /// The bytes aren't UTF-8, or the text isn't one JSON value.
     NotJson,
-    /// A value isn't of the shape that its place asks for.
+    /// A value has another shape than its place asks for.
     WrongShape(Part),
-    /// An object has a key that the document doesn't have.
+    /// The document has a key that it may not have.
     UnknownKey,
-    /// A text that stands for bytes isn't pairs of hexadecimal digits.
+    /// A text for bytes isn't pairs of hexadecimal digits.
     BadHex,
-    /// The version is another than the one that is read.
+    /// The version isn't the one that is read.
     BadVersion,
 }
 
@@ -63,10 +65,9 @@ impl Refusal {
     }
 }
 
-/// Why there is no document: no memory, or a refusal of what was read.
+/// Why a document isn't read.
 #[derive(Debug, Drop, Error)]
 pub enum LogFault {
-    /// Memory was wanted and refused.
     #[error("out of memory")]
     NoMem,
     /// The document has a fault.
@@ -75,17 +76,28 @@ pub enum LogFault {
 }
 
 impl From<AllocError> for LogFault {
-    ghost from_gives = { λ _ e. e ≡ NoMem };
+    ghost from_gives = { λ _ fault. fault ≡ faults.NoMem };
 
-    fn from(_e: AllocError) -> LogFault {
+    fn from(_error: AllocError) -> LogFault {
         LogFault::NoMem
     }
 }
 
 impl<T: Drop> From<AllocFailed<T>> for LogFault {
-    ghost from_gives = { λ _ e. e ≡ NoMem };
+    ghost from_gives = { λ _ fault. fault ≡ faults.NoMem };
 
-    fn from(_e: AllocFailed<T>) -> LogFault {
+    fn from(_error: AllocFailed<T>) -> LogFault {
         LogFault::NoMem
+    }
+}
+
+impl From<LinesFault> for LogFault {
+    ghost from_gives = { λ lines fault. fault ≡ faults.Refused (lines_refusal lines) };
+
+    fn from(fault: LinesFault) -> LogFault {
+        match fault {
+            LinesFault::NumbersNotRising => LogFault::Refused(Refusal::NumbersNotRising),
+            LinesFault::UnknownSession => LogFault::Refused(Refusal::UnknownSession),
+        }
     }
 }

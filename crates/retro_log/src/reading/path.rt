@@ -1,5 +1,6 @@
 //! Paths as documents write them.
-ghost use Rattle.std.specs.Prelude.{◌≡◌, ◌==◌, true, map, IfOk, IfSome, option_map};
+ghost use Rattle.std.specs.Prelude.{◌≡◌, ◌==◌, true, [], map, IfOk, IfSome, option_map};
+ghost use Rattle.std.specs.Option.{unwrap_or};
 ghost use Rattle.std.specs.List.{list_all, slice_split};
 ghost use Rattle.serde_json.specs.View.{view};
 ghost use Rattle.retro_log.specs.ReadsAs.{ReadsAs};
@@ -7,22 +8,25 @@ ghost use Rattle.retro_log.specs.PathText.{is_written_name, is_short_name, names
 
 use crate::fault::{LogFault, Part, Refusal};
 use crate::reading::shape::text;
-use retro_tree::{NoMem, Path};
+use retro_tree::{NAME_LIMIT, NoMem, Path};
 use serde_json::Value;
 use std::alloc::Global;
 
-/// The greatest length of a name, in bytes.
-const NAME_LIMIT: usize = 255;
+/// The byte between the names of a path.
+const SLASH: u8 = b'/';
 
-/// Whether a text may stand as a name in a path.
+/// The byte that no name has.
+const NUL: u8 = 0;
+
+/// Whether a text may be written as a name in a path.
 #[tactic(auto, unfolding(crate::specs::PathText::is_written_name))]
 fn is_written_name(name: &str) -> bool
     ensures { result ≡ is_written_name name.now }
 {
     !name.is_empty()
         && !(name == "." || name == "..")
-        && !name.as_bytes().contains(&b'/')
-        && !name.as_bytes().contains(&0)
+        && !name.as_bytes().contains(&SLASH)
+        && !name.as_bytes().contains(&NUL)
 }
 
 fn are_written(names: &[&str]) -> bool
@@ -36,10 +40,10 @@ fn are_written(names: &[&str]) -> bool
     true
 }
 
-/// What stands before, between and after the slashes of a text.
-fn parts(alloc: Global, text: &str) -> Result<Vec<&str>, NoMem>
+/// The texts before, between and after the slashes of a text.
+fn split_path(alloc: Global, text: &str) -> Result<Vec<&str>, NoMem>
     ensures { IfOk result (λ parts.
-        map (λ part. part.now) parts.items ≡ slice_split (λ b. b == 47) text.now) }
+        map (λ part. part.now) parts.items ≡ slice_split (λ b. b == SLASH) text.now) }
 {
     text.split('/').collect(alloc)
 }
@@ -78,7 +82,7 @@ fn are_short(names: &[&str]) -> bool
     true
 }
 
-/// The path of these names, or none where one is too long.
+/// The path of these names, or `None` if one is too long.
 fn path_of(alloc: Global, names: &[&str]) -> Result<Option<Path>, NoMem>
     requires { list_all is_written_name (map (λ name. name.now) names.now) ≡ true }
     ensures { IfOk result (λ path. path ≡ path_of (map (λ name. name.now) names.now)) }
@@ -93,14 +97,24 @@ fn path_of(alloc: Global, names: &[&str]) -> Result<Option<Path>, NoMem>
     Path::of(alloc, texts)
 }
 
-/// The path that a text names, or none where a name is too long.
+/// The path that a text names, or `None` if a name is too long.
 #[tactic(auto, unfolding(crate::specs::PathText::path_in, crate::specs::PathText::names_in))]
 pub fn path_in(alloc: Global, part: Part, value: &Value) -> Result<Option<Path>, LogFault>
     ensures { ReadsAs (λ path. path) result (path_in part (view value.now)) }
 {
-    let parts = parts(alloc, text(part, value)?)?;
+    let parts = split_path(alloc, text(part, value)?)?;
     match names_of_parts(parts.as_slice()) {
         Some(names) => Ok(path_of(alloc, names)?),
         None => Err(LogFault::Refused(Refusal::WrongShape(part))),
+    }
+}
+
+/// The path, or the root in place of none.
+pub fn path_or_root(alloc: Global, path: Option<Path>) -> Path
+    ensures { result ≡ unwrap_or path [] }
+{
+    match path {
+        Some(path) => path,
+        None => Path::root(alloc),
     }
 }

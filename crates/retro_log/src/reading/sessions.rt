@@ -1,6 +1,5 @@
 //! Reading the sessions.
 ghost use Rattle.std.specs.Prelude.{◌≡◌, [], map, IfOk, option_map, true};
-ghost use Rattle.std.specs.Option.{unwrap_or};
 ghost use Rattle.retro_tree.specs.Lawful.{is_lawful_tree};
 ghost use Rattle.std.specs.List.{list_all};
 ghost use Rattle.std.specs.Ordering.{nat_cmp};
@@ -11,11 +10,11 @@ ghost use Rattle.retro_tree.specs.Limits.{are_lawful_sessions};
 ghost use Rattle.retro_log.specs.ReadsAs.{ReadsAs};
 ghost use Rattle.retro_log.specs.Steps.{each};
 ghost use Rattle.retro_log.specs.Keyed.{map_of};
-ghost use Rattle.retro_log.specs.SessionsPart.{var_of, vars_of, session_of, has_short_cwd, numbered, sessions_of};
+ghost use Rattle.retro_log.specs.SessionsPart.{var_of, vars_of, session_of, has_short_cwd, session_entry, sessions_of};
 ghost use Rattle.retro_log.specs.Views.{var_view, session_view};
 
 use crate::fault::{LogFault, Part, Refusal};
-use crate::reading::path::path_in;
+use crate::reading::path::{path_in, path_or_root};
 use crate::reading::shape::{cells, number, text};
 use retro_tree::{NoMem, Path, State, Text, VarName};
 use serde_json::Value;
@@ -29,7 +28,7 @@ pub struct Var {
     pub value: Text,
 }
 
-/// A session, whose directory is none where a name of it is too long.
+/// A session. Its directory is `None` if a name of it is too long.
 #[derive(Drop)]
 pub struct SessionRow {
     pub sid: u32,
@@ -68,8 +67,8 @@ fn read_vars(alloc: Global, items: &[Value]) -> Result<Vec<Var>, LogFault>
     Ok(vars)
 }
 
-/// The map of the variables, or none where a name stands twice.
-fn keyed_vars(alloc: Global, vars: Vec<Var>) -> Result<Option<BTreeMap<VarName, Text>>, NoMem>
+/// The map of the variables, or `None` if two have one name.
+fn var_map(alloc: Global, vars: Vec<Var>) -> Result<Option<BTreeMap<VarName, Text>>, NoMem>
     ensures { IfOk result (λ found.
         option_map (λ values. map.from_entries values.entries) found
         ≡ map_of text_cmp (map var_view vars.items)) }
@@ -85,13 +84,13 @@ fn keyed_vars(alloc: Global, vars: Vec<Var>) -> Result<Option<BTreeMap<VarName, 
 }
 
 #[tactic(auto, unfolding(crate::specs::SessionsPart::vars_of))]
-fn vars(alloc: Global, value: &Value) -> Result<BTreeMap<VarName, Text>, LogFault>
+fn read_var_map(alloc: Global, value: &Value) -> Result<BTreeMap<VarName, Text>, LogFault>
     ensures { ReadsAs (λ values. map.from_entries values.entries) result
         (vars_of (view value.now)) }
 {
     let items = cells(Part::Sessions, value)?;
     let vars = read_vars(alloc, items)?;
-    match keyed_vars(alloc, vars)? {
+    match var_map(alloc, vars)? {
         Some(values) => Ok(values),
         None => Err(LogFault::Refused(Refusal::WrongShape(Part::Sessions))),
     }
@@ -106,7 +105,7 @@ fn read_row(alloc: Global, value: &Value) -> Result<SessionRow, LogFault>
             let sid = number(Part::Sessions, 1 << 32, sid)? as u32;
             let cwd = path_in(alloc, Part::Sessions, cwd)?;
             let status = number(Part::Sessions, 256, status)? as u8;
-            let vars = vars(alloc, values)?;
+            let vars = read_var_map(alloc, values)?;
             Ok(SessionRow {
                 sid,
                 cwd,
@@ -129,34 +128,29 @@ fn read_rows(alloc: Global, items: &[Value]) -> Result<Vec<SessionRow>, LogFault
     Ok(rows)
 }
 
-/// The directory, or the root in its place.
-fn cwd_or_root(alloc: Global, cwd: Option<Path>) -> Path
-    ensures { result ≡ unwrap_or cwd [] }
-{
-    match cwd {
-        Some(cwd) => cwd,
-        None => Path::root(alloc),
-    }
-}
-
-/// The state with these sessions, or none where a number stands twice.
-fn seated(alloc: Global, state: State, rows: Vec<SessionRow>) -> Result<Option<State>, NoMem>
+/// The state with these sessions, or `None` if two have one number.
+fn state_with_sessions(
+    alloc: Global,
+    state: State,
+    rows: Vec<SessionRow>,
+) -> Result<Option<State>, NoMem>
     requires { state.sessions ≡ map.empty }
     ensures { IfOk result (λ found. found ≡
         option_map (λ sessions. record { tree = state.tree; sessions = sessions })
-        (map_of nat_cmp (map numbered (map session_view rows.items)))) }
+        (map_of nat_cmp (map session_entry (map session_view rows.items)))) }
 {
     let mut state = state;
     for row in rows {
         if state.has_session(row.sid) {
             return Ok(None);
         }
-        let cwd = cwd_or_root(alloc, row.cwd);
+        let cwd = path_or_root(alloc, row.cwd);
         state.add_session(row.sid, cwd, row.status, row.vars)?;
     }
     Ok(Some(state))
 }
 
+/// Whether the names of each session's directory are within their limit.
 fn have_short_cwd(rows: &[SessionRow]) -> bool
     ensures { result ≡ list_all has_short_cwd (map session_view rows.now) }
 {
@@ -168,9 +162,9 @@ fn have_short_cwd(rows: &[SessionRow]) -> bool
     true
 }
 
-/// A state with the sessions that a value is in place of none.
+/// A state without sessions, with the sessions that a value is added.
 #[tactic(auto, using(crate::proofs::Limits::limits_of_sessions), unfolding(crate::specs::SessionsPart::sessions_of))]
-pub fn sessions(alloc: Global, state: State, value: &Value) -> Result<State, LogFault>
+pub fn read_sessions(alloc: Global, state: State, value: &Value) -> Result<State, LogFault>
     requires none { state.sessions ≡ map.empty }
     requires tree { is_lawful_tree state.tree ≡ true }
     ensures value { ReadsAs (λ s. s.sessions) result (sessions_of (view value.now)) }
@@ -180,7 +174,7 @@ pub fn sessions(alloc: Global, state: State, value: &Value) -> Result<State, Log
     let items = cells(Part::Sessions, value)?;
     let rows = read_rows(alloc, items)?;
     let short = have_short_cwd(rows.as_slice());
-    let Some(state) = seated(alloc, state, rows)? else {
+    let Some(state) = state_with_sessions(alloc, state, rows)? else {
         return Err(LogFault::Refused(Refusal::WrongShape(Part::Sessions)));
     };
     if !short || !state.is_within_limits() {

@@ -1,64 +1,75 @@
 //! Reading the tree.
-ghost use Rattle.std.specs.Prelude.{◌≡◌, ◌∷◌, Some, map, IfOk, option_map, true};
+ghost use Rattle.std.specs.Prelude.{◌≡◌, ◌∷◌, Some, Ok, map, IfOk, option_map, true};
+ghost use Rattle.std.specs.List.{list_all};
 ghost use Rattle.std.specs.FinMap as map;
+ghost use Rattle.std.specs.Option.{unwrap_or};
+ghost use Rattle.retro_tree.specs.Lawful.{IsLawful, is_lawful_tree};
 ghost use Rattle.retro_tree.specs.Node.{node_of};
+ghost use Rattle.retro_tree.specs.Order.{path_cmp};
+ghost use Rattle.retro_tree.specs.declared.entry.Entry.TheVariants as entries;
 ghost use Rattle.serde_json.specs.View.{view};
+ghost use Rattle.retro_log.specs.Keyed.{map_of};
 ghost use Rattle.retro_log.specs.ReadsAs.{ReadsAs};
 ghost use Rattle.retro_log.specs.Steps.{each};
-ghost use Rattle.retro_log.specs.TreePart.{row_of, decoded, fits, place_of, within, root_entry, tree_of};
-ghost use Rattle.retro_tree.specs.Order.{path_cmp};
-ghost use Rattle.retro_tree.specs.Lawful.{is_lawful_tree};
-ghost use Rattle.retro_log.specs.Keyed.{map_of};
-ghost use Rattle.retro_log.specs.Views.{row_view, place_view, listed_view};
+ghost use Rattle.retro_log.specs.TreePart.{bytes_in, file_in, entry_fits, has_entry, is_within_limits, path_entry, root_entry, row_of, tree_of};
+ghost use Rattle.retro_log.specs.Views.{row_view};
 
 use crate::fault::{LogFault, Part, Refusal};
-use crate::reading::path::path_in;
+use crate::reading::path::{path_in, path_or_root};
 use crate::reading::shape::{cells, text};
 use hex::FromHexError;
 use retro_tree::{Bytes, Entry, FILE_LIMIT, NoMem, Node, Path, State};
 use serde_json::Value;
 use std::alloc::Global;
 
-/// A path, or none where a name of it is too long, and the hex of a file.
+/// A row: its path, or `None` if a name of it is too long, and its directory or file, or `None` if
+/// its hex is bad.
 #[derive(Drop)]
-pub struct Row<'v> {
+pub struct Row {
     pub path: Option<Path>,
-    pub hex: Option<&'v str>,
+    pub entry: Option<Entry>,
 }
 
-/// A path, or none where a name of it is too long, and what stands there.
-#[derive(Drop)]
-pub struct Place {
-    pub path: Option<Path>,
-    pub entry: Entry,
+/// The bytes that hex stands for, in either case, or `None` if it is bad.
+fn bytes_in(alloc: Global, hex: &str) -> Result<Option<Bytes>, LogFault>
+    ensures { ReadsAs (λ bytes. bytes) result (Ok (bytes_in hex.now)) }
+{
+    match hex::decode(alloc, hex) {
+        Ok(bytes) => Ok(Some(Bytes::of(bytes))),
+        Err(FromHexError::OutOfMemory) => Err(LogFault::NoMem),
+        Err(_) => Ok(None),
+    }
 }
 
-/// A path and what stands there, within the limits.
-#[derive(Drop)]
-pub struct Listed {
-    pub path: Path,
-    pub entry: Entry,
+/// The file whose bytes hex stands for, or `None` if it is bad.
+fn file_in(alloc: Global, hex: &str) -> Result<Option<Entry>, LogFault>
+    ensures { ReadsAs (λ entry. entry) result (Ok (file_in hex.now)) }
+{
+    match bytes_in(alloc, hex)? {
+        Some(bytes) => Ok(Some(Entry::File(bytes))),
+        None => Ok(None),
+    }
 }
 
 #[tactic(auto, unfolding(crate::specs::TreePart::row_of))]
-fn read_row(alloc: Global, value: &Value) -> Result<Row<'_>, LogFault>
+fn read_row(alloc: Global, value: &Value) -> Result<Row, LogFault>
     ensures { ReadsAs row_view result (row_of (view value.now)) }
 {
     match cells(Part::Tree, value)? {
         [path] => Ok(Row {
             path: path_in(alloc, Part::Tree, path)?,
-            hex: None,
+            entry: Some(Entry::Dir),
         }),
         [path, hex] => {
             let path = path_in(alloc, Part::Tree, path)?;
-            let hex = Some(text(Part::Tree, hex)?);
-            Ok(Row { path, hex })
+            let entry = file_in(alloc, text(Part::Tree, hex)?)?;
+            Ok(Row { path, entry })
         }
         _ => Err(LogFault::Refused(Refusal::WrongShape(Part::Tree))),
     }
 }
 
-fn read_rows(alloc: Global, items: &[Value]) -> Result<Vec<Row<'_>>, LogFault>
+fn read_rows(alloc: Global, items: &[Value]) -> Result<Vec<Row>, LogFault>
     ensures { ReadsAs (λ rows. map row_view rows.items) result (each row_of (map view items.now)) }
 {
     let mut rows = Vec::new(alloc);
@@ -68,44 +79,20 @@ fn read_rows(alloc: Global, items: &[Value]) -> Result<Vec<Row<'_>>, LogFault>
     Ok(rows)
 }
 
-/// The bytes that hex stands for, in either case.
-pub fn bytes_of(alloc: Global, hex: &str) -> Result<Bytes, LogFault>
-    ensures { ReadsAs (λ bytes. bytes) result (decoded hex.now) }
+/// Whether the hex of each row is good.
+fn have_entries(rows: &[Row]) -> bool
+    ensures { result ≡ list_all has_entry (map row_view rows.now) }
 {
-    match hex::decode(alloc, hex) {
-        Ok(bytes) => Ok(Bytes::of(bytes)),
-        Err(FromHexError::OutOfMemory) => Err(LogFault::NoMem),
-        Err(_) => Err(LogFault::Refused(Refusal::BadHex)),
-    }
-}
-
-#[tactic(auto, unfolding(crate::specs::TreePart::place_of))]
-fn decode_row(alloc: Global, row: Row<'_>) -> Result<Place, LogFault>
-    ensures { ReadsAs place_view result (place_of (row_view row.entry)) }
-{
-    let entry = match row.hex {
-        Some(hex) => Entry::File(bytes_of(alloc, hex)?),
-        None => Entry::Dir,
-    };
-    Ok(Place {
-        path: row.path,
-        entry,
-    })
-}
-
-fn decode_rows(alloc: Global, rows: Vec<Row<'_>>) -> Result<Vec<Place>, LogFault>
-    ensures { ReadsAs (λ places. map place_view places.items) result
-        (each place_of (map row_view rows.entry.items)) }
-{
-    let mut places = Vec::new(alloc);
     for row in rows {
-        places.push(decode_row(alloc, row)?)?;
+        if row.entry.is_none() {
+            return false;
+        }
     }
-    Ok(places)
+    true
 }
 
-fn fits(entry: &Entry) -> bool
-    ensures { result ≡ fits entry.now }
+fn entry_fits(entry: &Entry) -> bool
+    ensures { result ≡ entry_fits entry.now }
 {
     match entry {
         Entry::Dir => true,
@@ -113,26 +100,35 @@ fn fits(entry: &Entry) -> bool
     }
 }
 
-#[tactic(auto, unfolding(crate::specs::TreePart::within))]
-fn within(place: Place) -> Result<Listed, LogFault>
-    ensures { ReadsAs listed_view result (within (place_view place)) }
+fn is_within_limits(row: &Row) -> bool
+    ensures { result ≡ is_within_limits (row_view row.now) }
 {
-    let Place { path, entry } = place;
-    match path {
-        Some(path) if fits(&entry) => Ok(Listed { path, entry }),
-        _ => Err(LogFault::Refused(Refusal::OverLimit)),
+    match (&row.path, &row.entry) {
+        (None, _) => false,
+        (Some(_), None) => true,
+        (Some(_), Some(entry)) => entry_fits(entry),
     }
 }
 
-fn all_within(alloc: Global, places: Vec<Place>) -> Result<Vec<Listed>, LogFault>
-    ensures { ReadsAs (λ all. map listed_view all.items) result
-        (each within (map place_view places.items)) }
+/// Whether the names and the file of each row are within their limits.
+fn are_within_limits(rows: &[Row]) -> bool
+    ensures { result ≡ list_all is_within_limits (map row_view rows.now) }
 {
-    let mut all = Vec::new(alloc);
-    for place in places {
-        all.push(within(place)?)?;
+    for row in rows {
+        if !is_within_limits(row) {
+            return false;
+        }
     }
-    Ok(all)
+    true
+}
+
+fn entry_or_dir(entry: Option<Entry>) -> Entry
+    ensures { result ≡ unwrap_or entry entries.Dir }
+{
+    match entry {
+        Some(entry) => entry,
+        None => Entry::Dir,
+    }
 }
 
 fn node_of(entry: Entry) -> Node
@@ -144,37 +140,52 @@ fn node_of(entry: Entry) -> Node
     }
 }
 
-/// The state of what is listed and the root, or none where a path stands twice or is the root.
-fn joined(alloc: Global, places: Vec<Listed>) -> Result<Option<State>, NoMem>
+/// The state of these rows and the root, or `None` if a path is listed twice or is the root's.
+fn state_with_rows(alloc: Global, rows: Vec<Row>) -> Result<Option<State>, NoMem>
     ensures { IfOk result (λ found. found ≡
         option_map (λ tree. record { tree = tree; sessions = map.empty })
-        (map_of path_cmp (root_entry ∷ map listed_view places.items))) }
+        (map_of path_cmp (root_entry ∷ map path_entry (map row_view rows.items)))) }
 {
     let mut state = State::empty(alloc)?;
-    for place in places {
-        if state.tree().get(&place.path).is_some() {
+    for row in rows {
+        let path = path_or_root(alloc, row.path);
+        let entry = entry_or_dir(row.entry);
+        if state.tree().get(&path).is_some() {
             return Ok(None);
         }
-        state.place(place.path, node_of(place.entry))?;
+        state.place(path, node_of(entry))?;
     }
     Ok(Some(state))
 }
 
-/// The state without sessions whose tree a value is: a lawful one.
+/// Whether a state without sessions is lawful, which it remembers.
+fn validate_tree(alloc: Global, state: &mut State) -> Result<bool, NoMem>
+    requires { state.old.sessions ≡ map.empty }
+    ensures value { IfOk result (λ lawful. lawful ≡ is_lawful_tree state.old.tree) }
+    ensures same { state.new ≡ state.old }
+{
+    state.validate(alloc)
+}
+
+/// The state without sessions whose tree a value is. It is known to be lawful.
 #[tactic(auto, unfolding(crate::specs::TreePart::tree_of))]
-pub fn tree(alloc: Global, value: &Value) -> Result<State, LogFault>
+pub fn read_tree(alloc: Global, value: &Value) -> Result<State, LogFault>
     ensures value { ReadsAs (λ s. s.tree) result (tree_of (view value.now)) }
     ensures sessions { IfOk result (λ s. s.sessions ≡ map.empty) }
     ensures lawful { IfOk result (λ s. is_lawful_tree s.tree ≡ true) }
 {
     let items = cells(Part::Tree, value)?;
     let rows = read_rows(alloc, items)?;
-    let places = decode_rows(alloc, rows)?;
-    let listed = all_within(alloc, places)?;
-    let Some(state) = joined(alloc, listed)? else {
+    if !have_entries(rows.as_slice()) {
+        return Err(LogFault::Refused(Refusal::BadHex));
+    }
+    if !are_within_limits(rows.as_slice()) {
+        return Err(LogFault::Refused(Refusal::OverLimit));
+    }
+    let Some(mut state) = state_with_rows(alloc, rows)? else {
         return Err(LogFault::Refused(Refusal::LawlessTree));
     };
-    if !state.tree().is_lawful(alloc)? {
+    if !validate_tree(alloc, &mut state)? {
         return Err(LogFault::Refused(Refusal::LawlessTree));
     }
     Ok(state)
