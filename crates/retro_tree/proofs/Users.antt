@@ -1,16 +1,19 @@
 -- The fields of the password file, as the code reads them.
-use Rattle.std.proofs.Common.{◌≡◌, ◌<◌, ◌≤◌, ◌^◌, ◌==◌, ℕ, zero, suc, Bool, true, false, not, ◌&&◌, nat_le, List, [], ◌∷◌, length, Some, None, Result, Ok, Err, refl, sym, ap, ◌∙◌, arith}
+use Rattle.std.proofs.Common.{◌≡◌, ◌<◌, ◌≤◌, ◌^◌, ◌==◌, ℕ, zero, suc, Bool, true, false, not, ◌&&◌, nat_le, List, [], ◌∷◌, length, Option, Some, None, Result, Ok, Err, ◌+◌, drop, get_or, refl, sym, ap, ◌∙◌, arith}
 use Rattle.std.specs.Bool.{if◌then◌else◌}
 use Rattle.std.specs.Result.{result_ok, OkIff}
-use Rattle.std.specs.List.{list_any, list_all}
+use Rattle.std.specs.List.{list_any, list_all, filter_map, cons_option}
 use Rattle.std.specs.Char.{is_ascii_digit}
 use Rattle.std.specs.Str.{IsUtf8, is_utf8, all_ascii_digits, IsAscii}
 use Rattle.std.specs.Str.Parse.{digits_value, ParsesUnsigned}
 use Rattle.std.proofs.lemmas.Bool.{true≢false, false≢true, leb-true, le-leb}
 use Rattle.std.proofs.lemmas.Str.{IsUtf8-from_is_utf8, is_utf8-from_IsUtf8, IsUtf8-from_ascii}
 use Rattle.std.proofs.lemmas.Str.Parse.{parse_digits, numerals_by_value, tells_all_ascii_digits}
-use Rattle.retro_tree.specs.User.{is_plain_text, plain_text, user_number}
-use Rattle.retro_tree.proofs.Small.{first_true, both_true, and_true}
+use Rattle.std.proofs.lemmas.List.{at_drop_more}
+use Rattle.retro_tree.specs.Order.{text_eq}
+use Rattle.retro_tree.specs.User.{is_plain_text, plain_text, user_number, entry_of_line, named, first_of}
+use Rattle.retro_tree.specs.declared.user.User.{User}
+use Rattle.retro_tree.proofs.Small.{none_some, first_true, both_true, and_true}
 
 -- ---- texts
 chosen : {A : Type 0} (b : Bool) (x : A) → b ≡ true → if b then Some x else None ≡ Some x
@@ -126,3 +129,43 @@ pub not_text : (bytes : List ℕ) → list_all is_ascii_digit bytes ≡ true →
 not_text bytes h not_utf8 = absurd (not_utf8 (digits_are_text bytes h))
 
 pub ruleset numbers = (too_long, no_digits, not_text, number_read)
+
+-- ---- lines
+abbrev pub find_in : List ℕ → List (List ℕ) → Option User
+find_in name lines = first_of name (filter_map entry_of_line lines)
+
+pub line_found : (name line : List ℕ) (lines : List (List ℕ)) (user : User)
+    → named name (entry_of_line line) ≡ Some user → find_in name (line ∷ lines) ≡ Some user
+line_found name line lines user = go (entry_of_line line)
+  where
+    go : (o : Option (List ℕ × User)) → named name o ≡ Some user
+        → first_of name (cons_option o (filter_map entry_of_line lines)) ≡ Some user
+    go None h = absurd (none_some user h)
+    go (Some e) h = by_test (text_eq e.0 name) h
+      where
+        by_test : (b : Bool) → if b then Some e.1 else None ≡ Some user
+            → if b then Some e.1 else find_in name lines ≡ Some user
+        by_test true k = k
+        by_test false k = absurd (none_some user k)
+
+pub line_passed : (name line : List ℕ) (lines : List (List ℕ)) → named name (entry_of_line line) ≡ None
+    → find_in name (line ∷ lines) ≡ find_in name lines
+line_passed name line lines = go (entry_of_line line)
+  where
+    go : (o : Option (List ℕ × User)) → named name o ≡ None
+        → first_of name (cons_option o (filter_map entry_of_line lines)) ≡ find_in name lines
+    go None h = refl
+    go (Some e) h = by_test (text_eq e.0 name) h
+      where
+        by_test : (b : Bool) → if b then Some e.1 else None ≡ None
+            → if b then Some e.1 else find_in name lines ≡ find_in name lines
+        by_test true k = absurd (none_some e.1 (sym k))
+        by_test false k = refl
+
+-- the lines from the k-th on, by the k-th
+pub at_line : (name : List ℕ) (lines : List (List ℕ)) (k : ℕ) (line : List ℕ)
+    → (k < length lines) × (line ≡ get_or lines k line)
+    → find_in name (drop k lines) ≡ find_in name (line ∷ drop (k + 1) lines)
+at_line name lines k line h =
+    at_drop_more (find_in name) lines k line h.0
+    ∙ ap (λ l. find_in name (l ∷ drop (k + 1) lines)) (sym h.1)

@@ -109,8 +109,7 @@ pub(crate) fn find_user(
 ) -> Result<Option<User>, AllocError>
     ensures { IfOk result (λ user. user ≡ find_user name.now bytes.now) }
 {
-    let lines = split(alloc, bytes, b'\n')?;
-    for line in &lines {
+    for line in bytes.split(|byte| *byte == b'\n') {
         if let Some(user) = user_of_line(alloc, name, line)? {
             return Ok(Some(user));
         }
