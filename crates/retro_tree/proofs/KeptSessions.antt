@@ -20,6 +20,7 @@ use Rattle.retro_tree.specs.declared.note.Note.TheVariants.{Asked, Made}
 use Rattle.retro_tree.specs.declared.state.State.{State}
 use Rattle.retro_tree.proofs.Small.{tied, or_last}
 use Rattle.retro_tree.proofs.Entries.{all_tested}
+use Rattle.retro_tree.proofs.MayMake.{session_stays}
 use Rattle.retro_tree.proofs.PutCells.{sessions_made}
 use Rattle.retro_tree.proofs.CommittedChanges.{key_changed, sets}
 
@@ -80,3 +81,5 @@ commit_keeps_sessions overlay s h k = sessions_made (map.entries overlay) s k âˆ
         (all_tested cell_total cell_exact (Î» e. not (makes k e.0 e.1)) overlay (none_makes e)))
 
 pub ruleset kept_sessions = (change_keeps_sessions, notes_keep_sessions)
+
+pub ruleset changed_sessions = (session_stays, change_keeps_sessions)

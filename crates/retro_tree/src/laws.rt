@@ -124,7 +124,7 @@ pub fn removals_pass()
 {}
 
 /// A change removes no session. One whose session exists leaves the same sessions.
-#[tactic(auto, using(crate::proofs::MayMake::session_stays, crate::proofs::KeptSessions::change_keeps_sessions))]
+#[tactic(auto, using(crate::proofs::KeptSessions::changed_sessions))]
 pub fn changes_keep_sessions()
     ensures same { (c : Change) (s : State)
         → has_its_session c s ≡ true → SameSessions (apply c s) s }

@@ -25,7 +25,8 @@ pub fn committed_states()
         ≡ (list_any (λ e. makes sid e.0 e.1) (map.entries overlay)
         || map.contains_key s.sessions sid) }
     ensures same_sessions { (overlay : OverlayMap) (s : State)
-        → ((sid : ℕ) (c : Cell) (l : OverlayEntry) → map.get overlay c ≡ Some l → makes sid c l ≡ true
+        → ((sid : ℕ) (c : Cell) (entry : OverlayEntry)
+        → map.get overlay c ≡ Some entry → makes sid c entry ≡ true
         → map.contains_key s.sessions sid ≡ true)
         → SameSessions (committed overlay s) s }
     ensures state { (overlay : OverlayMap) (s now : State)
@@ -39,7 +40,8 @@ pub fn committed_states()
 /// If each entry fits its cell, the committed state is the combined state.
 #[tactic(auto, using(crate::proofs::Fitting::fits_overlays))]
 pub fn fitting_overlays_combine()
-    ensures { (overlay : OverlayMap) (s : State) → Fits overlay → Overlays overlay s (committed overlay s) }
+    ensures { (overlay : OverlayMap) (s : State)
+        → Fits overlay → Overlays overlay s (committed overlay s) }
 {}
 
 /// An overlay stays right while the view's state changes: in any way in cells that have values as
@@ -61,7 +63,8 @@ pub fn overlays_follow_the_state()
 /// if it is tight and gives the repaired state. All its entries are values.
 #[tactic(auto, using(crate::proofs::ExactOverlays::exactness))]
 pub fn exact_overlays()
-    ensures overlays { (overlay : OverlayMap) (s t : State) → IsExact overlay s t → Overlays overlay s t }
+    ensures overlays { (overlay : OverlayMap) (s t : State)
+        → IsExact overlay s t → Overlays overlay s t }
     ensures tight { (overlay : OverlayMap) (s t : State) → IsExact overlay s t → IsTight overlay s }
     ensures exact { (overlay : OverlayMap) (s t : State)
         → IsTight overlay s → Overlays overlay s t → IsExact overlay s t }
@@ -81,7 +84,8 @@ pub fn lines_keep_overlays_exact()
         → map.get new c ≡ map.get old c)
         → IsExact new (after recorded s) (after chosen t) }
     ensures agreed { (overlay : OverlayMap) (s t : State) (notes : List Note)
-        → IsExact overlay s t → AgreeOn notes s t → IsExact overlay (after notes s) (after notes t) }
+        → IsExact overlay s t → AgreeOn notes s t
+        → IsExact overlay (after notes s) (after notes t) }
     ensures apart { (overlay : OverlayMap) (s t : State) (notes : List Note)
         → IsExact overlay s t
         → ((c : Cell) → changes notes c ≡ true → map.contains_key overlay c ≡ false)
