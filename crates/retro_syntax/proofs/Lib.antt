@@ -11,3 +11,4 @@ pub mod QuotingLemmas
 pub mod DepthLemmas
 pub mod PartLemmas
 pub mod SpellingLemmas
+pub mod LawLemmas

@@ -51,17 +51,17 @@ outside_of c e = outside breaking_characters c (not_true (is_among breaking_char
 
 -- ---- states
 
-abbrev at : List T.Token → Reading → Lexing
+abbrev pub at : List T.Token → Reading → Lexing
 at ts r = with_pending ts (reading r)
 
 abbrev inside_word : List T.Token → List T.Piece → Bool → Lexing
 inside_word ts ps digits = at ts (in_word ps digits Unquoted)
 
-abbrev inside_quotes : List T.Token → List T.Piece → Lexing
+abbrev pub inside_quotes : List T.Token → List T.Piece → Lexing
 inside_quotes ts ps = at ts (in_word ps false Double)
 
 -- one step, and then the rest
-next : (l m : Lexing) (c : ℕ) (r : List ℕ) → lex_step l c ≡ Some m → lex_run (Some l) (c ∷ r) ≡ lex_run (Some m) r
+pub next : (l m : Lexing) (c : ℕ) (r : List ℕ) → lex_step l c ≡ Some m → lex_run (Some l) (c ∷ r) ≡ lex_run (Some m) r
 next l m c r e = ap (λ x. lex_run x r) e
 
 -- from here the characters lead into the word of these pieces
@@ -150,7 +150,7 @@ unquoted_on ts ps digits followed (c ∷ cs) r u b =
 
 -- ---- a parameter
 
-differs : (f : ℕ → Bool) (c k : ℕ) → f c ≡ true → f k ≡ false → (c == k) ≡ false
+pub differs : (f : ℕ → Bool) (c k : ℕ) → f c ≡ true → f k ≡ false → (c == k) ≡ false
 differs f c k h e = ne_eqb c k (λ s. let both : false ≡ true = sym e ∙ subst (λ x. f x ≡ true) s h in cc)
 
 pub name_is_ascii : (c : ℕ) → (is_ascii_alphanumeric c || (c == 95)) ≡ true → encode_utf8 c ≡ c ∷ []
@@ -160,7 +160,7 @@ name_is_ascii c e = let low : c < 128 = grind (arith, leb_tells, eqb_tells) in e
 pub name_begins : (c : ℕ) → starts_name c ≡ true → (is_ascii_alphanumeric c || (c == 95)) ≡ true
 name_begins c e = grind (arith, leb_tells, eqb_tells)
 
-step_name : (ts : List T.Token) (ps : List T.Piece) (inside : Bool) (b : ℕ) (n : List ℕ) (c : ℕ) → (is_ascii_alphanumeric c || (c == 95)) ≡ true
+pub step_name : (ts : List T.Token) (ps : List T.Piece) (inside : Bool) (b : ℕ) (n : List ℕ) (c : ℕ) → (is_ascii_alphanumeric c || (c == 95)) ≡ true
     → lex_step (at ts (dollar_brace ps inside (b ∷ n))) c ≡ Some (at ts (dollar_brace ps inside (b ∷ (n ++ c ∷ []))))
 unfolding lex_step
 step_name ts ps inside b n c h =
@@ -171,7 +171,7 @@ step_brace : (ts : List T.Token) (ps : List T.Piece) (inside : Bool) (b : ℕ) (
 unfolding lex_step
 step_brace ts ps inside b n h = rw h refl
 
-step_first : (ts : List T.Token) (ps : List T.Piece) (inside : Bool) (c : ℕ) → starts_name c ≡ true
+pub step_first : (ts : List T.Token) (ps : List T.Piece) (inside : Bool) (c : ℕ) → starts_name c ≡ true
     → lex_step (at ts (dollar_brace ps inside [])) c ≡ Some (at ts (dollar_brace ps inside (c ∷ [])))
 unfolding lex_step
 step_first ts ps inside c h =
@@ -250,7 +250,7 @@ step_quoted : (ts : List T.Token) (ps : List T.Piece) (c : ℕ) → is_special_i
 unfolding lex_step
 step_quoted ts ps c h z = let o = outside (codes "$`\"\\") c h in rw (o.1.1.1.0, o.1.1.0, o.0, z, o.1.0) refl
 
-escaped_by : (ts : List T.Token) (ps : List T.Piece) (c : ℕ) (r : List ℕ) (t : Bool) → is_special_inside c ≡ t → (c == 0) ≡ false
+pub escaped_by : (ts : List T.Token) (ps : List T.Piece) (c : ℕ) (r : List ℕ) (t : Bool) → is_special_inside c ≡ t → (c == 0) ≡ false
     → lex_run (Some (inside_quotes ts ps)) (cond t (92 ∷ c ∷ r) (c ∷ r)) ≡ lex_run (Some (inside_quotes ts (add_quoted ps (encode_utf8 c)))) r
 escaped_by ts ps c r true e z =
     next (inside_quotes ts ps) (slashed ts ps) 92 (c ∷ r) (step_backslash ts ps)

@@ -14,4 +14,5 @@ pub mod Plain
 pub mod PlainViews
 pub mod Lines
 pub mod Writing
+pub mod LexerLaws
 pub mod Tildes

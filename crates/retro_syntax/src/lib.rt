@@ -4,8 +4,8 @@
 //! [`Parsed`] keeps a text with that result. No text spells two lines.
 //!
 //! The lexer splits a text into tokens (XCU 2.2, 2.3). `specs/Quoting.antt` defines the tokens
-//! character by character; [`writing_is_read`] pins that definition by the canonical writing of
-//! tokens. The parser reads the tokens' tree (XCU 2.4, 2.10); [`reading_is_spelling`] says that it
+//! character by character; [`writing_is_read`] and the laws of the lexer, as
+//! [`single_quotes_read_as_double_quotes`], pin that definition from outside. The parser reads the tokens' tree (XCU 2.4, 2.10); [`reading_is_spelling`] says that it
 //! finds exactly the tree that the tokens are, written out.
 //!
 //! A word is a list of pieces. [`tree::Word::tilde_prefix`] finds its tilde prefix.
@@ -16,6 +16,7 @@
 
 mod build;
 mod depth;
+mod laws;
 mod lexer;
 mod lines;
 mod parsed;
@@ -31,6 +32,11 @@ ghost use Rattle.retro_syntax.specs.Tree.{Commands, Token};
 ghost use Rattle.retro_syntax.specs.Parsing.{commands_of};
 ghost use Rattle.retro_syntax.specs.Spells.{Spells};
 
+pub use laws::{
+    backslash_reads_as_double_quotes, blank_reads_as_nothing, comment_reads_as_nothing,
+    name_reads_as_name_in_braces, removed_newline_reads_as_nothing,
+    single_quotes_read_as_double_quotes,
+};
 pub use lines::{
     LONGEST_LINE, Line, Refused, one_line, parse, parsed_is_spelling, writing_is_read,
 };
