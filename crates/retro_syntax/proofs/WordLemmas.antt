@@ -1,5 +1,7 @@
 -- What a word is where a command may begin.
-use Rattle.std.proofs.Common.{◌≡◌, ◌≢◌, ℕ, suc, ◌<◌, ◌==◌, length, get_or, Bool, true, false, List, [], ◌∷◌, ◌++◌, Option, Some, None, option_map, option_and_then, arith, ◌&&◌, subst, refl, sym, ap, ◌∙◌, bytes_eq, Bor}
+use Rattle.std.proofs.Common.{◌≡◌, ◌≢◌, ℕ, suc, ◌<◌, ◌==◌, length, get_or, Bool, true, false, List, [], ◌∷◌, ◌++◌}
+use Rattle.std.proofs.Common.{Option, Some, None, option_map, option_and_then, arith, ◌&&◌, subst, refl, sym, ap, ◌∙◌}
+use Rattle.std.proofs.Common.{bytes_eq, Bor}
 use Rattle.std.proofs.lemmas.Str.Pattern.{IsSplitOnceResult, split_parts}
 use Rattle.std.proofs.lemmas.Bool.{ne_eqb, eqb-true}
 use Rattle.std.specs.List.{list_all}
@@ -7,11 +9,18 @@ use Rattle.retro_path.specs.VarName.{starts_name, continues_name, is_shell_name,
 use Rattle.retro_syntax.specs.Spells.{is_assigned, begins_unquoted}
 use Rattle.std.proofs.lemmas.Slice.Eq.{bytes_eq-Decides}
 use Rattle.std.specs.Prelude.{cond}
-use Rattle.retro_syntax.specs.Tree.{Piece, Word, Assignment, assignment_word, equals_then, plain, quoted, parameter, quoted_parameter, spelling}
+use Rattle.retro_syntax.specs.Tree.{Piece, Word, Assignment, assignment_word, equals_then, plain, quoted, parameter}
+use Rattle.retro_syntax.specs.Tree.{quoted_parameter, spelling}
 use Rattle.retro_syntax.specs.declared.tree.ReservedWord.{ReservedWord}
-use Rattle.retro_syntax.specs.declared.tree.ReservedWord.TheVariants.{Bang as bang, If as key_if, Then as key_then, Elif as key_elif, Else as key_else, Fi as key_fi, For as key_for, In as key_in, Do as key_do, Done as key_done}
-use Rattle.retro_syntax.specs.declared.words.Class.TheVariants.{Reserved as reserved, Forbidden as forbidden, Assignment as assignment, Ordinary as ordinary}
-use Rattle.retro_syntax.specs.Words.{class, class_by, assignment_form, assignment_of, is_supported, lookup, reserved_words, plain_class, name_of, is_one_of, other_reserved, split_equals, split_name, if_named, assigned}
+use Rattle.retro_syntax.specs.declared.tree.ReservedWord.TheVariants.{Bang as bang, If as key_if, Then as key_then}
+use Rattle.retro_syntax.specs.declared.tree.ReservedWord.TheVariants.{Elif as key_elif, Else as key_else, Fi as key_fi}
+use Rattle.retro_syntax.specs.declared.tree.ReservedWord.TheVariants.{For as key_for, In as key_in, Do as key_do}
+use Rattle.retro_syntax.specs.declared.tree.ReservedWord.TheVariants.{Done as key_done}
+use Rattle.retro_syntax.specs.declared.words.Class.TheVariants.{Reserved as reserved, Forbidden as forbidden}
+use Rattle.retro_syntax.specs.declared.words.Class.TheVariants.{Assignment as assignment, Ordinary as ordinary}
+use Rattle.retro_syntax.specs.Words.{class, class_by, assignment_form, assignment_of, is_supported, lookup}
+use Rattle.retro_syntax.specs.Words.{reserved_words, plain_class, name_of, is_one_of, other_reserved, split_equals}
+use Rattle.retro_syntax.specs.Words.{split_name, if_named, assigned}
 
 pub class_key : (k : ReservedWord) → class (plain (spelling k) ∷ []) ≡ reserved k
 unfolding class
@@ -34,9 +43,11 @@ and_right : (a b : Bool) → (a && b) ≡ true → b ≡ true
 and_right true b e = e
 and_right false b e = cc
 
-lookup_step : (t : Bool) (k j : ReservedWord) (ks : List ReservedWord) (text : List ℕ) → bytes_eq (spelling k) text ≡ t → cond t (Some k) (lookup ks text) ≡ Some j
+lookup_step : (t : Bool) (k j : ReservedWord) (ks : List ReservedWord) (text : List ℕ) → bytes_eq (spelling k) text ≡ t
+    → cond t (Some k) (lookup ks text) ≡ Some j
     → (lookup ks text ≡ Some j → text ≡ spelling j) → text ≡ spelling j
-lookup_step true k j ks text e found rest = let same = (bytes_eq-Decides (spelling k) text).0 e in let one : k ≡ j = cc in sym same ∙ ap spelling one
+lookup_step true k j ks text e found rest = let same = (bytes_eq-Decides (spelling k) text).0 e in
+    let one : k ≡ j = cc in sym same ∙ ap spelling one
 lookup_step false k j ks text e found rest = rest found
 
 lookup_key : (ks : List ReservedWord) (text : List ℕ) (j : ReservedWord) → lookup ks text ≡ Some j → text ≡ spelling j
@@ -51,7 +62,8 @@ not_key_2 : (a : Bool) (k : ReservedWord) → cond a forbidden ordinary ≡ rese
 not_key_2 true k e = cc
 not_key_2 false k e = cc
 
-plain_key : (text : List ℕ) (o : Option ReservedWord) (k : ReservedWord) → plain_class text o ≡ reserved k → lookup reserved_words text ≡ o → text ≡ spelling k
+plain_key : (text : List ℕ) (o : Option ReservedWord) (k : ReservedWord) → plain_class text o ≡ reserved k
+    → lookup reserved_words text ≡ o → text ≡ spelling k
 plain_key text (Some j) k e found = let one : j ≡ k = cc in lookup_key reserved_words text j found ∙ ap spelling one
 plain_key text None k e found = absurd (not_key_2 (is_one_of other_reserved text) k e)
 
@@ -83,13 +95,15 @@ at_equals (c ∷ cs) v h =
     rw (first, at_equals cs v (λ i l. h (suc i) (omega arith))) refl
 
 -- what `split_once` answers
-pub split_once_is : (bs : List ℕ) (r : Option (Bor (List ℕ) × Bor (List ℕ))) → IsSplitOnceResult 61 bs r → split_equals bs ≡ option_map (λ x. (x.0.now, x.1.now)) r
+pub split_once_is : (bs : List ℕ) (r : Option (Bor (List ℕ) × Bor (List ℕ))) → IsSplitOnceResult 61 bs r
+    → split_equals bs ≡ option_map (λ x. (x.0.now, x.1.now)) r
 split_once_is bs None h = no_equals bs (split_parts 61 bs None h (omega arith))
 split_once_is bs (Some x) h =
     let m = split_parts 61 bs (Some x) h (omega arith) in
     ap split_equals m.0 ∙ at_equals x.0.now x.1.now m.1
 
-pub split_name_is : (text n v : List ℕ) (t : Bool) → split_equals text ≡ Some (n, v) → is_shell_name n ≡ t → split_name text ≡ cond t (Some (n, v)) None
+pub split_name_is : (text n v : List ℕ) (t : Bool) → split_equals text ≡ Some (n, v) → is_shell_name n ≡ t
+    → split_name text ≡ cond t (Some (n, v)) None
 split_name_is text n v t e f = rw (e, f) refl
 
 pub split_name_none : (text : List ℕ) → split_equals text ≡ None → split_name text ≡ None
@@ -101,7 +115,8 @@ name_equals : (n v : List ℕ) → list_all continues_name n ≡ true → split_
 name_equals [] v h = refl
 name_equals (c ∷ cs) v h =
     let t : continues_name c ≡ true = and_left (continues_name c) (list_all continues_name cs) h in
-    let first : (c == 61) ≡ false = ne_eqb c 61 (λ e. let f : false ≡ true = subst (λ x. continues_name x ≡ true) e t in cc) in
+    let first : (c == 61) ≡ false = ne_eqb c 61 (λ e. let f : false ≡ true = subst (λ x. continues_name x ≡ true) e t in
+    cc) in
     rw (first, name_equals cs v (and_right (continues_name c) (list_all continues_name cs) h)) refl
 
 split_written : (n v : List ℕ) → is_shell_name n ≡ true → split_equals (n ++ 61 ∷ v) ≡ Some (n, v)
@@ -109,16 +124,19 @@ unfolding is_shell_name
 split_written [] v h = cc
 split_written (c ∷ cs) v h =
     let t : starts_name c ≡ true = and_left (starts_name c) (list_all continues_name cs) h in
-    let first : (c == 61) ≡ false = ne_eqb c 61 (λ e. let f : false ≡ true = subst (λ x. starts_name x ≡ true) e t in cc) in
+    let first : (c == 61) ≡ false = ne_eqb c 61 (λ e. let f : false ≡ true = subst (λ x. starts_name x ≡ true) e t in
+    cc) in
     rw (first, name_equals cs v (and_right (starts_name c) (list_all continues_name cs) h)) refl
 
 pub shell_name : (n : List ℕ) → is_var_name n ≡ true → is_shell_name n ≡ true
 unfolding is_var_name
 shell_name n h = and_left (is_shell_name n) _ h
 
-assigned_word : (n : List ℕ) (v : Word) → is_shell_name n ≡ true → begins_unquoted v ≡ true → assignment_form (equals_then n v) ≡ Some (record { name = n; value = v })
+assigned_word : (n : List ℕ) (v : Word) → is_shell_name n ≡ true → begins_unquoted v ≡ true
+    → assignment_form (equals_then n v) ≡ Some (record { name = n; value = v })
 assigned_word n [] h k = cc
-assigned_word n (plain text ∷ ps) h k = ap (option_map (λ s. assigned s.0 s.1 ps)) (split_name_is (n ++ 61 ∷ text) n text true (split_written n text h) h)
+assigned_word n (plain text ∷ ps) h k = ap (option_map (λ s. assigned s.0 s.1 ps))
+    (split_name_is (n ++ 61 ∷ text) n text true (split_written n text h) h)
 assigned_word n (quoted text ∷ ps) h k = cc
 assigned_word n (parameter m ∷ ps) h k = cc
 assigned_word n (quoted_parameter m ∷ ps) h k = cc
@@ -127,7 +145,8 @@ var_name_left : (a : Assignment) → is_assigned a ≡ true → is_var_name a.na
 var_name_left a h = and_left (is_var_name a.name) _ (and_right (begins_unquoted a.value) (is_supported a) h)
 
 form_of_word : (a : Assignment) → is_assigned a ≡ true → assignment_form (assignment_word a) ≡ Some a
-form_of_word a h = assigned_word a.name a.value (shell_name a.name (var_name_left a h)) (and_left (begins_unquoted a.value) (is_supported a) h)
+form_of_word a h = assigned_word a.name a.value (shell_name a.name (var_name_left a h))
+    (and_left (begins_unquoted a.value) (is_supported a) h)
 
 -- what an assignment is written as assigns that
 pub assignment_of_word : (a : Assignment) → is_assigned a ≡ true → assignment_of (assignment_word a) ≡ Some a
@@ -141,18 +160,24 @@ join_equals : (text : List ℕ) (s : List ℕ × List ℕ) → split_equals text
 join_equals [] s e = cc
 join_equals (c ∷ cs) s e = join_step c cs s (c == 61) (split_equals cs) refl refl e (λ z f. join_equals cs z f)
   where
-    join_step : (c : ℕ) (cs : List ℕ) (s : List ℕ × List ℕ) (t : Bool) (m : Option (List ℕ × List ℕ)) → (c == 61) ≡ t → split_equals cs ≡ m
-        → cond t (Some ([], cs)) (option_map (λ z. (c ∷ z.0, z.1)) m) ≡ Some s → ((z : List ℕ × List ℕ) → split_equals cs ≡ Some z → z.0 ++ 61 ∷ z.1 ≡ cs)
+    join_step : (c : ℕ) (cs : List ℕ) (s : List ℕ × List ℕ) (t : Bool) (m : Option (List ℕ × List ℕ)) → (c == 61) ≡ t
+        → split_equals cs ≡ m
+        → cond t (Some ([], cs)) (option_map (λ z. (c ∷ z.0, z.1)) m) ≡ Some s
+        → ((z : List ℕ × List ℕ) → split_equals cs ≡ Some z → z.0 ++ 61 ∷ z.1 ≡ cs)
         → s.0 ++ 61 ∷ s.1 ≡ c ∷ cs
-    join_step c cs s true m e f g rest = let same : ([], cs) ≡ s = cc in ap (λ z. z.0 ++ 61 ∷ z.1) (sym same) ∙ ap (λ d. d ∷ cs) (sym (eqb-true c 61 e))
+    join_step c cs s true m e f g rest = let same : ([], cs) ≡ s = cc in ap (λ z. z.0 ++ 61 ∷ z.1) (sym same)
+        ∙ ap (λ d. d ∷ cs) (sym (eqb-true c 61 e))
     join_step c cs s false None e f g rest = cc
-    join_step c cs s false (Some z) e f g rest = let same : (c ∷ z.0, z.1) ≡ s = cc in ap (λ y. y.0 ++ 61 ∷ y.1) (sym same) ∙ ap (λ l. c ∷ l) (rest z f)
+    join_step c cs s false (Some z) e f g rest = let same : (c ∷ z.0, z.1) ≡ s = cc in
+        ap (λ y. y.0 ++ 61 ∷ y.1) (sym same) ∙ ap (λ l. c ∷ l) (rest z f)
 
-named_parts : (m : Option (List ℕ × List ℕ)) (s : List ℕ × List ℕ) → option_and_then if_named m ≡ Some s → (m ≡ Some s) × (is_shell_name s.0 ≡ true)
+named_parts : (m : Option (List ℕ × List ℕ)) (s : List ℕ × List ℕ) → option_and_then if_named m ≡ Some s
+    → (m ≡ Some s) × (is_shell_name s.0 ≡ true)
 named_parts None s e = cc
 named_parts (Some z) s e = named_by z s (is_shell_name z.0) refl e
   where
-    named_by : (z s : List ℕ × List ℕ) (t : Bool) → is_shell_name z.0 ≡ t → cond t (Some z) None ≡ Some s → (Some z ≡ Some s) × (is_shell_name s.0 ≡ true)
+    named_by : (z s : List ℕ × List ℕ) (t : Bool) → is_shell_name z.0 ≡ t → cond t (Some z) None ≡ Some s
+        → (Some z ≡ Some s) × (is_shell_name s.0 ≡ true)
     named_by z s true e f = let same : z ≡ s = cc in (f, subst (λ y. is_shell_name y.0 ≡ true) same e)
     named_by z s false e f = cc
 
@@ -163,7 +188,8 @@ pub record Assigns (w : Word) : Type 0 where
   pub written : assignment_word given ≡ w
   pub lawful : is_assigned given ≡ true
 
-parts_of : (text : List ℕ) (ps : List Piece) (m : Option (List ℕ × List ℕ)) (a : Assignment) → split_name text ≡ m → option_map (λ s. assigned s.0 s.1 ps) m ≡ Some a
+parts_of : (text : List ℕ) (ps : List Piece) (m : Option (List ℕ × List ℕ)) (a : Assignment) → split_name text ≡ m
+    → option_map (λ s. assigned s.0 s.1 ps) m ≡ Some a
     → (assignment_word a ≡ plain text ∷ ps) × (begins_unquoted a.value ≡ true)
 parts_of text ps None a e f = absurd (let g : None ≡ Some a = f in cc)
 parts_of text ps (Some s) a e f =
@@ -172,7 +198,8 @@ parts_of text ps (Some s) a e f =
     subst (λ b. (assignment_word b ≡ plain text ∷ ps) × (begins_unquoted b.value ≡ true)) same
     (ap (λ t. plain t ∷ ps) (join_equals text s p.0), refl)
 
-word_parts : (w : Word) (a : Assignment) → assignment_form w ≡ Some a → (assignment_word a ≡ w) × (begins_unquoted a.value ≡ true)
+word_parts : (w : Word) (a : Assignment) → assignment_form w ≡ Some a
+    → (assignment_word a ≡ w) × (begins_unquoted a.value ≡ true)
 word_parts [] a e = cc
 word_parts (plain text ∷ ps) a e = parts_of text ps (split_name text) a refl e
 word_parts (quoted text ∷ ps) a e = cc

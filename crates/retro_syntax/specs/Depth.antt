@@ -1,6 +1,7 @@
 -- How deep `if` and `for` nest in a line, and the limit.
 use Rattle.std.specs.Prelude.{ℕ, suc, max, Option, Some, None}
-use Rattle.retro_syntax.specs.Tree.{Commands, last, more, AndOr, end, chain, Pipeline, pipeline, Command, simples, conditional, loop, Arms, fi, otherwise, elif}
+use Rattle.retro_syntax.specs.Tree.{Commands, last, more, AndOr, end, chain, Pipeline, pipeline, Command, simples}
+use Rattle.retro_syntax.specs.Tree.{conditional, loop, Arms, fi, otherwise, elif}
 
 -- the limit
 abbrev pub deepest_nesting : ℕ

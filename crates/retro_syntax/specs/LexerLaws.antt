@@ -5,7 +5,10 @@ use Rattle.std.specs.Prelude.{◌≡◌, ℕ, Bool, true, false, not, ◌&&◌, 
 use Rattle.retro_path.specs.VarName.{continues_name, is_shell_name}
 use Rattle.retro_syntax.specs.Ascii as ascii
 use Rattle.retro_syntax.specs.Tree.{Token}
-use Rattle.retro_syntax.specs.Quoting.{unquoted, single, double, Operator, one_semicolon, one_ampersand, one_bar, one_less, one_greater, in_word, dollar, dollar_name, dollar_brace, dollar_question, Pending, between, comment, operator, reading, with_pending, is_blank, is_operator, takes_backslash, lex_run, lex_end}
+use Rattle.retro_syntax.specs.Quoting.{unquoted, single, double, Operator, one_semicolon, one_ampersand, one_bar}
+use Rattle.retro_syntax.specs.Quoting.{one_less, one_greater, in_word, dollar, dollar_name, dollar_brace}
+use Rattle.retro_syntax.specs.Quoting.{dollar_question, Pending, between, comment, operator, reading, with_pending}
+use Rattle.retro_syntax.specs.Quoting.{is_blank, is_operator, takes_backslash, lex_run, lex_end}
 use Rattle.retro_syntax.specs.Writing.{escaped_then}
 
 -- Both texts lead to the same state.

@@ -4,7 +4,8 @@ use Rattle.std.specs.declared.alloc.Global.{Global}
 use Rattle.retro_syntax.specs.Failing.{Gives}
 use Rattle.retro_syntax.specs.Tree as T
 use Rattle.retro_syntax.specs.Parsing as M
-use Rattle.retro_syntax.specs.View.{token_view, view, commands_of, and_or_of, pipeline_of, word_view, simple_view, item_view}
+use Rattle.retro_syntax.specs.View.{token_view, view, commands_of, and_or_of, pipeline_of, word_view, simple_view}
+use Rattle.retro_syntax.specs.View.{item_view}
 use Rattle.retro_syntax.specs.declared.syntax_error.SyntaxError.{SyntaxError}
 use Rattle.retro_syntax.specs.declared.tree.Token.{Token}
 use Rattle.retro_syntax.specs.declared.tree.Word.{Word}

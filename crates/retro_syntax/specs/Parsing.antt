@@ -1,14 +1,21 @@
 -- The tree of a list of tokens, read token by token. `reading_is_spelling` says that this finds exactly
 -- the trees of specs/Spells.antt, so that a reader need not trust this file.
 use Rattle.std.specs.Prelude.{ℕ, Bool, true, false, List, [], ◌∷◌, ◌++◌, Option, Some, None, if◌then◌else◌, option_map}
-use Rattle.retro_syntax.specs.Tree.{Word, Assignment, Token, semicolon, bar, connector, redirection, word, Item, argument, redirect, Simple, assignments, command, Commands, last, more, AndOr, end, chain, Pipeline, pipeline, Command, simples, conditional, loop, Arms, fi, otherwise, elif}
+use Rattle.retro_syntax.specs.Tree.{Word, Assignment, Token, semicolon, bar, connector, redirection, word, Item}
+use Rattle.retro_syntax.specs.Tree.{argument, redirect, Simple, assignments, command, Commands, last, more, AndOr, end}
+use Rattle.retro_syntax.specs.Tree.{chain, Pipeline, pipeline, Command, simples, conditional, loop, Arms, fi, otherwise}
+use Rattle.retro_syntax.specs.Tree.{elif}
 use Rattle.retro_syntax.specs.Words.{class, name_of, assignment_of, is_ordinary, is_assignment}
 use Rattle.retro_syntax.specs.declared.tree.Direction.{Direction}
 use Rattle.retro_syntax.specs.declared.tree.Connector.{Connector}
 use Rattle.retro_syntax.specs.declared.tree.ReservedWord.{ReservedWord}
-use Rattle.retro_syntax.specs.declared.tree.ReservedWord.TheVariants.{Bang as bang, If as key_if, Then as key_then, Elif as key_elif, Else as key_else, Fi as key_fi, For as key_for, In as key_in, Do as key_do, Done as key_done}
+use Rattle.retro_syntax.specs.declared.tree.ReservedWord.TheVariants.{Bang as bang, If as key_if, Then as key_then}
+use Rattle.retro_syntax.specs.declared.tree.ReservedWord.TheVariants.{Elif as key_elif, Else as key_else, Fi as key_fi}
+use Rattle.retro_syntax.specs.declared.tree.ReservedWord.TheVariants.{For as key_for, In as key_in, Do as key_do}
+use Rattle.retro_syntax.specs.declared.tree.ReservedWord.TheVariants.{Done as key_done}
 use Rattle.retro_syntax.specs.declared.words.Class.{Class}
-use Rattle.retro_syntax.specs.declared.words.Class.TheVariants.{Reserved as reserved, Assignment as assignment, Ordinary as ordinary}
+use Rattle.retro_syntax.specs.declared.words.Class.TheVariants.{Reserved as reserved, Assignment as assignment}
+use Rattle.retro_syntax.specs.declared.words.Class.TheVariants.{Ordinary as ordinary}
 
 -- ---- What is being read.
 

@@ -1,8 +1,10 @@
 -- Lines of plain commands only: no quotes, parameters, tildes, pipes, compound commands, assignments
 -- or `<`. Such a line is a list of lists of items.
-use Rattle.std.specs.Prelude.{ℕ, true, false, List, [], ◌∷◌, Option, Some, None, option_map, option_and_then, if◌then◌else◌}
+use Rattle.std.specs.Prelude.{ℕ, true, false, List, [], ◌∷◌, Option, Some, None, option_map, option_and_then}
+use Rattle.std.specs.Prelude.{if◌then◌else◌}
 use Rattle.retro_syntax.specs.Tree as T
-use Rattle.retro_syntax.specs.Tree.{plain, quoted, parameter, quoted_parameter, argument, redirect, assignments, command, simples, conditional, loop, pipeline, end, chain, last, more}
+use Rattle.retro_syntax.specs.Tree.{plain, quoted, parameter, quoted_parameter, argument, redirect, assignments}
+use Rattle.retro_syntax.specs.Tree.{command, simples, conditional, loop, pipeline, end, chain, last, more}
 use Rattle.retro_syntax.specs.Words.{begins_tilde}
 use Rattle.retro_syntax.specs.declared.tree.Direction.{Direction}
 use Rattle.retro_syntax.specs.declared.tree.Direction.TheVariants.{From, Onto, Append}

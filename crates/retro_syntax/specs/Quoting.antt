@@ -1,11 +1,13 @@
 -- The tokens of a text, defined character by character: token recognition (XCU 2.3) with quotes (XCU
 -- 2.2), parameters (XCU 2.6.2) and comments. None means a syntax error. The laws of the lexer in
 -- specs/LexerLaws.antt and the canonical writing in specs/Writing.antt pin this definition from outside.
-use Rattle.std.specs.Prelude.{ℕ, Bool, true, false, ◌&&◌, ◌||◌, ◌==◌, if◌then◌else◌, List, [], ◌∷◌, ◌++◌, Option, Some, None, codes}
+use Rattle.std.specs.Prelude.{ℕ, Bool, true, false, ◌&&◌, ◌||◌, ◌==◌, if◌then◌else◌, List, [], ◌∷◌, ◌++◌, Option, Some}
+use Rattle.std.specs.Prelude.{None, codes}
 use Rattle.std.specs.Char.{encode_utf8, is_ascii_digit}
 use Rattle.retro_path.specs.VarName.{starts_name, continues_name, is_var_name}
 use Rattle.retro_syntax.specs.Ascii as ascii
-use Rattle.retro_syntax.specs.Tree.{Parameter, status, variable, Piece, plain, quoted, parameter, quoted_parameter, Token, semicolon, bar, connector, redirection, word}
+use Rattle.retro_syntax.specs.Tree.{Parameter, status, variable, Piece, plain, quoted, parameter, quoted_parameter}
+use Rattle.retro_syntax.specs.Tree.{Token, semicolon, bar, connector, redirection, word}
 use Rattle.retro_syntax.specs.declared.tree.Direction.TheVariants.{From, Onto, Append}
 use Rattle.retro_syntax.specs.declared.tree.Connector.TheVariants.{AndIf, OrIf}
 

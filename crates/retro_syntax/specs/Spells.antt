@@ -1,7 +1,10 @@
 -- The grammar (XCU 2.10): which trees are lists of commands, and which tokens spell such a list. No
 -- state machine is mentioned here: tokens spell a tree if they are that tree written out.
 use Rattle.std.specs.Prelude.{◌≡◌, Bool, true, false, ◌&&◌, List, [], ◌∷◌, Some}
-use Rattle.retro_syntax.specs.Tree.{plain, quoted, parameter, quoted_parameter, Word, Assignment, Token, Item, argument, redirect, Simple, assignments, command, Commands, last, more, AndOr, end, chain, Pipeline, pipeline, Command, simples, conditional, loop, Arms, fi, otherwise, elif, commands_then}
+use Rattle.retro_syntax.specs.Tree.{plain, quoted, parameter, quoted_parameter, Word, Assignment, Token, Item, argument}
+use Rattle.retro_syntax.specs.Tree.{redirect, Simple, assignments, command, Commands, last, more, AndOr, end, chain}
+use Rattle.retro_syntax.specs.Tree.{Pipeline, pipeline, Command, simples, conditional, loop, Arms, fi, otherwise, elif}
+use Rattle.retro_syntax.specs.Tree.{commands_then}
 use Rattle.retro_syntax.specs.Words.{class, name_of, is_ordinary, is_supported}
 
 abbrev pub begins_unquoted : Word → Bool

@@ -1,5 +1,6 @@
 -- Tilde prefixes (XCU 2.6.1).
-use Rattle.std.specs.Prelude.{ℕ, Bool, true, false, not, ◌&&◌, ◌||◌, ◌==◌, if◌then◌else◌, List, [], ◌∷◌, Option, Some, None}
+use Rattle.std.specs.Prelude.{ℕ, Bool, true, false, not, ◌&&◌, ◌||◌, ◌==◌, if◌then◌else◌, List, [], ◌∷◌, Option, Some}
+use Rattle.std.specs.Prelude.{None}
 use Rattle.retro_syntax.specs.Ascii as ascii
 use Rattle.retro_syntax.specs.Tree.{plain, quoted, parameter, quoted_parameter, Word}
 use Rattle.retro_syntax.specs.declared.tildes.TildePrefix as code

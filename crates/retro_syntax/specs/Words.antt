@@ -1,14 +1,20 @@
 -- What a word is where a command may begin: a reserved word, an assignment, a word that this shell
 -- refuses, or an ordinary word (XCU 2.4, 2.10.2). The rule on names is that of `VarName`.
-use Rattle.std.specs.Prelude.{ℕ, Bool, true, false, not, List, [], ◌∷◌, Option, Some, None, option_map, option_and_then, if◌then◌else◌, codes, ◌||◌, ◌&&◌, ◌==◌}
+use Rattle.std.specs.Prelude.{ℕ, Bool, true, false, not, List, [], ◌∷◌, Option, Some, None, option_map, option_and_then}
+use Rattle.std.specs.Prelude.{if◌then◌else◌, codes, ◌||◌, ◌&&◌, ◌==◌}
 use Rattle.std.specs.Str.{bytes_eq}
 use Rattle.retro_path.specs.VarName.{is_shell_name, is_var_name, var_name_of}
 use Rattle.retro_syntax.specs.Ascii as ascii
-use Rattle.retro_syntax.specs.Tree.{Piece, plain, quoted, parameter, quoted_parameter, Word, Assignment, Token, semicolon, bar, connector, redirection, word, spelling}
+use Rattle.retro_syntax.specs.Tree.{Piece, plain, quoted, parameter, quoted_parameter, Word, Assignment, Token}
+use Rattle.retro_syntax.specs.Tree.{semicolon, bar, connector, redirection, word, spelling}
 use Rattle.retro_syntax.specs.declared.tree.ReservedWord.{ReservedWord}
-use Rattle.retro_syntax.specs.declared.tree.ReservedWord.TheVariants.{Bang as bang, If as key_if, Then as key_then, Elif as key_elif, Else as key_else, Fi as key_fi, For as key_for, In as key_in, Do as key_do, Done as key_done}
+use Rattle.retro_syntax.specs.declared.tree.ReservedWord.TheVariants.{Bang as bang, If as key_if, Then as key_then}
+use Rattle.retro_syntax.specs.declared.tree.ReservedWord.TheVariants.{Elif as key_elif, Else as key_else, Fi as key_fi}
+use Rattle.retro_syntax.specs.declared.tree.ReservedWord.TheVariants.{For as key_for, In as key_in, Do as key_do}
+use Rattle.retro_syntax.specs.declared.tree.ReservedWord.TheVariants.{Done as key_done}
 use Rattle.retro_syntax.specs.declared.words.Class.{Class}
-use Rattle.retro_syntax.specs.declared.words.Class.TheVariants.{Reserved as reserved, Forbidden as forbidden, Assignment as assignment, Ordinary as ordinary}
+use Rattle.retro_syntax.specs.declared.words.Class.TheVariants.{Reserved as reserved, Forbidden as forbidden}
+use Rattle.retro_syntax.specs.declared.words.Class.TheVariants.{Assignment as assignment, Ordinary as ordinary}
 
 -- the first of these reserved words that is spelled like the text
 abbrev pub lookup : List ReservedWord → List ℕ → Option ReservedWord

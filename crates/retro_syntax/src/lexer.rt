@@ -131,7 +131,8 @@ fn quote_of(quoted: bool) -> Quote
     }
 }
 
-/// Takes the name that was read, and leaves an empty one. `None` if a line may not use the variable.
+/// Takes the name that was read, and leaves an empty one. Returns `None` if a line may not use the
+/// variable.
 fn take_name(alloc: Global, name: &mut String) -> Option<VarName>
     ensures { MatchOption result
         (is_var_name (string_bytes name.old) ≡ false)
@@ -398,7 +399,8 @@ impl Lexer {
     fn read_name(&mut self, quoted: bool, c: char) -> Result<(), SyntaxError>
         ensures { Reads self.new result
             (Quoting.reading_at (tokens_view self.old.tokens)
-            (Quoting.dollar_name (pieces_view self.old.pieces) quoted (string_bytes self.old.name)) c) }
+            (Quoting.dollar_name (pieces_view self.old.pieces) quoted
+            (string_bytes self.old.name)) c) }
     {
         if VarName::may_continue_with(c) {
             self.name.push(c)?;
@@ -434,7 +436,8 @@ impl Lexer {
     fn read_brace(&mut self, quoted: bool, c: char) -> Result<(), SyntaxError>
         ensures { Reads self.new result
             (Quoting.reading_at (tokens_view self.old.tokens)
-            (Quoting.dollar_brace (pieces_view self.old.pieces) quoted (string_bytes self.old.name)) c) }
+            (Quoting.dollar_brace (pieces_view self.old.pieces) quoted
+            (string_bytes self.old.name)) c) }
     {
         match self.name.as_bytes() {
             [] => self.read_first_in_braces(quoted, c),

@@ -4,9 +4,10 @@
 //! [`Parsed`] keeps a text with that result. No text spells two lines.
 //!
 //! The lexer splits a text into tokens (XCU 2.2, 2.3). `specs/Quoting.antt` defines the tokens
-//! character by character; [`writing_is_read`] and the laws of the lexer, as
-//! [`single_quotes_read_as_double_quotes`], pin that definition from outside. The parser reads the tokens' tree (XCU 2.4, 2.10); [`reading_is_spelling`] says that it
-//! finds exactly the tree that the tokens are, written out.
+//! character by character; [`writing_is_read`] and the laws of the lexer, such as
+//! [`single_quotes_read_as_double_quotes`], pin that definition from outside. The parser reads the
+//! tree of the tokens (XCU 2.4, 2.10); [`reading_is_spelling`] says that it finds exactly the tree
+//! that the tokens are, written out.
 //!
 //! A word is a list of pieces. [`tree::Word::tilde_prefix`] finds its tilde prefix.
 //! [`plain_commands`] returns the commands of a line of plain commands only.

@@ -1,7 +1,7 @@
 //! The parser, which reads the tree of a line token by token (XCU 2.10).
 //!
-//! `specs/Parsing.antt` defines the state after each token. Each method of [`Parser`] is one step of
-//! that definition.
+//! `specs/Parsing.antt` defines the state after each token. Each method of [`Parser`] is one step
+//! of that definition.
 
 mod open;
 

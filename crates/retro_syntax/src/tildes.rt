@@ -24,8 +24,8 @@ use crate::tree::{Assignment, Piece, Word};
 pub struct TildePrefix<'a> {
     /// The login name after the `~`. Empty for a bare `~`.
     pub login: &'a str,
-    /// The rest of the piece: empty, or a slash (in an assigned value a slash or colon) and the text
-    /// after it.
+    /// The rest of the piece: empty, or a slash (in an assigned value a slash or colon) and the
+    /// text after it.
     pub rest: &'a str,
 }
 

@@ -27,8 +27,8 @@ impl Parameter {
     }
 }
 
-/// A piece of a word (XCU 2.2, 2.6.2). A pair of quotes with nothing between them is an empty quoted
-/// piece.
+/// A piece of a word (XCU 2.2, 2.6.2). A pair of quotes with nothing between them is an empty
+/// quoted piece.
 #[derive(Drop)]
 pub enum Piece {
     /// Unquoted text.

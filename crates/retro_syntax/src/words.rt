@@ -255,7 +255,8 @@ pub fn is_ordinary(class: Class) -> bool
     }
 }
 
-/// The variable that a word names, for `for`. `Unsupported` if it names none that a line may assign.
+/// The variable that a word names, for `for`. `Unsupported` if the word isn't the name of a variable
+/// that a line may assign.
 #[tactic(auto, unfolding(crate::specs::Words::name_of))]
 pub fn name_of(alloc: Global, word: &Word) -> Result<VarName, SyntaxError>
     ensures { Gives (λ name. name) result (Words.name_of (word_view word.now)) }

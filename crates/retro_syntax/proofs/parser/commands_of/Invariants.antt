@@ -9,4 +9,5 @@ abbrev pub invariant-loop-token : goal.invariant-loop-token
 invariant-loop-token l =
     (goal.iterator-loop-token).can_next l.token-iterator ×
     (goal.iterator-loop-token).is_finite l.token-iterator ×
-    (M.run (Some (parser_view l.parser)) (map token_view (into_iter_items l.token-iterator)) ≡ M.run (Some (M.at [] M.empty_list M.start)) (map token_view l.fn.tokens.items))
+    (M.run (Some (parser_view l.parser)) (map token_view (into_iter_items l.token-iterator)) ≡ M.run
+    (Some (M.at [] M.empty_list M.start)) (map token_view l.fn.tokens.items))

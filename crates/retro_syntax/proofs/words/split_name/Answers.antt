@@ -21,4 +21,6 @@ returns-else-is_shell_name c =
 pub returns-in_err-name : goal.returns-in_err-name
 returns-in_err-name c =
     ap parts c.from_residual.ensures
-    ∙ sym (split_name_none c.args.text.now (split_once_is c.args.text.now c.split_once.result c.split_once.ensures.cases ∙ ap parts c.in_err-name.was))
+    ∙ sym
+    (split_name_none c.args.text.now (split_once_is c.args.text.now c.split_once.result c.split_once.ensures.cases
+    ∙ ap parts c.in_err-name.was))
