@@ -1,4 +1,4 @@
--- Names of characters.
+-- The codes of the characters that the grammar names.
 use Rattle.std.specs.Prelude.{ℕ, Bool, false, ◌||◌, ◌==◌, List, [], ◌∷◌}
 
 abbrev pub nul : ℕ
@@ -12,9 +12,6 @@ newline = 10
 
 abbrev pub space : ℕ
 space = 32
-
-abbrev pub exclamation : ℕ
-exclamation = 33
 
 abbrev pub double_quote : ℕ
 double_quote = 34
@@ -37,12 +34,6 @@ left_parenthesis = 40
 abbrev pub right_parenthesis : ℕ
 right_parenthesis = 41
 
-abbrev pub asterisk : ℕ
-asterisk = 42
-
-abbrev pub hyphen : ℕ
-hyphen = 45
-
 abbrev pub slash : ℕ
 slash = 47
 
@@ -64,14 +55,8 @@ greater = 62
 abbrev pub question : ℕ
 question = 63
 
-abbrev pub at : ℕ
-at = 64
-
 abbrev pub backslash : ℕ
 backslash = 92
-
-abbrev pub underscore : ℕ
-underscore = 95
 
 abbrev pub backquote : ℕ
 backquote = 96
