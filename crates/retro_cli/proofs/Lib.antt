@@ -1,4 +1,4 @@
 pub mod Floats
-pub mod GivenLemmas
+pub mod CallLemmas
 pub mod NumberLemmas
 pub mod ReplayLemmas

@@ -28,9 +28,9 @@ message_of exits.ReadFailed = codes "retro: read failed\n"
 message_of exits.WriteFailed = codes "retro: write failed\n"
 
 -- whether nothing is written to the output before such an exit
-abbrev pub is_quiet : Exit → Bool
-is_quiet exits.Done = false
-is_quiet (exits.Refused number) = true
-is_quiet exits.OutOfMemory = true
-is_quiet exits.ReadFailed = true
-is_quiet exits.WriteFailed = false
+abbrev pub writes_nothing : Exit → Bool
+writes_nothing exits.Done = false
+writes_nothing (exits.Refused number) = true
+writes_nothing exits.OutOfMemory = true
+writes_nothing exits.ReadFailed = true
+writes_nothing exits.WriteFailed = false

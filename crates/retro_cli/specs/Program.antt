@@ -12,7 +12,7 @@ use Rattle.retro_log.specs.Numbers.{refusal_number}
 use Rattle.retro_log.specs.declared.fault.Refusal.{Refusal}
 use Rattle.retro_cli.specs.Output.{AppendsPart}
 use Rattle.retro_cli.specs.Report.{replay_text}
-use Rattle.retro_cli.specs.Words.{Request, replay, requested}
+use Rattle.retro_cli.specs.Words.{Request, replay, request_in}
 use Rattle.retro_cli.specs.declared.stop.TheConstants.{BAD_WORDS, UNKNOWN_LINE}
 use Rattle.retro_cli.specs.declared.exit.Exit.{Exit}
 use Rattle.retro_cli.specs.declared.exit.Exit.TheVariants as exits
@@ -50,7 +50,7 @@ refusal_in (Some request) input = request_refusal request input
 
 -- the number of the first refusal: of the words, then of the request
 unfoldable pub refusal_of : List Text → Text → Option ℕ
-refusal_of words input = refusal_in (requested words) input
+refusal_of words input = refusal_in (request_in words) input
 
 -- ---- answers
 
@@ -65,18 +65,18 @@ Answered (replay cancelled) input exits.WriteFailed text = ⊥
 -- the answer to words about an input
 pub record Answers (words : List Text) (input : Text) (exit : Exit) (text : Text) : Type 0 where
   pub request : Request
-  pub words_ask : requested words ≡ Some request
+  pub words_ask : request_in words ≡ Some request
   pub answered : Answered request input exit text
 
 -- ---- a run
 
 -- whether the words lead to such an exit: bad ones to refusal 31 or out of memory alone
 abbrev pub WordsAllow : List Text → Exit → Type 0
-WordsAllow words exits.Done = IsSome (requested words)
-WordsAllow words (exits.Refused number) = requested words ≡ None → number ≡ BAD_WORDS
+WordsAllow words exits.Done = IsSome (request_in words)
+WordsAllow words (exits.Refused number) = request_in words ≡ None → number ≡ BAD_WORDS
 WordsAllow words exits.OutOfMemory = Unit {0}
-WordsAllow words exits.ReadFailed = IsSome (requested words)
-WordsAllow words exits.WriteFailed = IsSome (requested words)
+WordsAllow words exits.ReadFailed = IsSome (request_in words)
+WordsAllow words exits.WriteFailed = IsSome (request_in words)
 
 -- what a run on words and an input leaves: `old` and `new` are what the writer held before and after
 abbrev pub Runs : List Text → Text → Option Text → Option Text → Exit → Type 0
@@ -84,4 +84,5 @@ Runs words input old new exits.Done = (text : Text) × Answers words input exits
 Runs words input old new (exits.Refused number) = refusal_of words input ≡ Some number
 Runs words input old new exits.OutOfMemory = Unit {0}
 Runs words input old new exits.ReadFailed = Unit {0}
-Runs words input old new exits.WriteFailed = (text : Text) × Answers words input exits.Done text × AppendsPart old new text
+Runs words input old new exits.WriteFailed =
+    (text : Text) × Answers words input exits.Done text × AppendsPart old new text

@@ -1,11 +1,13 @@
 -- The program's command line, and what words ask for there, as `clap` reads them.
-use Rattle.std.specs.Prelude.{ℕ, List, [], ◌∷◌, true, Option, Some, None, Result, codes, option_map, option_and_then, nat_eq, if◌then◌else◌}
+use Rattle.std.specs.Prelude.{ℕ, List, [], ◌∷◌, true, Option, Some, None, Result, codes, option_map, option_and_then}
+use Rattle.std.specs.Prelude.{nat_eq, if◌then◌else◌}
 use Rattle.std.specs.Cmp.Lexicographic.{pointwise}
-use Rattle.clap.specs.Words.{App, Kinds, Row, Rule, Shape, Text, fault_of, first_of, new_app, new_rule, subcommand_of, with_subcommand}
+use Rattle.clap.specs.Words.{App, Kinds, Row, Rule, Shape, Text, fault_of, first_of, new_app, new_rule, subcommand_of}
+use Rattle.clap.specs.Words.{with_subcommand}
 use Rattle.clap.specs.declared.builder.action.ArgAction.TheVariants.{Set}
 use Rattle.retro_tree.specs.OutOfMemory.{UnlessOutOfMemory}
 use Rattle.retro_cli.specs.Numbers.{list_in}
-use Rattle.retro_cli.specs.declared.words.Given.{Given as GivenWords}
+use Rattle.retro_cli.specs.declared.words.CommandCall.{CommandCall}
 use Rattle.retro_cli.specs.declared.words.Request.{Request as RequestValue}
 use Rattle.retro_cli.specs.declared.words.Request.TheVariants as requests
 use Rattle.retro_cli.specs.declared.words.WordsFault.{WordsFault}
@@ -13,7 +15,7 @@ use Rattle.retro_cli.specs.declared.words.WordsFault.TheVariants as faults
 
 -- ---- the command line
 
--- an option of one value, with the value that stands where it isn't given
+-- an option of one value, with its default
 abbrev pub option : Text → Text → Rule
 option name default = record (new_rule name) { long = Some name; action = Some Set; defaults = default ∷ [] }
 
@@ -23,7 +25,7 @@ cancel = option (codes "cancel") []
 abbrev pub command : Text → List Rule → Shape
 command name rules = record (new_app name).top { rules = rules }
 
--- a command has to be given, and there is no help
+-- a command is required, and help is no command
 abbrev pub bare : App
 bare = record {
   top = record (new_app (codes "retro")).top {
@@ -38,42 +40,42 @@ bare = record {
 abbrev pub program : App
 program = with_subcommand bare (command (codes "replay") (cancel ∷ []))
 
--- ---- what `clap` makes of words
+-- ---- the command in words, as `clap` reads them
 
 -- a command's name, and the text of its option
-pub record Given : Type 0 where
+pub record Call : Type 0 where
   pub name : Text
   pub cancel : Option Text
 
-abbrev pub given_of : Text × List Row → Given
-given_of p = record { name = p.0; cancel = first_of (codes "cancel") p.1 }
+abbrev pub call_of : Text × List Row → Call
+call_of p = record { name = p.0; cancel = first_of (codes "cancel") p.1 }
 
 abbrev pub unless_fault : {A : Type 0} → Kinds → Option A → Option A
 unless_fault [] found = found
 unless_fault (k ∷ ks) found = None
 
--- the command that the words give, or none where `clap` refuses them
-unfoldable pub given : List Text → Option Given
-given words = unless_fault (fault_of program words) (option_map given_of (subcommand_of program words))
+-- the command in the words, or none if `clap` refuses them
+unfoldable pub call_in : List Text → Option Call
+call_in words = unless_fault (fault_of program words) (option_map call_of (subcommand_of program words))
 
--- ---- what they ask for
+-- ---- what the words ask for
 
--- to run a script's lines but for those with these numbers
+-- to run a script's lines without those that have these numbers
 pub data Request : Type 0 where
   replay : List ℕ → Request
 
-abbrev pub request_of : Given → Option Request
+abbrev pub request_of : Call → Option Request
 request_of g =
     if pointwise nat_eq g.name (codes "replay") then option_map replay (option_and_then list_in g.cancel) else None
 
--- what the words ask for, or none where they are bad
-unfoldable pub requested : List Text → Option Request
-requested words = option_and_then request_of (given words)
+-- what the words ask for, or none if they are bad
+unfoldable pub request_in : List Text → Option Request
+request_in words = option_and_then request_of (call_in words)
 
 -- ---- values of the code
 
-abbrev pub given_view : GivenWords → Given
-given_view g = record { name = g.name.now; cancel = option_map (λ s. s.now) g.cancel }
+abbrev pub call_view : CommandCall → Call
+call_view g = record { name = g.name.now; cancel = option_map (λ s. s.now) g.cancel }
 
 abbrev pub request_view : RequestValue → Request
 request_view (requests.Replay numbers) = replay numbers.items

@@ -1,5 +1,6 @@
 //! The program's input.
-ghost use Rattle.std.specs.Prelude.{◌≡◌, ◌<◌, ◌+◌, true, false, IfOk, IfErr, IfSome, IsNone, IsTrue, Err};
+ghost use Rattle.std.specs.Prelude.{◌≡◌, ◌<◌, ◌+◌, true, false, IfOk, IfErr, IfSome, IsNone};
+ghost use Rattle.std.specs.Prelude.{IsTrue, Err};
 ghost use Rattle.retro_cli.specs.Input.{GivesPiece, is_broken, is_read_stop};
 ghost use Rattle.retro_cli.specs.declared.stop.Stop.TheVariants as stops;
 

@@ -8,6 +8,12 @@ ghost use Rattle.retro_cli.specs.Words.{Means};
 use crate::words::WordsFault;
 use std::alloc::{AllocError, Global};
 
+/// The byte between the numbers of a list.
+const COMMA: u8 = b',';
+
+/// How many digits a number may have.
+const MOST_DIGITS: usize = 10;
+
 fn are_digits(text: &[u8]) -> bool
     ensures { result ≡ all_ascii_digits text.now }
 {
@@ -24,15 +30,16 @@ fn are_digits(text: &[u8]) -> bool
 fn number_of(text: &str) -> Option<u32>
     ensures { result ≡ number_in text.now }
 {
-    if text.len() > 10 || !are_digits(text.as_bytes()) {
+    if text.len() > MOST_DIGITS || !are_digits(text.as_bytes()) {
         return None;
     }
     text.parse().ok()
 }
 
-/// What stands between the commas.
-fn pieces(alloc: Global, text: &str) -> Result<Vec<&str>, AllocError>
-    ensures { IfOk result (λ v. map (λ s. s.now) v.items ≡ slice_split (λ b. b == 44) text.now) }
+/// The texts between the commas.
+fn split_list(alloc: Global, text: &str) -> Result<Vec<&str>, AllocError>
+    ensures { IfOk result (λ v.
+        map (λ s. s.now) v.items ≡ slice_split (λ b. b == COMMA) text.now) }
 {
     text.split(',').collect(alloc)
 }
@@ -50,7 +57,7 @@ fn numbers_of(alloc: Global, texts: &[&str]) -> Result<Vec<u32>, WordsFault>
     Ok(numbers)
 }
 
-/// The numbers of a list: nothing, or numbers with single commas between.
+/// The numbers of a list: an empty text, or numbers separated by single commas.
 #[tactic(auto, unfolding(crate::specs::Numbers::list_in))]
 pub(crate) fn list_of(alloc: Global, text: &str) -> Result<Vec<u32>, WordsFault>
     ensures { Means (λ v. v.items) result (list_in text.now) }
@@ -58,6 +65,6 @@ pub(crate) fn list_of(alloc: Global, text: &str) -> Result<Vec<u32>, WordsFault>
     if text.is_empty() {
         return Ok(Vec::new(alloc));
     }
-    let texts = pieces(alloc, text)?;
+    let texts = split_list(alloc, text)?;
     numbers_of(alloc, texts.as_slice())
 }

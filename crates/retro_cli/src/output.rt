@@ -1,5 +1,6 @@
 //! The program's output.
-ghost use Rattle.std.specs.Prelude.{◌≡◌, ◌<◌, ◌↔◌, true, false, length, IsNone, IfSome, IfErr, OnOk, OnErr, Err};
+ghost use Rattle.std.specs.Prelude.{◌≡◌, ◌<◌, ◌↔◌, true, false, length, IsNone, IfSome, IfErr};
+ghost use Rattle.std.specs.Prelude.{OnOk, OnErr, Err};
 ghost use Rattle.std.specs.Io.KnownBytes.{Appends, Keeps};
 ghost use Rattle.retro_cli.specs.Output.{AppendsPart, TakesPiece};
 ghost use Rattle.retro_cli.specs.declared.stop.Stop.TheVariants as stops;

@@ -1,10 +1,12 @@
 //! The program on words, an input and an output.
-ghost use Rattle.std.specs.Prelude.{◌≡◌, true, false, None, map, Ok, Err, IfOk, IfErr, IfSome, string_bytes};
-ghost use Rattle.retro_cli.specs.Exit.{exit_of, is_quiet};
+ghost use Rattle.std.specs.Prelude.{◌≡◌, true, false, None, map, Ok, Err, IfOk, IfErr, IfSome};
+ghost use Rattle.std.specs.Prelude.{string_bytes};
+ghost use Rattle.retro_cli.specs.Exit.{exit_of, writes_nothing};
 ghost use Rattle.retro_cli.specs.Input.{is_broken};
-ghost use Rattle.retro_cli.specs.Program.{Answered, Runs, WordsAllow, replay_answer, request_refusal};
+ghost use Rattle.retro_cli.specs.Program.{Answered, Runs, WordsAllow, replay_answer};
+ghost use Rattle.retro_cli.specs.Program.{request_refusal};
 ghost use Rattle.retro_cli.specs.Stop.{Refuses, ReturnsAs};
-ghost use Rattle.retro_cli.specs.Words.{request_view, requested};
+ghost use Rattle.retro_cli.specs.Words.{request_view, request_in};
 ghost use Rattle.retro_cli.specs.declared.exit.Exit.TheVariants as exits;
 ghost use Rattle.retro_cli.specs.declared.stop.Stop.TheVariants as stops;
 
@@ -53,9 +55,10 @@ fn run<R: Read, W: Write>(
         Runs (map string_bytes words.now) bytes
         (W.contents output.old.writer) (W.contents output.new.writer) (exit_of result)) }
     ensures words { WordsAllow (map string_bytes words.now) (exit_of result) }
-    ensures unread { requested (map string_bytes words.now) ≡ None → input.new ≡ input.old }
-    ensures quiet { is_quiet (exit_of result) ≡ true → output.new ≡ output.old }
-    ensures read_failed { result ≡ Err stops.ReadFailed → is_broken input.new.reads input.new.has_failed ≡ true }
+    ensures unread { request_in (map string_bytes words.now) ≡ None → input.new ≡ input.old }
+    ensures unwritten { writes_nothing (exit_of result) ≡ true → output.new ≡ output.old }
+    ensures read_failed { result ≡ Err stops.ReadFailed →
+        is_broken input.new.reads input.new.has_failed ≡ true }
     ensures read_failure { input.old.has_failed ≡ false → input.new.has_failed ≡ true →
         result ≡ Err stops.ReadFailed }
     ensures write_failed { result ≡ Err stops.WriteFailed → output.new.has_failed ≡ true }
@@ -80,9 +83,10 @@ pub fn run_with<T: AllocGlobal, R: Read, W: Write>(
         Runs (map string_bytes words.now) bytes
         (W.contents output.old.writer) (W.contents output.new.writer) result) }
     ensures words { WordsAllow (map string_bytes words.now) result }
-    ensures unread { requested (map string_bytes words.now) ≡ None → input.new ≡ input.old }
-    ensures quiet { is_quiet result ≡ true → output.new ≡ output.old }
-    ensures read_failed { result ≡ exits.ReadFailed → is_broken input.new.reads input.new.has_failed ≡ true }
+    ensures unread { request_in (map string_bytes words.now) ≡ None → input.new ≡ input.old }
+    ensures unwritten { writes_nothing result ≡ true → output.new ≡ output.old }
+    ensures read_failed { result ≡ exits.ReadFailed →
+        is_broken input.new.reads input.new.has_failed ≡ true }
     ensures read_failure { input.old.has_failed ≡ false → input.new.has_failed ≡ true →
         result ≡ exits.ReadFailed }
     ensures write_failed { result ≡ exits.WriteFailed → output.new.has_failed ≡ true }

@@ -2,7 +2,8 @@
 ghost use Rattle.std.specs.Prelude.{◌≡◌, ◌∷◌, [], false, map, IfOk, codes, string_bytes};
 ghost use Rattle.clap.specs.Words.{app_of, rule_of};
 ghost use Rattle.clap.specs.declared.builder.command.Command.TheViews.{out-Command as fields_of};
-ghost use Rattle.retro_cli.specs.Words.{option, cancel, command, bare, program, given, given_view, request_of, request_view, requested, Means};
+ghost use Rattle.retro_cli.specs.Words.{option, cancel, command, bare, program, call_in, call_view};
+ghost use Rattle.retro_cli.specs.Words.{request_of, request_view, request_in, Means};
 ghost use Rattle.retro_cli.specs.declared.words.WordsFault.TheVariants.{NoMem};
 
 use crate::numbers::list_of;
@@ -13,7 +14,7 @@ use std::alloc::{AllocError, AllocFailed, Global};
 /// What the program is asked to do.
 #[derive(Debug, Drop)]
 pub(crate) enum Request {
-    /// To run a script's lines but for those with these numbers.
+    /// To run a script's lines without those that have these numbers.
     Replay { cancel: Vec<u32> },
 }
 
@@ -43,7 +44,7 @@ impl<T: Drop> From<AllocFailed<T>> for WordsFault {
 
 /// A command's name and the text of its option.
 #[derive(Debug, Drop)]
-struct Given<'a> {
+struct CommandCall<'a> {
     name: &'a str,
     cancel: Option<&'a str>,
 }
@@ -81,13 +82,13 @@ fn program_command<'a>(alloc: Global) -> Result<Command<'a>, AllocError>
     bare_command(alloc).subcommand(replay_command(alloc)?)
 }
 
-fn given_words<'a>(alloc: Global, words: &'a [String]) -> Result<Given<'a>, WordsFault>
-    ensures { Means given_view result (given (map string_bytes words.entry.now)) }
+fn read_call<'a>(alloc: Global, words: &'a [String]) -> Result<CommandCall<'a>, WordsFault>
+    ensures { Means call_view result (call_in (map string_bytes words.entry.now)) }
 {
     let command = program_command(alloc)?;
     match command.try_get_matches_from(words) {
         Ok(matches) => match matches.subcommand() {
-            Some((name, inner)) => Ok(Given {
+            Some((name, inner)) => Ok(CommandCall {
                 name,
                 cancel: inner.get_str("cancel"),
             }),
@@ -102,15 +103,15 @@ fn given_words<'a>(alloc: Global, words: &'a [String]) -> Result<Given<'a>, Word
 
 /// What the words ask for; the first is the program's name.
 ///
-/// Words that `clap` refuses, a wish for help among them, and lists that aren't numbers with single
-/// commas between are bad words.
-#[tactic(auto, unfolding(crate::specs::Words::requested))]
+/// Words are bad if `clap` refuses them, as it does a request for help, or if a list isn't numbers
+/// separated by single commas.
+#[tactic(auto, unfolding(crate::specs::Words::request_in))]
 pub(crate) fn read_words(alloc: Global, words: &[String]) -> Result<Request, WordsFault>
-    ensures { Means request_view result (requested (map string_bytes words.now)) }
+    ensures { Means request_view result (request_in (map string_bytes words.now)) }
 {
-    let given = given_words(alloc, words)?;
-    match given.name {
-        "replay" => match given.cancel {
+    let call = read_call(alloc, words)?;
+    match call.name {
+        "replay" => match call.cancel {
             Some(text) => Ok(Request::Replay {
                 cancel: list_of(alloc, text)?,
             }),

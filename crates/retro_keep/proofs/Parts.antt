@@ -18,10 +18,14 @@ law_by_fact false s same = at_test (is_lawful s) (λ h. same.1 (state_from_test 
     at_test true h = sym (h refl)
     at_test false h = refl
 
-pub lawless : (b : Bool) (s : State) (lines : List ScriptLine) → within_limits s ≡ true → IsTrue b ↔ IsLawful s → b ≡ false → script_of s lines ≡ Err LawlessTree
+pub lawless : (b : Bool) (s : State) (lines : List ScriptLine) → within_limits s ≡ true → IsTrue b ↔ IsLawful s
+    → b ≡ false → script_of s lines ≡ Err LawlessTree
 unfolding script_of
 lawless b s lines limits same off = rw (limits, law_by_fact b s same, off) refl
 
-pub by_lines : (b : Bool) (s : State) (lines : List ScriptLine) → within_limits s ≡ true → IsTrue b ↔ IsLawful s → b ≡ true → script_of s lines ≡ with_script_fault (script_of_lines s lines)
+pub by_lines : (b : Bool) (s : State) (lines : List ScriptLine) → within_limits s ≡ true → IsTrue b ↔ IsLawful s
+    → b ≡ true → script_of s lines ≡ with_script_fault (script_of_lines s lines)
 unfolding script_of
 by_lines b s lines limits same on = rw (limits, law_by_fact b s same, on) refl
+
+pub ruleset parts = (lawless, by_lines)

@@ -1,5 +1,6 @@
 -- Scripts: a first state, and the lines that are run from it.
-use Rattle.std.specs.Prelude.{ℕ, Bool, true, not, ◌&&◌, List, [], ◌∷◌, map, Option, Some, None, Result, Ok, Err, IsTrue, nat_lt, if◌then◌else◌}
+use Rattle.std.specs.Prelude.{ℕ, Bool, true, not, ◌&&◌, List, [], ◌∷◌, map, Option, Some, None, Result, Ok, Err, IsTrue}
+use Rattle.std.specs.Prelude.{nat_lt, if◌then◌else◌}
 use Rattle.std.specs.List.{list_all}
 use Rattle.std.specs.FinMap as map
 use Rattle.retro_tree.specs.Limits.{within_limits}
@@ -10,7 +11,8 @@ use Rattle.retro_keep.specs.declared.script.ScriptLine.{ScriptLine}
 use Rattle.retro_keep.specs.declared.script.LinesFault.{LinesFault}
 use Rattle.retro_keep.specs.declared.script.LinesFault.TheVariants as lines_faults
 use Rattle.retro_keep.specs.declared.script.ScriptFault.{ScriptFault}
-use Rattle.retro_keep.specs.declared.script.ScriptFault.TheVariants.{NumbersNotRising, UnknownSession, LawlessTree, OverLimit, NoMem}
+use Rattle.retro_keep.specs.declared.script.ScriptFault.TheVariants.{NumbersNotRising, UnknownSession, LawlessTree}
+use Rattle.retro_keep.specs.declared.script.ScriptFault.TheVariants.{OverLimit, NoMem}
 
 -- what a script holds
 pub record ScriptValue : Type 0 where

@@ -16,4 +16,5 @@ coded_line = (line_type.the_row).coded
 -- a script is stored as the pair of its parts
 abbrev pub coded_script : Coded ScriptValue
 coded_script =
-    code_by (State × List ScriptLine) (coded× coded_state (coded_list coded_line)) (λ s. (s.first, s.lines)) (λ p. record { first = p.0; lines = p.1 }) (λ _. refl)
+    code_by (State × List ScriptLine) (coded× coded_state (coded_list coded_line)) (λ s. (s.first, s.lines))
+    (λ p. record { first = p.0; lines = p.1 }) (λ _. refl)

@@ -4,7 +4,8 @@ ghost use Rattle.std.specs.Ordering.{nat_cmp};
 ghost use Rattle.std.specs.BTreeSet.{contains};
 ghost use Rattle.retro_tree.specs.Lawful.{IsLawful};
 ghost use Rattle.retro_keep.specs.Edit.{Edits, first_unknown, is_among, without};
-ghost use Rattle.retro_keep.specs.Script.{IsScript, Makes, number_of, have_sessions, rises_from, script_fault, script_of, script_of_lines, sid_of};
+ghost use Rattle.retro_keep.specs.Script.{IsScript, Makes, number_of, have_sessions, rises_from};
+ghost use Rattle.retro_keep.specs.Script.{script_fault, script_of, script_of_lines, sid_of};
 ghost use Rattle.retro_keep.specs.declared.script.EditFault.TheVariants as edits;
 ghost use Rattle.retro_keep.specs.declared.script.ScriptFault.TheVariants as faults;
 
@@ -112,7 +113,7 @@ impl Model for Script {
 impl Script {
     /// The script of these parts, or the first refusal in the order limits, law of the tree, line
     /// numbers, sessions. The script's first state is known to be lawful.
-    #[tactic(auto, using(crate::proofs::Parts::lawless, crate::proofs::Parts::by_lines), unfolding(crate::specs::Script::script_of))]
+    #[tactic(auto, using(crate::proofs::Parts::parts), unfolding(crate::specs::Script::script_of))]
     pub fn new(alloc: Global, first: State, lines: Vec<ScriptLine>) -> Result<Script, ScriptFault>
         ensures { Makes result (script_of first lines.items) }
     {
@@ -170,7 +171,7 @@ impl Script {
 
     /// The script without the lines that have these numbers, or the first of the numbers that no
     /// line has.
-    #[tactic(auto, using(crate::proofs::Edits::unknown_by_set, crate::proofs::Edits::kept_by_set), unfolding(crate::specs::Edit::without))]
+    #[tactic(auto, using(crate::proofs::Edits::by_set), unfolding(crate::specs::Edit::without))]
     pub fn without(self, alloc: Global, numbers: &[u32]) -> Result<Script, EditFault>
         ensures { Edits result (without numbers.now self) }
     {

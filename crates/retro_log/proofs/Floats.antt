@@ -11,12 +11,14 @@ use Rattle.retro_tree.specs.declared.entry.Entry.{Entry}
 use Rattle.retro_tree.specs.declared.entry.Entry.TheVariants.{Dir, File}
 use Rattle.retro_tree.specs.declared.session.Session.{Session}
 use Rattle.retro_log.specs.Shape.{Text}
-use Rattle.retro_log.specs.Values.{listing, entry_data, path_text, row_data, is_listed, tree_data, var_data, vars_data, session_data, sessions_data}
+use Rattle.retro_log.specs.Values.{array_of, entry_data, path_text, row_data, is_listed, tree_data, var_data, vars_data}
+use Rattle.retro_log.specs.Values.{session_data, sessions_data}
 
 -- a list has none where no item has one
-pub listing_float : {X : Type 0} (f : X → Data) → ((x : X) → has_float (f x) ≡ false) → (xs : List X) → has_float (listing (map f xs)) ≡ false
-listing_float f one [] = refl
-listing_float f one (x ∷ xs) = rw (one x, listing_float f one xs) refl
+pub array_float : {X : Type 0} (f : X → Data) → ((x : X) → has_float (f x) ≡ false) → (xs : List X)
+    → has_float (array_of (map f xs)) ≡ false
+array_float f one [] = refl
+array_float f one (x ∷ xs) = rw (one x, array_float f one xs) refl
 
 entry_float : (path : Text) (entry : Entry) → has_float (entry_data path entry) ≡ false
 entry_float path Dir = refl
@@ -28,11 +30,11 @@ row_float e = entry_float (path_text e.0) e.1
 
 pub tree_float : (tree : Tree) → has_float (tree_data tree) ≡ false
 unfolding tree_data
-tree_float tree = listing_float row_data row_float (filter is_listed (map.entries tree))
+tree_float tree = array_float row_data row_float (filter is_listed (map.entries tree))
 
 vars_float : (vars : map.FinMap text_cmp Text) → has_float (vars_data vars) ≡ false
 unfolding vars_data
-vars_float vars = listing_float var_data (λ e. refl) (map.entries vars)
+vars_float vars = array_float var_data (λ e. refl) (map.entries vars)
 
 session_float : (e : ℕ × Session) → has_float (session_data e) ≡ false
 unfolding session_data
@@ -40,4 +42,4 @@ session_float e = rw (vars_float e.1.vars) refl
 
 pub sessions_float : (sessions : map.FinMap nat_cmp Session) → has_float (sessions_data sessions) ≡ false
 unfolding sessions_data
-sessions_float sessions = listing_float session_data session_float (map.entries sessions)
+sessions_float sessions = array_float session_data session_float (map.entries sessions)

@@ -19,11 +19,13 @@ pub item_list-items_view : (vs : List Value) → item_list (items_view vs) ≡ m
 item_list-items_view vs = item_list-items_of (map view vs)
 
 -- a test of all keys of an object
-pub keys_of_entries : (p : List ℕ → Bool) (es : List (String Global × Value)) → has_keys p (members_view es) ≡ list_all (λ k. p (string_bytes k)) (keys_of es)
+pub keys_of_entries : (p : List ℕ → Bool) (es : List (String Global × Value))
+    → has_keys p (members_view es) ≡ list_all (λ k. p (string_bytes k)) (keys_of es)
 keys_of_entries p [] = refl
 keys_of_entries p (e ∷ es) = ap (λ b. p (string_bytes e.0) && b) (keys_of_entries p es)
 
-pub keys_of_members : (p : List ℕ → Bool) (m : BTreeMap (String Global) Value) → has_keys p (members_view m.entries) ≡ list_all (λ k. p (string_bytes k)) (keys m)
+pub keys_of_members : (p : List ℕ → Bool) (m : BTreeMap (String Global) Value)
+    → has_keys p (members_view m.entries) ≡ list_all (λ k. p (string_bytes k)) (keys m)
 keys_of_members p m = keys_of_entries p m.entries
 
 pub map_same : (lines : List ScriptLine) → map (λ line. line) lines ≡ lines

@@ -1,5 +1,6 @@
 -- A map that a loop makes of entries, one by one.
-use Rattle.std.proofs.Common.{◌≡◌, Bool, true, false, not, ◌&&◌, ◌||◌, List, [], ◌∷◌, ◌++◌, Option, Some, None, refl, sym, ap, ◌∙◌, append_assoc, append-nil}
+use Rattle.std.proofs.Common.{◌≡◌, Bool, true, false, not, ◌&&◌, ◌||◌, List, [], ◌∷◌, ◌++◌, Option, Some, None, refl}
+use Rattle.std.proofs.Common.{sym, ap, ◌∙◌, append_assoc, append-nil}
 use Rattle.std.specs.Prelude.{is_some}
 use Rattle.std.specs.List.{list_any}
 use Rattle.std.proofs.lemmas.Bool.{and_parts, false≢true}
@@ -8,9 +9,10 @@ use Rattle.std.proofs.lemmas.List.{map-append}
 use Rattle.std.specs.declared.cmp.Ordering.{Ordering}
 use Rattle.std.specs.Ordering.{eq_by_cmp}
 use Rattle.std.specs.Cmp.{IsTotalOrder, eq_by_cmp_equiv}
-use Rattle.std.specs.FinMap.{FinMap, IsAntisymmetric, find, contains_key, insert, from_entries, get-from_entries, from_entries_push}
+use Rattle.std.specs.FinMap.{FinMap, IsAntisymmetric, find, contains_key, insert, from_entries, get-from_entries}
+use Rattle.std.specs.FinMap.{from_entries_push}
 use Rattle.std.specs.FinMap.Entries.{is_some-find}
-use Rattle.retro_log.specs.Keyed.{all_differ, keys_of, map_of}
+use Rattle.retro_log.specs.Keyed.{are_distinct, keys_of, map_of}
 
 off : (b : Bool) → not b ≡ true → b ≡ false
 off true h = absurd (false≢true h)
@@ -24,20 +26,23 @@ none_of None h = refl
 none_of (Some x) h = absurd (false≢true (sym h))
 
 module _ {K : Type 0} {R : K → K → Ordering} (o : IsTotalOrder R) where
-  differ_push : (ks : List K) (k : K) → all_differ R ks ≡ true → list_any (eq_by_cmp R k) ks ≡ false → all_differ R (ks ++ k ∷ []) ≡ true
+  differ_push : (ks : List K) (k : K) → are_distinct R ks ≡ true → list_any (eq_by_cmp R k) ks ≡ false
+      → are_distinct R (ks ++ k ∷ []) ≡ true
   differ_push [] k h new = refl
   differ_push (x ∷ ks) k h new =
-      let parts = and_parts (not (list_any (eq_by_cmp R x) ks)) (all_differ R ks) h in
+      let parts = and_parts (not (list_any (eq_by_cmp R x) ks)) (are_distinct R ks) h in
       let apart = split (eq_by_cmp R k x) (list_any (eq_by_cmp R k) ks) new in
       let alone : list_any (eq_by_cmp R x) (ks ++ k ∷ []) ≡ false =
-      list_any-append (eq_by_cmp R x) ks (k ∷ []) ∙ or_off _ _ (off _ parts.0) (or_off _ _ ((eq_by_cmp_equiv o).symm x k ∙ apart.0) refl) in
+      list_any-append (eq_by_cmp R x) ks (k ∷ [])
+      ∙ or_off _ _ (off _ parts.0) (or_off _ _ ((eq_by_cmp_equiv o).symm x k ∙ apart.0) refl) in
       rw (alone, differ_push ks k parts.1 apart.1) refl
     where
       split : (a b : Bool) → a || b ≡ false → (a ≡ false) × (b ≡ false)
       split true b h = absurd (false≢true (sym h))
       split false b h = (refl, h)
 
-  differ_twice : (ks : List K) (k : K) (rest : List K) → list_any (eq_by_cmp R k) ks ≡ true → all_differ R (ks ++ k ∷ rest) ≡ false
+  differ_twice : (ks : List K) (k : K) (rest : List K) → list_any (eq_by_cmp R k) ks ≡ true
+      → are_distinct R (ks ++ k ∷ rest) ≡ false
   differ_twice [] k rest h = absurd (false≢true h)
   differ_twice (x ∷ ks) k rest h = at_first (eq_by_cmp R k x) refl (differ_twice ks k rest)
     where
@@ -49,7 +54,9 @@ module _ {K : Type 0} {R : K → K → Ordering} (o : IsTotalOrder R) where
       and_off true b e = e
       and_off false b e = refl
 
-      at_first : (b : Bool) → eq_by_cmp R k x ≡ b → (list_any (eq_by_cmp R k) ks ≡ true → all_differ R (ks ++ k ∷ rest) ≡ false) → all_differ R ((x ∷ ks) ++ k ∷ rest) ≡ false
+      at_first : (b : Bool) → eq_by_cmp R k x ≡ b
+          → (list_any (eq_by_cmp R k) ks ≡ true → are_distinct R (ks ++ k ∷ rest) ≡ false)
+          → are_distinct R ((x ∷ ks) ++ k ∷ rest) ≡ false
       at_first true e later =
           let here : list_any (eq_by_cmp R x) (ks ++ k ∷ rest) ≡ true =
           list_any-append (eq_by_cmp R x) ks (k ∷ rest) ∙ on _ _ _ ((eq_by_cmp_equiv o).symm x k ∙ e) in
@@ -61,15 +68,17 @@ pub record IsMade {K X : Type 0} {R : K → K → Ordering} (all rest : List (K 
   pub done : List (K × X)
   pub parts : done ++ rest ≡ all
   pub is : m ≡ from_entries done
-  pub differ : all_differ R (keys_of done) ≡ true
+  pub differ : are_distinct R (keys_of done) ≡ true
 
 module _ {K X : Type 0} {R : K → K → Ordering} (o : IsTotalOrder R) (same : IsAntisymmetric R) where
-  -- whether a key stands among the entries so far
-  among : (all rest : List (K × X)) (m : FinMap R X) (made : IsMade all rest m) (k : K) → contains_key m k ≡ list_any (eq_by_cmp R k) (keys_of made.done)
+  -- whether a key is among the entries so far
+  among : (all rest : List (K × X)) (m : FinMap R X) (made : IsMade all rest m) (k : K)
+      → contains_key m k ≡ list_any (eq_by_cmp R k) (keys_of made.done)
   among all rest m made k =
       ap (λ n. contains_key n k) made.is ∙ ap is_some (get-from_entries o made.done k) ∙ is_some-find R k made.done
 
-  pub made_goes_on : (all rest later : List (K × X)) (m new : FinMap R X) (k : K) (v : X) → rest ≡ (k, v) ∷ later → contains_key m k ≡ false → new ≡ insert m k v
+  pub made_goes_on : (all rest later : List (K × X)) (m new : FinMap R X) (k : K) (v : X) → rest ≡ (k, v) ∷ later
+      → contains_key m k ≡ false → new ≡ insert m k v
       → IsMade all rest m → IsMade all later new
   made_goes_on all rest later m new k v is absent inserted made =
       let apart : list_any (eq_by_cmp R k) (keys_of made.done) ≡ false = sym (among all rest m made k) ∙ absent in
@@ -78,16 +87,19 @@ module _ {K X : Type 0} {R : K → K → Ordering} (o : IsTotalOrder R) (same : 
         done = made.done ++ (k, v) ∷ [];
         parts = append_assoc made.done ((k, v) ∷ []) later ∙ ap (λ es. made.done ++ es) (sym is) ∙ made.parts;
         is = inserted ∙ ap (λ n. insert n k v) made.is ∙ sym (from_entries_push o same made.done k v none);
-        differ = rw (map-append (λ (e : K × X). e.0) made.done ((k, v) ∷ [])) (differ_push o (keys_of made.done) k made.differ apart);
+        differ =
+            rw (map-append (λ (e : K × X). e.0) made.done ((k, v) ∷ [])) (differ_push o (keys_of made.done) k
+            made.differ apart);
       }
 
-  pub made_twice : (all rest later : List (K × X)) (m : FinMap R X) (k : K) (v : X) → rest ≡ (k, v) ∷ later → contains_key m k ≡ true
+  pub made_twice : (all rest later : List (K × X)) (m : FinMap R X) (k : K) (v : X) → rest ≡ (k, v) ∷ later
+      → contains_key m k ≡ true
       → IsMade all rest m → None ≡ map_of R all
   unfolding map_of
   made_twice all rest later m k v is there made =
-      let twice : all_differ R (keys_of all) ≡ false =
-      ap (λ es. all_differ R (keys_of es)) (sym made.parts ∙ ap (λ es. made.done ++ es) is)
-      ∙ ap (all_differ R) (map-append (λ (e : K × X). e.0) made.done ((k, v) ∷ later))
+      let twice : are_distinct R (keys_of all) ≡ false =
+      ap (λ es. are_distinct R (keys_of es)) (sym made.parts ∙ ap (λ es. made.done ++ es) is)
+      ∙ ap (are_distinct R) (map-append (λ (e : K × X). e.0) made.done ((k, v) ∷ later))
       ∙ differ_twice o (keys_of made.done) k (keys_of later) (sym (among all rest m made k) ∙ there) in
       rw twice refl
 
@@ -95,5 +107,6 @@ module _ {K X : Type 0} {R : K → K → Ordering} (o : IsTotalOrder R) (same : 
   unfolding map_of
   made_whole all rest m is made =
       let whole : made.done ≡ all = sym (append-nil made.done) ∙ ap (λ es. made.done ++ es) (sym is) ∙ made.parts in
-      let differ : all_differ R (keys_of all) ≡ true = ap (λ es. all_differ R (keys_of es)) (sym whole) ∙ made.differ in
+      let differ : are_distinct R (keys_of all) ≡ true = ap (λ es. are_distinct R (keys_of es)) (sym whole)
+      ∙ made.differ in
       rw (differ, made.is, whole) refl

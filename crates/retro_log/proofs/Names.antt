@@ -1,5 +1,6 @@
 -- Names as documents write them, and names of files.
-use Rattle.std.proofs.Common.{◌≡◌, List, [], ◌∷◌, Bool, true, false, not, ◌&&◌, length, nat_le, refl, sym, ap, ◌∙◌, arith, ap₂}
+use Rattle.std.proofs.Common.{◌≡◌, List, [], ◌∷◌, Bool, true, false, not, ◌&&◌, length, nat_le, refl, sym, ap, ◌∙◌}
+use Rattle.std.proofs.Common.{arith, ap₂}
 use Rattle.std.proofs.lemmas.Bool.{and_parts, false≢true, le-leb}
 use Rattle.std.specs.Prelude.{Option, Some, None, MatchOption}
 use Rattle.std.specs.List.{list_all}
@@ -22,14 +23,16 @@ unfolding is_written_name is_name
 name_fits [] h = absurd (false≢true h)
 name_fits (b ∷ bs) h = table (nat_le 1 (length (b ∷ bs))) _ _ _ _ _ (le-leb 1 (length (b ∷ bs)) (omega arith)) h
 
-pub names_fit : (names : List Text) → list_all is_written_name names ≡ true → list_all is_name names ≡ list_all is_short_name names
+pub names_fit : (names : List Text) → list_all is_written_name names ≡ true
+    → list_all is_name names ≡ list_all is_short_name names
 names_fit [] h = refl
 names_fit (name ∷ names) h =
     let both = and_parts (is_written_name name) (list_all is_written_name names) h in
     ap₂ (λ a b. a && b) (name_fits name both.0) (names_fit names both.1)
 
 -- short written names have a path
-pub path_found : (names made : List Text) (found : Option PathValue) → made ≡ names → list_all is_written_name names ≡ true → list_all is_short_name names ≡ true
+pub path_found : (names made : List Text) (found : Option PathValue) → made ≡ names
+    → list_all is_written_name names ≡ true → list_all is_short_name names ≡ true
     → MatchOption found (list_all is_name made ≡ false) (λ path. path ≡ made) → found ≡ path_of names
 path_found names made None same written short h =
     absurd (false≢true (sym h ∙ ap (list_all is_name) same ∙ names_fit names written ∙ short))

@@ -1,5 +1,6 @@
 -- Which script a document is, or its first refusal (RFC 8259 for the JSON text).
-use Rattle.std.specs.Prelude.{ℕ, ◌==◌, List, [], ◌∷◌, Bool, true, ◌&&◌, Option, None, Result, Ok, Err, bytes_eq, codes, if◌then◌else◌, ok_or, ⊤}
+use Rattle.std.specs.Prelude.{ℕ, ◌==◌, List, [], ◌∷◌, Bool, true, ◌&&◌, Option, None, Result, Ok, Err, bytes_eq, codes}
+use Rattle.std.specs.Prelude.{if◌then◌else◌, ok_or, ⊤}
 use Rattle.std.specs.List.{list_any}
 use Rattle.std.specs.Str.{is_utf8}
 use Rattle.serde_json.specs.Data.{Data, Members, no_members, member}
@@ -11,7 +12,8 @@ use Rattle.retro_keep.specs.declared.script.LinesFault.{LinesFault}
 use Rattle.retro_keep.specs.declared.script.LinesFault.TheVariants as lines_faults
 use Rattle.retro_log.specs.declared.fault.Part.TheVariants.{Document, Version}
 use Rattle.retro_log.specs.declared.fault.Refusal.{Refusal}
-use Rattle.retro_log.specs.declared.fault.Refusal.TheVariants.{NumbersNotRising, UnknownSession, NotJson, WrongShape, UnknownKey, BadVersion}
+use Rattle.retro_log.specs.declared.fault.Refusal.TheVariants.{NumbersNotRising, UnknownSession, NotJson, WrongShape}
+use Rattle.retro_log.specs.declared.fault.Refusal.TheVariants.{UnknownKey, BadVersion}
 use Rattle.retro_log.specs.Steps.{◌>>=◌, guard}
 use Rattle.retro_log.specs.Shape.{Text, unsigned_in}
 use Rattle.retro_log.specs.TreePart.{tree_of}

@@ -1,18 +1,18 @@
 -- The lines of a script's document: a list of `[number,sid,text]`.
-use Rattle.std.specs.Prelude.{◌^◌, List, [], ◌∷◌, Result, Ok, Err, nat_lt}
+use Rattle.std.specs.Prelude.{List, [], ◌∷◌, Result, Ok, Err, nat_lt}
 use Rattle.serde_json.specs.Data.{Data}
 use Rattle.retro_keep.specs.declared.script.ScriptLine.{ScriptLine}
 use Rattle.retro_log.specs.declared.fault.Part.TheVariants.{Lines}
 use Rattle.retro_log.specs.declared.fault.Refusal.{Refusal}
 use Rattle.retro_log.specs.declared.fault.Refusal.TheVariants.{WrongShape}
 use Rattle.retro_log.specs.Steps.{◌>>=◌, each, guard}
-use Rattle.retro_log.specs.Shape.{cells, text_in, number_in}
+use Rattle.retro_log.specs.Shape.{cells, text_in, u32_in}
 
 abbrev pub line_cells : List Data → Result ScriptLine Refusal
 line_cells (n ∷ s ∷ t ∷ []) = do
-  number ← number_in Lines (2 ^ 32) n
+  number ← u32_in Lines n
   counted ← guard (nat_lt 0 number) (WrongShape Lines)
-  sid ← number_in Lines (2 ^ 32) s
+  sid ← u32_in Lines s
   text ← text_in Lines t
   Ok (record { number = number; sid = sid; text = text })
 line_cells _ = Err (WrongShape Lines)

@@ -1,7 +1,8 @@
 -- The numbers under which refusals are reported.
 use Rattle.std.specs.Prelude.{ℕ}
 use Rattle.retro_log.specs.declared.fault.Refusal.{Refusal}
-use Rattle.retro_log.specs.declared.fault.Refusal.TheVariants.{NumbersNotRising, UnknownSession, LawlessTree, OverLimit, NotJson, WrongShape, UnknownKey, BadHex, BadVersion}
+use Rattle.retro_log.specs.declared.fault.Refusal.TheVariants.{NumbersNotRising, UnknownSession, LawlessTree, OverLimit}
+use Rattle.retro_log.specs.declared.fault.Refusal.TheVariants.{NotJson, WrongShape, UnknownKey, BadHex, BadVersion}
 
 abbrev pub refusal_number : Refusal → ℕ
 refusal_number NumbersNotRising = 8

@@ -1,5 +1,6 @@
 -- Paths as documents write them: `/a/b`, and `/` for the root.
-use Rattle.std.specs.Prelude.{◌==◌, List, [], ◌∷◌, length, Bool, not, ◌&&◌, ◌||◌, Option, Some, None, Result, Ok, nat_le, bytes_eq, codes, if◌then◌else◌, ok_or}
+use Rattle.std.specs.Prelude.{◌==◌, List, [], ◌∷◌, length, Bool, not, ◌&&◌, ◌||◌, Option, Some, None, Result, Ok}
+use Rattle.std.specs.Prelude.{nat_le, bytes_eq, codes, if◌then◌else◌, ok_or}
 use Rattle.std.specs.List.{list_all, list_any, slice_split}
 use Rattle.serde_json.specs.Data.{Data}
 use Rattle.retro_tree.specs.Name.{name_limit}

@@ -1,5 +1,5 @@
 -- The sessions of a document: a list of `[sid,cwd,status,[[name,value],..]]`.
-use Rattle.std.specs.Prelude.{ℕ, ◌^◌, List, [], ◌∷◌, map, Bool, Option, Result, Ok, Err, is_some, ok_or}
+use Rattle.std.specs.Prelude.{ℕ, List, [], ◌∷◌, map, Bool, Option, Result, Ok, Err, is_some, ok_or}
 use Rattle.std.specs.Option.{unwrap_or}
 use Rattle.std.specs.List.{list_all}
 use Rattle.std.specs.Ordering.{nat_cmp}
@@ -15,7 +15,7 @@ use Rattle.retro_log.specs.declared.fault.Refusal.{Refusal}
 use Rattle.retro_log.specs.declared.fault.Refusal.TheVariants.{WrongShape, OverLimit}
 use Rattle.retro_log.specs.Steps.{◌>>=◌, each, guard}
 use Rattle.retro_log.specs.Keyed.{map_of}
-use Rattle.retro_log.specs.Shape.{Text, cells, text_in, number_in}
+use Rattle.retro_log.specs.Shape.{Text, cells, text_in, u32_in, u8_in}
 use Rattle.retro_log.specs.PathText.{path_in}
 
 -- ---- variables: a name that a line may assign, and a value; no name twice
@@ -47,9 +47,9 @@ pub record SessionCells : Type 0 where
 
 abbrev pub session_cells : List Data → Result SessionCells Refusal
 session_cells (n ∷ p ∷ s ∷ v ∷ []) = do
-  sid ← number_in Sessions (2 ^ 32) n
+  sid ← u32_in Sessions n
   cwd ← path_in Sessions p
-  status ← number_in Sessions 256 s
+  status ← u8_in Sessions s
   vars ← vars_of v
   Ok (record { sid = sid; cwd = cwd; status = status; vars = vars })
 session_cells _ = Err (WrongShape Sessions)

@@ -1,5 +1,6 @@
 -- JSON values of one shape.
-use Rattle.std.specs.Prelude.{ℕ, List, [], ◌∷◌, Option, Some, None, Result, nat_lt, if◌then◌else◌, option_map, option_and_then, ok_or}
+use Rattle.std.specs.Prelude.{ℕ, ◌^◌, List, [], ◌∷◌, Option, Some, None, Result, nat_lt, if◌then◌else◌, option_map}
+use Rattle.std.specs.Prelude.{option_and_then, ok_or}
 use Rattle.serde_json.specs.Data.{Data, Items, no_items, item}
 use Rattle.serde_json.specs.Find.{as_number, as_u64, as_str, as_array}
 use Rattle.retro_log.specs.declared.fault.Part.{Part}
@@ -31,3 +32,9 @@ below limit n = if nat_lt n limit then Some n else None
 -- a whole number below a limit
 abbrev pub number_in : Part → ℕ → Data → Result ℕ Refusal
 number_in part limit d = ok_or (option_and_then (below limit) (unsigned_in d)) (WrongShape part)
+
+abbrev pub u32_in : Part → Data → Result ℕ Refusal
+u32_in part d = number_in part (2 ^ 32) d
+
+abbrev pub u8_in : Part → Data → Result ℕ Refusal
+u8_in part d = number_in part (2 ^ 8) d

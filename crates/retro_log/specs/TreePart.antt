@@ -1,5 +1,6 @@
 -- The tree of a document: a list of directories `["/d"]` and files `["/f","hex"]`.
-use Rattle.std.specs.Prelude.{ℕ, List, [], ◌∷◌, length, map, Bool, true, ◌&&◌, Option, Some, Result, Ok, Err, is_some, nat_le, ok_or, option_map}
+use Rattle.std.specs.Prelude.{ℕ, List, [], ◌∷◌, length, map, Bool, true, ◌&&◌, Option, Some, Result, Ok, Err, is_some}
+use Rattle.std.specs.Prelude.{nat_le, ok_or, option_map}
 use Rattle.std.specs.List.{list_all}
 use Rattle.std.specs.Option.{unwrap_or}
 use Rattle.std.specs.Result.{result_ok}
@@ -25,7 +26,7 @@ use Rattle.retro_log.specs.PathText.{path_in}
 abbrev pub Row : Type 0
 Row = Option PathValue × Option Entry
 
--- the bytes that hex stands for, in either case
+-- the bytes that hex digits of either case encode
 abbrev pub bytes_in : Text → Option (List ℕ)
 bytes_in hex = result_ok (decode_of hex)
 

@@ -1,4 +1,4 @@
--- What the reader's rows stand for.
+-- The reader's rows as the definitions see them.
 use Rattle.std.specs.Prelude.{ℕ, List, Option}
 use Rattle.retro_tree.specs.Path.{PathValue}
 use Rattle.retro_tree.specs.declared.entry.Entry.{Entry}

@@ -1,12 +1,13 @@
 //! Documents: JSON texts (RFC 8259) that hold scripts, and the values that states are written as.
 //!
-//! [`read_script`] answers the one script that bytes are, or the refusal that comes first in the
-//! order of the rules: what `script_in` of `specs/Document.antt` says of the bytes. Each part of a
-//! document is judged wholly before the next, and over its whole list for one refusal after the
-//! other. Only want of memory may come in place of that answer.
+//! [`read_script`] returns the script that bytes are, or their first refusal: what `script_in` of
+//! `specs/Document.antt` says of the bytes. Each part of a document is tested as a whole before the
+//! next part, and its whole list is tested for one refusal before the next refusal.
 //!
-//! [`tree_value`], [`sessions_value`] and [`hex_value`] give the JSON values that
-//! `specs/Values.antt` defines, of which logs and reports are made.
+//! [`tree_value`], [`sessions_value`] and [`hex_value`] return the JSON values that
+//! `specs/Values.antt` defines. Logs and reports are made of them.
+//!
+//! If allocation fails, calls return `NoMem` and leave their arguments unchanged.
 #![tactic(auto)]
 
 mod fault;

@@ -3,26 +3,23 @@ ghost use Rattle.std.specs.Prelude.{◌≡◌, ◌∷◌, IfOk, map, string_byte
 ghost use Rattle.std.specs.List.{flat_map};
 ghost use Rattle.hex.specs.Hex.{encode_lower};
 ghost use Rattle.serde_json.specs.View.{view};
-ghost use Rattle.retro_log.specs.Values.{hex_data, slashed, path_text, row_data, tree_data, var_data, vars_data, session_data, sessions_data};
+ghost use Rattle.retro_log.specs.Values.{hex_data, names_text, path_text, row_data, tree_data};
+ghost use Rattle.retro_log.specs.Values.{var_data, vars_data, session_data, sessions_data};
 
 use retro_tree::{Entry, Name, NoMem, Path, Session, State, Vars};
 use serde_json::{Value, json};
 use std::alloc::Global;
 
 /// Bytes as a text of lower-case hexadecimal digits.
-///
-/// # Errors
-///
-/// `NoMem` where memory is wanting.
 pub fn hex_value(alloc: Global, bytes: &[u8]) -> Result<Value, NoMem>
     ensures { IfOk result (λ v. view v ≡ hex_data bytes.now) }
 {
     Ok(Value::String(hex::encode(alloc, bytes)?))
 }
 
-/// The text of the names, with a slash before each.
-fn slashed(alloc: Global, names: &[Name]) -> Result<String, NoMem>
-    ensures { IfOk result (λ text. string_bytes text ≡ slashed names.now) }
+/// The text of the names, each preceded by a slash.
+fn names_text(alloc: Global, names: &[Name]) -> Result<String, NoMem>
+    ensures { IfOk result (λ text. string_bytes text ≡ names_text names.now) }
 {
     let mut text = String::new(alloc);
     for name in names {
@@ -38,7 +35,7 @@ fn path_text(alloc: Global, path: &Path) -> Result<String, NoMem>
 {
     match path.names() {
         [] => String::from_str(alloc, "/"),
-        names => slashed(alloc, names),
+        names => names_text(alloc, names),
     }
 }
 
@@ -58,10 +55,6 @@ fn row_value(alloc: Global, path: &Path, entry: &Entry) -> Result<Value, NoMem>
 
 /// The tree of a state: a list of directories `["/d"]` and files `["/f","hex"]` without the root,
 /// in the order of paths as lists of names.
-///
-/// # Errors
-///
-/// `NoMem` where memory is wanting.
 #[tactic(auto, unfolding(crate::specs::Values::tree_data))]
 pub fn tree_value(alloc: Global, state: &State) -> Result<Value, NoMem>
     ensures { IfOk result (λ v. view v ≡ tree_data state.now.tree) }
@@ -98,10 +91,6 @@ fn session_value(alloc: Global, sid: u32, session: &Session) -> Result<Value, No
 
 /// The sessions of a state: a list of `[sid,cwd,status,[[name,value],..]]`, in the order of
 /// numbers and of names.
-///
-/// # Errors
-///
-/// `NoMem` where memory is wanting.
 #[tactic(auto, unfolding(crate::specs::Values::sessions_data))]
 pub fn sessions_value(alloc: Global, state: &State) -> Result<Value, NoMem>
     ensures { IfOk result (λ v. view v ≡ sessions_data state.now.sessions) }

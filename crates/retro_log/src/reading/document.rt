@@ -5,7 +5,8 @@ ghost use Rattle.std.specs.BTreeMap.{keys as key_list};
 ghost use Rattle.serde_json.specs.View.{view};
 ghost use Rattle.retro_tree.specs.Lawful.{IsLawful};
 ghost use Rattle.retro_log.specs.ReadsAs.{ReadsAs};
-ghost use Rattle.retro_log.specs.Document.{is_key, only_keys, member_at, version_is, state_of, script_of, json_of, script_in};
+ghost use Rattle.retro_log.specs.Document.{is_key, only_keys, member_at, version_is, state_of};
+ghost use Rattle.retro_log.specs.Document.{script_of, json_of, script_in};
 ghost use Rattle.retro_log.specs.declared.fault.Refusal.TheVariants.{NotJson};
 
 use crate::fault::{LogFault, Part, Refusal};

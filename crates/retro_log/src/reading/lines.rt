@@ -6,7 +6,7 @@ ghost use Rattle.retro_log.specs.Steps.{each};
 ghost use Rattle.retro_log.specs.LinesPart.{line_of, lines_of};
 
 use crate::fault::{LogFault, Part, Refusal};
-use crate::reading::shape::{cells, number, text};
+use crate::reading::shape::{cells, text, u32_in};
 use retro_keep::ScriptLine;
 use retro_tree::Text;
 use serde_json::Value;
@@ -18,11 +18,11 @@ fn read_line(alloc: Global, value: &Value) -> Result<ScriptLine, LogFault>
 {
     match cells(Part::Lines, value)? {
         [number_value, sid, text_value] => {
-            let line_number = number(Part::Lines, 1 << 32, number_value)? as u32;
+            let line_number = u32_in(Part::Lines, number_value)?;
             if line_number == 0 {
                 return Err(LogFault::Refused(Refusal::WrongShape(Part::Lines)));
             }
-            let sid = number(Part::Lines, 1 << 32, sid)? as u32;
+            let sid = u32_in(Part::Lines, sid)?;
             let text = text(Part::Lines, text_value)?;
             Ok(ScriptLine {
                 number: line_number,

@@ -4,7 +4,8 @@ ghost use Rattle.std.specs.Option.{unwrap_or};
 ghost use Rattle.std.specs.List.{list_all, slice_split};
 ghost use Rattle.serde_json.specs.View.{view};
 ghost use Rattle.retro_log.specs.ReadsAs.{ReadsAs};
-ghost use Rattle.retro_log.specs.PathText.{is_written_name, is_short_name, names_of_parts, path_of, path_in};
+ghost use Rattle.retro_log.specs.PathText.{is_written_name, is_short_name, names_of_parts, path_of};
+ghost use Rattle.retro_log.specs.PathText.{path_in};
 
 use crate::fault::{LogFault, Part, Refusal};
 use crate::reading::shape::text;

@@ -1,22 +1,23 @@
 //! Reading the sessions.
-ghost use Rattle.std.specs.Prelude.{◌≡◌, [], map, IfOk, option_map, true};
+ghost use Rattle.std.specs.Prelude.{◌≡◌, ◌&&◌, nat_le, [], map, IfOk, option_map, true};
 ghost use Rattle.retro_tree.specs.Lawful.{is_lawful_tree};
 ghost use Rattle.std.specs.List.{list_all};
 ghost use Rattle.std.specs.Ordering.{nat_cmp};
 ghost use Rattle.std.specs.FinMap as map;
 ghost use Rattle.serde_json.specs.View.{view};
 ghost use Rattle.retro_tree.specs.Order.{text_cmp};
-ghost use Rattle.retro_tree.specs.Limits.{are_lawful_sessions};
+ghost use Rattle.retro_tree.specs.Limits.{are_lawful_sessions, values_fit};
 ghost use Rattle.retro_log.specs.ReadsAs.{ReadsAs};
 ghost use Rattle.retro_log.specs.Steps.{each};
 ghost use Rattle.retro_log.specs.Keyed.{map_of};
-ghost use Rattle.retro_log.specs.SessionsPart.{var_of, vars_of, session_of, has_short_cwd, session_entry, sessions_of};
+ghost use Rattle.retro_log.specs.SessionsPart.{var_of, vars_of, session_of, has_short_cwd};
+ghost use Rattle.retro_log.specs.SessionsPart.{session_entry, sessions_of};
 ghost use Rattle.retro_log.specs.Views.{var_view, session_view};
 
 use crate::fault::{LogFault, Part, Refusal};
 use crate::reading::path::{path_in, path_or_root};
-use crate::reading::shape::{cells, number, text};
-use retro_tree::{NoMem, Path, State, Text, VarName};
+use crate::reading::shape::{cells, text, u8_in, u32_in};
+use retro_tree::{NoMem, Path, Session, Sessions, State, Text, VALUE_LIMIT, VarName, Vars};
 use serde_json::Value;
 use std::alloc::Global;
 use std::collections::BTreeMap;
@@ -102,9 +103,9 @@ fn read_row(alloc: Global, value: &Value) -> Result<SessionRow, LogFault>
 {
     match cells(Part::Sessions, value)? {
         [sid, cwd, status, values] => {
-            let sid = number(Part::Sessions, 1 << 32, sid)? as u32;
+            let sid = u32_in(Part::Sessions, sid)?;
             let cwd = path_in(alloc, Part::Sessions, cwd)?;
-            let status = number(Part::Sessions, 256, status)? as u8;
+            let status = u8_in(Part::Sessions, status)?;
             let vars = read_var_map(alloc, values)?;
             Ok(SessionRow {
                 sid,
@@ -162,8 +163,42 @@ fn have_short_cwd(rows: &[SessionRow]) -> bool
     true
 }
 
+/// Whether each value is within the limit.
+#[tactic(auto, unfolding(retro_tree::specs::Limits::values_fit))]
+fn values_fit(vars: &Vars) -> bool
+    ensures { result ≡ values_fit vars.now }
+{
+    for (_, value) in vars.iter() {
+        if value.bytes().len() > VALUE_LIMIT {
+            return false;
+        }
+    }
+    true
+}
+
+/// Whether a session is within the limits. Its status is a byte, so it always is.
+fn session_fits(session: &Session) -> bool
+    ensures { result ≡ nat_le session.now.status 255 && values_fit session.now.vars }
+{
+    let Session { status, vars, .. } = session;
+    *status <= u8::MAX && values_fit(vars)
+}
+
+/// Whether each session is within the limits.
+#[tactic(auto, unfolding(retro_tree::specs::Limits::are_lawful_sessions))]
+fn sessions_fit(sessions: &Sessions) -> bool
+    ensures { result ≡ are_lawful_sessions sessions.now }
+{
+    for (_, session) in sessions.iter() {
+        if !session_fits(session) {
+            return false;
+        }
+    }
+    true
+}
+
 /// A state without sessions, with the sessions that a value is added.
-#[tactic(auto, using(crate::proofs::Limits::limits_of_sessions), unfolding(crate::specs::SessionsPart::sessions_of))]
+#[tactic(auto, unfolding(crate::specs::SessionsPart::sessions_of))]
 pub fn read_sessions(alloc: Global, state: State, value: &Value) -> Result<State, LogFault>
     requires none { state.sessions ≡ map.empty }
     requires tree { is_lawful_tree state.tree ≡ true }
@@ -177,7 +212,7 @@ pub fn read_sessions(alloc: Global, state: State, value: &Value) -> Result<State
     let Some(state) = state_with_sessions(alloc, state, rows)? else {
         return Err(LogFault::Refused(Refusal::WrongShape(Part::Sessions)));
     };
-    if !short || !state.is_within_limits() {
+    if !short || !sessions_fit(state.sessions()) {
         return Err(LogFault::Refused(Refusal::OverLimit));
     }
     Ok(state)

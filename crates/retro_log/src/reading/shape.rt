@@ -1,8 +1,8 @@
 //! JSON values of one shape.
-ghost use Rattle.std.specs.Prelude.{◌≡◌, map};
+ghost use Rattle.std.specs.Prelude.{◌≡◌, ◌<◌, IfOk, map};
 ghost use Rattle.serde_json.specs.View.{view};
 ghost use Rattle.retro_log.specs.ReadsAs.{ReadsAs};
-ghost use Rattle.retro_log.specs.Shape.{cells, text_in, number_in};
+ghost use Rattle.retro_log.specs.Shape.{cells, text_in, number_in, u32_in, u8_in};
 
 use crate::fault::{LogFault, Part, Refusal};
 use serde_json::Value;
@@ -28,11 +28,26 @@ pub fn text(part: Part, value: &Value) -> Result<&str, LogFault>
 }
 
 /// A whole number below a limit.
-pub fn number(part: Part, limit: u64, value: &Value) -> Result<u64, LogFault>
-    ensures { ReadsAs (λ n. n) result (number_in part limit (view value.now)) }
+fn number(part: Part, limit: u64, value: &Value) -> Result<u64, LogFault>
+    ensures value { ReadsAs (λ n. n) result (number_in part limit (view value.now)) }
+    ensures range { IfOk result (λ n. n < limit) }
 {
     match value.as_u64() {
         Some(n) if n < limit => Ok(n),
         _ => Err(LogFault::Refused(Refusal::WrongShape(part))),
     }
+}
+
+/// A whole number of 32 bits.
+pub fn u32_in(part: Part, value: &Value) -> Result<u32, LogFault>
+    ensures { ReadsAs (λ n. n) result (u32_in part (view value.now)) }
+{
+    Ok(number(part, 1 << u32::BITS, value)? as u32)
+}
+
+/// A whole number of 8 bits.
+pub fn u8_in(part: Part, value: &Value) -> Result<u8, LogFault>
+    ensures { ReadsAs (λ n. n) result (u8_in part (view value.now)) }
+{
+    Ok(number(part, 1 << u8::BITS, value)? as u8)
 }

@@ -11,7 +11,9 @@ ghost use Rattle.serde_json.specs.View.{view};
 ghost use Rattle.retro_log.specs.Keyed.{map_of};
 ghost use Rattle.retro_log.specs.ReadsAs.{ReadsAs};
 ghost use Rattle.retro_log.specs.Steps.{each};
-ghost use Rattle.retro_log.specs.TreePart.{bytes_in, file_in, entry_fits, has_entry, is_within_limits, path_entry, root_entry, row_of, tree_of};
+ghost use Rattle.retro_log.specs.TreePart.{bytes_in, file_in, entry_fits, has_entry};
+ghost use Rattle.retro_log.specs.TreePart.{is_within_limits, path_entry, root_entry, row_of};
+ghost use Rattle.retro_log.specs.TreePart.{tree_of};
 ghost use Rattle.retro_log.specs.Views.{row_view};
 
 use crate::fault::{LogFault, Part, Refusal};
@@ -30,7 +32,7 @@ pub struct Row {
     pub entry: Option<Entry>,
 }
 
-/// The bytes that hex stands for, in either case, or `None` if it is bad.
+/// The bytes that hex digits of either case encode, or `None` if they are bad.
 fn bytes_in(alloc: Global, hex: &str) -> Result<Option<Bytes>, LogFault>
     ensures { ReadsAs (λ bytes. bytes) result (Ok (bytes_in hex.now)) }
 {
@@ -41,7 +43,7 @@ fn bytes_in(alloc: Global, hex: &str) -> Result<Option<Bytes>, LogFault>
     }
 }
 
-/// The file whose bytes hex stands for, or `None` if it is bad.
+/// The file whose bytes hex digits encode, or `None` if they are bad.
 fn file_in(alloc: Global, hex: &str) -> Result<Option<Entry>, LogFault>
     ensures { ReadsAs (λ entry. entry) result (Ok (file_in hex.now)) }
 {

@@ -8,4 +8,6 @@ top a = a.top
 
 pub returns : goal.returns
 returns c =
-    IfOk-weaker c.subcommand.result _ _ (λ m h. h.shape c.in_ok-replay_command.ensures.local ∙ ap₂ with_subcommand c.bare_command.ensures (ap top c.in_ok-replay_command.ensures.shape)) c.subcommand.ensures
+    IfOk-weaker c.subcommand.result _ _
+    (λ m h. h.shape c.in_ok-replay_command.ensures.local ∙ ap₂ with_subcommand c.bare_command.ensures (ap top
+    c.in_ok-replay_command.ensures.shape)) c.subcommand.ensures

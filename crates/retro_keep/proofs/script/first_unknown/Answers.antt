@@ -6,4 +6,5 @@ use Rattle.retro_keep.proofs.script.first_unknown.Goals as goal
 
 pub loop-number-preserved : goal.loop-number-preserved
 loop-number-preserved c =
-    unknown_after (contains nat_cmp c.args.known.now) c.args.numbers.now c.loop-number.number-index c.loop-number-test.true (sym c.contains.ensures ∙ c.if-not-contains.false) c.loop-number.invariant
+    unknown_after (contains nat_cmp c.args.known.now) c.args.numbers.now c.loop-number.number-index
+    c.loop-number-test.true (sym c.contains.ensures ∙ c.if-not-contains.false) c.loop-number.invariant

@@ -6,4 +6,5 @@ use Rattle.retro_keep.proofs.script.remove_lines.Goals as goal
 
 pub returns : goal.returns
 returns c =
-    filter_same _ (λ line. not (contains nat_cmp c.args.numbers.now line.number)) _ (λ x b f k. search rules) _ _ c.retain.ensures.filtered
+    filter_same _ (λ line. not (contains nat_cmp c.args.numbers.now line.number)) _ (λ x b f k. search rules) _ _
+    c.retain.ensures.filtered

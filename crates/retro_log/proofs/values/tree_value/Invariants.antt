@@ -6,4 +6,5 @@ use Rattle.retro_log.proofs.values.tree_value.Given as goal
 
 abbrev pub invariant-loop-path : goal.invariant-loop-path
 invariant-loop-path l =
-    map view l.rows.items ++ map row_data (filter is_listed l.path-iterator) ≡ map row_data (filter is_listed (entries l.state.tree))
+    map view l.rows.items ++ map row_data (filter is_listed l.path-iterator) ≡ map row_data
+    (filter is_listed (entries l.state.tree))

@@ -23,4 +23,6 @@ pub returns-in-Ok : goal.returns-in-Ok
 returns-in-Ok c = is_json c.args.bytes.now _ c.in-Ok.ensures.ok.0 c.in-Ok.ensures.ok.1
 
 pub returns-else-is_memory : goal.returns-else-is_memory
-returns-else-is_memory c = no_json c.args.bytes.now (c.in-Err.ensures.err (λ m. false≢true (sym c.if-is_memory.false ∙ c.is_memory.ensures.1 m)))
+returns-else-is_memory c =
+    no_json c.args.bytes.now
+    (c.in-Err.ensures.err (λ m. false≢true (sym c.if-is_memory.false ∙ c.is_memory.ensures.1 m)))

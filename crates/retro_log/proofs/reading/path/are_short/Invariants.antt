@@ -4,4 +4,6 @@ use Rattle.retro_log.specs.PathText.{is_short_name}
 use Rattle.retro_log.proofs.reading.path.are_short.Given as goal
 
 abbrev pub invariant-loop-name : goal.invariant-loop-name
-invariant-loop-name l = list_all is_short_name (map (λ name. name.now) l.names) ≡ list_all is_short_name (map (λ name. name.now) (drop l.name-index l.names))
+invariant-loop-name l =
+    list_all is_short_name (map (λ name. name.now) l.names) ≡ list_all is_short_name
+    (map (λ name. name.now) (drop l.name-index l.names))

@@ -10,5 +10,6 @@ abbrev pub invariant-loop-row : goal.invariant-loop-row
 invariant-loop-row l =
     (goal.iterator-loop-row).can_next l.row-iterator ×
     (goal.iterator-loop-row).is_finite l.row-iterator ×
-    IsMade {R = nat_cmp} (map session_entry (map session_view l.fn.rows.items)) (map session_entry (map session_view (into_iter_items l.row-iterator))) l.state.sessions ×
+    IsMade {R = nat_cmp} (map session_entry (map session_view l.fn.rows.items)) (map session_entry (map session_view
+    (into_iter_items l.row-iterator))) l.state.sessions ×
     (l.state.tree ≡ l.fn.state.tree)

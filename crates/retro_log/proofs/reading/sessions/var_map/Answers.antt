@@ -12,22 +12,32 @@ use Rattle.retro_log.proofs.reading.sessions.var_map.Goals as goal
 pub returns-then-contains_key : goal.returns-then-contains_key
 returns-then-contains_key c =
     let there : contains_key (from_entries {R = text_cmp} c.loop-var.values.entries) c.in-Some.var.name ≡ true =
-    ap is_some (get_made text_total c.loop-var.values.entries c.in-Some.var.name) ∙ sym c.contains_key.ensures ∙ c.if-contains_key.true in
-    made_twice text_total text_exact _ _ (map var_view (into_iter_items c.next.new.self)) (from_entries c.loop-var.values.entries) c.in-Some.var.name c.in-Some.var.value
+    ap is_some (get_made text_total c.loop-var.values.entries c.in-Some.var.name) ∙ sym c.contains_key.ensures
+    ∙ c.if-contains_key.true in
+    made_twice text_total text_exact _ _ (map var_view (into_iter_items c.next.new.self))
+    (from_entries c.loop-var.values.entries) c.in-Some.var.name c.in-Some.var.value
     (ap (map var_view) c.in-Some.ensures.steps.0) there c.loop-var.invariant.2
 
 pub loop-var-preserved : goal.loop-var-preserved
 loop-var-preserved c =
     let absent : contains_key (from_entries {R = text_cmp} c.loop-var.values.entries) c.in-Some.var.name ≡ false =
-    ap is_some (get_made text_total c.loop-var.values.entries c.in-Some.var.name) ∙ sym c.contains_key.ensures ∙ c.if-contains_key.false in
-    let added = made_insert text_total text_exact c.loop-var.values.entries c.insert.new.self.entries c.in-Some.var.name c.in-Some.var.value c.in_ok-insert.ensures.updates.0 in (
+    ap is_some (get_made text_total c.loop-var.values.entries c.in-Some.var.name) ∙ sym c.contains_key.ensures
+    ∙ c.if-contains_key.false in
+    let added =
+    made_insert text_total text_exact c.loop-var.values.entries c.insert.new.self.entries c.in-Some.var.name
+    c.in-Some.var.value c.in_ok-insert.ensures.updates.0 in (
       tt,
       tt,
-      made_goes_on text_total text_exact _ _ (map var_view (into_iter_items c.next.new.self)) (from_entries c.loop-var.values.entries) (from_entries c.insert.new.self.entries) c.in-Some.var.name c.in-Some.var.value
+      made_goes_on text_total text_exact _ _ (map var_view (into_iter_items c.next.new.self))
+          (from_entries c.loop-var.values.entries) (from_entries c.insert.new.self.entries) c.in-Some.var.name
+          c.in-Some.var.value
           (ap (map var_view) c.in-Some.ensures.steps.0) absent added c.loop-var.invariant.2,
     )
 
 pub returns : goal.returns
 returns c =
-    let none = nil_from_length (into_iter_items c.loop-var.var-iterator) (omega (arith, c.loop-var.var-iterator.rest.ok, c.in-None.ensures)) in
-    made_whole text_total text_exact _ _ (from_entries c.loop-var.values.entries) (ap (map var_view) none) c.loop-var.invariant.2
+    let none =
+    nil_from_length (into_iter_items c.loop-var.var-iterator)
+    (omega (arith, c.loop-var.var-iterator.rest.ok, c.in-None.ensures)) in
+    made_whole text_total text_exact _ _ (from_entries c.loop-var.values.entries) (ap (map var_view) none)
+    c.loop-var.invariant.2

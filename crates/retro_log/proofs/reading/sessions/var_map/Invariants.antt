@@ -10,4 +10,5 @@ abbrev pub invariant-loop-var : goal.invariant-loop-var
 invariant-loop-var l =
     (goal.iterator-loop-var).can_next l.var-iterator ×
     (goal.iterator-loop-var).is_finite l.var-iterator ×
-    IsMade {R = text_cmp} (map var_view l.fn.vars.items) (map var_view (into_iter_items l.var-iterator)) (from_entries l.values.entries)
+    IsMade {R = text_cmp} (map var_view l.fn.vars.items) (map var_view (into_iter_items l.var-iterator)) (from_entries
+    l.values.entries)

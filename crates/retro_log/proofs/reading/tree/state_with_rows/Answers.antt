@@ -34,8 +34,11 @@ unfolding with_tree
 returns-then-is_some c =
     let e = path_entry (row_view c.in-Some.row) in
     let there : contains_key c.loop-row.state.tree c.path_or_root-path.result ≡ true = search rules in
-    ap (option_map with_tree) (made_twice path_total path_exact _ _ (map path_entry (map row_view (into_iter_items c.next.new.self))) c.loop-row.state.tree e.0 e.1
-    (ap (λ rows. map path_entry (map row_view rows)) c.in-Some.ensures.steps.0) (ap (contains_key c.loop-row.state.tree) (sym c.path_or_root-path.ensures) ∙ there) c.loop-row.invariant.2)
+    ap (option_map with_tree)
+    (made_twice path_total path_exact _ _ (map path_entry (map row_view (into_iter_items c.next.new.self)))
+    c.loop-row.state.tree e.0 e.1
+    (ap (λ rows. map path_entry (map row_view rows)) c.in-Some.ensures.steps.0)
+    (ap (contains_key c.loop-row.state.tree) (sym c.path_or_root-path.ensures) ∙ there) c.loop-row.invariant.2)
 
 pub loop-row-preserved : goal.loop-row-preserved
 loop-row-preserved c =
@@ -43,18 +46,28 @@ loop-row-preserved c =
     let tree = c.loop-row.state.tree in
     let absent : contains_key tree c.path_or_root-path.result ≡ false = search rules in
     let placed =
-    ap (λ (s : State). s.tree) c.in_ok-place.ensures.ok ∙ ap (λ n. put c.path_or_root-path.result n tree) c.node_of.ensures
-    ∙ put_entry c.path_or_root-path.result c.entry_or_dir-entry.result tree ∙ ap₂ (λ p entry. insert tree p entry) c.path_or_root-path.ensures c.entry_or_dir-entry.ensures in (
+    ap (λ (s : State). s.tree) c.in_ok-place.ensures.ok
+    ∙ ap (λ n. put c.path_or_root-path.result n tree) c.node_of.ensures
+    ∙ put_entry c.path_or_root-path.result c.entry_or_dir-entry.result tree
+    ∙ ap₂ (λ p entry. insert tree p entry) c.path_or_root-path.ensures c.entry_or_dir-entry.ensures in (
       tt,
       tt,
-      made_goes_on path_total path_exact _ _ (map path_entry (map row_view (into_iter_items c.next.new.self))) tree c.place.new.self.tree e.0 e.1
-          (ap (λ rows. map path_entry (map row_view rows)) c.in-Some.ensures.steps.0) (ap (contains_key tree) (sym c.path_or_root-path.ensures) ∙ absent) placed c.loop-row.invariant.2,
+      made_goes_on path_total path_exact _ _ (map path_entry (map row_view (into_iter_items c.next.new.self))) tree
+          c.place.new.self.tree e.0 e.1
+          (ap (λ rows. map path_entry (map row_view rows)) c.in-Some.ensures.steps.0) (ap (contains_key tree) (sym
+          c.path_or_root-path.ensures) ∙ absent) placed c.loop-row.invariant.2,
       ap (λ (s : State). s.sessions) c.in_ok-place.ensures.ok ∙ c.loop-row.invariant.3,
     )
 
 pub returns : goal.returns
 unfolding with_tree
 returns c =
-    let none = nil_from_length (into_iter_items c.loop-row.row-iterator) (omega (arith, c.loop-row.row-iterator.rest.ok, c.in-None.ensures)) in
-    let is : c.loop-row.state ≡ with_tree c.loop-row.state.tree = λ i. record { tree = c.loop-row.state.tree; sessions = c.loop-row.invariant.3 i } in
-    ap Some is ∙ ap (option_map with_tree) (made_whole path_total path_exact _ _ c.loop-row.state.tree (ap (λ rows. map path_entry (map row_view rows)) none) c.loop-row.invariant.2)
+    let none =
+    nil_from_length (into_iter_items c.loop-row.row-iterator)
+    (omega (arith, c.loop-row.row-iterator.rest.ok, c.in-None.ensures)) in
+    let is : c.loop-row.state ≡ with_tree c.loop-row.state.tree =
+    λ i. record { tree = c.loop-row.state.tree; sessions = c.loop-row.invariant.3 i } in
+    ap Some is
+    ∙ ap (option_map with_tree)
+    (made_whole path_total path_exact _ _ c.loop-row.state.tree (ap (λ rows. map path_entry (map row_view rows)) none)
+    c.loop-row.invariant.2)

@@ -11,5 +11,6 @@ abbrev pub invariant-loop-row : goal.invariant-loop-row
 invariant-loop-row l =
     (goal.iterator-loop-row).can_next l.row-iterator ×
     (goal.iterator-loop-row).is_finite l.row-iterator ×
-    IsMade {R = path_cmp} (root_entry ∷ map path_entry (map row_view l.fn.rows.items)) (map path_entry (map row_view (into_iter_items l.row-iterator))) l.state.tree ×
+    IsMade {R = path_cmp} (root_entry ∷ map path_entry (map row_view l.fn.rows.items)) (map path_entry (map row_view
+    (into_iter_items l.row-iterator))) l.state.tree ×
     (l.state.sessions ≡ empty)
