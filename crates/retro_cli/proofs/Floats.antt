@@ -1,4 +1,4 @@
--- A report has no float, so that its text is settled.
+-- A report has no float, so its text is determined.
 use Rattle.std.proofs.Common.{◌≡◌, ℕ, List, false, refl}
 use Rattle.serde_json.specs.Written.{has_float}
 use Rattle.retro_tree.specs.declared.state.State.{State}

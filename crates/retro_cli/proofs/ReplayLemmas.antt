@@ -14,7 +14,7 @@ use Rattle.retro_keep.specs.declared.script.ScriptLine.{ScriptLine}
 abbrev pub with_front : List Output → State × List Output → State × List Output
 with_front front (s, outputs) = (s, front ++ outputs)
 
--- the lines from a place on: the one there, and the rest
+-- the lines from an index on: the line at the index, and the rest
 at_line : (lines : List ScriptLine) (i : ℕ) (d : ScriptLine) → i < length lines → d ≡ get_or lines i d
     → drop i lines ≡ d ∷ drop (i + 1) lines
 at_line lines i d lt is = drop-cons lines i d lt ∙ rw (sym is, add-one i) refl
@@ -25,7 +25,7 @@ known_at : (state : State) (lines : List ScriptLine) (i : ℕ) (d : ScriptLine) 
 known_at state lines i d lt is known = ap (λ ls. have_sessions state (map sid_of ls)) (sym (at_line lines i d lt is))
     ∙ known
 
--- if the sessions of the lines from a place on exist, so does that of the line there
+-- if the sessions of the lines from an index on exist, so does that of the line at the index
 pub session_at : (state : State) (lines : List ScriptLine) (i : ℕ) (d : ScriptLine) → i < length lines
     → d ≡ get_or lines i d
     → IsTrue (have_sessions state (map sid_of (drop i lines))) → IsTrue (finmap.contains_key state.sessions d.sid)

@@ -80,7 +80,7 @@ call_view g = record { name = g.name.now; cancel = option_map (λ s. s.now) g.ca
 abbrev pub request_view : RequestValue → Request
 request_view (requests.Replay numbers) = replay numbers.items
 
--- a fault as the definitions say it: none where memory ran out
+-- a fault as the definitions say it: none if memory ran out
 abbrev pub not_found : {Y : Type 0} → WordsFault → Option (Option Y)
 not_found faults.NoMem = None
 not_found faults.BadWords = Some None

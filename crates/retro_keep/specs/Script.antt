@@ -62,7 +62,7 @@ pub record IsScript (script : ScriptValue) : Type 0 where
   pub rising : IsTrue (rises_from 0 (map number_of script.lines))
   pub known : IsTrue (have_sessions script.first (map sid_of script.lines))
 
--- a fault as the definitions say it: none where memory ran out
+-- a fault as the definitions say it: none if memory ran out
 abbrev pub refused : ScriptFault → Option (Result ScriptValue ScriptFault)
 refused NumbersNotRising = Some (Err NumbersNotRising)
 refused UnknownSession = Some (Err UnknownSession)

@@ -46,7 +46,7 @@ each_done {B = B} f front total so_far = sym so_far ∙ ap (λ (zs : List B). Ok
 abbrev pub IsReadTo : {A D C B : Type 0} → (D → Result B Refusal) → (A → D) → (C → B) → List C → List A → ℕ → Type 0
 IsReadTo f va vc out items i = with_front (map vc out) (each f (map va (drop i items))) ≡ each f (map va items)
 
--- the items from a place on: the one there, and the rest
+-- the items from an index on: the item at the index, and the rest
 pub at_item : {A D : Type 0} (va : A → D) (items : List A) (i : ℕ) (d x : A) → i < length items → x ≡ get_or items i d
     → map va (drop i items) ≡ va x ∷ map va (drop (i + 1) items)
 at_item va items i d x lt is =

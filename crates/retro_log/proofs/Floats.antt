@@ -1,4 +1,4 @@
--- What is written has no float, so that its text is settled.
+-- The written values have no float, so their text is determined.
 use Rattle.std.proofs.Common.{◌≡◌, ℕ, List, [], ◌∷◌, map, filter, false, refl}
 use Rattle.std.specs.Ordering.{nat_cmp}
 use Rattle.std.specs.FinMap as map
@@ -14,7 +14,7 @@ use Rattle.retro_log.specs.Shape.{Text}
 use Rattle.retro_log.specs.Values.{array_of, entry_data, path_text, row_data, is_listed, tree_data, var_data, vars_data}
 use Rattle.retro_log.specs.Values.{session_data, sessions_data}
 
--- a list has none where no item has one
+-- an array has no float if no item has one
 pub array_float : {X : Type 0} (f : X → Data) → ((x : X) → has_float (f x) ≡ false) → (xs : List X)
     → has_float (array_of (map f xs)) ≡ false
 array_float f one [] = refl

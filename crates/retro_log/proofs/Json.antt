@@ -10,7 +10,7 @@ use Rattle.retro_keep.specs.declared.script.ScriptLine.{ScriptLine}
 use Rattle.retro_log.specs.Shape.{item_list}
 use Rattle.retro_log.specs.Document.{has_keys}
 
--- the items of an array that was made of a list are the list
+-- the items of the array of a list are the list
 pub item_list-items_of : (ds : List Data) → item_list (items_of ds) ≡ ds
 item_list-items_of [] = refl
 item_list-items_of (d ∷ ds) = ap (λ (es : List Data). d ∷ es) (item_list-items_of ds)

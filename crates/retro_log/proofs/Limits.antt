@@ -1,4 +1,4 @@
--- A state with a lawful tree is within the limits where its sessions are.
+-- The law of a state, by the tests of its tree and its sessions.
 use Rattle.std.proofs.Common.{◌≡◌, Bool, true, false, refl, sym, ap, ◌∙◌}
 use Rattle.std.specs.Prelude.{IsTrue, ◌↔◌}
 use Rattle.std.specs.FinMap as map

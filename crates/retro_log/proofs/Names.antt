@@ -17,7 +17,7 @@ table some false false true nul fits one h = absurd (false≢true h)
 table some false false false nul true one h = rw one refl
 table some false false false nul false one h = rw one refl
 
--- a written name is a file's name where it is short enough
+-- a written name is a file's name exactly if it is short
 pub name_fits : (name : Text) → is_written_name name ≡ true → is_name name ≡ nat_le (length name) 255
 unfolding is_written_name is_name
 name_fits [] h = absurd (false≢true h)

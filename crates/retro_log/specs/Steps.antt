@@ -15,6 +15,6 @@ each f (x ∷ xs) = do
   ys ← each f xs
   Ok (y ∷ ys)
 
--- the refusal, where a test fails
+-- the refusal, if a test fails
 abbrev pub guard : Bool → Refusal → Result ⊤ Refusal
 guard holds refusal = if holds then Ok tt else Err refusal

@@ -63,7 +63,7 @@ entry_or_dir row = unwrap_or row.1 Dir
 abbrev pub is_within_limits : Row → Bool
 is_within_limits row = is_some row.0 && entry_fits (entry_or_dir row)
 
--- ---- the law: no path twice, the root not listed, and the whole a lawful tree
+-- ---- the law: no path twice, the root not listed, and all rows together a lawful tree
 
 abbrev pub path_entry : Row → PathValue × Entry
 path_entry row = (unwrap_or row.0 [], entry_or_dir row)

@@ -120,11 +120,18 @@ fn json(alloc: Global, bytes: &[u8]) -> Result<Value, LogFault>
     }
 }
 
-/// The script that the bytes are, or the first refusal: not UTF-8 or no JSON value; no object, a
-/// foreign key, a missing key; the version; then tree, sessions and lines, each over its whole list
-/// for its shape, then its hex, then its limits, and then the tree's law; then the order of the
-/// lines' numbers, then their sessions. Of a doubled key the last value counts. The script's first
-/// state is known to be lawful.
+/// The script that the bytes are, or the first refusal in this order:
+///
+/// - the bytes aren't UTF-8, or not one JSON value,
+/// - the value is no object, has a foreign key, or lacks a key (the last value of a doubled key
+///   counts),
+/// - the version is another one,
+/// - the tree: a row has a wrong shape, then bad hex, then breaks a limit, then the law,
+/// - the sessions: a row has a wrong shape or a doubled number, then breaks a limit,
+/// - the lines: a row has a wrong shape, then numbers don't rise, then a session is missing.
+///
+/// Each item is tested over the whole list before the next item. The first state of the script is
+/// known to be lawful.
 #[tactic(auto, unfolding(crate::specs::Document::script_in))]
 pub fn read_script(alloc: Global, bytes: &[u8]) -> Result<Script, LogFault>
     ensures { ReadsAs (λ script. script) result (script_in bytes.now) }
