@@ -1,7 +1,8 @@
 //! How the program ends.
-ghost use Rattle.std.specs.Prelude.{◌≡◌, OnOk};
+ghost use Rattle.std.specs.Prelude.{◌≡◌, Ok, OnOk};
 ghost use Rattle.std.specs.Io.KnownBytes.{Appends};
 ghost use Rattle.retro_cli.specs.Exit.{exit_of, message_of, status_of};
+ghost use Rattle.retro_cli.specs.declared.exit.Exit.TheVariants as exits;
 
 use crate::stop::Stop;
 use std::io;
@@ -53,8 +54,9 @@ impl Exit {
 
     /// Writes the line for standard error: nothing if the program is done. It allocates nothing.
     pub fn write_message<W: Write>(self, writer: &mut W) -> io::Result<()>
-        ensures { OnOk result
+        ensures message { OnOk result
             (Appends (W.contents writer.old) (W.contents writer.new) (message_of self)) }
+        ensures done { self ≡ exits.Done → (result ≡ Ok tt) × (writer.new ≡ writer.old) }
     {
         match self {
             Exit::Done => Ok(()),

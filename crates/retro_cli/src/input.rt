@@ -51,6 +51,7 @@ impl<R: Read> Input<R> {
         ensures bytes { IfSome result (λ n.
             GivesPiece (R.remaining self.old.reader) (R.remaining self.new.reader) n piece.new) }
         ensures left { IfSome result (λ _. self.old.reads < MOST_READS) }
+        ensures unchanged { IsNone result → self.new.reads ≡ self.old.reads }
         ensures count { IfSome result (λ _. self.new.reads ≡ self.old.reads + 1) }
     {
         if self.is_broken() {
