@@ -117,13 +117,13 @@ impl Sessions {
         self.is_known_lawful() && session.fits()
     }
 
-    /// Adds a session, and forgets whether the sessions are lawful.
+    /// Adds a session, and then forgets whether the sessions are lawful.
     fn insert(&mut self, sid: u32, session: Session) -> Result<(), AllocError>
         ensures ok { OnOk result (self.new ≡ map.insert self.old sid session) }
         ensures err { OnErr result (self.new ≡ self.old) }
     {
-        self.known_lawful = false;
         self.sessions.insert(sid, session)?;
+        self.known_lawful = false;
         Ok(())
     }
 

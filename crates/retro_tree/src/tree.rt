@@ -64,16 +64,17 @@ impl Tree {
         self.entries.get(path)
     }
 
-    /// Puts an entry at a path and returns the previous one. Forgets whether the tree is lawful.
-    /// Takes no memory if the path has an entry.
+    /// Puts an entry at a path and returns the previous one, and then forgets whether the tree is
+    /// lawful. Takes no memory if the path has an entry.
     fn insert(&mut self, path: Path, entry: Entry) -> Result<Option<Entry>, AllocError>
         ensures previous { IfOk result (λ previous. previous ≡ map.get self.old path) }
         ensures ok { OnOk result (self.new ≡ map.insert self.old path entry) }
         ensures err { OnErr result (self.new ≡ self.old) }
         ensures absent { OnErr result (map.get self.old path ≡ None) }
     {
+        let previous = self.entries.insert(path, entry)?;
         self.known_lawful = false;
-        Ok(self.entries.insert(path, entry)?)
+        Ok(previous)
     }
 
     /// Removes the entry of a path, if it has one. Forgets whether the tree is lawful.
