@@ -1,5 +1,6 @@
 -- Paths as lists of names: their parents, prefixes and children, /dev/null and /etc/passwd.
-use Rattle.std.specs.Prelude.{ℕ, Bool, true, false, not, ◌&&◌, if◌then◌else◌, List, [], ◌∷◌, Option, Some, None, is_some, codes, map}
+use Rattle.std.specs.Prelude.{ℕ, Bool, true, false, not, ◌&&◌, if◌then◌else◌, List, [], ◌∷◌, Option, Some, None}
+use Rattle.std.specs.Prelude.{is_some, codes, map}
 use Rattle.std.specs.List.{list_all}
 use Rattle.retro_path.specs.Order.{text_eq}
 use Rattle.retro_path.specs.Name.{is_name}

@@ -1,6 +1,7 @@
 -- The path that a text names from a directory. Only the text counts, not which files exist, unlike
 -- POSIX.1-2017 XBD 4.13.
-use Rattle.std.specs.Prelude.{ℕ, ◌==◌, Bool, false, not, ◌&&◌, nat_lt, if◌then◌else◌, List, [], ◌∷◌, ◌++◌, length, codes}
+use Rattle.std.specs.Prelude.{ℕ, ◌==◌, Bool, false, not, ◌&&◌, nat_lt, if◌then◌else◌, List, [], ◌∷◌, ◌++◌, length}
+use Rattle.std.specs.Prelude.{codes}
 use Rattle.std.specs.List.{list_any, slice_split}
 use Rattle.retro_path.specs.Ascii.{slash}
 use Rattle.retro_path.specs.Order.{text_eq}

@@ -1,10 +1,12 @@
 //! Paths.
-ghost use Rattle.std.specs.Prelude.{◌≡◌, ◌++◌, ◌∷◌, [], IfOk, OnOk, OnErr, MatchOption, string_bytes, false, length, ◌-◌, take, map, option_map, ◌<◌};
+ghost use Rattle.std.specs.Prelude.{◌≡◌, ◌++◌, ◌∷◌, [], IfOk, OnOk, OnErr, MatchOption};
+ghost use Rattle.std.specs.Prelude.{string_bytes, false, length, ◌-◌, take, map, option_map, ◌<◌};
 ghost use Rattle.std.specs.List.{list_all};
 ghost use Rattle.std.specs.Option.{option_copied};
 ghost use Rattle.retro_path.specs.Order.{path_eq};
 ghost use Rattle.retro_path.specs.Name.{is_name, AllNames};
-ghost use Rattle.retro_path.specs.Path.{parent_of, last_of, prefixes_of, usize_bound, may_exist, is_null, is_root, below, is_child, passwd};
+ghost use Rattle.retro_path.specs.Path.{parent_of, last_of, prefixes_of, usize_bound, may_exist};
+ghost use Rattle.retro_path.specs.Path.{is_null, is_root, below, is_child, passwd};
 ghost use Rattle.retro_path.specs.Resolving.{step};
 
 use crate::name::Name;
@@ -199,7 +201,8 @@ impl Path {
 
     /// Follows one part of a text: appends a name, or removes the last one for `..`. An empty part
     /// and `.` change nothing.
-    #[tactic(auto, unfolding(crate::specs::Resolving::step), using(crate::proofs::Parents::take_is_parent))]
+    #[tactic(auto, unfolding(crate::specs::Resolving::step))]
+    #[tactic(auto, using(crate::proofs::Parents::take_is_parent))]
     pub(crate) fn enter(&mut self, alloc: Global, part: &str) -> Result<(), AllocError>
         ensures ok { OnOk result (self.new ≡ step self.old part.now) }
         ensures err { OnErr result (self.new ≡ self.old) }

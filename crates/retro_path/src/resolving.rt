@@ -2,7 +2,8 @@
 ghost use Rattle.std.specs.Prelude.{◌≡◌, IfOk, map, false, List, ℕ};
 ghost use Rattle.std.specs.List.{list_any};
 ghost use Rattle.retro_path.specs.Path.{PathValue};
-ghost use Rattle.retro_path.specs.Resolving.{parts_of, walk, is_long, start_of, resolve, resolve_parts, is_relative};
+ghost use Rattle.retro_path.specs.Resolving.{parts_of, walk, is_long, start_of, resolve};
+ghost use Rattle.retro_path.specs.Resolving.{resolve_parts, is_relative};
 
 use crate::name::NAME_LIMIT;
 use crate::path::Path;

@@ -1,5 +1,6 @@
 -- The cells on which the answers of a state depend.
-use Rattle.std.proofs.Common.{◌≡◌, ℕ, Bool, true, false, cond, List, [], ◌∷◌, map, Option, Some, None, refl, sym, ap, ◌∙◌, nat_eq}
+use Rattle.std.proofs.Common.{◌≡◌, ℕ, Bool, true, false, cond, List, [], ◌∷◌, map, Option, Some, None, refl, sym, ap}
+use Rattle.std.proofs.Common.{◌∙◌, nat_eq}
 use Rattle.std.specs.List.{filter_map, cons_option}
 use Rattle.std.specs.Option.{unwrap_or, is_some}
 use Rattle.std.specs.FinMap as map
@@ -10,7 +11,8 @@ use Rattle.std.proofs.lemmas.Bool.{true≢false, false≢true}
 use Rattle.std.specs.Cmp.{nat_cmp_total, nat_eq_equiv}
 use Rattle.std.specs.FinMap.{nat_cmp-IsAntisymmetric}
 use Rattle.std.specs.Cmp.Lexicographic.{nat_list_eq_equiv}
-use Rattle.retro_tree.specs.Order.{path_cmp, path_eq, path_total, path_exact, path_equiv, text_eq, text_total, text_exact}
+use Rattle.retro_tree.specs.Order.{path_cmp, path_eq, path_total, path_exact, path_equiv, text_eq, text_total}
+use Rattle.retro_tree.specs.Order.{text_exact}
 use Rattle.retro_tree.specs.Path.{PathValue, parent_of, child_name, is_child, passwd}
 use Rattle.retro_tree.specs.Node.{node_of, kind_of, permit_at}
 use Rattle.retro_tree.specs.Tree.{Tree, node_in}

@@ -17,7 +17,8 @@ use Rattle.retro_tree.specs.declared.value.Value.TheVariants as values
 use Rattle.retro_tree.specs.declared.change.Change.{Change}
 use Rattle.retro_tree.specs.declared.change.Change.TheVariants as changes
 use Rattle.retro_tree.specs.declared.state.State.{State}
-use Rattle.retro_tree.proofs.Lookups.{get_inserted, get_inserted_apart, node_put, node_put_apart, session_updated, session_updated_apart}
+use Rattle.retro_tree.proofs.Lookups.{get_inserted, get_inserted_apart, node_put, node_put_apart, session_updated}
+use Rattle.retro_tree.proofs.Lookups.{session_updated_apart}
 
 pub value_changed : (change : Change) (s : State) → value (cell_of change) (apply change s)
     ≡ written change (value (cell_of change) s)

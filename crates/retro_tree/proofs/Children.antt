@@ -1,5 +1,6 @@
 -- The names in a directory: they are in byte order, and are those of the children that exist.
-use Rattle.std.proofs.Common.{◌≡◌, ℕ, true, false, ◌||◌, List, [], ◌∷◌, ◌++◌, map, Option, Some, None, refl, sym, ap, ◌∙◌, subst, T}
+use Rattle.std.proofs.Common.{◌≡◌, ℕ, true, false, ◌||◌, List, [], ◌∷◌, ◌++◌, map, Option, Some, None, refl, sym, ap}
+use Rattle.std.proofs.Common.{◌∙◌, subst, T}
 use Rattle.std.specs.Option.{is_some}
 use Rattle.std.specs.List.{filter_map, cons_option, AllByRecursion, list_any}
 use Rattle.std.specs.List.Sorted.{IsStrictlySortedBy}
@@ -94,7 +95,8 @@ members p n (k ∷ ks) =
       | None ↦ λ is. members p n ks ∙ ap (λ b. b || list_any (eq_by_cmp path_cmp (p ++ n ∷ [])) ks)
           (sym (elim (eq_by_cmp path_cmp (p ++ n ∷ []) k) as (λ b. eq_by_cmp path_cmp (p ++ n ∷ []) k ≡ b → b ≡ false) [
             | true ↦ λ t. absurd
-                (none_some n (sym is ∙ ap (child_name p) (sym (path_exact (p ++ n ∷ []) k (tied _ t))) ∙ child_name_of p n))
+                (none_some n (sym is ∙ ap (child_name p) (sym (path_exact (p ++ n ∷ []) k (tied _ t)))
+                ∙ child_name_of p n))
             | false ↦ λ t. refl
           ] refl))
       | Some m ↦ λ is. λ i. (text_ties n m ∙ ap is_eq (sym (siblings p n m))

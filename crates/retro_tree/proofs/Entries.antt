@@ -7,7 +7,8 @@ use Rattle.std.specs.declared.cmp.Ordering.{Ordering}
 use Rattle.std.specs.FinMap as map
 use Rattle.std.specs.FinMap.{FinMap, IsAntisymmetric, get-entries}
 use Rattle.std.specs.FinMap.Entries.{find, is_sorted, below_all}
-use Rattle.retro_tree.proofs.Small.{tied, less, both_fst, both_snd, none_some, some_same, first_true, both_true, and_true}
+use Rattle.retro_tree.proofs.Small.{tied, less, both_fst, both_snd, none_some, some_same, first_true, both_true}
+use Rattle.retro_tree.proofs.Small.{and_true}
 
 module _ {K X : Type 0} {R : K → K → Ordering} (total : IsTotalOrder R) (exact : IsAntisymmetric R) where
   found_passes : (test : K × X → Bool) (es : List (K × X)) (k : K) (x : X) → list_all test es ≡ true

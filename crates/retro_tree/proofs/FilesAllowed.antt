@@ -1,5 +1,6 @@
 -- A lawful tree stays lawful if a permitted write is made.
-use Rattle.std.proofs.Common.{nat_lt, length-append, arith, ◌+◌, ◌≡◌, ◌≤◌, ℕ, Bool, true, false, not, nat_le, length, List, [], ◌∷◌, ◌++◌, Option, Some, None, refl, sym, ap, ◌∙◌, nat_eq}
+use Rattle.std.proofs.Common.{nat_lt, length-append, arith, ◌+◌, ◌≡◌, ◌≤◌, ℕ, Bool, true, false, not, nat_le, length}
+use Rattle.std.proofs.Common.{List, [], ◌∷◌, ◌++◌, Option, Some, None, refl, sym, ap, ◌∙◌, nat_eq}
 use Rattle.std.specs.Prelude.{codes}
 use Rattle.std.specs.Option.{is_some}
 use Rattle.std.specs.Bool.{if◌then◌else◌}

@@ -1,5 +1,6 @@
 -- Overlays in which each entry fits its cell: the committed state is the combined state.
-use Rattle.std.proofs.Common.{◌≡◌, ℕ, Bool, true, false, List, [], ◌∷◌, Option, Some, None, refl, sym, ap, ◌∙◌, subst, T}
+use Rattle.std.proofs.Common.{◌≡◌, ℕ, Bool, true, false, List, [], ◌∷◌, Option, Some, None, refl, sym, ap, ◌∙◌, subst}
+use Rattle.std.proofs.Common.{T}
 use Rattle.std.specs.Bool.{if◌then◌else◌}
 use Rattle.std.specs.FinMap as map
 use Rattle.std.specs.FinMap.{get-entries, get-empty, entries_sorted}
@@ -8,7 +9,8 @@ use Rattle.std.proofs.lemmas.Bool.{false≢true}
 use Rattle.retro_tree.specs.CellOrder.{cell_cmp}
 use Rattle.retro_tree.specs.Cell.{value}
 use Rattle.retro_tree.specs.Notes.{cell_eq}
-use Rattle.retro_tree.specs.Overlay.{OverlayMap, Overlays, combined_value, fits_cell, Fits, overlay_entry_grown, grown_at, replaced_at}
+use Rattle.retro_tree.specs.Overlay.{OverlayMap, Overlays, combined_value, fits_cell, Fits, overlay_entry_grown}
+use Rattle.retro_tree.specs.Overlay.{grown_at, replaced_at}
 use Rattle.retro_tree.specs.Commit.{put_cell, put_cells, committed}
 use Rattle.retro_tree.specs.declared.cell.Cell.{Cell}
 use Rattle.retro_tree.specs.declared.cell.Cell.TheVariants as cells

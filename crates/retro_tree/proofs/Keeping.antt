@@ -1,5 +1,6 @@
 -- The changes that keep a lawful state lawful.
-use Rattle.std.proofs.Common.{◌≡◌, ◌≤◌, ℕ, true, false, List, [], length, Option, Some, None, refl, sym, ap, ◌∙◌, nat_le, ◌&&◌, subst, ⊎_elim, arith}
+use Rattle.std.proofs.Common.{◌≡◌, ◌≤◌, ℕ, true, false, List, [], length, Option, Some, None, refl, sym, ap, ◌∙◌}
+use Rattle.std.proofs.Common.{nat_le, ◌&&◌, subst, ⊎_elim, arith}
 use Rattle.std.proofs.lemmas.Bool.{cases_eq, leb-true, le-leb}
 use Rattle.std.specs.Ordering.{nat_cmp}
 use Rattle.std.specs.Option.{unwrap_or}

@@ -1,5 +1,6 @@
 -- Changes for which `may_make` is true, by answers of the state.
-use Rattle.std.proofs.Common.{◌≡◌, ◌≤◌, ◌+◌, ℕ, Bool, true, false, not, nat_lt, List, [], ◌∷◌, length, Option, Some, None, refl, sym, ap, ◌∙◌, ◌||◌, arith}
+use Rattle.std.proofs.Common.{◌≡◌, ◌≤◌, ◌+◌, ℕ, Bool, true, false, not, nat_lt, List, [], ◌∷◌, length, Option, Some}
+use Rattle.std.proofs.Common.{None, refl, sym, ap, ◌∙◌, ◌||◌, arith}
 use Rattle.std.specs.Prelude.{min}
 use Rattle.std.specs.Option.{is_some}
 use Rattle.std.specs.List.{list_any, filter_map, cons_option}

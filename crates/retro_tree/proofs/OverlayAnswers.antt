@@ -1,5 +1,6 @@
 -- Answers of the combined state.
-use Rattle.std.proofs.Common.{◌≡◌, ℕ, ◌+◌, nat_lt, List, ◌++◌, length, Some, None, refl, sym, ap, ◌∙◌, arith, length-append}
+use Rattle.std.proofs.Common.{◌≡◌, ℕ, ◌+◌, nat_lt, List, ◌++◌, length, Some, None, refl, sym, ap, ◌∙◌, arith}
+use Rattle.std.proofs.Common.{length-append}
 use Rattle.std.specs.Prelude.{min, if◌then◌else◌}
 use Rattle.std.specs.FinMap as map
 use Rattle.retro_tree.specs.Path.{PathValue, parent_of}

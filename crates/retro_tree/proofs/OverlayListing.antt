@@ -1,5 +1,6 @@
 -- The names of the children of a path in the combined state.
-use Rattle.std.proofs.Common.{◌≡◌, ◌≢◌, ℕ, Bool, true, false, cond, ◌||◌, List, [], ◌∷◌, ◌++◌, Option, Some, None, refl, sym, ap, ◌∙◌, subst, T}
+use Rattle.std.proofs.Common.{◌≡◌, ◌≢◌, ℕ, Bool, true, false, cond, ◌||◌, List, [], ◌∷◌, ◌++◌, Option, Some, None, refl}
+use Rattle.std.proofs.Common.{sym, ap, ◌∙◌, subst, T}
 use Rattle.std.specs.Option.{unwrap_or, is_some}
 use Rattle.std.specs.List.{list_any, filter}
 use Rattle.std.specs.Bool.{if◌then◌else◌}
@@ -19,7 +20,8 @@ use Rattle.retro_tree.specs.Tree.{Tree, node_in, put}
 use Rattle.retro_tree.specs.Ask.{names_in}
 use Rattle.retro_tree.specs.Cell.{value}
 use Rattle.retro_tree.specs.Overlay.{OverlayMap, Overlays, combined_value}
-use Rattle.retro_tree.specs.Marks.{overlay_from, cell_below, starts_below, children_tree, mark, mark_of, put_mark, mark_entry, mark_entries}
+use Rattle.retro_tree.specs.Marks.{overlay_from, cell_below, starts_below, children_tree, mark, mark_of, put_mark}
+use Rattle.retro_tree.specs.Marks.{mark_entry, mark_entries}
 use Rattle.retro_tree.specs.declared.node.Node.{Node}
 use Rattle.retro_tree.specs.declared.node.Node.TheVariants.{Missing, Dir, File}
 use Rattle.retro_tree.specs.declared.cell.Cell.{Cell}
@@ -179,7 +181,8 @@ node_marks p q child (e ∷ es) h t =
           ∙ ap (λ c. node_in q (mark_entry p c e.1 t)) (sym same) ∙ mark_here p q e.1 t child
       | false ↦ λ s. ap (overlays_mark (find cell_cmp (cells.At q) es))
           (mark_there p q e.0 e.1 t
-          (λ same. true≢false (sym (ap (λ c. eq_by_cmp cell_cmp c e.0) same ∙ ap is_eq (tied_itself cell_total e.0)) ∙ s)))
+          (λ same. true≢false (sym (ap (λ c. eq_by_cmp cell_cmp c e.0) same ∙ ap is_eq (tied_itself cell_total
+          e.0)) ∙ s)))
     ] refl
 
 -- a child is below its parent

@@ -1,5 +1,6 @@
 -- Entries written to cells: the value of each cell, and which sessions are created.
-use Rattle.std.proofs.Common.{◌≡◌, ◌≢◌, ℕ, Bool, true, false, not, ◌||◌, ◌&&◌, cond, List, [], ◌∷◌, ◌++◌, reverse, Option, Some, None, refl, sym, ap, subst, ◌∙◌, nat_cmp, T, ⊎_elim}
+use Rattle.std.proofs.Common.{◌≡◌, ◌≢◌, ℕ, Bool, true, false, not, ◌||◌, ◌&&◌, cond, List, [], ◌∷◌, ◌++◌, reverse}
+use Rattle.std.proofs.Common.{Option, Some, None, refl, sym, ap, subst, ◌∙◌, nat_cmp, T, ⊎_elim}
 use Rattle.std.specs.Bool.{if◌then◌else◌}
 use Rattle.std.specs.Option.{is_some, unwrap_or}
 use Rattle.std.specs.Ordering.{eq_by_cmp, is_eq}
@@ -30,7 +31,8 @@ use Rattle.retro_tree.specs.declared.change.Change.TheVariants as changes
 use Rattle.retro_tree.specs.declared.session.Session.{Session}
 use Rattle.retro_tree.specs.declared.state.State.{State}
 use Rattle.retro_tree.proofs.Small.{and_true, tied, less, both_fst, both_snd, none_some}
-use Rattle.retro_tree.proofs.Lookups.{get_removed, get_removed_apart, session_updated, session_updated_apart, var_of_none}
+use Rattle.retro_tree.proofs.Lookups.{get_removed, get_removed_apart, session_updated, session_updated_apart}
+use Rattle.retro_tree.proofs.Lookups.{var_of_none}
 use Rattle.retro_tree.proofs.CellLaw.{kept}
 use Rattle.retro_tree.proofs.Agree.{same_state}
 use Rattle.retro_tree.proofs.NoteLaws.{same_cells, cells_apart, value_applied}

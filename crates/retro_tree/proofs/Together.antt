@@ -1,5 +1,6 @@
 -- In the order of paths, the paths below a path are consecutive and follow it.
-use Rattle.std.proofs.Common.{◌≡◌, ℕ, Bool, true, false, cond, ◌||◌, List, [], ◌∷◌, map, Option, Some, None, refl, sym, ap, ◌∙◌, T}
+use Rattle.std.proofs.Common.{◌≡◌, ℕ, Bool, true, false, cond, ◌||◌, List, [], ◌∷◌, map, Option, Some, None, refl, sym}
+use Rattle.std.proofs.Common.{ap, ◌∙◌, T}
 use Rattle.std.specs.Option.{is_some}
 use Rattle.std.specs.Bool.{if◌then◌else◌}
 use Rattle.std.specs.List.{filter, filter_map, cons_option, list_any}

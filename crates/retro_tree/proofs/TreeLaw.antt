@@ -44,7 +44,8 @@ told tree l = record {
     allowed : (name : List ℕ) (rest : PathValue) → node_in (name ∷ rest) tree ≢ Missing
         → may_exist (name ∷ rest) ≡ true
     allowed name rest ne =
-        place_allowed name rest (node_in (name ∷ rest) tree) (node_in (parent_of (name ∷ rest)) tree) ne (l (name ∷ rest))
+        place_allowed name rest (node_in (name ∷ rest) tree) (node_in (parent_of (name ∷ rest)) tree) ne
+        (l (name ∷ rest))
 
     apart : (p : PathValue) → node_in p tree ≢ Missing → is_some (below null_path p) ≡ false
     apart [] ne = refl

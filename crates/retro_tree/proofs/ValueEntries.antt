@@ -8,7 +8,8 @@ use Rattle.std.proofs.lemmas.Bool.{false≢true, true≢false}
 use Rattle.retro_tree.specs.CellOrder.{cell_cmp}
 use Rattle.retro_tree.specs.Cell.{value}
 use Rattle.retro_tree.specs.Notes.{cell_eq, after, changes, effects}
-use Rattle.retro_tree.specs.Overlay.{OverlayMap, Overlays, AllValues, is_value, combined_value, overlay_entry_grown, grown_at, replaced_at}
+use Rattle.retro_tree.specs.Overlay.{OverlayMap, Overlays, AllValues, is_value, combined_value, overlay_entry_grown}
+use Rattle.retro_tree.specs.Overlay.{grown_at, replaced_at}
 use Rattle.retro_tree.specs.declared.cell.Cell.{Cell}
 use Rattle.retro_tree.specs.declared.note.Note.{Note}
 use Rattle.retro_tree.specs.declared.overlay_entry.OverlayEntry.{OverlayEntry}

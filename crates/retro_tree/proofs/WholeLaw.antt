@@ -1,5 +1,6 @@
 -- The whole tests of trees, sessions and states.
-use Rattle.std.proofs.Common.{◌≡◌, ◌≤◌, ℕ, Bool, true, nat_le, length, List, [], ◌∷◌, Option, Some, None, refl, sym, ap, ◌∙◌, arith}
+use Rattle.std.proofs.Common.{◌≡◌, ◌≤◌, ℕ, Bool, true, nat_le, length, List, [], ◌∷◌, Option, Some, None, refl, sym, ap}
+use Rattle.std.proofs.Common.{◌∙◌, arith}
 use Rattle.std.specs.Prelude.{IsTrue, ◌↔◌}
 use Rattle.std.proofs.lemmas.Bool.{leb-true, le-leb}
 use Rattle.std.specs.Ordering.{nat_cmp}
@@ -11,7 +12,8 @@ use Rattle.retro_tree.specs.Path.{PathValue, parent_of, may_exist}
 use Rattle.retro_tree.specs.Node.{node_of, is_dir, size_of, file_limit}
 use Rattle.retro_tree.specs.Tree.{Tree, node_in}
 use Rattle.retro_tree.specs.Session.{value_limit}
-use Rattle.retro_tree.specs.Limits.{AreLawfulSessions, IsWithinLimits, values_fit, session_fits, are_lawful_sessions, entry_fits, files_fit, within_limits}
+use Rattle.retro_tree.specs.Limits.{AreLawfulSessions, IsWithinLimits, values_fit, session_fits, are_lawful_sessions}
+use Rattle.retro_tree.specs.Limits.{entry_fits, files_fit, within_limits}
 use Rattle.retro_tree.specs.Lawful.{law_at, IsLawfulTree, entry_passes, is_lawful_tree, IsLawful, is_lawful}
 use Rattle.retro_tree.specs.declared.entry.Entry.{Entry}
 use Rattle.retro_tree.specs.declared.node.Node.{Node}

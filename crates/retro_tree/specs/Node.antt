@@ -1,5 +1,6 @@
 -- Nodes: how they grow, and whether they can be written to.
-use Rattle.std.specs.Prelude.{ℕ, ◌+◌, Bool, true, false, nat_lt, if◌then◌else◌, List, ◌++◌, length, take, Option, Some, None}
+use Rattle.std.specs.Prelude.{ℕ, ◌+◌, Bool, true, false, nat_lt, if◌then◌else◌, List, ◌++◌, length, take, Option, Some}
+use Rattle.std.specs.Prelude.{None}
 use Rattle.retro_tree.specs.declared.entry.Entry.{Entry}
 use Rattle.retro_tree.specs.declared.entry.Entry.TheVariants.{Dir as DirEntry, File as FileEntry}
 use Rattle.retro_tree.specs.declared.node.Node.{Node}

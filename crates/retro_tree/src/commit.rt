@@ -6,7 +6,8 @@ ghost use Rattle.retro_tree.specs.Node.{is_present};
 ghost use Rattle.retro_tree.specs.State.{put_node, grow_file};
 ghost use Rattle.retro_tree.specs.Change.{put_setting};
 ghost use Rattle.retro_tree.specs.Commit.{put_cell, put_cells};
-ghost use Rattle.retro_tree.specs.CommitSteps.{removes, removals, writes, undo_all, CanUndoAll, Undoes};
+ghost use Rattle.retro_tree.specs.CommitSteps.{removes, removals, writes, undo_all, CanUndoAll};
+ghost use Rattle.retro_tree.specs.CommitSteps.{Undoes};
 ghost use Rattle.retro_tree.specs.declared.overlay_entry.OverlayEntry.TheVariants as OverlayEntry;
 
 use crate::cell::Cell;

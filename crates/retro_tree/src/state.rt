@@ -11,7 +11,8 @@ ghost use Rattle.retro_tree.specs.User.{user_in};
 ghost use Rattle.retro_tree.specs.Session.{session_in};
 ghost use Rattle.retro_tree.specs.Limits.{IsWithinLimits, within_limits};
 ghost use Rattle.retro_tree.specs.Lawful.{IsLawful, is_lawful};
-ghost use Rattle.retro_tree.specs.State.{empty_state, put_node, grow_file, put_session, put_status, permit_of};
+ghost use Rattle.retro_tree.specs.State.{empty_state, put_node, grow_file, put_session, put_status};
+ghost use Rattle.retro_tree.specs.State.{permit_of};
 ghost use Rattle.retro_tree.specs.Change.{put_setting, apply, IsLawfulChange};
 
 use crate::answer::Answer;

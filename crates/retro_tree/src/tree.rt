@@ -3,11 +3,13 @@ ghost use Rattle.std.specs.Prelude.{◌≡◌, ◌↔◌, ◌&&◌, IsTrue, IfOk
 ghost use Rattle.std.specs.Option.{option_copied};
 ghost use Rattle.std.specs.FinMap as map;
 ghost use Rattle.retro_tree.specs.Path.{parent_of, may_exist};
-ghost use Rattle.retro_tree.specs.Node.{bytes_in, is_dir, is_present, kind_of, size_of, permit_at, grown};
+ghost use Rattle.retro_tree.specs.Node.{bytes_in, is_dir, is_present, kind_of, size_of, permit_at};
+ghost use Rattle.retro_tree.specs.Node.{grown};
 ghost use Rattle.retro_tree.specs.Tree.{node_in, put, has_child, entries_from};
 ghost use Rattle.retro_tree.specs.Ask.{names_in};
 ghost use Rattle.retro_tree.specs.Limits.{files_fit};
-ghost use Rattle.retro_tree.specs.Lawful.{IsLawfulTree, may_put, may_grow, is_lawful_tree, entry_passes};
+ghost use Rattle.retro_tree.specs.Lawful.{IsLawfulTree, may_put, may_grow, is_lawful_tree};
+ghost use Rattle.retro_tree.specs.Lawful.{entry_passes};
 ghost use Rattle.retro_tree.specs.CommitSteps.{cut_at};
 ghost use Rattle.retro_tree.specs.declared.node.Node.TheVariants.{Missing};
 

@@ -2,7 +2,8 @@
 ghost use Rattle.std.specs.Prelude.{◌≡◌, ◌==◌, IfOk, map, option_map};
 ghost use Rattle.std.specs.List.{slice_split, list_all};
 ghost use Rattle.std.specs.Char.{is_ascii_digit};
-ghost use Rattle.retro_tree.specs.User.{plain_text, user_number, named, entry_by, entry_of_line, find_user};
+ghost use Rattle.retro_tree.specs.User.{plain_text, user_number, named, entry_by, entry_of_line};
+ghost use Rattle.retro_tree.specs.User.{find_user};
 
 use retro_path::Text;
 use std::alloc::{AllocError, Global};

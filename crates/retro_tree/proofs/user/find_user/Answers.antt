@@ -12,8 +12,11 @@ unfolding find_user
 returns-in-Some-2 c =
     let name = c.args.name.now in
     let lines = slice_split (λ b. b == 10) c.args.bytes.now in
-    let turn = YieldsList-turn (YieldsList-from_slice_split _ _ c.args.bytes.now (cc) (cc) (cc) (λ x r q k. search (rules, tests))) c.loop-line.yielded _ c.loop-line.yielded_by _ _ c.in-Some.line c.in-Some.is c.next.ensures.steps in
-    sym (line_found name c.in-Some.line.now (drop (length c.loop-line.yielded + 1) lines) c.in-Some-2.user (sym c.in_ok-user.ensures ∙ c.in-Some-2.is))
+    let turn = YieldsList-turn (YieldsList-from_slice_split _ _ c.args.bytes.now (cc) (cc) (cc)
+    (λ x r q k. search (rules, tests))) c.loop-line.yielded _ c.loop-line.yielded_by _ _ c.in-Some.line
+    c.in-Some.is c.next.ensures.steps in
+    sym (line_found name c.in-Some.line.now (drop (length c.loop-line.yielded + 1) lines) c.in-Some-2.user
+    (sym c.in_ok-user.ensures ∙ c.in-Some-2.is))
     ∙ sym (at_line name lines (length c.loop-line.yielded) c.in-Some.line.now turn)
     ∙ c.loop-line.invariant
 
@@ -21,9 +24,12 @@ pub loop-line-preserved : goal.loop-line-preserved
 loop-line-preserved c =
     let name = c.args.name.now in
     let lines = slice_split (λ b. b == 10) c.args.bytes.now in
-    let turn = YieldsList-turn (YieldsList-from_slice_split _ _ c.args.bytes.now (cc) (cc) (cc) (λ x r q k. search (rules, tests))) c.loop-line.yielded _ c.loop-line.yielded_by _ _ c.in-Some.line c.in-Some.is c.next.ensures.steps in
+    let turn = YieldsList-turn (YieldsList-from_slice_split _ _ c.args.bytes.now (cc) (cc) (cc)
+    (λ x r q k. search (rules, tests))) c.loop-line.yielded _ c.loop-line.yielded_by _ _ c.in-Some.line
+    c.in-Some.is c.next.ensures.steps in
     ap (λ n. find_in name (drop n lines)) (length_push c.loop-line.yielded c.in-Some.line)
-    ∙ sym (line_passed name c.in-Some.line.now (drop (length c.loop-line.yielded + 1) lines) (sym c.in_ok-user.ensures ∙ c.in_default.is))
+    ∙ sym (line_passed name c.in-Some.line.now (drop (length c.loop-line.yielded + 1) lines)
+    (sym c.in_ok-user.ensures ∙ c.in_default.is))
     ∙ sym (at_line name lines (length c.loop-line.yielded) c.in-Some.line.now turn)
     ∙ c.loop-line.invariant
 
@@ -32,5 +38,7 @@ unfolding find_user
 returns c =
     let name = c.args.name.now in
     let lines = slice_split (λ b. b == 10) c.args.bytes.now in
-    let end = YieldsList-end (YieldsList-from_slice_split _ (λ b. b == 10) c.args.bytes.now (cc) (cc) (cc) (λ x r q k. search (rules, tests))) c.loop-line.yielded _ c.loop-line.yielded_by _ _ c.in-None.is c.next.ensures.steps in
+    let end = YieldsList-end (YieldsList-from_slice_split _ (λ b. b == 10) c.args.bytes.now (cc) (cc) (cc)
+    (λ x r q k. search (rules, tests))) c.loop-line.yielded _ c.loop-line.yielded_by _ _ c.in-None.is
+    c.next.ensures.steps in
     sym (at_drop_all (find_in name) lines (length c.loop-line.yielded) (omega (arith, end.1))) ∙ c.loop-line.invariant

@@ -9,5 +9,6 @@ loop-name-preserved c =
     let so_far = c.loop-name.invariant in
     record {
       prefix = prefix;
-      prefixes = one_more _ _ _ _ _ _ _ _ so_far.prefix c.in_ok-push.ensures.ok c.in_ok-copy-2.ensures prefix so_far.prefixes c.in_ok-push-2.ensures.items;
+      prefixes = one_more _ _ _ _ _ _ _ _ so_far.prefix c.in_ok-push.ensures.ok c.in_ok-copy-2.ensures prefix
+          so_far.prefixes c.in_ok-push-2.ensures.items;
     }

@@ -46,7 +46,8 @@ returns-in_err-grow-clause-err c =
     let wrote = c.get_mut.follows.holds c.grow.new.self in
     any_err c.from_residual.result _
     (made_same cell_total cell_exact es
-    (c.get_mut.follows.lender c.grow.new.self).entries c.args.cell.now c.in-Some.entry.now c.grow.new.self here c.in_err-grow.ensures.err (wrote.3 (subst IsSome (sym here) refl)).0
+    (c.get_mut.follows.lender c.grow.new.self).entries c.args.cell.now c.in-Some.entry.now c.grow.new.self here
+    c.in_err-grow.ensures.err (wrote.3 (subst IsSome (sym here) refl)).0
     ∙ c.self.view_is)
 
 pub returns-clause-done : goal.returns-clause-done

@@ -10,7 +10,8 @@ use Rattle.retro_tree.proofs.overlay.Overlay.remove.Goals as goal
 
 pub returns-clause-value : goal.returns-clause-value
 returns-clause-value c =
-    made_remove cell_total cell_exact c.self.inside.cells.entries c.remove.new.self.entries c.args.cell.now c.remove.ensures.updates.0
+    made_remove cell_total cell_exact c.self.inside.cells.entries c.remove.new.self.entries c.args.cell.now
+    c.remove.ensures.updates.0
     ∙ ap (λ m. map.remove m c.args.cell.now) c.self.view_is
 
 pub returns-clause-overlays : goal.returns-clause-overlays

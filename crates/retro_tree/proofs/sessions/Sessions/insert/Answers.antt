@@ -7,5 +7,6 @@ use Rattle.retro_tree.proofs.sessions.Sessions.insert.Goals as goal
 
 pub returns-clause-ok : goal.returns-clause-ok
 returns-clause-ok c =
-    made_insert nat_cmp_total nat_cmp-IsAntisymmetric c.self.inside.sessions.entries c.insert.new.self.entries c.args.sid c.args.session c.in_ok-insert.ensures.updates.0
+    made_insert nat_cmp_total nat_cmp-IsAntisymmetric c.self.inside.sessions.entries c.insert.new.self.entries
+    c.args.sid c.args.session c.in_ok-insert.ensures.updates.0
     ∙ ap (λ m. map.insert m c.args.sid c.args.session) c.self.view_is

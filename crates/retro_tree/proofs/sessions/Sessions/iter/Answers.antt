@@ -7,4 +7,5 @@ use Rattle.retro_tree.proofs.sessions.Sessions.iter.Goals as goal
 
 pub returns : goal.returns
 returns c = c.iter.ensures.rest
-    ∙ sym (made_entries nat_cmp_total nat_cmp-IsAntisymmetric c.self.inside.sessions.entries c.iter.ensures.ordered) ∙ ap map.entries c.self.view_is
+    ∙ sym (made_entries nat_cmp_total nat_cmp-IsAntisymmetric c.self.inside.sessions.entries
+    c.iter.ensures.ordered) ∙ ap map.entries c.self.view_is

@@ -7,5 +7,6 @@ use Rattle.retro_tree.proofs.sessions.Sessions.remove.Goals as goal
 
 pub returns : goal.returns
 returns c =
-    made_remove nat_cmp_total nat_cmp-IsAntisymmetric c.self.inside.sessions.entries c.remove.new.self.entries c.args.sid c.remove.ensures.updates.0
+    made_remove nat_cmp_total nat_cmp-IsAntisymmetric c.self.inside.sessions.entries c.remove.new.self.entries
+    c.args.sid c.remove.ensures.updates.0
     ∙ ap (λ m. map.remove m c.args.sid) c.self.view_is

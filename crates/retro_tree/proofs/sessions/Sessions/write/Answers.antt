@@ -20,7 +20,8 @@ returns-in_err-set-clause-err c =
     let wrote = c.get_mut.follows.holds c.set.new.self in
     any_err c.from_residual.result _ (
     made_same nat_cmp_total nat_cmp-IsAntisymmetric es
-    (c.get_mut.follows.lender c.set.new.self).entries c.args.sid c.in-Some.session.now c.set.new.self here c.in_err-set.ensures.err (wrote.3 (subst IsSome (sym here) refl)).0
+    (c.get_mut.follows.lender c.set.new.self).entries c.args.sid c.in-Some.session.now c.set.new.self here
+    c.in_err-set.ensures.err (wrote.3 (subst IsSome (sym here) refl)).0
     ∙ c.self.view_is)
 
 pub returns-in-Some-clause-previous : goal.returns-in-Some-clause-previous

@@ -31,7 +31,8 @@ returns-in-Some-clause-err c =
     let wrote = c.get_mut.follows.holds c.grow.new.self in
     on_err c.grow.result _ _ (λ is.
     made_same path_total path_exact es
-    (c.get_mut.follows.lender c.grow.new.self).entries c.args.path.now c.in-Some.entry.now c.grow.new.self here is (wrote.3 (subst IsSome (sym here) refl)).0
+    (c.get_mut.follows.lender c.grow.new.self).entries c.args.path.now c.in-Some.entry.now c.grow.new.self here is
+    (wrote.3 (subst IsSome (sym here) refl)).0
     ∙ c.self.view_is) c.grow.ensures.err
 
 pub returns-clause-ok : goal.returns-clause-ok

@@ -7,7 +7,8 @@ use Rattle.retro_tree.proofs.vars.Vars.insert.Goals as goal
 
 pub returns-clause-ok : goal.returns-clause-ok
 returns-clause-ok c =
-    made_insert text_total text_exact c.self.inside.values.entries c.insert.new.self.entries c.args.name c.args.value c.in_ok-insert.ensures.updates.0
+    made_insert text_total text_exact c.self.inside.values.entries c.insert.new.self.entries c.args.name
+    c.args.value c.in_ok-insert.ensures.updates.0
     ∙ ap (λ m. map.insert m c.args.name c.args.value) c.self.view_is
 
 pub returns-clause-previous : goal.returns-clause-previous
