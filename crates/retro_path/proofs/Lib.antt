@@ -2,3 +2,4 @@ pub mod Parents
 pub mod StripPrefix
 pub mod Alike
 pub mod Prefixes
+pub mod Home

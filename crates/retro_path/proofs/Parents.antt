@@ -15,3 +15,6 @@ get_last (name ∷ []) = refl
 get_last (name ∷ other ∷ rest) =
     let e : length (name ∷ other ∷ rest) - 1 ≡ suc (length (other ∷ rest) - 1) = omega arith in
     ap (slice_get (name ∷ other ∷ rest)) e ∙ get_last (other ∷ rest)
+
+-- the parent of a path is its front
+pub ruleset front = (take_is_parent)

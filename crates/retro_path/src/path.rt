@@ -201,8 +201,7 @@ impl Path {
 
     /// Follows one part of a text: appends a name, or removes the last one for `..`. An empty part
     /// and `.` change nothing.
-    #[tactic(auto, unfolding(crate::specs::Resolving::step))]
-    #[tactic(auto, using(crate::proofs::Parents::take_is_parent))]
+    #[tactic(auto, unfolding(crate::specs::Resolving::step), using(crate::proofs::Parents::front))]
     pub(crate) fn enter(&mut self, alloc: Global, part: &str) -> Result<(), AllocError>
         ensures ok { OnOk result (self.new ≡ step self.old part.now) }
         ensures err { OnErr result (self.new ≡ self.old) }

@@ -107,7 +107,7 @@ impl VarName {
     }
 
     /// Returns the name `HOME`.
-    #[tactic(auto, unfolding(crate::specs::VarName::is_var_name, crate::specs::VarName::is_shell_name))]
+    #[tactic(auto, using(crate::proofs::Home::home_is_name))]
     pub fn home(alloc: Global) -> Result<VarName, AllocError>
         ensures { IfOk result (λ name. name ≡ codes "HOME") }
     {

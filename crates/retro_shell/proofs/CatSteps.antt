@@ -62,6 +62,6 @@ next_step sid s before next operand operands is =
     ap (λ d. both_done d (cat_all sid s operands)) is
     ∙ sym (regroup before (cat_one sid s operand) (cat_all sid s operands))
 
-pub ruleset one_operand = (nothing_after, more_output, one_fault)
+pub ruleset one = (nothing_after, more_output, one_fault)
 
 pub ruleset cat_steps = (nothing_after, first_step, next_step)

@@ -73,14 +73,14 @@ opening_at mode name (resolved.Is p) s =
     if is_null p then (s, ready null) else opening_by_reason (refusal (permit_of p 0 s)) mode name p s
 
 -- opening the file that a word names for output; /dev/null discards what is written
-unfoldable pub file_opening : Mode → ℕ → List ℕ → State → State × Opening
-file_opening mode sid name s = opening_at mode name (resolve (session_in sid s.sessions).cwd name) s
+unfoldable pub opening : Mode → ℕ → List ℕ → State → State × Opening
+opening mode sid name s = opening_at mode name (resolve (session_in sid s.sessions).cwd name) s
 
 -- the target after an item: that of its redirection, or the earlier one where the item is a word
 abbrev pub item_opening : ℕ → PlainItem → Target → State → State × Opening
 item_opening sid (word text) target s = (s, ready target)
-item_opening sid (truncate name) target s = file_opening Truncate sid name s
-item_opening sid (append name) target s = file_opening Append sid name s
+item_opening sid (truncate name) target s = opening Truncate sid name s
+item_opening sid (append name) target s = opening Append sid name s
 
 abbrev pub where_ready : State × Opening → (Target → State → State × Opening) → State × Opening
 where_ready (s, ready target) more = more target s

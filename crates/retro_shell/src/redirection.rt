@@ -3,7 +3,7 @@ ghost use Rattle.std.specs.Prelude.{◌≡◌, IfOk, OnOk, map};
 ghost use Rattle.retro_tree.specs.Lawful.{IsLawful};
 ghost use Rattle.retro_syntax.specs.PlainViews.{plain_item_view};
 ghost use Rattle.retro_shell.specs.Redirections.{terminal, target_view, opening_view, item_opening};
-ghost use Rattle.retro_shell.specs.Redirections.{file_opening, redirections, delivery, open_effect};
+ghost use Rattle.retro_shell.specs.Redirections.{opening, redirections, delivery, open_effect};
 ghost use Rattle.retro_shell.specs.Redirections.{IsFit, HasFitTarget};
 
 use crate::diagnostics::{Reason, push_fault, refusal};
@@ -55,7 +55,7 @@ fn prepare(alloc: Global, state: &mut State, path: &Path, mode: Mode) -> Result<
 }
 
 /// Opens the file that a word names for output.
-#[tactic(auto, unfolding(crate::specs::Redirections::file_opening), using(retro_tree::proofs::Keeping::keeping))]
+#[tactic(auto, unfolding(crate::specs::Redirections::opening), using(crate::proofs::Kept::kept))]
 fn open_file<'a>(
     alloc: Global,
     state: &mut State,
@@ -64,7 +64,7 @@ fn open_file<'a>(
     mode: Mode,
 ) -> Result<Opening<'a>, NoMem>
     ensures means { IfOk result (λ o.
-        (state.new, opening_view o) ≡ file_opening mode sid word.entry.now state.old) }
+        (state.new, opening_view o) ≡ opening mode sid word.entry.now state.old) }
     ensures fits { IfOk result (λ o. HasFitTarget (opening_view o)) }
     ensures lawful { OnOk result (IsLawful state.old → IsLawful state.new) }
     ensures sessions { OnOk result (state.new.sessions ≡ state.old.sessions) }
@@ -134,7 +134,7 @@ pub(crate) fn redirect<'a>(
 }
 
 /// Delivers a command's output to its target, and its diagnostics to the terminal.
-#[tactic(auto, unfolding(crate::specs::Redirections::delivery), using(retro_tree::proofs::Keeping::keeping))]
+#[tactic(auto, unfolding(crate::specs::Redirections::delivery), using(crate::proofs::Kept::kept))]
 pub(crate) fn deliver(
     alloc: Global,
     state: &mut State,

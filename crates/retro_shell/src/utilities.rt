@@ -115,7 +115,7 @@ fn reading<'a>(
 
 /// Appends the bytes of an operand of `cat`, or its diagnostic. `-` is standard input, which is
 /// empty.
-#[tactic(auto, unfolding(crate::specs::Utilities::cat_one), using(crate::proofs::CatSteps::one_operand))]
+#[tactic(auto, unfolding(crate::specs::Utilities::cat_one), using(crate::proofs::CatSteps::one))]
 fn cat_one(
     alloc: Global,
     state: &State,

@@ -41,7 +41,8 @@ before_quote ts comment = None
 before_quote ts (operator op) = option_map (λ us. (us, [])) (end_operator ts op)
 before_quote ts (reading (in_word ps digits q)) = Some (ts, ps)
 before_quote ts (reading (dollar ps inside)) = Some (ts, add_plain ps 36)
-before_quote ts (reading (dollar_name ps inside n)) = cond (is_var_name n) (Some (ts, ps ++ T.parameter (T.variable n) ∷ []))
+before_quote ts (reading (dollar_name ps inside n)) =
+    cond (is_var_name n) (Some (ts, ps ++ T.parameter (T.variable n) ∷ []))
     None
 before_quote ts (reading (dollar_brace ps inside n)) = None
 before_quote ts (reading (dollar_question ps inside)) = None
@@ -196,7 +197,8 @@ quoted_nul None c r z = refl
 quoted_nul (Some x) c r z = let same : c ≡ 0 = eqb-true c 0 z in rw same refl
 
 quoted_one : (m : Option (List T.Token × List T.Piece)) (c : ℕ) (r : List ℕ) → (c == 0) ≡ false
-    → lex_run (option_map (quoting double) m) (escaped_then (c ∷ []) (34 ∷ r)) ≡ lex_run (option_map (after_escape c) m) r
+    → lex_run (option_map (quoting double) m) (escaped_then (c ∷ []) (34 ∷ r))
+    ≡ lex_run (option_map (after_escape c) m) r
 quoted_one None c r z = refl
 quoted_one (Some x) c r z =
     escaped_by x.0 (add_quoted x.1 []) c (34 ∷ r) (is_special_inside c) refl z
@@ -369,7 +371,8 @@ operator_no_backslash o k = operator_cases (λ x. (x == 92) ≡ false) refl refl
 pub blank_before : (ts : List T.Token) (p : Pending) (b o : ℕ) (r : List ℕ) → is_blank b ≡ true → is_operator o ≡ true
     → ends_before o p ≡ true → ReadAlike ts p (b ∷ o ∷ r) (o ∷ r)
 blank_before ts p b o r h k e =
-    ap (λ m. lex_run m (o ∷ r)) (blank_ends_word ts p b o e h) ∙ between_on (before_operator ts p) o r (operator_no_backslash o k)
+    ap (λ m. lex_run m (o ∷ r)) (blank_ends_word ts p b o e h)
+    ∙ between_on (before_operator ts p) o r (operator_no_backslash o k)
     ∙ sym (ap (λ m. lex_run m r) (operator_ends_word ts p o k e))
 
 -- ---- comments
@@ -404,7 +407,8 @@ comment_is_nothing ts (reading r) cs h k = cc
 -- what a `$` does where a backslash may quote
 data DollarStep : Option Lexing → Type 0 where
   is_refused : DollarStep None
-  begins_parameter : (ts : List T.Token) (ps : List T.Piece) (inside : Bool) → DollarStep (Some (at ts (dollar ps inside)))
+  begins_parameter : (ts : List T.Token) (ps : List T.Piece) (inside : Bool)
+      → DollarStep (Some (at ts (dollar ps inside)))
 
 dollar_step : (ts : List T.Token) (p : Pending) → takes_backslash p ≡ true
     → DollarStep (lex_step (with_pending ts p) 36)
@@ -424,7 +428,8 @@ dollar_step ts (reading (dollar_name ps true n)) h =
     by_bool (is_var_name n) (λ e. rw e (begins_parameter ts (ps ++ T.quoted_parameter (T.variable n) ∷ []) true))
     (λ e. rw e is_refused)
 dollar_step ts (reading (dollar_name ps false n)) h =
-    by_bool (is_var_name n) (λ e. rw e (begins_parameter ts (ps ++ T.parameter (T.variable n) ∷ []) false)) (λ e. rw e is_refused)
+    by_bool (is_var_name n) (λ e. rw e (begins_parameter ts (ps ++ T.parameter (T.variable n) ∷ []) false))
+    (λ e. rw e is_refused)
 dollar_step ts (reading (dollar_brace ps inside [])) h = is_refused
 dollar_step ts (reading (dollar_brace ps inside (b ∷ n))) h = is_refused
 dollar_step ts (reading (dollar_question ps inside)) h = is_refused

@@ -255,7 +255,7 @@ pub fn is_ordinary(class: Class) -> bool
     }
 }
 
-/// The variable that a word names, for `for`. `Unsupported` if the word isn't the name of a variable
+/// The variable that a word names, for `for`. `Unsupported` if the word isn't a variable's name
 /// that a line may assign.
 #[tactic(auto, unfolding(crate::specs::Words::name_of))]
 pub fn name_of(alloc: Global, word: &Word) -> Result<VarName, SyntaxError>

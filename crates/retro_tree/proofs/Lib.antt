@@ -17,7 +17,7 @@ pub mod OverlayLemmas
 pub mod NoteLaws
 pub mod OverlayChanges
 pub mod OverlayListing
-pub mod OverlayAnswers
+pub mod Answering
 pub mod Users
 pub mod PreviousSettings
 pub mod Undoing

@@ -23,7 +23,7 @@ use Rattle.retro_tree.specs.declared.state.State.{State}
 use Rattle.retro_tree.proofs.Small.{and_true, or_last}
 use Rattle.retro_tree.proofs.LawLemmas.{may_put_back, law_after, none_below_file}
 use Rattle.retro_tree.proofs.FilesAllowed.{allowed_under, permit_no_dir, file_allowed, growth_allowed}
-use Rattle.retro_tree.proofs.OverlayAnswers.{same_under, over_least}
+use Rattle.retro_tree.proofs.Answering.{same_under, over_least}
 use Rattle.retro_tree.proofs.CommittedChanges.{key_changed, sets}
 
 -- ---- files

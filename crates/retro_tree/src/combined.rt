@@ -122,7 +122,7 @@ impl<'a, V: View> Combined<'a, V> {
     }
 
     /// Returns the kind of the node at a path.
-    #[tactic(auto, using(crate::proofs::OverlayAnswers::kind_after), unfolding(crate::specs::Cell::value))]
+    #[tactic(auto, using(crate::proofs::Answering::kinds), unfolding(crate::specs::Cell::value))]
     fn kind(&self, alloc: Global, path: &Path) -> Result<Kind, AllocError>
         ensures { IfOk result (λ kind. (now : State)
             → Overlays self.now.overlay.now (V.state self.now.view.now) now
@@ -138,7 +138,7 @@ impl<'a, V: View> Combined<'a, V> {
     /// Returns whether `more` bytes can be written to the file at a path. Asks only the kind of the
     /// parent. An entry of the path is read in place. If it is a growth, its bytes are added to
     /// those that are to be written.
-    #[tactic(auto, using(crate::proofs::OverlayAnswers::permits), unfolding(crate::specs::Cell::value))]
+    #[tactic(auto, using(crate::proofs::Answering::permits), unfolding(crate::specs::Cell::value))]
     fn permit(&self, alloc: Global, path: &Path, more: u32) -> Result<Permit, AllocError>
         ensures { IfOk result (λ permit. (now : State)
             → Overlays self.now.overlay.now (V.state self.now.view.now) now

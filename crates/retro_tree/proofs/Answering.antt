@@ -18,10 +18,10 @@ use Rattle.retro_tree.specs.declared.value.Value.TheVariants as values
 use Rattle.retro_tree.specs.declared.overlay_entry.OverlayEntry.TheVariants as entries
 use Rattle.retro_tree.specs.declared.state.State.{State}
 
-pub kind_after : (bytes : List ℕ) (node : Node) → kind_of (grown bytes node) ≡ kind_grown (kind_of node)
-kind_after bytes Missing = refl
-kind_after bytes Dir = refl
-kind_after bytes (File old) = refl
+pub kinds : (bytes : List ℕ) (node : Node) → kind_of (grown bytes node) ≡ kind_grown (kind_of node)
+kinds bytes Missing = refl
+kinds bytes Dir = refl
+kinds bytes (File old) = refl
 
 -- ---- permits
 pub same_under : (parent : Node) (a b : ℕ) → nat_lt file_limit a ≡ nat_lt file_limit b → permit_under parent a
