@@ -1,7 +1,7 @@
 //! Documents, and the scripts that they are.
 use crate::rows::text;
 use crate::states::changed;
-use retro_keep::{Script, ScriptFault, ScriptLine};
+use retro_keep::{EditFault, Script, ScriptFault, ScriptLine};
 use retro_log::{LogFault, read_script, sessions_value, tree_value};
 use retro_tree::Text;
 use std::alloc::Global;
@@ -50,8 +50,8 @@ pub fn written(alloc: Global, document: &str) -> Result<String, Fail> {
     Ok(out)
 }
 
-/// The number of the refusal of a state after these changes with these lines, or how many lines the
-/// script of these parts has. A line is given as its number and its session.
+/// The refusal's number of a state after these changes with these lines, or the number of lines of
+/// their script. A line is given as its number and its session.
 pub fn parts(alloc: Global, changes: &str, given: &str) -> Result<String, Fail> {
     let mut lines = Vec::new(alloc);
     for each in given.split(", ") {
@@ -69,5 +69,25 @@ pub fn parts(alloc: Global, changes: &str, given: &str) -> Result<String, Fail> 
         Err(ScriptFault::LawlessTree) => text(alloc, "10"),
         Err(ScriptFault::OverLimit) => text(alloc, "11"),
         Err(ScriptFault::NoMem) => Err("out of memory")?,
+    }
+}
+
+/// The numbers of a script's lines without some, or the refusal and the number that no line has.
+pub fn without(alloc: Global, document: &str, given: &str) -> Result<String, Fail> {
+    let script = read_script(alloc, document.as_bytes()).map_err(|_| "refused")?;
+    let mut numbers: Vec<u32> = Vec::new(alloc);
+    for number in given.split(' ') {
+        numbers.push(number.parse()?)?;
+    }
+    let mut out = String::new(alloc);
+    match script.without(alloc, &numbers) {
+        Ok(script) => {
+            for line in script.lines() {
+                out.push_str(format!(in alloc; "{} ", line.number)?.as_str())?;
+            }
+            Ok(out)
+        }
+        Err(EditFault::UnknownLine(number)) => Ok(format!(in alloc; "21 {number}")?),
+        Err(EditFault::NoMem) => Err("out of memory")?,
     }
 }

@@ -1,6 +1,6 @@
 //! Names, paths, and the paths that texts name.
 use crate::rows::text;
-use retro_tree::{Name, Path, Resolved, VarName, resolve};
+use retro_tree::{Name, Path, Resolved, resolve};
 use std::alloc::{AllocError, Global};
 use std::test::Fail;
 
@@ -34,14 +34,6 @@ pub fn resolved(alloc: Global, cwd: &str, given: &str) -> Result<String, Fail> {
     }
 }
 
-/// The variable's name that a text is, or `none`.
-pub fn variable(alloc: Global, given: &str) -> Result<String, Fail> {
-    match VarName::of(alloc, given)? {
-        Some(name) => text(alloc, name.copy()?.as_str()),
-        None => text(alloc, "none"),
-    }
-}
-
 /// The path of these names, or `none`.
 pub fn joined_path(alloc: Global, names: &[String]) -> Result<String, Fail> {
     let mut texts = Vec::new(alloc);
@@ -54,19 +46,27 @@ pub fn joined_path(alloc: Global, names: &[String]) -> Result<String, Fail> {
     }
 }
 
-/// The parent of a path, and the path of a name in it.
-pub fn parent_and_child(alloc: Global, given: &str, name: &str) -> Result<String, Fail> {
-    let path = path(alloc, given)?;
-    let name = Name::of(text(alloc, name)?).ok_or("no name")?;
-    let parent = path_text(alloc, path.parent(alloc)?.names())?;
-    let child = path_text(alloc, path.child(alloc, &name.copy()?)?.names())?;
-    Ok(format!(in alloc; "{parent} {child}")?)
-}
-
-/// The names of a path below a front, with a slash before each, or `none`.
-pub fn remainder(alloc: Global, front: &str, given: &str) -> Result<String, Fail> {
-    match path(alloc, given)?.strip_prefix(&path(alloc, front)?) {
-        Some(names) => Ok(path_text(alloc, names)?),
-        None => text(alloc, "none"),
+/// A path near another one: its `parent`, the `child` of a name, the names `below` a prefix, or its
+/// `prefixes`.
+pub fn near(alloc: Global, call: &str, given: &str, other: &str) -> Result<String, Fail> {
+    let given = path(alloc, given)?;
+    match call {
+        "parent" => Ok(path_text(alloc, given.parent(alloc)?.names())?),
+        "child" => {
+            let name = Name::of(text(alloc, other)?).ok_or("no name")?;
+            Ok(path_text(alloc, given.child(alloc, &name.copy()?)?.names())?)
+        }
+        "below" => match given.strip_prefix(&path(alloc, other)?) {
+            Some(names) => Ok(path_text(alloc, names)?),
+            None => text(alloc, "none"),
+        },
+        _ => {
+            let mut out = String::new(alloc);
+            for prefix in &given.prefixes(alloc)? {
+                out.push_str(path_text(alloc, prefix.names())?.as_str())?;
+                out.push(' ')?;
+            }
+            Ok(out)
+        }
     }
 }

@@ -40,15 +40,14 @@ fn output(rt: &HostRuntime, given: &str, input: &str) -> Result<(Exit, Vec<u8>),
     Ok((exit, out))
 }
 
-/// How the program ends on words and an input, and what it writes.
+/// The exit status of the program on words and an input, its line for standard error, and what it
+/// writes.
 pub fn run(rt: &HostRuntime, given: &str, input: &str) -> Result<String, Fail> {
     let alloc = rt.alloc();
-    let (exit, out) = output(rt, given, input_named(input))?;
+    let (exit, mut out) = output(rt, given, input_named(input))?;
+    exit.write_message(&mut out)?;
     let out = String::from_utf8(out).map_err(|_| "not UTF-8")?;
-    match exit {
-        Exit::Refused(number) => Ok(format!(in alloc; "{number} {out}")?),
-        _ => Ok(format!(in alloc; "{exit:?} {}", out.trim_end())?),
-    }
+    Ok(format!(in alloc; "{} {}", exit.status(), out.trim_end())?)
 }
 
 /// The script of session 1's lines, over a tree with more entries.

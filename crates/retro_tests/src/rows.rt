@@ -1,11 +1,11 @@
 //! Rows of text, the call that each names, and the test that makes these calls.
-use crate::documents::{parts, script, script_part, written};
-use crate::paths::{joined_path, parent_and_child, remainder, resolved, variable};
+use crate::documents::{parts, script, script_part, without, written};
+use crate::paths::{joined_path, near, resolved};
 use crate::programs::{run, shell};
 use crate::states::{allows, lawfulness, played, state_answer};
 use crate::tables::{DOCUMENTS, EXPANSIONS, PATHS, PROGRAMS, SHELL, STATES, TREES};
 use crate::trees::{plain, tilde, tree};
-use retro_tree::{Name, is_relative};
+use retro_tree::{Name, VarName, is_relative};
 use std::alloc::{AllocError, Global};
 use std::test::Fail;
 
@@ -64,10 +64,13 @@ fn called(rt: &HostRuntime, call: &str, given: &[String]) -> Result<String, Fail
         ("resolve", [cwd, text]) => resolved(alloc, cwd, text),
         ("relative", [text]) => Ok(format!(in alloc; "{}", is_relative(alloc, text)?)?),
         ("name", [name]) => Ok(format!(in alloc; "{}", Name::of(name.clone()?).is_some())?),
-        ("variable", [text]) => variable(alloc, text),
+        ("variable", [name]) => match VarName::of(alloc, name)? {
+            Some(name) => text(alloc, name.copy()?.as_str()),
+            None => text(alloc, "none"),
+        },
         ("path", names) => joined_path(alloc, names),
-        ("parent", [path, name]) => parent_and_child(alloc, path, name),
-        ("below", [front, path]) => remainder(alloc, front, path),
+        ("parent" | "prefixes", [path]) => near(alloc, call, path, ""),
+        ("child" | "below", [path, other]) => near(alloc, call, path, other),
         ("tree", [line]) => tree(alloc, line),
         ("tilde", [line]) => tilde(alloc, line),
         ("plain", [line]) => plain(alloc, line),
@@ -76,6 +79,7 @@ fn called(rt: &HostRuntime, call: &str, given: &[String]) -> Result<String, Fail
         ("lawful", [changes]) => lawfulness(alloc, changes),
         ("play", [changes, line]) => played(alloc, changes, line),
         ("parts", [changes, lines]) => parts(alloc, changes, lines),
+        ("without", [lines, numbers]) => without(alloc, lines, numbers),
         ("script", [document]) => script(alloc, document),
         ("written", [document]) => written(alloc, document),
         ("shell", [entries, lines @ ..]) => shell(rt, entries, lines),

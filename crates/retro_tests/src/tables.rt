@@ -44,13 +44,18 @@ variable: CDPATH => none
 path: a :: b => /a/b
 path: a :: .. => none
 path: a :: b/c => none
-parent: /a/b :: c => /a /a/b/c
-parent: /a :: b => / /a/b
-parent: / :: b => / /b
-below: /a :: /a/b/c => /b/c
-below: / :: /a => /a
-below: /a/b :: /a => none
-below: /a :: /ab => none"##;
+parent: /a/b => /a
+parent: /a => /
+parent: / => /
+child: /a :: b => /a/b
+child: / :: b => /b
+below: /a/b/c :: /a => /b/c
+below: /a :: / => /a
+below: /a :: /a => /
+prefixes: /a/b/c => /a /a/b /a/b/c %(EMPTY)
+prefixes: / => %(EMPTY)
+below: /a :: /a/b => none
+below: /ab :: /a => none"##;
 
 /// Texts, the trees of their lines, and refusals: 5 unsupported, 6 too long, 7 too deep.
 pub const TREES: &str = r##"tree: %(EMPTY) => %(EMPTY)
@@ -481,58 +486,64 @@ parts: status 1 0 :: 2 2, 2 2 => 8
 parts: status 1 0 :: 0 1 => 8
 parts: status 1 0 :: 1 1, 2 2 => 9
 parts: status 1 0 :: 1 1, 7 1 => script 2
+without: {"script":1,"tree":[],"sessions":[[1,"/",0,[]]],"lines":[[1,1,""],[7,1,""]]}
+   :: 7 7 => 1 %(EMPTY)
+without: {"script":1,"tree":[],"sessions":[[1,"/",0,[]]],"lines":[[1,1,""],[7,1,""]]}
+   :: 7 1 => %(EMPTY)
+without: {"script":1,"tree":[],"sessions":[[1,"/",0,[]]],"lines":[[1,1,""],[7,1,""]]}
+   :: 1 2 7 3 => 21 2
 written: {"script":1,"tree":[["/a/b","4A"],["/a"]],"lines":[],"sessions":[[2,"/a",7,[["y","é"]
   ,["x",""]]],[1,"/",0,[]]]} => [["/a"],["/a/b","4a"]] [[1,"/",0,[]],[2,"/a",7,[["x",""],["y",
   "é"]]]]
 written: {"script":1,"tree":[["/f","00aBfF"]],"lines":[],"sessions":[]}
    => [["/f","00abff"]] []"##;
 
-/// Words, an input by its name, how the program ends, and what it writes.
+/// Words, an input by its name, the exit status, and what is written to standard output and error.
 pub const PROGRAMS: &str = r##"run: retro replay :: EMPTY
-   => Done {"outputs":[],"sessions":[],"tree":[]}
-run: retro replay -- :: EMPTY => Done {"outputs":[],"sessions":[],"tree":[]}
-run: retro replay :: UNORDERED => Done {"outputs":[],"sessions":[[1,"/",0,[]]],"tree":[["/a"],
+   => 0 {"outputs":[],"sessions":[],"tree":[]}
+run: retro replay -- :: EMPTY => 0 {"outputs":[],"sessions":[],"tree":[]}
+run: retro replay :: UNORDERED => 0 {"outputs":[],"sessions":[[1,"/",0,[]]],"tree":[["/a"],
   ["/a/b","4a"]]}
-run: retro replay --cancel 1 :: PAIR => Done {"outputs":[[2,
+run: retro replay --cancel 1 :: PAIR => 0 {"outputs":[[2,
   "6361743a20663a204e6f20737563682066696c65206f72206469726563746f72790a"]],"sessions":[[1,"/",1,
   []]],"tree":[]}
-run: retro replay :: PAIR => Done {"outputs":[[1,""],[2,"610a"]],"sessions":[[1,"/",0,[]]],
+run: retro replay :: PAIR => 0 {"outputs":[[1,""],[2,"610a"]],"sessions":[[1,"/",0,[]]],
   "tree":[["/f","610a"]]}
-run: retro replay --cancel= :: PAIR => Done {"outputs":[[1,""],[2,"610a"]],"sessions":[[1,"/",
+run: retro replay --cancel= :: PAIR => 0 {"outputs":[[1,""],[2,"610a"]],"sessions":[[1,"/",
   0,[]]],"tree":[["/f","610a"]]}
 run: retro replay --cancel %(EMPTY) :: PAIR
-   => Done {"outputs":[[1,""],[2,"610a"]],"sessions":[[1,"/",0,[]]],"tree":[["/f","610a"]]}
+   => 0 {"outputs":[[1,""],[2,"610a"]],"sessions":[[1,"/",0,[]]],"tree":[["/f","610a"]]}
 run: retro replay --cancel=0000000002 :: PAIR
-   => Done {"outputs":[[1,""]],"sessions":[[1,"/",0,[]]],"tree":[["/f","610a"]]}
-run: retro replay --cancel=2,2 :: PAIR => Done {"outputs":[[1,""]],"sessions":[[1,"/",0,[]]],
+   => 0 {"outputs":[[1,""]],"sessions":[[1,"/",0,[]]],"tree":[["/f","610a"]]}
+run: retro replay --cancel=2,2 :: PAIR => 0 {"outputs":[[1,""]],"sessions":[[1,"/",0,[]]],
   "tree":[["/f","610a"]]}
-run: retro replay --cancel=1,2 :: PAIR => Done {"outputs":[],"sessions":[[1,"/",0,[]]],"tree":[]}
-run: retro :: PAIR => 31 %(EMPTY)
-run: retro --help :: PAIR => 31 %(EMPTY)
-run: retro -h :: PAIR => 31 %(EMPTY)
-run: retro help :: PAIR => 31 %(EMPTY)
-run: retro --version :: PAIR => 31 %(EMPTY)
-run: retro record :: PAIR => 31 %(EMPTY)
-run: retro repl :: PAIR => 31 %(EMPTY)
-run: retro replay --help :: PAIR => 31 %(EMPTY)
-run: retro replay more :: PAIR => 31 %(EMPTY)
-run: retro replay -- --cancel 1 :: PAIR => 31 %(EMPTY)
-run: retro replay --canc 1 :: PAIR => 31 %(EMPTY)
-run: retro --cancel 1 replay :: PAIR => 31 %(EMPTY)
-run: retro replay --cancel :: PAIR => 31 %(EMPTY)
-run: retro replay --cancel 1 --cancel 1 :: PAIR => 31 %(EMPTY)
-run: retro replay --cancel 1,,2 :: PAIR => 31 %(EMPTY)
-run: retro replay --cancel 1, :: PAIR => 31 %(EMPTY)
-run: retro replay --cancel -1 :: PAIR => 31 %(EMPTY)
-run: retro replay --cancel -- 1 :: PAIR => 31 %(EMPTY)
-run: retro replay --cancel=%(TAB)1 :: PAIR => 31 %(EMPTY)
-run: retro replay --cancel +1 :: PAIR => 31 %(EMPTY)
-run: retro replay --cancel 4294967296 :: PAIR => 31 %(EMPTY)
-run: retro replay --cancel 00000000001 :: PAIR => 31 %(EMPTY)
-run: retro replay --cancel 9, :: [ => 31 %(EMPTY)
-run: retro replay --cancel 9 :: PAIR => 21 %(EMPTY)
-run: retro replay --cancel 9 :: [ => 12 %(EMPTY)
-run: retro replay --cancel 4294967295 :: PAIR => 21 %(EMPTY)"##;
+run: retro replay --cancel=1,2 :: PAIR => 0 {"outputs":[],"sessions":[[1,"/",0,[]]],"tree":[]}
+run: retro :: PAIR => 1 retro: refused 31
+run: retro --help :: PAIR => 1 retro: refused 31
+run: retro -h :: PAIR => 1 retro: refused 31
+run: retro help :: PAIR => 1 retro: refused 31
+run: retro --version :: PAIR => 1 retro: refused 31
+run: retro record :: PAIR => 1 retro: refused 31
+run: retro repl :: PAIR => 1 retro: refused 31
+run: retro replay --help :: PAIR => 1 retro: refused 31
+run: retro replay more :: PAIR => 1 retro: refused 31
+run: retro replay -- --cancel 1 :: PAIR => 1 retro: refused 31
+run: retro replay --canc 1 :: PAIR => 1 retro: refused 31
+run: retro --cancel 1 replay :: PAIR => 1 retro: refused 31
+run: retro replay --cancel :: PAIR => 1 retro: refused 31
+run: retro replay --cancel 1 --cancel 1 :: PAIR => 1 retro: refused 31
+run: retro replay --cancel 1,,2 :: PAIR => 1 retro: refused 31
+run: retro replay --cancel 1, :: PAIR => 1 retro: refused 31
+run: retro replay --cancel -1 :: PAIR => 1 retro: refused 31
+run: retro replay --cancel -- 1 :: PAIR => 1 retro: refused 31
+run: retro replay --cancel=%(TAB)1 :: PAIR => 1 retro: refused 31
+run: retro replay --cancel +1 :: PAIR => 1 retro: refused 31
+run: retro replay --cancel 4294967296 :: PAIR => 1 retro: refused 31
+run: retro replay --cancel 00000000001 :: PAIR => 1 retro: refused 31
+run: retro replay --cancel 9, :: [ => 1 retro: refused 31
+run: retro replay --cancel 9 :: PAIR => 1 retro: refused 21
+run: retro replay --cancel 9 :: [ => 1 retro: refused 12
+run: retro replay --cancel 4294967295 :: PAIR => 1 retro: refused 21"##;
 
 /// The empty script.
 pub const EMPTY: &str = r#"{"script":1,"tree":[],"sessions":[],"lines":[]}"#;
