@@ -8,20 +8,20 @@ ghost use Rattle.retro_tree.specs.Setting.{with_setting};
 ghost use Rattle.retro_tree.specs.Previous.{previous_of, with_previous, has_place};
 ghost use Rattle.retro_tree.specs.Limits.{AreLawfulSessions, are_lawful_sessions};
 
+use crate::known::Known;
 use crate::previous::Previous;
 use crate::session::Session;
+use crate::session_map::SessionMap;
 use crate::setting::Setting;
 use retro_path::VarName;
 use std::alloc::{AllocError, Global};
-use std::collections::BTreeMap;
 use std::collections::btree_map::Iter;
 use std::marker::Model;
 
 /// The sessions of a state, by their numbers. They may be known to be lawful.
 #[derive(Drop, Clone)]
 pub struct Sessions {
-    sessions: BTreeMap<u32, Session>,
-    known_lawful: bool,
+    sessions: Known<SessionMap>,
 }
 
 impl Model for Sessions {
@@ -48,8 +48,7 @@ impl Sessions {
         ensures { result ≡ map.empty }
     {
         Sessions {
-            sessions: BTreeMap::new(alloc),
-            known_lawful: false,
+            sessions: Known::new(SessionMap::new(alloc)),
         }
     }
 
@@ -57,14 +56,14 @@ impl Sessions {
     pub fn get(&self, sid: u32) -> Option<&Session>
         ensures { option_copied result ≡ map.get self.now sid }
     {
-        self.sessions.get(&sid)
+        self.sessions.get().get(sid)
     }
 
     /// Returns the sessions, in order of their numbers.
     pub fn iter(&self) -> Iter<'_, u32, Session>
         ensures { result ≡ map.entries self.now }
     {
-        self.sessions.iter()
+        self.sessions.get().iter()
     }
 
     /// Returns whether each session is within the limits.
@@ -84,7 +83,7 @@ impl Sessions {
     pub(crate) fn is_known_lawful(&self) -> bool
         ensures { IsTrue result → AreLawfulSessions self.now }
     {
-        self.known_lawful
+        self.sessions.is_known()
     }
 
     /// Returns whether each session is within the limits, and remembers it.
@@ -93,7 +92,7 @@ impl Sessions {
         ensures unchanged { self.new ≡ self.old }
     {
         let lawful = self.are_lawful();
-        self.known_lawful = lawful;
+        self.sessions.mark(lawful);
         lawful
     }
 
@@ -103,28 +102,17 @@ impl Sessions {
         ensures ok { OnOk result (self.new ≡ map.insert self.old sid session) }
         ensures err { OnErr result (self.new ≡ self.old) }
     {
-        let stays = self.stays_lawful_with(sid, &session);
-        self.insert(sid, session)?;
-        self.known_lawful = stays;
-        Ok(())
+        let lawful = self.stays_lawful_with(sid, &session);
+        self.sessions.change(lawful).insert(sid, session)
     }
 
-    /// Returns whether the sessions are known to be lawful after a session is added.
+    /// Returns whether the sessions are known to be lawful, before and after a session is added.
     #[tactic(auto, using(crate::proofs::Keeping::added))]
     fn stays_lawful_with(&self, sid: u32, session: &Session) -> bool
-        ensures { IsTrue result → AreLawfulSessions (map.insert self.now sid session.now) }
+        ensures before { IsTrue result → AreLawfulSessions self.now }
+        ensures after { IsTrue result → AreLawfulSessions (map.insert self.now sid session.now) }
     {
         self.is_known_lawful() && session.fits()
-    }
-
-    /// Adds a session, and then forgets whether the sessions are lawful.
-    fn insert(&mut self, sid: u32, session: Session) -> Result<(), AllocError>
-        ensures ok { OnOk result (self.new ≡ map.insert self.old sid session) }
-        ensures err { OnErr result (self.new ≡ self.old) }
-    {
-        self.sessions.insert(sid, session)?;
-        self.known_lawful = false;
-        Ok(())
     }
 
     /// Makes a setting in a session, in place, and returns what it replaced. If the session doesn't
@@ -142,42 +130,18 @@ impl Sessions {
             (self.new ≡ update self.old sid default_session (with_setting setting)) }
         ensures err { OnErr result (self.new ≡ self.old) }
     {
-        let stays = self.stays_lawful(sid, &setting);
-        let previous = self.write(alloc, sid, setting)?;
-        self.known_lawful = stays;
-        Ok(previous)
+        let lawful = self.stays_lawful(sid, &setting);
+        self.sessions.change(lawful).set(alloc, sid, setting)
     }
 
-    /// Returns whether the sessions are known to be lawful after a setting.
+    /// Returns whether the sessions are known to be lawful, before and after a setting.
     #[tactic(auto, using(crate::proofs::Keeping::settings))]
     fn stays_lawful(&self, sid: u32, setting: &Setting) -> bool
-        ensures { IsTrue result
+        ensures before { IsTrue result → AreLawfulSessions self.now }
+        ensures after { IsTrue result
             → AreLawfulSessions (update self.now sid default_session (with_setting setting.now)) }
     {
         self.is_known_lawful() && setting.fits()
-    }
-
-    /// Makes a setting, and forgets whether the sessions are lawful.
-    fn write(
-        &mut self,
-        alloc: Global,
-        sid: u32,
-        setting: Setting,
-    ) -> Result<Option<Previous>, AllocError>
-        ensures previous { IfOk result (λ previous.
-            previous ≡ option_map (previous_of setting) (map.get self.old sid)) }
-        ensures ok { OnOk result
-            (self.new ≡ update self.old sid default_session (with_setting setting)) }
-        ensures err { OnErr result (self.new ≡ self.old) }
-    {
-        self.known_lawful = false;
-        if let Some(session) = self.sessions.get_mut(&sid) {
-            return Ok(Some(session.set(setting)?));
-        }
-        let mut session = Session::new(alloc);
-        session.set(setting)?;
-        self.insert(sid, session)?;
-        Ok(None)
     }
 
     /// Removes a session, if it exists, and forgets whether the sessions are lawful. Takes no
@@ -185,8 +149,7 @@ impl Sessions {
     pub(crate) fn remove(&mut self, sid: u32)
         ensures { self.new ≡ map.remove self.old sid }
     {
-        self.known_lawful = false;
-        self.sessions.remove(&sid);
+        self.sessions.change(false).remove(sid);
     }
 
     /// Restores a previous setting in a session that exists, and forgets whether the sessions are
@@ -196,11 +159,7 @@ impl Sessions {
         requires place { has_place previous (session_in sid self.old) ≡ true }
         ensures { self.new ≡ update self.old sid default_session (with_previous previous) }
     {
-        self.known_lawful = false;
-        match self.sessions.get_mut(&sid) {
-            Some(session) => session.restore(previous),
-            None => unreachable!(),
-        }
+        self.sessions.change(false).restore(sid, previous);
     }
 
     /// Unsets a variable of a session, in place, if the session exists. Takes no memory. Sessions
@@ -208,19 +167,8 @@ impl Sessions {
     pub(crate) fn unset(&mut self, sid: u32, name: &VarName)
         ensures { self.new ≡ unset (map.get self.old sid) sid name.now self.old }
     {
-        let stays = self.stays_lawful_without(sid, name);
-        self.unset_var(sid, name);
-        self.known_lawful = stays;
-    }
-
-    /// Unsets a variable, and forgets whether the sessions are lawful.
-    fn unset_var(&mut self, sid: u32, name: &VarName)
-        ensures { self.new ≡ unset (map.get self.old sid) sid name.now self.old }
-    {
-        self.known_lawful = false;
-        if let Some(session) = self.sessions.get_mut(&sid) {
-            session.vars.remove(name);
-        }
+        let lawful = self.stays_lawful_without(sid, name);
+        self.sessions.change(lawful).unset(sid, name);
     }
 
     /// Returns whether the sessions are known to be lawful after a variable is unset.

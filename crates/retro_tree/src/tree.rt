@@ -1,5 +1,5 @@
 //! Trees of files.
-ghost use Rattle.std.specs.Prelude.{◌≡◌, ◌↔◌, ◌&&◌, IsTrue, IfOk, OnOk, OnErr, None, true};
+ghost use Rattle.std.specs.Prelude.{◌≡◌, ◌↔◌, ◌&&◌, IsTrue, IfOk, OnOk, OnErr, true};
 ghost use Rattle.std.specs.Option.{option_copied};
 ghost use Rattle.std.specs.FinMap as map;
 ghost use Rattle.retro_tree.specs.Path.{parent_of, may_exist};
@@ -14,20 +14,20 @@ ghost use Rattle.retro_tree.specs.CommitSteps.{cut_at};
 ghost use Rattle.retro_tree.specs.declared.node.Node.TheVariants.{Missing};
 
 use crate::entry::{Entry, FILE_LIMIT};
+use crate::entry_map::EntryMap;
 use crate::kind::Kind;
+use crate::known::Known;
 use crate::node::Node;
 use crate::permit::Permit;
 use retro_path::{Bytes, Listing, Path};
 use std::alloc::{AllocError, Global};
-use std::collections::BTreeMap;
 use std::collections::btree_map::{Iter, Range};
 use std::marker::Model;
 
 /// A map from paths to directories and files. It may be known to be lawful.
 #[derive(Drop, Clone)]
 pub struct Tree {
-    entries: BTreeMap<Path, Entry>,
-    known_lawful: bool,
+    entries: Known<EntryMap>,
 }
 
 impl Model for Tree {
@@ -54,8 +54,7 @@ impl Tree {
         ensures { result ≡ map.empty }
     {
         Tree {
-            entries: BTreeMap::new(alloc),
-            known_lawful: false,
+            entries: Known::new(EntryMap::new(alloc)),
         }
     }
 
@@ -63,28 +62,7 @@ impl Tree {
     pub fn get(&self, path: &Path) -> Option<&Entry>
         ensures { option_copied result ≡ map.get self.now path.now }
     {
-        self.entries.get(path)
-    }
-
-    /// Puts an entry at a path and returns the previous one, and then forgets whether the tree is
-    /// lawful. Takes no memory if the path has an entry.
-    fn insert(&mut self, path: Path, entry: Entry) -> Result<Option<Entry>, AllocError>
-        ensures previous { IfOk result (λ previous. previous ≡ map.get self.old path) }
-        ensures ok { OnOk result (self.new ≡ map.insert self.old path entry) }
-        ensures err { OnErr result (self.new ≡ self.old) }
-        ensures absent { OnErr result (map.get self.old path ≡ None) }
-    {
-        let previous = self.entries.insert(path, entry)?;
-        self.known_lawful = false;
-        Ok(previous)
-    }
-
-    /// Removes the entry of a path, if it has one. Forgets whether the tree is lawful.
-    fn remove(&mut self, path: &Path)
-        ensures { self.new ≡ map.remove self.old path.now }
-    {
-        self.known_lawful = false;
-        self.entries.remove(path);
+        self.entries.get().get(path)
     }
 
     /// Puts a node at a path, where `Missing` removes. A tree that is known to be lawful stays so
@@ -93,33 +71,15 @@ impl Tree {
         ensures ok { OnOk result (self.new ≡ put path node self.old) }
         ensures err { OnErr result (self.new ≡ self.old) }
     {
-        let stays = self.stays_lawful(&path, &node)?;
-        self.write(path, node)?;
-        self.known_lawful = stays;
-        Ok(())
+        let lawful = self.stays_lawful(&path, &node)?;
+        self.entries.change(lawful).put(path, node)
     }
 
-    /// Puts a node at a path, and forgets whether the tree is lawful.
-    fn write(&mut self, path: Path, node: Node) -> Result<(), AllocError>
-        ensures ok { OnOk result (self.new ≡ put path node self.old) }
-        ensures err { OnErr result (self.new ≡ self.old) }
-    {
-        let entry = match node {
-            Node::Missing => {
-                self.remove(&path);
-                return Ok(());
-            }
-            Node::Dir => Entry::Dir,
-            Node::File(bytes) => Entry::File(bytes),
-        };
-        self.insert(path, entry)?;
-        Ok(())
-    }
-
-    /// Returns whether the tree is known to be lawful after a node is put at a path.
+    /// Returns whether the tree is known to be lawful, before and after a node is put at a path.
     #[tactic(auto, using(crate::proofs::LawLemmas::lawful_put))]
     fn stays_lawful(&self, path: &Path, node: &Node) -> Result<bool, AllocError>
-        ensures { IfOk result (λ stays. IsTrue stays
+        ensures before { IfOk result (λ stays. IsTrue stays → IsLawfulTree self.now) }
+        ensures after { IfOk result (λ stays. IsTrue stays
             → IsLawfulTree (put path.now node.now self.now)) }
     {
         if !self.is_known_lawful() {
@@ -132,14 +92,14 @@ impl Tree {
     pub fn iter(&self) -> Iter<'_, Path, Entry>
         ensures { result ≡ map.entries self.now }
     {
-        self.entries.iter()
+        self.entries.get().iter()
     }
 
     /// Returns the entries of a path and of the paths after it, in order.
     fn from(&self, path: &Path) -> Range<'_, Path, Entry>
         ensures { result ≡ entries_from path.now self.now }
     {
-        self.entries.range(path..)
+        self.entries.get().from(path)
     }
 
     /// Returns the names of the children of a path, in byte order, whatever node is at the path
@@ -245,32 +205,16 @@ impl Tree {
             (self.new ≡ put path.now (grown bytes.now (node_in path.now self.old)) self.old) }
         ensures err { OnErr result (self.new ≡ self.old) }
     {
-        let stays = self.stays_lawful_grown(path, bytes)?;
-        self.extend(path, bytes)?;
-        self.known_lawful = stays;
-        Ok(())
+        let lawful = self.stays_lawful_grown(path, bytes)?;
+        self.entries.change(lawful).grow(path, bytes)
     }
 
-    /// Appends bytes to a file, and forgets whether the tree is lawful.
-    fn extend(&mut self, path: &Path, bytes: &Bytes) -> Result<(), AllocError>
-        ensures ok { OnOk result
-            (self.new ≡ put path.now (grown bytes.now (node_in path.now self.old)) self.old) }
-        ensures err { OnErr result (self.new ≡ self.old) }
-    {
-        self.known_lawful = false;
-        if let Some(entry) = self.entries.get_mut(path) {
-            return entry.grow(bytes);
-        }
-        let path = path.copy()?;
-        let bytes = bytes.copy()?;
-        self.insert(path, Entry::File(bytes))?;
-        Ok(())
-    }
-
-    /// Returns whether the tree is known to be lawful after bytes are appended to a file.
+    /// Returns whether the tree is known to be lawful, before and after bytes are appended to a
+    /// file.
     #[tactic(auto, using(crate::proofs::LawLemmas::growing))]
     fn stays_lawful_grown(&self, path: &Path, bytes: &Bytes) -> Result<bool, AllocError>
-        ensures { IfOk result (λ stays. IsTrue stays → IsLawfulTree
+        ensures before { IfOk result (λ stays. IsTrue stays → IsLawfulTree self.now) }
+        ensures after { IfOk result (λ stays. IsTrue stays → IsLawfulTree
             (put path.now (grown bytes.now (node_in path.now self.now)) self.now)) }
     {
         if !self.is_known_lawful() {
@@ -329,7 +273,7 @@ impl Tree {
     pub(crate) fn is_known_lawful(&self) -> bool
         ensures { IsTrue result → IsLawfulTree self.now }
     {
-        self.known_lawful
+        self.entries.is_known()
     }
 
     /// Returns whether the tree is lawful, and remembers it.
@@ -338,7 +282,7 @@ impl Tree {
         ensures unchanged { self.new ≡ self.old }
     {
         let lawful = self.is_lawful(alloc)?;
-        self.known_lawful = lawful;
+        self.entries.mark(lawful);
         Ok(lawful)
     }
 
@@ -395,15 +339,13 @@ impl Tree {
         ensures ok { OnOk result (self.new ≡ put path node self.old) }
         ensures err { OnErr result (self.new ≡ self.old) }
     {
-        let stays = self.stays_lawful(&path, &node)?;
+        let lawful = self.stays_lawful(&path, &node)?;
         let entry = match node {
             Node::Missing => unreachable!(),
             Node::Dir => Entry::Dir,
             Node::File(bytes) => Entry::File(bytes),
         };
-        let previous = self.insert(path, entry)?;
-        self.known_lawful = stays;
-        Ok(previous)
+        self.entries.change(lawful).insert(path, entry)
     }
 
     /// Puts an entry at a path that has one, and forgets whether the tree is lawful. Takes no
@@ -412,10 +354,7 @@ impl Tree {
         requires { map.contains_key self.old path ≡ true }
         ensures { self.new ≡ map.insert self.old path entry }
     {
-        match self.insert(path, entry) {
-            Ok(_) => (),
-            Err(_) => unreachable!(),
-        }
+        self.entries.change(false).replace(path, entry);
     }
 
     /// Shortens the file at a path, if one is there, to `length` bytes, and forgets whether the
@@ -423,10 +362,7 @@ impl Tree {
     pub(crate) fn cut(&mut self, path: &Path, length: usize)
         ensures { self.new ≡ cut_at path.now length (map.get self.old path.now) self.old }
     {
-        self.known_lawful = false;
-        if let Some(entry) = self.entries.get_mut(path) {
-            entry.cut(length);
-        }
+        self.entries.change(false).cut(path, length);
     }
 
     /// Removes the entry of a path. Takes no memory. A tree that is known to be lawful stays so if
@@ -434,9 +370,8 @@ impl Tree {
     pub(crate) fn erase(&mut self, path: &Path)
         ensures { self.new ≡ map.remove self.old path.now }
     {
-        let stays = self.stays_lawful_without(path);
-        self.remove(path);
-        self.known_lawful = stays;
+        let lawful = self.stays_lawful_without(path);
+        self.entries.change(lawful).remove(path);
     }
 
     /// Returns whether the tree is known to be lawful after the entry of a path is removed.

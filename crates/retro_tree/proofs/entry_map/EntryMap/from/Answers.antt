@@ -4,7 +4,7 @@ use Rattle.std.specs.Ordering.{is_le}
 use Rattle.std.specs.FinMap as map
 use Rattle.retro_tree.specs.Order.{path_cmp, path_total, path_exact}
 use Rattle.retro_tree.proofs.MapLemmas.{made_entries}
-use Rattle.retro_tree.proofs.tree.Tree.from.Goals as goal
+use Rattle.retro_tree.proofs.entry_map.EntryMap.from.Goals as goal
 
 right : (b : Bool) → (b && true) ≡ b
 right true = refl

@@ -10,7 +10,7 @@ use Rattle.retro_tree.specs.Session.{default_session}
 use Rattle.retro_tree.specs.Previous.{with_previous, has_place}
 use Rattle.retro_tree.proofs.MapLemmas.{made_written, get_made}
 use Rattle.retro_tree.proofs.PreviousSettings.{session_is}
-use Rattle.retro_tree.proofs.sessions.Sessions.restore.Goals as goal
+use Rattle.retro_tree.proofs.session_map.SessionMap.restore.Goals as goal
 
 pub restore-requires : goal.restore-requires
 restore-requires c =

@@ -1,13 +1,13 @@
-use Rattle.std.proofs.Common.{ap, ◌∙◌, sym, refl, subst, false}
+use Rattle.std.proofs.Common.{ap, ◌∙◌, sym, refl, subst}
 use Rattle.std.specs.Prelude.{IsSome}
 use Rattle.std.specs.Option.{option_copied_mut}
 use Rattle.std.specs.FinMap as map
 use Rattle.retro_tree.specs.Order.{path_total, path_exact}
 use Rattle.retro_tree.specs.CommitSteps.{cut_at}
-use Rattle.retro_tree.specs.contracts.tree.Tree.{the_view}
+use Rattle.retro_tree.specs.contracts.entry_map.EntryMap.{the_view}
 use Rattle.retro_tree.proofs.MapLemmas.{made_insert, get_made}
-use Rattle.retro_tree.proofs.tree.Tree.cut.Goals as goal
-use Rattle.retro_tree.proofs.tree.Tree.cut.Goals.{in-Some, in_default}
+use Rattle.retro_tree.proofs.entry_map.EntryMap.cut.Goals as goal
+use Rattle.retro_tree.proofs.entry_map.EntryMap.cut.Goals.{in-Some, in_default}
 
 pub returns : goal.returns
 returns c =
@@ -30,6 +30,6 @@ returns c =
           let none = sym c.get_mut.ensures.value ∙ ap option_copied_mut w.in_default.is in
           let absent = ap (λ m. map.get m p) (sym c.self.view_is) ∙ get_made path_total es p ∙ none in
           ap the_view w.self-inside-is
-          ∙ ap (λ m. the_view (record { entries = m; known_lawful = false })) c.get_mut.follows.holds-at-none
+          ∙ ap (λ m. the_view (record { entries = m })) c.get_mut.follows.holds-at-none
           ∙ c.self.view_is ∙ ap (λ o. cut_at p n o old) (sym absent)
     ]

@@ -1,4 +1,4 @@
-use Rattle.std.proofs.Common.{ap, ◌∙◌, sym, refl, subst, false, Some}
+use Rattle.std.proofs.Common.{ap, ◌∙◌, sym, refl, subst, Some}
 use Rattle.std.specs.Prelude.{IsSome}
 use Rattle.std.specs.Option.{option_copied_mut, option_map}
 use Rattle.std.specs.FinMap as map
@@ -8,10 +8,10 @@ use Rattle.retro_tree.specs.Maps.{update}
 use Rattle.retro_tree.specs.Session.{default_session}
 use Rattle.retro_tree.specs.Setting.{with_setting}
 use Rattle.retro_tree.specs.Previous.{previous_of}
-use Rattle.retro_tree.specs.contracts.sessions.Sessions.{the_view}
+use Rattle.retro_tree.specs.contracts.session_map.SessionMap.{the_view}
 use Rattle.retro_tree.proofs.MapLemmas.{made_written, made_same, made_new, get_made}
 use Rattle.retro_tree.proofs.OverlayLemmas.{any_err}
-use Rattle.retro_tree.proofs.sessions.Sessions.write.Goals as goal
+use Rattle.retro_tree.proofs.session_map.SessionMap.set.Goals as goal
 
 pub returns-in_err-set-clause-err : goal.returns-in_err-set-clause-err
 returns-in_err-set-clause-err c =
@@ -54,7 +54,7 @@ returns-clause-ok c =
     let es = c.self.inside.sessions.entries in
     let none = sym c.get_mut.ensures.value ∙ ap option_copied_mut c.in_default.is in
     let same = ap
-    (λ n. the_view (record { sessions = n; known_lawful = false })) c.get_mut.follows.holds-at-none ∙ c.self.view_is in
+    (λ n. the_view (record { sessions = n })) c.get_mut.follows.holds-at-none ∙ c.self.view_is in
     let absent = ap (λ m. map.get m c.args.sid) (sym c.self.view_is) ∙ get_made nat_cmp_total es c.args.sid ∙ none in
     let made = c.in_ok-set-2.ensures.ok ∙ ap (with_setting c.args.setting) c.new-session.ensures in
     c.in_ok-insert.ensures.ok ∙ ap (λ m. map.insert m c.args.sid c.set-2.new.self) same

@@ -3,7 +3,7 @@ use Rattle.std.specs.FinMap as map
 use Rattle.std.specs.Cmp.{nat_cmp_total}
 use Rattle.std.specs.FinMap.{nat_cmp-IsAntisymmetric}
 use Rattle.retro_tree.proofs.MapLemmas.{made_entries}
-use Rattle.retro_tree.proofs.sessions.Sessions.iter.Goals as goal
+use Rattle.retro_tree.proofs.session_map.SessionMap.iter.Goals as goal
 
 pub returns : goal.returns
 returns c = c.iter.ensures.rest

@@ -3,7 +3,7 @@ use Rattle.std.specs.FinMap as map
 use Rattle.std.specs.Cmp.{nat_cmp_total}
 use Rattle.std.specs.FinMap.{nat_cmp-IsAntisymmetric}
 use Rattle.retro_tree.proofs.MapLemmas.{made_insert}
-use Rattle.retro_tree.proofs.sessions.Sessions.insert.Goals as goal
+use Rattle.retro_tree.proofs.session_map.SessionMap.insert.Goals as goal
 
 pub returns-clause-ok : goal.returns-clause-ok
 returns-clause-ok c =

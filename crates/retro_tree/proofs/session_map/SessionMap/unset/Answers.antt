@@ -1,14 +1,14 @@
-use Rattle.std.proofs.Common.{ap, ◌∙◌, sym, refl, subst, false}
+use Rattle.std.proofs.Common.{ap, ◌∙◌, sym, refl, subst}
 use Rattle.std.specs.Prelude.{IsSome}
 use Rattle.std.specs.Option.{option_copied_mut}
 use Rattle.std.specs.FinMap as map
 use Rattle.std.specs.Cmp.{nat_cmp_total}
 use Rattle.std.specs.FinMap.{nat_cmp-IsAntisymmetric}
 use Rattle.retro_tree.specs.Session.{unset, without_var}
-use Rattle.retro_tree.specs.contracts.sessions.Sessions.{the_view}
+use Rattle.retro_tree.specs.contracts.session_map.SessionMap.{the_view}
 use Rattle.retro_tree.proofs.MapLemmas.{made_insert, get_made}
-use Rattle.retro_tree.proofs.sessions.Sessions.unset_var.Goals as goal
-use Rattle.retro_tree.proofs.sessions.Sessions.unset_var.Goals.{in-Some, in_default}
+use Rattle.retro_tree.proofs.session_map.SessionMap.unset.Goals as goal
+use Rattle.retro_tree.proofs.session_map.SessionMap.unset.Goals.{in-Some, in_default}
 
 pub returns : goal.returns
 returns c =
@@ -31,6 +31,6 @@ returns c =
           let none = sym c.get_mut.ensures.value ∙ ap option_copied_mut w.in_default.is in
           let absent = ap (λ m. map.get m sid) (sym c.self.view_is) ∙ get_made nat_cmp_total es sid ∙ none in
           ap the_view w.self-inside-is
-          ∙ ap (λ m. the_view (record { sessions = m; known_lawful = false })) c.get_mut.follows.holds-at-none
+          ∙ ap (λ m. the_view (record { sessions = m })) c.get_mut.follows.holds-at-none
           ∙ c.self.view_is ∙ ap (λ o. unset o sid name old) (sym absent)
     ]

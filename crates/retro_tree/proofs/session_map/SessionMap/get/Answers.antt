@@ -2,7 +2,7 @@ use Rattle.std.proofs.Common.{sym, ap, ◌∙◌}
 use Rattle.std.specs.FinMap as map
 use Rattle.std.specs.Cmp.{nat_cmp_total}
 use Rattle.retro_tree.proofs.MapLemmas.{get_made}
-use Rattle.retro_tree.proofs.sessions.Sessions.get.Goals as goal
+use Rattle.retro_tree.proofs.session_map.SessionMap.get.Goals as goal
 
 pub returns : goal.returns
 returns c = c.get.ensures.value ∙ sym (get_made nat_cmp_total c.self.inside.sessions.entries c.args.sid)

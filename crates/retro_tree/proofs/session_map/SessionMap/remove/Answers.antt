@@ -3,7 +3,7 @@ use Rattle.std.specs.FinMap as map
 use Rattle.std.specs.FinMap.{nat_cmp-IsAntisymmetric}
 use Rattle.std.specs.Cmp.{nat_cmp_total}
 use Rattle.retro_tree.proofs.MapLemmas.{made_remove}
-use Rattle.retro_tree.proofs.sessions.Sessions.remove.Goals as goal
+use Rattle.retro_tree.proofs.session_map.SessionMap.remove.Goals as goal
 
 pub returns : goal.returns
 returns c =

@@ -1,14 +1,14 @@
-use Rattle.std.proofs.Common.{ap, ◌∙◌, sym, refl, subst, false}
+use Rattle.std.proofs.Common.{ap, ◌∙◌, sym, refl, subst}
 use Rattle.std.specs.Prelude.{IsSome}
 use Rattle.std.specs.Option.{option_copied_mut}
 use Rattle.std.specs.FinMap as map
 use Rattle.retro_tree.specs.Order.{path_total, path_exact}
 use Rattle.retro_tree.specs.declared.entry.Entry.TheVariants.{File as FileEntry}
-use Rattle.retro_tree.specs.contracts.tree.Tree.{the_view}
+use Rattle.retro_tree.specs.contracts.entry_map.EntryMap.{the_view}
 use Rattle.retro_tree.proofs.MapLemmas.{made_insert, made_same, get_made}
 use Rattle.retro_tree.proofs.Lookups.{put_grown, put_new}
 use Rattle.retro_tree.proofs.Results.{on_ok, on_err}
-use Rattle.retro_tree.proofs.tree.Tree.extend.Goals as goal
+use Rattle.retro_tree.proofs.entry_map.EntryMap.grow.Goals as goal
 
 pub returns-in-Some-clause-ok : goal.returns-in-Some-clause-ok
 returns-in-Some-clause-ok c =
@@ -40,7 +40,7 @@ returns-clause-ok c =
     let es = c.self.inside.entries.entries in
     let p = c.args.path.now in
     let none = sym c.get_mut.ensures.value ∙ ap option_copied_mut c.in_default.is in
-    let same = ap (λ n. the_view (record { entries = n; known_lawful = false })) c.get_mut.follows.holds-at-none
+    let same = ap (λ n. the_view (record { entries = n })) c.get_mut.follows.holds-at-none
     ∙ c.self.view_is in
     let absent = ap (λ m. map.get m p) (sym c.self.view_is) ∙ get_made path_total es p ∙ none in
     c.in_ok-insert.ensures.ok
