@@ -330,6 +330,9 @@ impl Overlay {
             }
             Err(error) => {
                 commit.undo_all(state);
+                if was_known {
+                    state.mark_lawful();
+                }
                 Err(error)
             }
         }

@@ -86,6 +86,14 @@ impl Sessions {
         self.sessions.is_known()
     }
 
+    /// Marks lawful sessions as known to be lawful.
+    pub(crate) fn mark_lawful(&mut self)
+        requires { AreLawfulSessions self.old }
+        ensures { self.new ≡ self.old }
+    {
+        self.sessions.mark(true);
+    }
+
     /// Returns whether each session is within the limits, and remembers it.
     pub(crate) fn validate(&mut self) -> bool
         ensures exact { IsTrue result ↔ AreLawfulSessions self.old }

@@ -341,6 +341,15 @@ impl State {
         self.tree.is_known_lawful() && self.sessions.is_known_lawful()
     }
 
+    /// Marks a lawful state as known to be lawful.
+    pub(crate) fn mark_lawful(&mut self)
+        requires { IsLawful self.old }
+        ensures { self.new ≡ self.old }
+    {
+        self.tree.mark_lawful();
+        self.sessions.mark_lawful();
+    }
+
     /// Validates a state that was known to be lawful and no longer is. If allocation fails, it
     /// stays unknown.
     pub(crate) fn revalidate(&mut self, alloc: Global, was_known: bool)

@@ -276,6 +276,14 @@ impl Tree {
         self.entries.is_known()
     }
 
+    /// Marks a lawful tree as known to be lawful.
+    pub(crate) fn mark_lawful(&mut self)
+        requires { IsLawfulTree self.old }
+        ensures { self.new ≡ self.old }
+    {
+        self.entries.mark(true);
+    }
+
     /// Returns whether the tree is lawful, and remembers it.
     pub(crate) fn validate(&mut self, alloc: Global) -> Result<bool, AllocError>
         ensures exact { IfOk result (λ lawful. IsTrue lawful ↔ IsLawfulTree self.old) }

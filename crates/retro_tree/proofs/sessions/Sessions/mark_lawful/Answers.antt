@@ -1,0 +1,6 @@
+use Rattle.std.proofs.Common.{sym, ◌∙◌, subst}
+use Rattle.retro_tree.specs.Limits.{AreLawfulSessions}
+use Rattle.retro_tree.proofs.sessions.Sessions.mark_lawful.Goals as goal
+
+pub invariant_of-self : goal.invariant_of-self
+invariant_of-self c = λ known. subst AreLawfulSessions (sym (c.mark.ensures.value ∙ c.self.view_is)) c.requires
