@@ -1,16 +1,13 @@
 //! Documents, and the scripts that they are.
-use crate::rows::text;
-use crate::states::changed;
-use retro_keep::{EditFault, Script, ScriptFault, ScriptLine};
+use retro_keep::EditFault;
 use retro_log::{LogFault, read_script, sessions_value, tree_value};
-use retro_tree::Text;
 use std::alloc::Global;
 use std::test::Fail;
 
 /// The number of a document's refusal, or `script`.
 pub fn script(alloc: Global, document: &str) -> Result<String, Fail> {
     match read_script(alloc, document.as_bytes()) {
-        Ok(_) => text(alloc, "script"),
+        Ok(_) => Ok(String::from_str(alloc, "script")?),
         Err(LogFault::NoMem) => Err("out of memory")?,
         Err(LogFault::Refused(refusal)) => Ok(format!(in alloc; "{}", refusal.number())?),
     }
@@ -48,28 +45,6 @@ pub fn written(alloc: Global, document: &str) -> Result<String, Fail> {
         out.push_str(format!(in alloc; " {} {} {text}", line.number, line.sid)?.as_str())?;
     }
     Ok(out)
-}
-
-/// The refusal's number of a state after these changes with these lines, or the number of lines of
-/// their script. A line is given as its number and its session.
-pub fn parts(alloc: Global, changes: &str, given: &str) -> Result<String, Fail> {
-    let mut lines = Vec::new(alloc);
-    for each in given.split(", ") {
-        let (number, sid) = each.split_once(' ').ok_or("a line without its session")?;
-        lines.push(ScriptLine {
-            number: number.parse()?,
-            sid: sid.parse()?,
-            text: Text::of(text(alloc, "echo a > f")?),
-        })?;
-    }
-    match Script::new(alloc, changed(alloc, changes)?, lines) {
-        Ok(script) => Ok(format!(in alloc; "script {}", script.lines().len())?),
-        Err(ScriptFault::NumbersNotRising) => text(alloc, "8"),
-        Err(ScriptFault::UnknownSession) => text(alloc, "9"),
-        Err(ScriptFault::LawlessTree) => text(alloc, "10"),
-        Err(ScriptFault::OverLimit) => text(alloc, "11"),
-        Err(ScriptFault::NoMem) => Err("out of memory")?,
-    }
 }
 
 /// The numbers of a script's lines without some, or the refusal and the number that no line has.

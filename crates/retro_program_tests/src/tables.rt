@@ -1,0 +1,182 @@
+//! The tables of rows; `retro_rows` says how they are written.
+
+/// Lines of session 1 in `/h`, beside whose directory `d` a row may list more of the tree: the
+/// status and the output of the last line.
+pub const SHELL: &str = r##"shell: %(EMPTY) :: echo a > f; echo b >> f; cat f f
+   => 0 a%(NL)b%(NL)a%(NL)b%(NL)
+shell: %(EMPTY) :: cat d => 1 cat: d: Is a directory%(NL)
+shell: %(EMPTY) :: echo x > d => 1 sh: d: Is a directory%(NL)
+shell: %(EMPTY) :: echo x > n/m => 1 sh: n/m: No such file or directory%(NL)
+shell: %(EMPTY) :: nosuch => 127 sh: nosuch: not found%(NL)
+shell: ,["/h/f","61"] :: > f => 0 %(EMPTY)
+shell: ,["/h/f","61"] :: > f :: cat f => 0 %(EMPTY)
+shell: %(EMPTY) :: ; => 2 sh: unsupported line%(NL)
+shell: %(EMPTY) :: nosuch :: %(EMPTY) => 127 %(EMPTY)
+shell: %(EMPTY) :: nosuch :: # a => 127 %(EMPTY)
+shell: ,["/h/f","61"] :: echo -n x y > f > /dev/null; cat f => 0 %(EMPTY)
+shell: %(EMPTY) :: echo -n x  y >> f; cat -u -- f - f => 0 x yx y
+shell: %(EMPTY) :: cat -x f => 2 cat: usage%(NL)
+shell: ,["/h/f","61"] :: cat none f => 1 acat: none: No such file or directory%(NL)
+shell: ,["/h/f","61"] :: echo z > f/g; echo next => 0 sh: f/g: Not a directory%(NL)next%(NL)
+shell: %(EMPTY) :: nosuch > f; cat f => 0 sh: nosuch: not found%(NL)
+shell: %(EMPTY) :: echo -- -n => 0 -- -n%(NL)
+shell: %(EMPTY) :: cat /dev/null ../dev/null => 0 %(EMPTY)
+shell: %(EMPTY) :: echo a | cat => 2 sh: unsupported line%(NL)
+shell: %(EMPTY) :: cat none > f; cat f => 0 cat: none: No such file or directory%(NL)
+shell: ,["/h/f","61"] :: cat ../h/./f/ => 0 a
+shell: %(EMPTY) :: cat %(n*256) => 1 cat: %(n*256): File name too long%(NL)
+shell: ,["/h/big","%(6e*1048576)"] :: echo a >> big => 1 sh: big: File too large%(NL)
+shell: ,["/h/big","%(6e*1048576)"] :: echo -n >> big; > big; echo a >> big; cat big => 0 a%(NL)
+shell: %(EMPTY) :: echo x > f > d; cat f => 0 sh: d: Is a directory%(NL)"##;
+
+/// Documents: `script`, or the number of the refusal that applies first.
+pub const DOCUMENTS: &str = r##"script: {"script":1 => 12
+script: {} {} => 12
+script: "\ud800" => 12
+script: [01] => 12
+script: 1e400 => 12
+script: %(BOM){} => 12
+script: %([*127)%(]*127) => 13
+script: %([*128)%(]*128) => 12
+script: [] => 13
+script: {} => 13
+script: null => 13
+script: {"x":0} => 14
+script: {"script":2} => 13
+script: {"script":2,"tree":0,"sessions":0,"lines":0} => 16
+script: {"script":2,"tree":0,"sessions":0,"lines":0,"x":0} => 14
+script: {"script":1,"tree":[["/a/b"]],"sessions":0,"lines":0} => 10
+script: {"script":1,"tree":[],"sessions":0,"lines":0} => 13
+script: {"script":1,"tree":[],"sessions":[[1,"/%(n*256)",0,[]]],"lines":0} => 11
+version: "1" => 13
+version: 1.0 => 13
+version: 1e0 => 13
+version: -0 => 13
+version: -1 => 13
+version: 18446744073709551616 => 13
+version: 18446744073709551615 => 16
+version: 2 => 16
+version: 1,"script":2 => 16
+version: 2,"script":1 => script
+entries: [["/a/b"]] => 10
+entries: [["/dev"],["/dev/null",""]] => 10
+entries: [["/f",""],["/f/g"]] => 10
+entries: [["/a"],["/a"]] => 10
+entries: [["/"]] => 10
+entries: [["/a/b"],["/a"]] => script
+entries: [["/f","4"]] => 15
+entries: [["/f","4g"]] => 15
+entries: [["/f","4A"]] => script
+entries: [["/f","4g"],[""]] => 13
+entries: [["/%(n*256)"],["/f","4g"]] => 15
+entries: [["/%(n*256)"],["a"]] => 13
+entries: [["a"]] => 13
+entries: [["//a"]] => 13
+entries: [["/a/"]] => 13
+entries: [["/a/../b"]] => 13
+entries: [["/."]] => 13
+entries: [["/a\u0000"]] => 13
+entries: [["/f","",0]] => 13
+entries: {} => 13
+entries: [["/a/%(n*255)"]] => 10
+entries: [["/a/%(n*256)"]] => 11
+entries: [["/f","%(0F*1048576)"]] => script
+entries: [["/f","%(0F*1048577)"]] => 11
+sessions: [[1,"/",256,[]]] => 13
+sessions: [[1,"/",-0,[]]] => 13
+sessions: [[4294967296,"/",0,[]]] => 13
+sessions: [[1,"a",0,[]]] => 13
+sessions: [[1,"/",0,[]],[1,"/",0,[]]] => 13
+sessions: [[1,"/%(n*256)",0,[]],[1,"/",0,[]]] => 13
+sessions: [[1,"/",0,[["x",""],["x",""]]]] => 13
+sessions: [[1,"/",0,[["IFS",""]]]] => 13
+sessions: [[1,"/",0,[["1x",""]]]] => 13
+sessions: [[1,"/",0]] => 13
+sessions: [[0,"/x",255,[["_1",""]]]] => script
+sessions: [[1,"/%(n*255)",0,[]]] => script
+sessions: [[1,"/%(n*256)",0,[]]] => 11
+sessions: [[1,"/",0,[["x","%(v*65536)"]]]] => script
+sessions: [[1,"/",0,[["x","%(v*65537)"]]]] => 11
+lines: [[0,1,""]] => 13
+lines: [[1,1]] => 13
+lines: [[1,2,""],[1,1]] => 13
+lines: [[2,2,""],[2,1,""]] => 8
+lines: [[2,1,""],[2,1,""]] => 8
+lines: [[1,2,""]] => 9
+lines: [[1,1,""],[4294967295,1,""]] => script
+without: {"script":1,"tree":[],"sessions":[[1,"/",0,[]]],"lines":[[1,1,""],[7,1,""]]}
+   :: 7 7 => 1 %(EMPTY)
+without: {"script":1,"tree":[],"sessions":[[1,"/",0,[]]],"lines":[[1,1,""],[7,1,""]]}
+   :: 7 1 => %(EMPTY)
+without: {"script":1,"tree":[],"sessions":[[1,"/",0,[]]],"lines":[[1,1,""],[7,1,""]]}
+   :: 1 2 7 3 => 21 2
+written: {"script":1,"tree":[["/a/b","4A"],["/a"]],"lines":[],"sessions":[[2,"/a",7,[["y","é"]
+  ,["x",""]]],[1,"/",0,[]]]} => [["/a"],["/a/b","4a"]] [[1,"/",0,[]],[2,"/a",7,[["x",""],["y",
+  "é"]]]]
+written: {"script":1,"tree":[["/f","00aBfF"]],"lines":[],"sessions":[]}
+   => [["/f","00abff"]] []"##;
+
+/// Words, an input by its name, the exit status, and what is written to standard output and error.
+pub const PROGRAMS: &str = r##"run: retro replay :: EMPTY
+   => 0 {"outputs":[],"sessions":[],"tree":[]}
+run: retro replay -- :: EMPTY => 0 {"outputs":[],"sessions":[],"tree":[]}
+run: retro replay :: UNORDERED => 0 {"outputs":[],"sessions":[[1,"/",0,[]]],"tree":[["/a"],
+  ["/a/b","4a"]]}
+run: retro replay --cancel 1 :: PAIR => 0 {"outputs":[[2,
+  "6361743a20663a204e6f20737563682066696c65206f72206469726563746f72790a"]],"sessions":[[1,"/",1,
+  []]],"tree":[]}
+run: retro replay :: PAIR => 0 {"outputs":[[1,""],[2,"610a"]],"sessions":[[1,"/",0,[]]],
+  "tree":[["/f","610a"]]}
+run: retro replay --cancel= :: PAIR => 0 {"outputs":[[1,""],[2,"610a"]],"sessions":[[1,"/",
+  0,[]]],"tree":[["/f","610a"]]}
+run: retro replay --cancel %(EMPTY) :: PAIR
+   => 0 {"outputs":[[1,""],[2,"610a"]],"sessions":[[1,"/",0,[]]],"tree":[["/f","610a"]]}
+run: retro replay --cancel=0000000002 :: PAIR
+   => 0 {"outputs":[[1,""]],"sessions":[[1,"/",0,[]]],"tree":[["/f","610a"]]}
+run: retro replay --cancel=2,2 :: PAIR => 0 {"outputs":[[1,""]],"sessions":[[1,"/",0,[]]],
+  "tree":[["/f","610a"]]}
+run: retro replay --cancel=1,2 :: PAIR => 0 {"outputs":[],"sessions":[[1,"/",0,[]]],"tree":[]}
+run: retro :: PAIR => 1 retro: refused 31
+run: retro --help :: PAIR => 1 retro: refused 31
+run: retro -h :: PAIR => 1 retro: refused 31
+run: retro help :: PAIR => 1 retro: refused 31
+run: retro --version :: PAIR => 1 retro: refused 31
+run: retro record :: PAIR => 1 retro: refused 31
+run: retro repl :: PAIR => 1 retro: refused 31
+run: retro replay --help :: PAIR => 1 retro: refused 31
+run: retro replay more :: PAIR => 1 retro: refused 31
+run: retro replay -- --cancel 1 :: PAIR => 1 retro: refused 31
+run: retro replay --canc 1 :: PAIR => 1 retro: refused 31
+run: retro --cancel 1 replay :: PAIR => 1 retro: refused 31
+run: retro replay --cancel :: PAIR => 1 retro: refused 31
+run: retro replay --cancel 1 --cancel 1 :: PAIR => 1 retro: refused 31
+run: retro replay --cancel 1,,2 :: PAIR => 1 retro: refused 31
+run: retro replay --cancel 1, :: PAIR => 1 retro: refused 31
+run: retro replay --cancel -1 :: PAIR => 1 retro: refused 31
+run: retro replay --cancel -- 1 :: PAIR => 1 retro: refused 31
+run: retro replay --cancel=%(TAB)1 :: PAIR => 1 retro: refused 31
+run: retro replay --cancel +1 :: PAIR => 1 retro: refused 31
+run: retro replay --cancel 4294967296 :: PAIR => 1 retro: refused 31
+run: retro replay --cancel 00000000001 :: PAIR => 1 retro: refused 31
+run: retro replay --cancel 9, :: [ => 1 retro: refused 31
+run: retro replay --cancel 9 :: PAIR => 1 retro: refused 21
+run: retro replay --cancel 9 :: [ => 1 retro: refused 12
+run: retro replay --cancel 4294967295 :: PAIR => 1 retro: refused 21"##;
+
+/// The empty script.
+pub const EMPTY: &str = r#"{"script":1,"tree":[],"sessions":[],"lines":[]}"#;
+
+/// The inputs that rows name; any other text is itself.
+pub fn input_named(name: &str) -> &str {
+    match name {
+        "EMPTY" => EMPTY,
+        "UNORDERED" => {
+            r#"{"sessions":[[1,"/",0,[]]],"lines":[],"script":1,"tree":[["/a/b","4A"],["/a"]]}"#
+        }
+        "PAIR" => concat!(
+            r#"{"script":1,"tree":[],"sessions":[[1,"/",0,[]]],"#,
+            r#""lines":[[1,1,"echo a > f"],[2,1,"cat f"]]}"#
+        ),
+        _ => name,
+    }
+}

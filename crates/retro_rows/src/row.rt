@@ -1,0 +1,95 @@
+//! Rows of a table of tests.
+use crate::row_error::RowError;
+use std::alloc::{AllocError, Global};
+
+/// One row of a table.
+#[derive(Drop)]
+pub struct Row {
+    /// The text of the row, for a failure's message.
+    pub text: String,
+    /// The name of the call.
+    pub call: String,
+    /// What the call is given.
+    pub given: Vec<String>,
+    /// What it has to return.
+    pub wanted: String,
+}
+
+impl Row {
+    /// Reads the row that a text is.
+    fn read(alloc: Global, text: String) -> Result<Self, RowError> {
+        let (call, rest) = text.split_once(": ").ok_or(RowError::NoCall)?;
+        let (given, wanted) = rest.split_once(" => ").ok_or(RowError::NothingWanted)?;
+        let (call, given) = (String::from_str(alloc, call)?, fields(alloc, given)?);
+        let wanted = unescaped(alloc, wanted)?;
+        Ok(Self {
+            text,
+            call,
+            given,
+            wanted,
+        })
+    }
+}
+
+/// Appends what an escape `%(..)` stands for, and the text after it.
+fn push_escaped(out: &mut String, part: &str) -> Result<(), RowError> {
+    let (escape, rest) = part.split_once(')').ok_or(RowError::BadEscape)?;
+    let (text, count) = match escape {
+        "NL" => ("\n", "1"),
+        "NUL" => ("\0", "1"),
+        "TAB" => ("\t", "1"),
+        "CR" => ("\r", "1"),
+        "BOM" => ("\u{feff}", "1"),
+        "EMPTY" => ("", "1"),
+        _ => escape.split_once('*').ok_or(RowError::BadEscape)?,
+    };
+    let count: u32 = count.parse()?;
+    for _ in 0..count {
+        out.push_str(text)?;
+    }
+    out.push_str(rest)?;
+    Ok(())
+}
+
+/// The text that a field of a row stands for: `%(NL)` is a newline, `%(n*3)` is `nnn`.
+fn unescaped(alloc: Global, field: &str) -> Result<String, RowError> {
+    let mut out = String::new(alloc);
+    let mut parts = field.split("%(");
+    if let Some(first) = parts.next() {
+        out.push_str(first)?;
+    }
+    for part in parts {
+        push_escaped(&mut out, part)?;
+    }
+    Ok(out)
+}
+
+/// The fields of a row, which ` :: ` separates, with their escapes replaced.
+fn fields(alloc: Global, given: &str) -> Result<Vec<String>, RowError> {
+    let mut fields = Vec::new(alloc);
+    for field in given.split(" :: ") {
+        fields.push(unescaped(alloc, field)?)?;
+    }
+    Ok(fields)
+}
+
+/// The lines of a table, each with its continuations.
+fn joined_lines(alloc: Global, table: &str) -> Result<Vec<String>, AllocError> {
+    let mut joined: Vec<String> = Vec::new(alloc);
+    for line in table.lines() {
+        match (line.strip_prefix("  "), joined.last_mut()) {
+            (Some(more), Some(row)) => row.push_str(more)?,
+            _ => joined.push(String::from_str(alloc, line)?)?,
+        }
+    }
+    Ok(joined)
+}
+
+/// Reads the rows of a table.
+pub fn rows(alloc: Global, table: &str) -> Result<Vec<Row>, RowError> {
+    let mut rows = Vec::new(alloc);
+    for line in joined_lines(alloc, table)? {
+        rows.push(Row::read(alloc, line)?)?;
+    }
+    Ok(rows)
+}

@@ -1,0 +1,34 @@
+//! Why a table isn't one of rows.
+use std::alloc::{AllocError, AllocFailed};
+use std::num::ParseIntError;
+
+/// A fault in a table of rows.
+#[derive(Clone, Copy, Debug, PartialEq, Eq)]
+pub enum RowError {
+    /// A row has no `: ` after its call.
+    NoCall,
+    /// A row has no ` => ` before what is wanted.
+    NothingWanted,
+    /// An escape isn't closed, or isn't known.
+    BadEscape,
+    /// An allocation failed.
+    NoMem,
+}
+
+impl From<AllocError> for RowError {
+    fn from(_: AllocError) -> Self {
+        Self::NoMem
+    }
+}
+
+impl<T: Drop> From<AllocFailed<T>> for RowError {
+    fn from(_: AllocFailed<T>) -> Self {
+        Self::NoMem
+    }
+}
+
+impl From<ParseIntError> for RowError {
+    fn from(_: ParseIntError) -> Self {
+        Self::BadEscape
+    }
+}
