@@ -1,0 +1,60 @@
+"""What the benchmarks share: scripts as documents, and measured runs of the built program."""
+import json
+import os
+import re
+import subprocess
+import sys
+import tempfile
+
+TOP = os.path.dirname(os.path.dirname(os.path.abspath(__file__)))
+PROGRAM = f"{TOP}/crates/retro/out/retro"
+
+
+def script(tree, sessions, lines):
+    """The document of a script, whose lines are pairs of a session and a text."""
+    return json.dumps({
+        "script": 1,
+        "tree": tree,
+        "sessions": [[sid, "/", 0, []] for sid in sessions],
+        "lines": [[number, sid, text] for number, (sid, text) in enumerate(lines, 1)],
+    })
+
+
+def build():
+    """Builds the program, and runs it once on an empty script."""
+    empty = script([], [], []).encode()
+    subprocess.run([f"{TOP}/retro", "replay"], input=empty, stdout=subprocess.DEVNULL, check=True)
+
+
+# Runs a program below a small process of its own, since a child's peak memory includes its parent's. So no
+# peak below that of the small parent, some 10 MB, can be measured.
+MEASURE = """
+import os, subprocess, sys, time
+given = open(sys.argv[1], "rb")
+start = time.perf_counter()
+child = subprocess.Popen(sys.argv[2:], stdin=given, stdout=subprocess.DEVNULL, stderr=subprocess.DEVNULL)
+_, status, usage = os.wait4(child.pid, 0)
+print(time.perf_counter() - start, usage.ru_maxrss / 1024, os.waitstatus_to_exitcode(status))
+"""
+
+
+def measured(words, given, room, wanted):
+    """The seconds and the peak megabytes of a run, which must end with one of the wanted statuses."""
+    parts = [sys.executable, "-S", "-c", MEASURE, given, *words]
+    said = subprocess.run(parts, cwd=room, capture_output=True, text=True, check=True).stdout
+    seconds, memory, status = said.split()
+    if int(status) not in wanted:
+        sys.exit(f"{words[0]} ended with {status}")
+    return float(seconds), float(memory)
+
+
+def instructions(document):
+    """The millions of instructions of a replay, as callgrind counts them."""
+    with tempfile.TemporaryDirectory() as room:
+        words = ["valgrind", "--tool=callgrind", f"--callgrind-out-file={room}/out", PROGRAM, "replay"]
+        said = subprocess.run(words, input=document.encode(), capture_output=True, check=True).stderr
+    return int(re.search(rb"Collected\s*:\s*(\d+)", said)[1]) / 1e6
+
+
+def ratio(now, before):
+    return f"{now / before:5.1f}x" if before else "      "
