@@ -97,7 +97,7 @@ some_child p (k ∷ ks) h =
 
 -- ---- the laws
 -- a parent that stays a directory keeps its children lawful
-law_under_dir : (p : PathValue) (node above : Node) → law_at p node above ≡ true → law_at p node Dir ≡ true
+pub law_under_dir : (p : PathValue) (node above : Node) → law_at p node above ≡ true → law_at p node Dir ≡ true
 law_under_dir [] node above h = h
 law_under_dir (name ∷ rest) Missing above h = refl
 law_under_dir (name ∷ rest) Dir above h = both_true (is_dir above) _ h
@@ -139,7 +139,7 @@ same_or_apart : (q p : PathValue) → (q ≡ p) ⊎ (q ≢ p)
 same_or_apart = one_or_two path_total path_exact
 
 -- nothing is below a path without children
-nothing_below : (p q : PathValue) (tree : Tree) → has_child p tree ≡ false → is_child p q ≡ true
+pub nothing_below : (p q : PathValue) (tree : Tree) → has_child p tree ≡ false → is_child p q ≡ true
     → node_in q tree ≡ Missing
 unfolding has_child
 nothing_below p q tree h e =

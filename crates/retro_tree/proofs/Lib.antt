@@ -21,8 +21,8 @@ pub mod Answering
 pub mod Users
 pub mod PreviousSettings
 pub mod Undoing
-pub mod Erasing
 pub mod OverlayCommit
+pub mod CommittedLaw
 pub mod PutCells
 pub mod CommittedChanges
 pub mod Fitting

@@ -1,11 +1,10 @@
 -- Entries written to cells: the value of each cell, and which sessions are created.
-use Rattle.std.proofs.Common.{◌≡◌, ◌≢◌, ℕ, Bool, true, false, not, ◌||◌, ◌&&◌, cond, List, [], ◌∷◌, ◌++◌, reverse}
+use Rattle.std.proofs.Common.{◌≡◌, ◌≢◌, ℕ, Bool, true, false, not, ◌||◌, ◌&&◌, cond, List, [], ◌∷◌}
 use Rattle.std.proofs.Common.{Option, Some, None, refl, sym, ap, subst, ◌∙◌, nat_cmp, T, ⊎_elim}
 use Rattle.std.specs.Bool.{if◌then◌else◌}
 use Rattle.std.specs.Option.{is_some, unwrap_or}
 use Rattle.std.specs.Ordering.{eq_by_cmp, is_eq}
 use Rattle.std.specs.List.{filter, list_any, list_all}
-use Rattle.std.proofs.lemmas.List.{reverse-append}
 use Rattle.std.specs.Cmp.{nat_cmp_total, eq_by_cmp_equiv, tied_itself}
 use Rattle.std.specs.FinMap as finmap
 use Rattle.std.specs.FinMap.{FinMap, nat_cmp-IsAntisymmetric, get-insert, get-entries, entries_sorted}
@@ -240,16 +239,6 @@ below_filtered c p (e ∷ es) h =
       | false ↦ rest
     ]
 
-is_sorted-where : (p : Cell × OverlayEntry → Bool) (es : List (Cell × OverlayEntry)) → T (is_sorted cell_cmp es)
-    → T (is_sorted cell_cmp (filter p es))
-is_sorted-where p [] h = tt
-is_sorted-where p (e ∷ es) h =
-    let rest = is_sorted-where p es (both_snd _ _ h) in
-    elim (p e) as (λ b. T (is_sorted cell_cmp (cond b (e ∷ filter p es) (filter p es)))) [
-      | true ↦ both _ _ (below_filtered e.0 p es (both_fst _ _ h)) rest
-      | false ↦ rest
-    ]
-
 -- the writes first, and then the removals
 in_parts : (es : List (Cell × OverlayEntry)) → T (is_sorted cell_cmp es) → (s : State)
     → put_cells (removals es) (put_cells (writes es) s) ≡ put_cells es s
@@ -263,19 +252,6 @@ in_parts (e ∷ es) h s =
       | false ↦ in_parts es (both_snd _ _ h) (put_cell e.0 e.1 s)
     ]
 
--- from the last to the first
-puts_append : (xs ys : List (Cell × OverlayEntry)) (s : State) → put_cells (xs ++ ys) s ≡ put_cells ys (put_cells xs s)
-puts_append [] ys s = refl
-puts_append (x ∷ xs) ys s = puts_append xs ys (put_cell x.0 x.1 s)
-
-reversed : (es : List (Cell × OverlayEntry)) → T (is_sorted cell_cmp es) → (s : State)
-    → put_cells (reverse es) s ≡ put_cells es s
-reversed [] h s = refl
-reversed (e ∷ es) h s =
-    ap (λ fs. put_cells fs s) (reverse-append (e ∷ []) es) ∙ puts_append (reverse es) (e ∷ []) s
-    ∙ ap (put_cell e.0 e.1) (reversed es (both_snd _ _ h) s)
-    ∙ sym (put_past e.0 e.1 es s (both_fst _ _ h))
-
 pub all_removals : (es : List (Cell × OverlayEntry)) → list_all (λ e. removes e.1) (removals es) ≡ true
 all_removals [] = refl
 all_removals (e ∷ es) =
@@ -286,12 +262,9 @@ all_removals (e ∷ es) =
     ] refl
 
 pub writes_then_removals : (overlay : OverlayMap) (s : State)
-    → put_cells (reverse (removals (finmap.entries overlay))) (put_cells (writes (finmap.entries overlay)) s)
+    → put_cells (removals (finmap.entries overlay)) (put_cells (writes (finmap.entries overlay)) s)
     ≡ committed overlay s
-writes_then_removals overlay s =
-    reversed (removals (finmap.entries overlay)) (is_sorted-where (λ e. removes e.1) (finmap.entries overlay)
-    (entries_sorted overlay)) (put_cells (writes (finmap.entries overlay)) s)
-    ∙ in_parts (finmap.entries overlay) (entries_sorted overlay) s
+writes_then_removals overlay s = in_parts (finmap.entries overlay) (entries_sorted overlay) s
 
 -- ---- the combined state
 held_own : (c : Cell) (s : State) (old : Value) → held c (entries.Value (value c s)) old ≡ value c s

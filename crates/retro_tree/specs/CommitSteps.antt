@@ -1,17 +1,20 @@
--- The steps of a commit: writes, which can be undo, and removals, which come last. Only private
+-- The steps of a commit: writes, which can be undone, and removals, which come last. Only private
 -- contracts and proofs cite this file.
-use Rattle.std.specs.Prelude.{◌≡◌, ℕ, Bool, true, false, not, ◌&&◌, List, [], ◌∷◌, Option, Some, None}
-use Rattle.std.specs.List.{filter}
+use Rattle.std.specs.Prelude.{◌≡◌, ℕ, Bool, true, false, not, ◌&&◌, List, [], ◌∷◌, ◌++◌, Option, Some, None}
+use Rattle.std.specs.List.{filter, filter_map, list_any}
 use Rattle.std.specs.FinMap as map
 use Rattle.retro_tree.specs.Maps.{update}
 use Rattle.retro_tree.specs.Path.{PathValue}
 use Rattle.retro_tree.specs.Node.{entry_cut}
-use Rattle.retro_tree.specs.Tree.{Tree}
+use Rattle.retro_tree.specs.Order.{path_eq}
+use Rattle.retro_tree.specs.Tree.{Tree, node_in}
+use Rattle.retro_tree.specs.Lawful.{IsLawfulTree, may_put}
 use Rattle.retro_tree.specs.Session.{default_session, session_in}
 use Rattle.retro_tree.specs.Previous.{with_previous, has_place}
 use Rattle.retro_tree.specs.declared.entry.Entry.{Entry}
 use Rattle.retro_tree.specs.declared.node.Node.TheVariants.{Missing, Dir, File}
 use Rattle.retro_tree.specs.declared.cell.Cell.{Cell}
+use Rattle.retro_tree.specs.declared.cell.Cell.TheVariants as cells
 use Rattle.retro_tree.specs.declared.value.Value.TheVariants as values
 use Rattle.retro_tree.specs.declared.overlay_entry.OverlayEntry.{OverlayEntry}
 use Rattle.retro_tree.specs.declared.overlay_entry.OverlayEntry.TheVariants as entries
@@ -77,3 +80,39 @@ undo_all (u ∷ us) s = undo_all us (undo u s)
 abbrev pub CanUndoAll : List Undo → State → Type 0
 CanUndoAll [] s = Unit {0}
 CanUndoAll (u ∷ us) s = (can_undo u s ≡ true) × CanUndoAll us (undo u s)
+
+-- ---- the law after a commit
+
+-- whether a tree keeps the law at a path: the node may be there, and nothing is below it unless it
+-- is a directory
+abbrev pub keeps_law_at : PathValue → Tree → Bool
+keeps_law_at p tree = may_put p (node_in p tree) tree
+
+-- whether a tree keeps the law at a path, if there is one
+abbrev pub keeps_law : Option PathValue → Tree → Bool
+keeps_law None tree = true
+keeps_law (Some p) tree = keeps_law_at p tree
+
+-- the path of a cell, if the cell has one
+abbrev pub path_of : Cell → Option PathValue
+path_of (cells.At p) = Some p
+path_of (cells.Cwd sid) = None
+path_of (cells.Var sid name) = None
+path_of (cells.Status sid) = None
+
+-- the path that an undo writes, if it writes one
+abbrev pub undone_path : Undo → Option PathValue
+undone_path (undos.Entry p previous) = Some p
+undone_path (undos.Length p n) = Some p
+undone_path (undos.Session sid) = None
+undone_path (undos.Setting sid previous) = None
+
+-- the paths that a commit wrote
+abbrev pub written_paths : List Undo → List (Cell × OverlayEntry) → List PathValue
+written_paths us es = filter_map undone_path us ++ filter_map (λ e. path_of e.0) es
+
+-- A tree was lawful, and then changed at some paths only.
+pub record WasLawful (paths : List PathValue) (tree : Tree) : Type 0 where
+  pub before : Tree
+  pub lawful : IsLawfulTree before
+  pub apart : (p : PathValue) → list_any (path_eq p) paths ≡ false → node_in p tree ≡ node_in p before

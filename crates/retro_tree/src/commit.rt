@@ -1,5 +1,6 @@
 //! Commits of an overlay to a state.
-ghost use Rattle.std.specs.Prelude.{◌≡◌, [], IfOk, OnOk, OnErr, Some, true, false, reverse};
+ghost use Rattle.std.specs.Prelude.{◌≡◌, ◌↔◌, IsTrue, IfOk, OnOk, OnErr, [], reverse, Some};
+ghost use Rattle.std.specs.Prelude.{true, false};
 ghost use Rattle.std.specs.List.{list_all};
 ghost use Rattle.std.specs.FinMap as map;
 ghost use Rattle.retro_tree.specs.Node.{is_present};
@@ -7,7 +8,9 @@ ghost use Rattle.retro_tree.specs.State.{put_node, grow_file};
 ghost use Rattle.retro_tree.specs.Change.{put_setting};
 ghost use Rattle.retro_tree.specs.Commit.{put_cell, put_cells};
 ghost use Rattle.retro_tree.specs.CommitSteps.{removes, removals, writes, undo_all, CanUndoAll};
-ghost use Rattle.retro_tree.specs.CommitSteps.{Undoes};
+ghost use Rattle.retro_tree.specs.CommitSteps.{Undoes, WasLawful, written_paths, keeps_law};
+ghost use Rattle.retro_tree.specs.CommitSteps.{path_of, undone_path};
+ghost use Rattle.retro_tree.specs.Lawful.{IsLawfulTree};
 ghost use Rattle.retro_tree.specs.declared.overlay_entry.OverlayEntry.TheVariants as OverlayEntry;
 
 use crate::cell::Cell;
@@ -17,6 +20,7 @@ use crate::overlay::Overlay;
 use crate::overlay_entry::OverlayEntry;
 use crate::setting::Setting;
 use crate::state::State;
+use crate::tree::Tree;
 use crate::undo::Undo;
 use crate::value::Value;
 use retro_path::{Bytes, Path};
@@ -68,16 +72,40 @@ impl Commit {
         Ok(())
     }
 
-    /// Makes the removals, from the last to the first, so that the children of a directory are
-    /// removed before it. Takes no memory.
-    #[tactic(auto, using(crate::proofs::OverlayCommit::erasing))]
-    pub(crate) fn remove_all(&mut self, state: &mut State)
-        requires { list_all (λ e. removes e.1) self.old.removals.items ≡ true }
-        ensures { state.new ≡ put_cells (reverse self.old.removals.items) state.old }
+    /// Makes the removals. Takes no memory.
+    pub(crate) fn remove_all(&self, state: &mut State)
+        requires { list_all (λ e. removes e.1) self.now.removals.items ≡ true }
+        ensures { state.new ≡ put_cells self.now.removals.items state.old }
     {
-        while let Some((cell, entry)) = self.removals.pop() {
-            erase(state, &cell, &entry);
+        for (cell, entry) in &self.removals {
+            erase(state, cell, entry);
         }
+    }
+
+    /// Validates a state that was lawful before the commit, and remembers whether it is lawful.
+    /// Looks only at the paths that the commit wrote, and at the sessions if a setting isn't
+    /// lawful. Takes no memory.
+    pub(crate) fn revalidate(self, state: &mut State)
+        requires { WasLawful (written_paths self.undos.items self.removals.items) state.old.tree }
+        ensures { state.new ≡ state.old }
+    {
+        if !state.tree.is_known_lawful() && self.leaves_lawful(&state.tree) {
+            state.tree.mark_lawful();
+        }
+        if !state.sessions.is_known_lawful() {
+            state.sessions.validate();
+        }
+    }
+
+    /// Returns whether a tree that was lawful before the commit is lawful after it. Looks only at
+    /// the paths that the commit wrote, their parents and the first entries below them. Removals
+    /// are tested from the last to the first, so that nothing is left below a path that passes.
+    fn leaves_lawful(self, tree: &Tree) -> bool
+        requires { WasLawful (written_paths self.undos.items self.removals.items) tree.now }
+        ensures { IsTrue result ↔ IsLawfulTree tree.now }
+    {
+        let Commit { undos, removals } = self;
+        removals_keep_law(removals, tree) && undos_keep_law(undos, tree)
     }
 
     /// Undoes the writes, from the last to the first. Takes no memory.
@@ -89,6 +117,37 @@ impl Commit {
             undo.apply(state);
         }
     }
+}
+
+/// Returns whether a tree keeps the law at the paths of removals. Tests them from the last to the
+/// first.
+#[tactic(auto, using(crate::proofs::CommittedLaw::last_tested))]
+fn removals_keep_law(mut removals: Vec<(Cell, OverlayEntry)>, tree: &Tree) -> bool
+    ensures { result ≡ list_all (λ e. keeps_law (path_of e.0) tree.now) removals.items }
+{
+    while let Some((cell, _)) = removals.pop() {
+        if !cell_keeps_law(cell, tree) {
+            return false;
+        }
+    }
+    true
+}
+
+/// Returns whether a tree keeps the law at the path of a cell, if the cell has one.
+fn cell_keeps_law(cell: Cell, tree: &Tree) -> bool
+    ensures { result ≡ keeps_law (path_of cell) tree.now }
+{
+    match cell {
+        Cell::At(path) => tree.keeps_law_at(path),
+        Cell::Cwd(_) | Cell::Var(..) | Cell::Status(_) => true,
+    }
+}
+
+/// Returns whether a tree keeps the law at the paths of writes.
+fn undos_keep_law(undos: Vec<Undo>, tree: &Tree) -> bool
+    ensures { result ≡ list_all (λ u. keeps_law (undone_path u) tree.now) undos.items }
+{
+    undos.into_iter().all(|undo| undo.keeps_law(tree))
 }
 
 /// Writes an entry that is no removal to a state, and adds how that is undone.

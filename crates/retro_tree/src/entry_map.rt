@@ -2,7 +2,7 @@
 ghost use Rattle.std.specs.Prelude.{◌≡◌, IfOk, OnOk, OnErr, None, true};
 ghost use Rattle.std.specs.Option.{option_copied};
 ghost use Rattle.std.specs.FinMap as map;
-ghost use Rattle.retro_tree.specs.Node.{grown};
+ghost use Rattle.retro_tree.specs.Node.{grown, is_present};
 ghost use Rattle.retro_tree.specs.Tree.{node_in, put, entries_from};
 ghost use Rattle.retro_tree.specs.CommitSteps.{cut_at};
 
@@ -60,6 +60,22 @@ impl EntryMap {
         ensures absent { OnErr result (map.get self.old path ≡ None) }
     {
         Ok(self.entries.insert(path, entry)?)
+    }
+
+    /// Puts a directory or a file at a path and returns the previous entry. Takes no memory if the
+    /// path has an entry.
+    pub(crate) fn exchange(&mut self, path: Path, node: Node) -> Result<Option<Entry>, AllocError>
+        requires { is_present node ≡ true }
+        ensures previous { IfOk result (λ previous. previous ≡ map.get self.old path) }
+        ensures ok { OnOk result (self.new ≡ put path node self.old) }
+        ensures err { OnErr result (self.new ≡ self.old) }
+    {
+        let entry = match node {
+            Node::Missing => unreachable!(),
+            Node::Dir => Entry::Dir,
+            Node::File(bytes) => Entry::File(bytes),
+        };
+        self.insert(path, entry)
     }
 
     /// Puts an entry at a path that has one. Takes no memory.

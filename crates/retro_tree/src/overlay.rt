@@ -325,7 +325,9 @@ impl Overlay {
         match commit.write_all(alloc, self, state) {
             Ok(()) => {
                 commit.remove_all(state);
-                state.revalidate(alloc, was_known);
+                if was_known {
+                    commit.revalidate(state);
+                }
                 Ok(())
             }
             Err(error) => {

@@ -350,16 +350,6 @@ impl State {
         self.sessions.mark_lawful();
     }
 
-    /// Validates a state that was known to be lawful and no longer is. If allocation fails, it
-    /// stays unknown.
-    pub(crate) fn revalidate(&mut self, alloc: Global, was_known: bool)
-        ensures { self.new ≡ self.old }
-    {
-        if was_known && !self.is_known_lawful() {
-            let _ = self.validate(alloc);
-        }
-    }
-
     /// Returns whether a change is lawful: it grows no directory, its session exists, and the state
     /// after it is lawful. In a state that is known to be lawful, looks only at the path of the
     /// change, its parent and the first entry below it. Otherwise makes the change in a copy.

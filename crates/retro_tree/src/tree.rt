@@ -10,8 +10,7 @@ ghost use Rattle.retro_tree.specs.Ask.{names_in};
 ghost use Rattle.retro_tree.specs.Limits.{files_fit};
 ghost use Rattle.retro_tree.specs.Lawful.{IsLawfulTree, may_put, may_grow, is_lawful_tree};
 ghost use Rattle.retro_tree.specs.Lawful.{entry_passes};
-ghost use Rattle.retro_tree.specs.CommitSteps.{cut_at};
-ghost use Rattle.retro_tree.specs.declared.node.Node.TheVariants.{Missing};
+ghost use Rattle.retro_tree.specs.CommitSteps.{cut_at, keeps_law_at};
 
 use crate::entry::{Entry, FILE_LIMIT};
 use crate::entry_map::EntryMap;
@@ -233,12 +232,12 @@ impl Tree {
         }
         match node {
             Node::Missing => Ok(!self.has_child(path)),
-            Node::Dir => self.has_place_for(path),
+            Node::Dir => Ok(self.has_place_for(path.copy()?)),
             Node::File(bytes) => {
                 if bytes.len() as u64 > FILE_LIMIT || self.has_child(path) {
                     return Ok(false);
                 }
-                self.has_place_for(path)
+                Ok(self.has_place_for(path.copy()?))
             }
         }
     }
@@ -256,17 +255,35 @@ impl Tree {
         if more > FILE_LIMIT || self.size(path) as u64 > FILE_LIMIT - more {
             return Ok(false);
         }
-        self.has_place_for(path)
+        Ok(self.has_place_for(path.copy()?))
     }
 
     /// Returns whether a node of a lawful size can be at a path: its parent is a directory, and it
-    /// isn't at `/dev/null` or below it.
-    fn has_place_for(&self, path: &Path) -> Result<bool, AllocError>
-        ensures { IfOk result (λ has. has
-            ≡ (is_dir (node_in (parent_of path.now) self.now) && may_exist path.now)) }
+    /// isn't at `/dev/null` or below it. Takes the path, because the map can't look up a prefix of
+    /// its names: a look-up needs a whole key. Takes no memory.
+    fn has_place_for(&self, path: Path) -> bool
+        ensures { result ≡ (is_dir (node_in (parent_of path) self.now) && may_exist path) }
     {
-        let parent = path.copy()?.into_parent();
-        Ok(self.is_dir(&parent) && path.may_exist())
+        path.may_exist() && self.is_dir(&path.into_parent())
+    }
+
+    /// Returns whether the node at a path is lawful there, and nothing is below it unless it is a
+    /// directory. Takes no memory.
+    #[tactic(auto, unfolding(crate::specs::Tree::node_in))]
+    pub(crate) fn keeps_law_at(&self, path: Path) -> bool
+        ensures { result ≡ keeps_law_at path self.now }
+    {
+        if path.is_root() {
+            return self.is_dir(&path);
+        }
+        match self.get(&path) {
+            None => !self.has_child(&path),
+            Some(Entry::Dir) => self.has_place_for(path),
+            Some(Entry::File(bytes)) => {
+                let fits = bytes.len() as u64 <= FILE_LIMIT;
+                fits && !self.has_child(&path) && self.has_place_for(path)
+            }
+        }
     }
 
     /// Returns whether the tree is known to be lawful.
@@ -336,24 +353,18 @@ impl Tree {
         if !entry.fits() {
             return Ok(false);
         }
-        self.has_place_for(path)
+        Ok(self.has_place_for(path.copy()?))
     }
 
-    /// Puts a directory or a file at a path and returns the previous entry. A tree that is known to
-    /// be lawful stays so if the node may be put there.
+    /// Puts a directory or a file at a path and returns the previous entry. Forgets whether the
+    /// tree is lawful.
     pub(crate) fn exchange(&mut self, path: Path, node: Node) -> Result<Option<Entry>, AllocError>
         requires { is_present node ≡ true }
         ensures previous { IfOk result (λ previous. previous ≡ map.get self.old path) }
         ensures ok { OnOk result (self.new ≡ put path node self.old) }
         ensures err { OnErr result (self.new ≡ self.old) }
     {
-        let lawful = self.stays_lawful(&path, &node)?;
-        let entry = match node {
-            Node::Missing => unreachable!(),
-            Node::Dir => Entry::Dir,
-            Node::File(bytes) => Entry::File(bytes),
-        };
-        self.entries.change(lawful).insert(path, entry)
+        self.entries.change(false).exchange(path, node)
     }
 
     /// Puts an entry at a path that has one, and forgets whether the tree is lawful. Takes no
@@ -373,30 +384,10 @@ impl Tree {
         self.entries.change(false).cut(path, length);
     }
 
-    /// Removes the entry of a path. Takes no memory. A tree that is known to be lawful stays so if
-    /// the path has no children.
+    /// Removes the entry of a path, and forgets whether the tree is lawful. Takes no memory.
     pub(crate) fn erase(&mut self, path: &Path)
         ensures { self.new ≡ map.remove self.old path.now }
     {
-        let lawful = self.stays_lawful_without(path);
-        self.entries.change(lawful).remove(path);
-    }
-
-    /// Returns whether the tree is known to be lawful after the entry of a path is removed.
-    #[tactic(auto, using(crate::proofs::Erasing::lawful_erased))]
-    fn stays_lawful_without(&self, path: &Path) -> bool
-        ensures { IsTrue result → IsLawfulTree (map.remove self.now path.now) }
-    {
-        if !self.is_known_lawful() {
-            return false;
-        }
-        self.may_erase(path)
-    }
-
-    /// Returns whether a lawful tree stays lawful without the entry of a path.
-    fn may_erase(&self, path: &Path) -> bool
-        ensures { result ≡ may_put path.now Missing self.now }
-    {
-        !path.is_root() && !self.has_child(path)
+        self.entries.change(false).remove(path);
     }
 }

@@ -1,10 +1,11 @@
 //! Undoing of the writes of a commit.
 ghost use Rattle.std.specs.Prelude.{◌≡◌, true};
-ghost use Rattle.retro_tree.specs.CommitSteps.{undo, can_undo};
+ghost use Rattle.retro_tree.specs.CommitSteps.{undo, can_undo, keeps_law, undone_path};
 
 use crate::entry::Entry;
 use crate::previous::Previous;
 use crate::state::State;
+use crate::tree::Tree;
 use retro_path::Path;
 
 /// How one write is undone.
@@ -21,6 +22,19 @@ pub(crate) enum Undo {
 }
 
 impl Undo {
+    /// Returns whether a tree keeps the law at the path of the write, if it has one. Takes no
+    /// memory.
+    pub(crate) fn keeps_law(self, tree: &Tree) -> bool
+        ensures { result ≡ keeps_law (undone_path self) tree.now }
+    {
+        match self {
+            Undo::Entry(path, _previous) => tree.keeps_law_at(path),
+            Undo::Length(path, _length) => tree.keeps_law_at(path),
+            Undo::Session(_sid) => true,
+            Undo::Setting(_sid, _previous) => true,
+        }
+    }
+
     /// Undoes the write in a state. Takes no memory.
     pub(crate) fn apply(self, state: &mut State)
         requires { can_undo self state.old ≡ true }
