@@ -106,26 +106,19 @@ impl Sessions {
 
     /// Adds a session, or replaces the one with its number. Sessions that are known to be lawful
     /// stay so if this one is within the limits.
+    #[tactic(auto, using(crate::proofs::Keeping::added))]
     pub(crate) fn add(&mut self, sid: u32, session: Session) -> Result<(), AllocError>
         ensures ok { OnOk result (self.new ≡ map.insert self.old sid session) }
         ensures err { OnErr result (self.new ≡ self.old) }
     {
-        let lawful = self.stays_lawful_with(sid, &session);
+        let lawful = self.is_known_lawful() && session.fits();
         self.sessions.change(lawful).insert(sid, session)
-    }
-
-    /// Returns whether the sessions are known to be lawful, before and after a session is added.
-    #[tactic(auto, using(crate::proofs::Keeping::added))]
-    fn stays_lawful_with(&self, sid: u32, session: &Session) -> bool
-        ensures before { IsTrue result → AreLawfulSessions self.now }
-        ensures after { IsTrue result → AreLawfulSessions (map.insert self.now sid session.now) }
-    {
-        self.is_known_lawful() && session.fits()
     }
 
     /// Makes a setting in a session, in place, and returns what it replaced. If the session doesn't
     /// exist, creates it and returns `None`. Sessions that are known to be lawful stay so if the
     /// setting is within the limits.
+    #[tactic(auto, using(crate::proofs::Keeping::settings))]
     pub(crate) fn set(
         &mut self,
         alloc: Global,
@@ -138,18 +131,8 @@ impl Sessions {
             (self.new ≡ update self.old sid default_session (with_setting setting)) }
         ensures err { OnErr result (self.new ≡ self.old) }
     {
-        let lawful = self.stays_lawful(sid, &setting);
+        let lawful = self.is_known_lawful() && setting.fits();
         self.sessions.change(lawful).set(alloc, sid, setting)
-    }
-
-    /// Returns whether the sessions are known to be lawful, before and after a setting.
-    #[tactic(auto, using(crate::proofs::Keeping::settings))]
-    fn stays_lawful(&self, sid: u32, setting: &Setting) -> bool
-        ensures before { IsTrue result → AreLawfulSessions self.now }
-        ensures after { IsTrue result
-            → AreLawfulSessions (update self.now sid default_session (with_setting setting.now)) }
-    {
-        self.is_known_lawful() && setting.fits()
     }
 
     /// Removes a session, if it exists, and forgets whether the sessions are lawful. Takes no
@@ -172,19 +155,11 @@ impl Sessions {
 
     /// Unsets a variable of a session, in place, if the session exists. Takes no memory. Sessions
     /// that are known to be lawful stay so.
+    #[tactic(auto, using(crate::proofs::Keeping::unset_keeps))]
     pub(crate) fn unset(&mut self, sid: u32, name: &VarName)
         ensures { self.new ≡ unset (map.get self.old sid) sid name.now self.old }
     {
-        let lawful = self.stays_lawful_without(sid, name);
+        let lawful = self.is_known_lawful();
         self.sessions.change(lawful).unset(sid, name);
-    }
-
-    /// Returns whether the sessions are known to be lawful after a variable is unset.
-    #[tactic(auto, using(crate::proofs::Keeping::unset_keeps))]
-    fn stays_lawful_without(&self, sid: u32, name: &VarName) -> bool
-        ensures { IsTrue result
-            → AreLawfulSessions (unset (map.get self.now sid) sid name.now self.now) }
-    {
-        self.is_known_lawful()
     }
 }

@@ -66,25 +66,13 @@ impl Tree {
 
     /// Puts a node at a path, where `Missing` removes. A tree that is known to be lawful stays so
     /// if the node may be put there.
+    #[tactic(auto, using(crate::proofs::LawLemmas::lawful_put))]
     pub(crate) fn put(&mut self, path: Path, node: Node) -> Result<(), AllocError>
         ensures ok { OnOk result (self.new ≡ put path node self.old) }
         ensures err { OnErr result (self.new ≡ self.old) }
     {
-        let lawful = self.stays_lawful(&path, &node)?;
+        let lawful = self.is_known_lawful() && self.may_put(&path, &node)?;
         self.entries.change(lawful).put(path, node)
-    }
-
-    /// Returns whether the tree is known to be lawful, before and after a node is put at a path.
-    #[tactic(auto, using(crate::proofs::LawLemmas::lawful_put))]
-    fn stays_lawful(&self, path: &Path, node: &Node) -> Result<bool, AllocError>
-        ensures before { IfOk result (λ stays. IsTrue stays → IsLawfulTree self.now) }
-        ensures after { IfOk result (λ stays. IsTrue stays
-            → IsLawfulTree (put path.now node.now self.now)) }
-    {
-        if !self.is_known_lawful() {
-            return Ok(false);
-        }
-        self.may_put(path, node)
     }
 
     /// Returns the entries, in order of paths: by their names, and names by their bytes.
@@ -199,27 +187,14 @@ impl Tree {
 
     /// Appends bytes to a file, in place. A missing file is created, and a directory stays
     /// unchanged. A tree that is known to be lawful stays so if the file may grow.
+    #[tactic(auto, using(crate::proofs::LawLemmas::growing))]
     pub(crate) fn grow(&mut self, path: &Path, bytes: &Bytes) -> Result<(), AllocError>
         ensures ok { OnOk result
             (self.new ≡ put path.now (grown bytes.now (node_in path.now self.old)) self.old) }
         ensures err { OnErr result (self.new ≡ self.old) }
     {
-        let lawful = self.stays_lawful_grown(path, bytes)?;
+        let lawful = self.is_known_lawful() && self.may_grow(path, bytes)?;
         self.entries.change(lawful).grow(path, bytes)
-    }
-
-    /// Returns whether the tree is known to be lawful, before and after bytes are appended to a
-    /// file.
-    #[tactic(auto, using(crate::proofs::LawLemmas::growing))]
-    fn stays_lawful_grown(&self, path: &Path, bytes: &Bytes) -> Result<bool, AllocError>
-        ensures before { IfOk result (λ stays. IsTrue stays → IsLawfulTree self.now) }
-        ensures after { IfOk result (λ stays. IsTrue stays → IsLawfulTree
-            (put path.now (grown bytes.now (node_in path.now self.now)) self.now)) }
-    {
-        if !self.is_known_lawful() {
-            return Ok(false);
-        }
-        self.may_grow(path, bytes)
     }
 
     /// Returns whether a lawful tree stays lawful with a node at a path. Looks only at the path,
