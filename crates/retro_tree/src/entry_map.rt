@@ -3,12 +3,14 @@ ghost use Rattle.std.specs.Prelude.{◌≡◌, IfOk, OnOk, OnErr, None, true};
 ghost use Rattle.std.specs.Option.{option_copied};
 ghost use Rattle.std.specs.FinMap as map;
 ghost use Rattle.retro_tree.specs.Node.{grown, is_present};
-ghost use Rattle.retro_tree.specs.Tree.{node_in, put, entries_from};
+ghost use Rattle.retro_tree.specs.Tree.{node_in, put, has_child, entries_from};
+ghost use Rattle.retro_tree.specs.Ask.{names_in};
+ghost use Rattle.retro_tree.specs.Limits.{files_fit};
 ghost use Rattle.retro_tree.specs.CommitSteps.{cut_at};
 
 use crate::entry::Entry;
 use crate::node::Node;
-use retro_path::{Bytes, Path};
+use retro_path::{Bytes, Listing, Path};
 use std::alloc::{AllocError, Global};
 use std::collections::BTreeMap;
 use std::collections::btree_map::{Iter, Range};
@@ -146,9 +148,55 @@ impl EntryMap {
     }
 
     /// Returns the entries of a path and of the paths after it, in order.
-    pub(crate) fn from(&self, path: &Path) -> Range<'_, Path, Entry>
+    fn from(&self, path: &Path) -> Range<'_, Path, Entry>
         ensures { result ≡ entries_from path.now self.now }
     {
         self.entries.range(path..)
+    }
+
+    /// Returns the names of the children of a path, in byte order, whatever node is at the path
+    /// itself. Takes time in proportion to the entries below the path.
+    pub(crate) fn names(&self, alloc: Global, path: &Path) -> Result<Listing, AllocError>
+        ensures { IfOk result (λ names. names ≡ names_in path.now self.now) }
+    {
+        let mut names = Vec::new(alloc);
+        for (other, _) in self.from(path) {
+            let Some(rest) = other.strip_prefix(path) else {
+                return Ok(Listing::of(names));
+            };
+            if let [name] = rest {
+                names.push(name.copy()?)?;
+            }
+        }
+        Ok(Listing::of(names))
+    }
+
+    /// Returns whether a path has children. In a lawful tree the first entry below the path
+    /// decides.
+    pub(crate) fn has_child(&self, path: &Path) -> bool
+        ensures { result ≡ has_child path.now self.now }
+    {
+        for (other, _) in self.from(path) {
+            let Some(rest) = other.strip_prefix(path) else {
+                return false;
+            };
+            if rest.len() == 1 {
+                return true;
+            }
+        }
+        false
+    }
+
+    /// Returns whether each file is within the limit.
+    #[tactic(auto, unfolding(crate::specs::Limits::files_fit))]
+    pub(crate) fn fits(&self) -> bool
+        ensures { result ≡ files_fit self.now }
+    {
+        for (_, entry) in self.iter() {
+            if !entry.fits() {
+                return false;
+            }
+        }
+        true
     }
 }

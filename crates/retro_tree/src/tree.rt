@@ -5,7 +5,7 @@ ghost use Rattle.std.specs.FinMap as map;
 ghost use Rattle.retro_tree.specs.Path.{parent_of, may_exist};
 ghost use Rattle.retro_tree.specs.Node.{bytes_in, is_dir, is_present, kind_of, size_of, permit_at};
 ghost use Rattle.retro_tree.specs.Node.{grown};
-ghost use Rattle.retro_tree.specs.Tree.{node_in, put, has_child, entries_from};
+ghost use Rattle.retro_tree.specs.Tree.{node_in, put, has_child};
 ghost use Rattle.retro_tree.specs.Ask.{names_in};
 ghost use Rattle.retro_tree.specs.Limits.{files_fit};
 ghost use Rattle.retro_tree.specs.Lawful.{IsLawfulTree, may_put, may_grow, is_lawful_tree};
@@ -20,7 +20,7 @@ use crate::node::Node;
 use crate::permit::Permit;
 use retro_path::{Bytes, Listing, Path};
 use std::alloc::{AllocError, Global};
-use std::collections::btree_map::{Iter, Range};
+use std::collections::btree_map::Iter;
 use std::marker::Model;
 
 /// A map from paths to directories and files. It may be known to be lawful.
@@ -82,28 +82,12 @@ impl Tree {
         self.entries.get().iter()
     }
 
-    /// Returns the entries of a path and of the paths after it, in order.
-    fn from(&self, path: &Path) -> Range<'_, Path, Entry>
-        ensures { result ≡ entries_from path.now self.now }
-    {
-        self.entries.get().from(path)
-    }
-
     /// Returns the names of the children of a path, in byte order, whatever node is at the path
     /// itself. Takes time in proportion to the entries below the path.
     pub fn names(&self, alloc: Global, path: &Path) -> Result<Listing, AllocError>
         ensures { IfOk result (λ names. names ≡ names_in path.now self.now) }
     {
-        let mut names = Vec::new(alloc);
-        for (other, _) in self.from(path) {
-            let Some(rest) = other.strip_prefix(path) else {
-                return Ok(Listing::of(names));
-            };
-            if let [name] = rest {
-                names.push(name.copy()?)?;
-            }
-        }
-        Ok(Listing::of(names))
+        self.entries.get().names(alloc, path)
     }
 
     /// Returns whether a path has children. In a lawful tree the first entry below the path
@@ -111,15 +95,7 @@ impl Tree {
     pub(crate) fn has_child(&self, path: &Path) -> bool
         ensures { result ≡ has_child path.now self.now }
     {
-        for (other, _) in self.from(path) {
-            let Some(rest) = other.strip_prefix(path) else {
-                return false;
-            };
-            if rest.len() == 1 {
-                return true;
-            }
-        }
-        false
+        self.entries.get().has_child(path)
     }
 
     /// Returns a copy of the node at a path.
@@ -287,16 +263,10 @@ impl Tree {
     }
 
     /// Returns whether each file is within the limit.
-    #[tactic(auto, unfolding(crate::specs::Limits::files_fit))]
     pub(crate) fn fits(&self) -> bool
         ensures { result ≡ files_fit self.now }
     {
-        for (_, entry) in self.iter() {
-            if !entry.fits() {
-                return false;
-            }
-        }
-        true
+        self.entries.get().fits()
     }
 
     /// Returns whether the tree is lawful: the root is a directory, as is the parent of each other

@@ -2,7 +2,7 @@ use Rattle.std.proofs.Common.{◌++◌, map, ◌∙◌}
 use Rattle.std.specs.List.{filter_map}
 use Rattle.retro_tree.specs.Path.{child_name}
 use Rattle.retro_tree.proofs.Together.{together, names_together}
-use Rattle.retro_tree.proofs.tree.Tree.names.Goals as goal
+use Rattle.retro_tree.proofs.entry_map.EntryMap.names.Goals as goal
 
 pub loop-other-init : goal.loop-other-init
 loop-other-init c =

@@ -3,7 +3,7 @@ use Rattle.std.specs.List.{list_any}
 use Rattle.retro_tree.specs.Path.{is_child}
 use Rattle.retro_tree.specs.Tree.{has_child}
 use Rattle.retro_tree.proofs.Together.{together}
-use Rattle.retro_tree.proofs.tree.Tree.has_child.Given as goal
+use Rattle.retro_tree.proofs.entry_map.EntryMap.has_child.Given as goal
 
 abbrev pub invariant-loop-other : goal.invariant-loop-other
 invariant-loop-other l =

@@ -2,7 +2,7 @@ use Rattle.std.proofs.Common.{map, sym, ◌∙◌}
 use Rattle.std.specs.List.{list_any}
 use Rattle.retro_tree.specs.Path.{is_child}
 use Rattle.retro_tree.proofs.Together.{together, child_together}
-use Rattle.retro_tree.proofs.tree.Tree.has_child.Goals as goal
+use Rattle.retro_tree.proofs.entry_map.EntryMap.has_child.Goals as goal
 
 pub loop-other-init : goal.loop-other-init
 loop-other-init c =

@@ -3,7 +3,7 @@ use Rattle.std.specs.List.{filter_map}
 use Rattle.retro_tree.specs.Path.{child_name}
 use Rattle.retro_tree.specs.Ask.{names_in}
 use Rattle.retro_tree.proofs.Together.{together}
-use Rattle.retro_tree.proofs.tree.Tree.names.Given as goal
+use Rattle.retro_tree.proofs.entry_map.EntryMap.names.Given as goal
 
 abbrev pub invariant-loop-other : goal.invariant-loop-other
 invariant-loop-other l =
