@@ -1,0 +1,3 @@
+pub mod Noting
+pub mod Order
+pub mod Passing
