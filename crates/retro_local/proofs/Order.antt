@@ -1,7 +1,11 @@
 -- Notes from the newest to the oldest, and from the oldest to the newest.
-use Rattle.std.proofs.Common.{◌≡◌, ◌↔◌, ℕ, true, List, [], ◌∷◌, ◌++◌, reverse, refl, ap, sym, subst, ◌∙◌}
+use Rattle.std.proofs.Common.{◌≡◌, ◌↔◌, ℕ, Bool, true, List, [], ◌∷◌, ◌++◌, Option, Some, None, reverse}
+use Rattle.std.proofs.Common.{refl, ap, sym, subst, ◌∙◌}
 use Rattle.std.proofs.lemmas.List.{reverse-append, reverse-reverse}
+use Rattle.std.specs.Prelude.{◌==◌}
+use Rattle.std.specs.List.{list_all}
 use Rattle.std.specs.FinMap as map
+use Rattle.std.proofs.lemmas.Bool.{eqb-true}
 use Rattle.retro_tree.specs.Ask.{answer}
 use Rattle.retro_tree.specs.Change.{apply, has_its_session, IsLawfulChange}
 use Rattle.retro_tree.specs.Lawful.{IsLawful}
@@ -13,8 +17,10 @@ use Rattle.retro_tree.specs.declared.note.Note.TheVariants.{Asked, Made}
 use Rattle.retro_tree.specs.declared.state.State.{State}
 use Rattle.retro_tree.proofs.Allowed.{sound}
 use Rattle.retro_tree.proofs.MayMake.{session_stays}
+use Rattle.retro_tree.proofs.Small.{and_true, both_true, first_true}
 use Rattle.retro_tree.proofs.NoteLaws.{after_append, holds_append, allowed_append}
-use Rattle.retro_local.specs.Trace.{reached, AllHold, AllPass, KeepsLaw, IsOwn, IsChangeOf}
+use Rattle.retro_local.specs.Trace.{reached, AllHold, AllPass, KeepsLaw, IsOwn}
+use Rattle.retro_local.specs.Trace.{asked_session, changed_session, named_sessions, with_session}
 use Rattle.retro_local.proofs.Noting.{lawful_reached, stays_lawful}
 
 reverse_cons : (n : Note) (notes : List Note) → reverse (n ∷ notes) ≡ reverse notes ++ n ∷ []
@@ -46,19 +52,43 @@ holds_reverse (Made c ∷ notes) s =
     let rest = holds_reverse notes s in
     (λ h. rest.0 (both.0 h).0, λ h. both.1 (rest.1 h, tt)))
 
+-- the sessions that notes name, whichever order they are in
+abbrev owns : ℕ → List ℕ → Bool
+owns sid sids = list_all (λ k. k == sid) sids
+
+owns_both : (sid : ℕ) (named : Option ℕ) (sids : List ℕ) → owns sid (with_session named sids) ≡ true
+    → owns sid sids ≡ true
+owns_both sid None sids h = h
+owns_both sid (Some k) sids h = both_true (k == sid) _ h
+
+owns_same : (sid : ℕ) (named : Option ℕ) (xs ys : List ℕ) → owns sid (with_session named xs) ≡ true
+    → owns sid ys ≡ true → owns sid (with_session named ys) ≡ true
+owns_same sid None xs ys h own = own
+owns_same sid (Some k) xs ys h own = and_true _ _ (first_true (k == sid) _ h) own
+
 own_append : (sid : ℕ) (xs ys : List Note) → IsOwn sid xs → IsOwn sid ys → IsOwn sid (xs ++ ys)
+unfolding named_sessions
 own_append sid [] ys h k = k
-own_append sid (Asked a r ∷ xs) ys h k = (own_append sid xs ys h.0 k, h.1)
-own_append sid (Made c ∷ xs) ys h k = (own_append sid xs ys h.0 k, h.1)
+own_append sid (Asked a r ∷ xs) ys h k =
+    owns_same sid (asked_session a) (named_sessions xs) (named_sessions (xs ++ ys)) h
+    (own_append sid xs ys (owns_both sid (asked_session a) (named_sessions xs) h) k)
+own_append sid (Made c ∷ xs) ys h k =
+    owns_same sid (changed_session c) (named_sessions xs) (named_sessions (xs ++ ys)) h
+    (own_append sid xs ys (owns_both sid (changed_session c) (named_sessions xs) h) k)
 
 own_reverse : (sid : ℕ) (notes : List Note) → IsOwn sid notes → IsOwn sid (reverse notes)
+unfolding named_sessions
 own_reverse sid [] h = h
 own_reverse sid (Asked a r ∷ notes) h =
     rw (reverse_cons (Asked a r) notes)
-    (own_append sid (reverse notes) (Asked a r ∷ []) (own_reverse sid notes h.0) (tt, h.1))
+    (own_append sid (reverse notes) (Asked a r ∷ [])
+    (own_reverse sid notes (owns_both sid (asked_session a) (named_sessions notes) h))
+    (owns_same sid (asked_session a) (named_sessions notes) [] h refl))
 own_reverse sid (Made c ∷ notes) h =
     rw (reverse_cons (Made c) notes)
-    (own_append sid (reverse notes) (Made c ∷ []) (own_reverse sid notes h.0) (tt, h.1))
+    (own_append sid (reverse notes) (Made c ∷ [])
+    (own_reverse sid notes (owns_both sid (changed_session c) (named_sessions notes) h))
+    (owns_same sid (changed_session c) (named_sessions notes) [] h refl))
 
 -- a session that exists still does
 sessions_stay : (notes : List Note) (s : State) (sid : ℕ) → map.contains_key s.sessions sid ≡ true
@@ -67,29 +97,35 @@ sessions_stay [] s sid h = h
 sessions_stay (Asked a r ∷ notes) s sid h = sessions_stay notes s sid h
 sessions_stay (Made c ∷ notes) s sid h = session_stays c (reached notes s) sid (sessions_stay notes s sid h)
 
-own_session : (sid : ℕ) (c : Change) (s : State) → IsChangeOf sid c → map.contains_key s.sessions sid ≡ true
-    → has_its_session c s ≡ true
-own_session sid (changes.Put p node) s own h = refl
-own_session sid (changes.Grow p bytes) s own h = refl
-own_session sid (changes.SetVar k name text) s own h = ap (map.contains_key s.sessions) own ∙ h
-own_session sid (changes.SetCwd k p) s own h = ap (map.contains_key s.sessions) own ∙ h
-own_session sid (changes.SetStatus k status) s own h = ap (map.contains_key s.sessions) own ∙ h
+named_session : (sid k : ℕ) (sids : List ℕ) (s : State) → owns sid (k ∷ sids) ≡ true
+    → map.contains_key s.sessions sid ≡ true → map.contains_key s.sessions k ≡ true
+named_session sid k sids s own h = ap (map.contains_key s.sessions) (eqb-true k sid (first_true (k == sid) _ own)) ∙ h
+
+own_session : (sid : ℕ) (c : Change) (sids : List ℕ) (s : State)
+    → owns sid (with_session (changed_session c) sids) ≡ true
+    → map.contains_key s.sessions sid ≡ true → has_its_session c s ≡ true
+own_session sid (changes.Put p node) sids s own h = refl
+own_session sid (changes.Grow p bytes) sids s own h = refl
+own_session sid (changes.SetVar k name text) sids s own h = named_session sid k sids s own h
+own_session sid (changes.SetCwd k p) sids s own h = named_session sid k sids s own h
+own_session sid (changes.SetStatus k status) sids s own h = named_session sid k sids s own h
 
 -- changes that pass, of a session that exists, are lawful where they are made
 allowed_reverse : (sid : ℕ) (notes : List Note) (s : State) → IsLawful s → map.contains_key s.sessions sid ≡ true
     → IsOwn sid notes → AllPass notes s → AllAllowed (reverse notes) s
+unfolding named_sessions
 allowed_reverse sid [] s l there own pass = tt
 allowed_reverse sid (Asked a r ∷ notes) s l there own pass =
-    rw (reverse_cons (Asked a r) notes)
-    ((allowed_append (reverse notes) (Asked a r ∷ []) s).1 (allowed_reverse sid notes s l there own.0 pass, tt))
+    let rest = allowed_reverse sid notes s l there (owns_both sid (asked_session a) (named_sessions notes) own) pass in
+    rw (reverse_cons (Asked a r) notes) ((allowed_append (reverse notes) (Asked a r ∷ []) s).1 (rest, tt))
 allowed_reverse sid (Made c ∷ notes) s l there own pass =
-    let lawful = sound c (reached notes s) (lawful_reached notes s l pass.0)
-    (own_session sid c (reached notes s) own.1 (sessions_stay notes s sid there)) pass.1 in
+    let owned = owns_both sid (changed_session c) (named_sessions notes) own in
+    let rest = allowed_reverse sid notes s l there owned pass.0 in
+    let session = own_session sid c (named_sessions notes) (reached notes s) own (sessions_stay notes s sid there) in
+    let lawful = sound c (reached notes s) (lawful_reached notes s l pass.0) session pass.1 in
     rw (reverse_cons (Made c) notes)
-    ((allowed_append (reverse notes) (Made c ∷ []) s).1 (
-      allowed_reverse sid notes s l there own.0 pass.0,
-      (subst (IsLawfulChange c) (sym (reached_reverse notes s)) lawful, tt),
-    ))
+    ((allowed_append (reverse notes) (Made c ∷ []) s).1
+    (rest, (subst (IsLawfulChange c) (sym (reached_reverse notes s)) lawful, tt)))
 
 -- ---- by the notes from the oldest to the newest, as `into_notes` has them
 pub after_is_reached : (notes : List Note) (s : State) → after notes s ≡ reached (reverse notes) s

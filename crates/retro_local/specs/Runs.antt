@@ -4,7 +4,7 @@ use Rattle.std.specs.Prelude.{◌≡◌, ℕ, List}
 use Rattle.retro_tree.specs.Lawful.{IsLawful}
 use Rattle.retro_tree.specs.declared.note.Note.{Note}
 use Rattle.retro_tree.specs.declared.state.State.{State}
-use Rattle.retro_local.specs.Trace.{Trace, reached, AllHold, IsEarlier, IsOwn}
+use Rattle.retro_local.specs.Trace.{Trace, reached, AllHold, IsEarlier, IsOwn, named_sessions}
 
 -- P holds of the state that the notes reach
 abbrev pub Always : (State → Type 0) → Trace → Type 0
@@ -44,8 +44,8 @@ pub record Extends (sid : ℕ) (old new : Trace) : Type 0 where
   pub later : (base : List Note) → IsEarlier base old.notes → IsEarlier base new.notes
   pub own : IsOwn sid old.notes → IsOwn sid new.notes
 
--- Likewise, the later notes are of the tree: they name no session at all.
+-- Likewise, the later notes are of the tree: they name no session.
 pub record ExtendsTree (old new : Trace) : Type 0 where
   pub start : new.start ≡ old.start
   pub later : (base : List Note) → IsEarlier base old.notes → IsEarlier base new.notes
-  pub own : (sid : ℕ) → IsOwn sid old.notes → IsOwn sid new.notes
+  pub tree : named_sessions new.notes ≡ named_sessions old.notes

@@ -1,5 +1,6 @@
 -- Traces: the notes made over a view, the newest note first.
-use Rattle.std.specs.Prelude.{◌≡◌, ℕ, true, List, [], ◌∷◌}
+use Rattle.std.specs.Prelude.{◌≡◌, ◌==◌, ℕ, true, List, [], ◌∷◌, Option, Some, None}
+use Rattle.std.specs.List.{list_all}
 use Rattle.retro_tree.specs.Ask.{answer}
 use Rattle.retro_tree.specs.Change.{apply, may_make}
 use Rattle.retro_tree.specs.Lawful.{IsLawful}
@@ -49,22 +50,30 @@ pub data IsEarlier : List Note → List Note → Type 0 where
 
 -- ---- sessions
 
--- a query names no session but this one
-abbrev pub IsAskOf : ℕ → Ask → Type 0
-IsAskOf sid (asks.VarOf other name) = other ≡ sid
-IsAskOf sid (asks.CwdOf other) = other ≡ sid
-IsAskOf sid (asks.StatusOf other) = other ≡ sid
-IsAskOf sid _ = Unit {0}
+-- the session that a query names, or None
+abbrev pub asked_session : Ask → Option ℕ
+asked_session (asks.VarOf sid name) = Some sid
+asked_session (asks.CwdOf sid) = Some sid
+asked_session (asks.StatusOf sid) = Some sid
+asked_session _ = None
 
--- a change names no session but this one
-abbrev pub IsChangeOf : ℕ → Change → Type 0
-IsChangeOf sid (changes.SetVar other name text) = other ≡ sid
-IsChangeOf sid (changes.SetCwd other p) = other ≡ sid
-IsChangeOf sid (changes.SetStatus other status) = other ≡ sid
-IsChangeOf sid _ = Unit {0}
+-- the session that a change names, or None
+abbrev pub changed_session : Change → Option ℕ
+changed_session (changes.SetVar sid name text) = Some sid
+changed_session (changes.SetCwd sid p) = Some sid
+changed_session (changes.SetStatus sid status) = Some sid
+changed_session _ = None
 
--- notes name no session but this one
+abbrev pub with_session : Option ℕ → List ℕ → List ℕ
+with_session None sids = sids
+with_session (Some sid) sids = sid ∷ sids
+
+-- the sessions that notes name
+unfoldable pub named_sessions : List Note → List ℕ
+named_sessions [] = []
+named_sessions (Asked a r ∷ notes) = with_session (asked_session a) (named_sessions notes)
+named_sessions (Made c ∷ notes) = with_session (changed_session c) (named_sessions notes)
+
+-- notes are a session's own if they name no other session
 abbrev pub IsOwn : ℕ → List Note → Type 0
-IsOwn sid [] = Unit {0}
-IsOwn sid (Asked a r ∷ notes) = IsOwn sid notes × IsAskOf sid a
-IsOwn sid (Made c ∷ notes) = IsOwn sid notes × IsChangeOf sid c
+IsOwn sid notes = list_all (λ k. k == sid) (named_sessions notes) ≡ true

@@ -1,6 +1,6 @@
 //! Views with notes.
 ghost use Rattle.std.specs.Prelude.{◌≡◌, ◌↔◌, ◌≤◌, ℕ, true, false, List, [], length, min, reverse};
-ghost use Rattle.std.specs.Prelude.{IfOk, OnOk, OnErr};
+ghost use Rattle.std.specs.Prelude.{IfOk, None, OnErr, OnOk, Some};
 ghost use Rattle.std.specs.FinMap as map;
 ghost use Rattle.retro_tree.specs.Ask.{answer, listing, names_in};
 ghost use Rattle.retro_tree.specs.Change.{may_make, put_cwd, put_var};
@@ -22,8 +22,8 @@ ghost use Rattle.retro_tree.specs.declared.permit.Permit.TheVariants.{Yes};
 ghost use Rattle.retro_tree.specs.declared.state.State.{State};
 ghost use Rattle.retro_local.specs.Runs.{Always, Computes, Extends, ExtendsTree, Transforms};
 ghost use Rattle.retro_local.specs.Kinds.{kind_at};
-ghost use Rattle.retro_local.specs.Trace.{AllHold, IsAskOf, IsChangeOf, IsEarlier, IsOwn};
-ghost use Rattle.retro_local.specs.Trace.{noted, reached};
+ghost use Rattle.retro_local.specs.Trace.{AllHold, IsEarlier, IsOwn, asked_session};
+ghost use Rattle.retro_local.specs.Trace.{changed_session, named_sessions, noted, reached};
 
 use retro_tree::{
     Answer, Ask, Bytes, Change, Kind, Listing, Node, Note, Notes, Overlay, Path, Permit, Resolved,
@@ -79,8 +79,10 @@ impl<'a, V: View> Local<'a, V> {
         ensures start { self.new.start ≡ self.old.start }
         ensures later { (base : List NoteValue)
             → IsEarlier base self.old.notes → IsEarlier base self.new.notes }
-        ensures own { (sid : ℕ)
-            → IsAskOf sid ask → IsOwn sid self.old.notes → IsOwn sid self.new.notes }
+        ensures own { (sid : ℕ) → asked_session ask ≡ Some sid
+            → IsOwn sid self.old.notes → IsOwn sid self.new.notes }
+        ensures tree { asked_session ask ≡ None
+            → named_sessions self.new.notes ≡ named_sessions self.old.notes }
         ensures err { OnErr result (self.new ≡ self.old) }
     {
         let answer = self.overlay.answer(alloc, self.view, &ask)?;
@@ -98,8 +100,10 @@ impl<'a, V: View> Local<'a, V> {
         ensures start { self.new.start ≡ self.old.start }
         ensures later { (base : List NoteValue)
             → IsEarlier base self.old.notes → IsEarlier base self.new.notes }
-        ensures own { (sid : ℕ)
-            → IsChangeOf sid change → IsOwn sid self.old.notes → IsOwn sid self.new.notes }
+        ensures own { (sid : ℕ) → changed_session change ≡ Some sid
+            → IsOwn sid self.old.notes → IsOwn sid self.new.notes }
+        ensures tree { changed_session change ≡ None
+            → named_sessions self.new.notes ≡ named_sessions self.old.notes }
         ensures err { OnErr result (self.new ≡ self.old) }
     {
         let copy = change.copy()?;
