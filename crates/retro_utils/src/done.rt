@@ -1,0 +1,93 @@
+//! What utilities leave.
+ghost use Rattle.std.specs.Prelude.{◌≡◌, IfOk, OnOk};
+ghost use Rattle.retro_utils.specs.Outcomes.{nothing_done, usage, with_fault, with_outcome};
+ghost use Rattle.retro_utils.specs.Outcomes.{with_output, with_reading};
+
+use crate::reason::Reason;
+use retro_tree::Bytes;
+use std::alloc::{AllocError, Global};
+
+/// What a utility leaves.
+#[derive(Drop)]
+pub struct Done {
+    /// The output.
+    pub out: Bytes,
+    /// The diagnostics.
+    pub err: Bytes,
+    /// The exit status.
+    pub status: u8,
+}
+
+impl Done {
+    /// Returns a result without output and diagnostics.
+    pub(crate) fn nothing(alloc: Global, status: u8) -> Done
+        ensures { result ≡ nothing_done status }
+    {
+        Done {
+            out: Bytes::new(alloc),
+            err: Bytes::new(alloc),
+            status,
+        }
+    }
+
+    /// Returns the result of a use outside a utility's forms.
+    pub(crate) fn usage(alloc: Global, name: &str) -> Result<Done, AllocError>
+        ensures { IfOk result (λ done. done ≡ usage name.now) }
+    {
+        let mut done = Done::nothing(alloc, 2);
+        done.err.extend(name.as_bytes())?;
+        done.err.extend(b": usage\n")?;
+        Ok(done)
+    }
+
+    /// Adds the diagnostic of a fault on an operand, and sets the status to 1.
+    pub(crate) fn fault(
+        &mut self,
+        name: &str,
+        operand: &str,
+        reason: Reason,
+    ) -> Result<(), AllocError>
+        ensures { OnOk result (self.new ≡ with_fault name.now operand.now reason self.old) }
+    {
+        reason.push_fault(&mut self.err, name, operand)?;
+        self.status = 1;
+        Ok(())
+    }
+
+    /// Adds the fault of an operation on an operand, if it failed.
+    pub(crate) fn outcome(
+        &mut self,
+        name: &str,
+        operand: &str,
+        outcome: Result<(), Reason>,
+    ) -> Result<(), AllocError>
+        ensures { OnOk result (self.new ≡ with_outcome name.now operand.now outcome self.old) }
+    {
+        match outcome {
+            Ok(()) => Ok(()),
+            Err(reason) => self.fault(name, operand, reason),
+        }
+    }
+
+    /// Adds output.
+    pub(crate) fn print(&mut self, bytes: &[u8]) -> Result<(), AllocError>
+        ensures { OnOk result (self.new ≡ with_output bytes.now self.old) }
+    {
+        self.out.extend(bytes)
+    }
+
+    /// Adds the bytes that were read of an operand, or the fault on it.
+    pub(crate) fn reading(
+        &mut self,
+        name: &str,
+        operand: &str,
+        reading: Result<Bytes, Reason>,
+    ) -> Result<(), AllocError>
+        ensures { OnOk result (self.new ≡ with_reading name.now operand.now reading self.old) }
+    {
+        match reading {
+            Ok(bytes) => self.print(bytes.as_slice()),
+            Err(reason) => self.fault(name, operand, reason),
+        }
+    }
+}

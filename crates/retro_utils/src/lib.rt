@@ -1,0 +1,22 @@
+//! The utilities, over any view of a state.
+//!
+//! Each utility is a function on whole states, defined in `specs/`: it gives the state after it,
+//! its output, its diagnostics and its status. The code runs over a `Local`, and its notes say what
+//! was read and changed. The functions here take operands; the options are parsed elsewhere.
+//!
+//! If allocation fails, calls return `AllocError`. A `Local` then has its earlier notes and maybe
+//! some later ones, which hold.
+#![tactic(auto)]
+
+mod cat;
+mod done;
+mod input;
+mod operand;
+mod place;
+mod reason;
+
+pub use done::Done;
+pub use input::Input;
+pub use place::Place;
+pub use reason::Reason;
+pub use retro_local::{Local, apply_notes, holds};
