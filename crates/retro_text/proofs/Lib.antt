@@ -1,0 +1,10 @@
+pub mod FirstByte
+pub mod LineLemmas
+pub mod GroupLemmas
+pub mod NumberLemmas
+pub mod Joining
+pub mod PartLemmas
+pub mod Selecting
+pub mod FieldLemmas
+pub mod CutLemmas
+pub mod SpanSteps

@@ -1,0 +1,9 @@
+pub mod Utility
+pub mod Usage
+pub mod Request
+pub mod Lines
+pub mod Spans
+pub mod Cut
+pub mod Search
+pub mod Condition
+pub mod Output

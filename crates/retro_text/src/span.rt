@@ -1,0 +1,103 @@
+//! Spans of positions.
+ghost use Rattle.std.specs.Prelude.{◌≡◌, ◌==◌, position};
+ghost use Rattle.std.specs.List.{list_all};
+ghost use Rattle.std.specs.Char.{is_ascii_digit};
+ghost use Rattle.retro_text.specs.Spans.{contains, index_in, span_between, span_in};
+
+/// The greatest number of digits in a position.
+const MAX_DIGITS: usize = 9;
+
+/// The indices from `first` to `last`, both included, or all from `first` if there is no `last`.
+/// Indices are counted from 0.
+#[derive(Clone, Copy, Debug, PartialEq, Eq)]
+pub struct Span {
+    pub first: u32,
+    pub last: Option<u32>,
+}
+
+/// Returns whether all bytes are decimal digits.
+fn are_digits(bytes: &[u8]) -> bool
+    ensures { result ≡ list_all is_ascii_digit bytes.now }
+{
+    bytes.iter().all(|byte| byte.is_ascii_digit())
+}
+
+/// Returns the index of the position that one to nine digits write, if it is at least 1.
+#[tactic(auto, using(crate::proofs::NumberLemmas::numbers))]
+fn index_of(text: &[u8]) -> Option<u32>
+    ensures { result ≡ index_in text.now }
+{
+    if text.len() > MAX_DIGITS || !are_digits(text) {
+        return None;
+    }
+    let position: u32 = str::from_utf8(text).ok()?.parse().ok()?;
+    position.checked_sub(1)
+}
+
+/// Returns the span of the texts before and after a dash.
+#[tactic(auto, unfolding(crate::specs::Spans::span_between))]
+fn span_between(from: &[u8], to: &[u8]) -> Option<Span>
+    ensures { result ≡ span_between from.now to.now }
+{
+    match (from, to) {
+        ([], []) => None,
+        ([], _) => Some(Span {
+            first: 0,
+            last: Some(index_of(to)?),
+        }),
+        (_, []) => Some(Span {
+            first: index_of(from)?,
+            last: None,
+        }),
+        _ => {
+            let first = index_of(from)?;
+            let last = index_of(to)?;
+            if first <= last {
+                Some(Span {
+                    first,
+                    last: Some(last),
+                })
+            } else {
+                None
+            }
+        }
+    }
+}
+
+/// Returns the index of the first dash in a text.
+fn dash_in(text: &[u8]) -> Option<usize>
+    ensures { result ≡ position (λ b. b == 45) text.now }
+{
+    text.iter().position(|byte| *byte == b'-')
+}
+
+impl Span {
+    /// Reads a span that is written as `N`, `N-M`, `N-` or `-M`. `N` and `M` are positions, counted
+    /// from 1, of one to nine digits, and `N` is at most `M`.
+    #[tactic(auto, unfolding(crate::specs::Spans::span_in))]
+    pub(crate) fn of(text: &[u8]) -> Option<Span>
+        ensures { result ≡ span_in text.now }
+    {
+        match dash_in(text) {
+            None => {
+                let index = index_of(text)?;
+                Some(Span {
+                    first: index,
+                    last: Some(index),
+                })
+            }
+            Some(dash) => span_between(&text[..dash], &text[dash + 1..]),
+        }
+    }
+
+    /// Returns whether the span has an index.
+    pub fn contains(self, index: usize) -> bool
+        ensures { result ≡ contains self index }
+    {
+        self.first as usize <= index
+            && match self.last {
+                None => true,
+                Some(last) => index <= last as usize,
+            }
+    }
+}
