@@ -117,6 +117,16 @@ impl<'a, V: View> Local<'a, V> {
         }
     }
 
+    /// In each lawful state in which the notes hold, the state after them is lawful. Does nothing:
+    /// callers learn this fact by the call.
+    #[tactic(auto, using(crate::proofs::Noting::noting))]
+    pub fn keeps_law(&self)
+        ensures { (s : State) → IsLawful s → AllHold self.now.notes s
+            → IsLawful (reached self.now.notes s) }
+    {
+        let _ = &self.notes;
+    }
+
     /// Returns the notes in the order in which they were made. They hold in the view's state. In
     /// each lawful state in which they hold, the state after them is lawful, and if they name one
     /// session alone, which exists, each change is lawful where it is made. Takes no memory.
