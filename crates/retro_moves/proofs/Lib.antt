@@ -1,0 +1,3 @@
+pub mod Without
+pub mod Thinning
+pub mod Removals
