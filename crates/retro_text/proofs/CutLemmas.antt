@@ -7,8 +7,8 @@ use Rattle.std.proofs.lemmas.Bool.{cond-true, cond-false}
 use Rattle.retro_text.specs.declared.span.Span.{Span}
 use Rattle.retro_text.specs.declared.cut.Cut.{Cut}
 use Rattle.retro_text.specs.declared.cut.Cut.TheVariants.{Bytes, Fields}
-use Rattle.retro_text.specs.Lines.{text_of_lines}
-use Rattle.retro_text.specs.Cut.{cut_line, cut_lines, line_text, selected_items}
+use Rattle.retro_text.specs.Lines.{lines_in, text_of_lines}
+use Rattle.retro_text.specs.Cut.{cut_line, cut_lines, cut_text, line_text, selected_items}
 
 -- the text of one line, if it isn't dropped
 kept : (how : Cut) (line left : List ℕ) → cut_line how line ≡ Some left → line_text how line ≡ left ++ 10 ∷ []
@@ -43,7 +43,8 @@ line_dropped how spans d only line is delimited dropped =
 
 -- a line, and those after it
 pub more : (how : Cut) (out : List ℕ) (line : List ℕ) (lines : List (List ℕ))
-    → (out ++ line_text how line) ++ text_of_lines (cut_lines how lines) ≡ out ++ text_of_lines (cut_lines how (line ∷ lines))
+    → (out ++ line_text how line) ++ text_of_lines (cut_lines how lines)
+    ≡ out ++ text_of_lines (cut_lines how (line ∷ lines))
 unfolding line_text
 more how out line lines =
     append_assoc out (text_of_lines (cut_lines how (line ∷ []))) (text_of_lines (cut_lines how lines))
@@ -54,4 +55,8 @@ more how out line lines =
     go None = refl
     go (Some left) = ap (λ text. text ++ text_of_lines (cut_lines how lines)) (append-nil (left ++ 10 ∷ []))
 
-pub ruleset more_lines = (more, append-nil)
+pub whole_text : (how : Cut) (text : List ℕ) → text_of_lines (cut_lines how (lines_in text)) ≡ cut_text how text
+unfolding cut_text
+whole_text how text = refl
+
+pub ruleset more_lines = (more, whole_text, append-nil)

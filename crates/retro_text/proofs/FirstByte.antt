@@ -1,5 +1,6 @@
 -- What a search for a byte says of the text on both sides of it.
-use Rattle.std.proofs.Common.{◌≡◌, ℕ, ◌+◌, ◌<◌, ◌==◌, List, ◌∷◌, ◌++◌, length, get_or, take, drop, Some, None, arith, false}
+use Rattle.std.proofs.Common.{◌≡◌, ℕ, ◌+◌, ◌<◌, ◌==◌, List, ◌∷◌, ◌++◌, length, get_or, take, drop, Some, None, arith}
+use Rattle.std.proofs.Common.{false}
 use Rattle.std.proofs.Common.{[], sym, ap, ◌∙◌, refl}
 use Rattle.std.specs.List.{All, slice_split}
 use Rattle.std.proofs.lemmas.Bool.{false_from_ne_true, eqb-true, eq-eqb}
@@ -28,7 +29,8 @@ none_before b text k h = λ j d inside.
 -- the byte isn't in a text where it isn't found
 pub nowhere : (b : ℕ) (text : List ℕ) → IsFirstByte (is_byte b) text None → All (λ x. (x == b) ≡ false) text
 nowhere b text h = λ j d inside.
-    ap (λ x. x == b) (get_or_default text j d 0 inside) ∙ false_from_ne_true _ (λ passes. h j (omega arith) inside passes)
+    ap (λ x. x == b) (get_or_default text j d 0 inside)
+    ∙ false_from_ne_true _ (λ passes. h j (omega arith) inside passes)
 
 -- the pieces of a text, by the first separator
 pub pieces_more : (b : ℕ) (text : List ℕ) (k : ℕ) → IsFirstByte (is_byte b) text (Some k)

@@ -22,4 +22,5 @@ list_joins bytes text [] first filled is = absurd (omega arith)
 list_joins bytes text (operand ∷ operands) first filled is =
     let rest : take (length (operand ∷ operands) - 1) operands ≡ operands = take_all _ operands (omega arith) in
     ap (λ o. (text ++ bytes o) ++ spaced (map bytes (take (length (operand ∷ operands) - 1) operands))) is
-    ∙ ap (λ os. (text ++ bytes operand) ++ spaced (map bytes os)) rest ∙ (text_joins text (bytes operand) (map bytes operands))
+    ∙ ap (λ os. (text ++ bytes operand) ++ spaced (map bytes os)) rest
+    ∙ (text_joins text (bytes operand) (map bytes operands))

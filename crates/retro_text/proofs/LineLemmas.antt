@@ -1,5 +1,6 @@
 -- Lines, by the first newline.
-use Rattle.std.proofs.Common.{◌≡◌, ◌≢◌, ℕ, ◌+◌, ◌==◌, List, [], ◌∷◌, length, take, drop, Some, None, refl, sym, ap, ◌∙◌, ◌-◌, ◌<◌, arith}
+use Rattle.std.proofs.Common.{◌≡◌, ◌≢◌, ℕ, ◌+◌, ◌==◌, List, [], ◌∷◌, length, take, drop, Some, None, refl, sym, ap}
+use Rattle.std.proofs.Common.{◌∙◌, ◌-◌, ◌<◌, arith}
 use Rattle.std.specs.List.{slice_split}
 use Rattle.std.proofs.lemmas.List.Splits.{length-slice_split}
 use Rattle.std.proofs.lemmas.List.{take_rest}
@@ -9,7 +10,8 @@ use Rattle.retro_text.proofs.FirstByte.{pieces_more, pieces_last}
 
 -- a split gives at least one piece
 first_piece : (text line : List ℕ)
-    → lines_of_pieces (line ∷ slice_split (λ x. x == 10) text) ≡ line ∷ lines_of_pieces (slice_split (λ x. x == 10) text)
+    → lines_of_pieces (line ∷ slice_split (λ x. x == 10) text)
+    ≡ line ∷ lines_of_pieces (slice_split (λ x. x == 10) text)
 first_piece text line = go (slice_split (λ x. x == 10) text) (some text)
   where
     go : (pieces : List (List ℕ)) → pieces ≢ []

@@ -37,11 +37,17 @@ occurs : (pattern line : List ℕ) (k : ℕ) → k ≤ length line → starts_wi
 occurs pattern line k low h =
     let split = (starts_is Decides-eqb (drop k line) pattern (starts_with nat_eq (drop k line) pattern) refl).0 h in
     record {
-      fits = omega (arith, ap length split, length-drop k line, length-append pattern (drop (length pattern) (drop k line)));
+      fits = omega (
+        arith,
+        ap length split,
+        length-drop k line,
+        length-append pattern (drop (length pattern) (drop k line)),
+      );
       reads = at_reads 0 line pattern k _ split;
     }
 
-pub found_part : (pattern line : List ℕ) (r : Option ℕ) → FindsNeedle line pattern 0 r → is_some r ≡ is_part pattern line
+pub found_part : (pattern line : List ℕ) (r : Option ℕ) → FindsNeedle line pattern 0 r
+    → is_some r ≡ is_part pattern line
 found_part pattern line None h =
     sym (false_from_ne_true (is_part pattern line) (λ part.
     let at = index_of pattern line part in

@@ -14,12 +14,14 @@ pub span_read : (spans : List Span) (texts : List (List ℕ)) (n : ℕ) (text : 
     → text ≡ get_or texts n text → Some s ≡ span_in text
     → spans_after (spans ++ s ∷ []) (drop (n + 1) texts) ≡ spans_after spans (drop n texts)
 span_read spans texts n text s inside is h =
-    ap (λ o. add_span spans o (λ all. spans_after all (drop (n + 1) texts))) h ∙ sym (at_text spans texts n text inside is)
+    ap (λ o. add_span spans o (λ all. spans_after all (drop (n + 1) texts))) h
+    ∙ sym (at_text spans texts n text inside is)
 
 pub no_span : (spans : List Span) (texts : List (List ℕ)) (n : ℕ) (text : List ℕ) → n < length texts
     → text ≡ get_or texts n text → None ≡ span_in text → None ≡ spans_after spans (drop n texts)
 no_span spans texts n text inside is h =
-    ap (λ o. add_span spans o (λ all. spans_after all (drop (n + 1) texts))) h ∙ sym (at_text spans texts n text inside is)
+    ap (λ o. add_span spans o (λ all. spans_after all (drop (n + 1) texts))) h
+    ∙ sym (at_text spans texts n text inside is)
 
 pub spans_read : (spans : List Span) (texts : List (List ℕ)) (n : ℕ) → length texts ≤ n
     → spans_after spans (drop n texts) ≡ Some spans

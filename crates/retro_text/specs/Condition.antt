@@ -1,5 +1,6 @@
 -- `test` and `[` (XCU test).
-use Rattle.std.specs.Prelude.{ℕ, Bool, false, not, ◌==◌, ◌-◌, List, [], ◌∷◌, take, length, Option, Some, None, option_map, codes, if◌then◌else◌}
+use Rattle.std.specs.Prelude.{ℕ, Bool, false, not, ◌==◌, ◌-◌, List, [], ◌∷◌, take, length, Option, Some, None}
+use Rattle.std.specs.Prelude.{option_map, codes, if◌then◌else◌}
 use Rattle.std.specs.List.{ends_with}
 use Rattle.retro_path.specs.Order.{text_eq}
 use Rattle.retro_text.specs.declared.condition.PathTest.{PathTest}

@@ -1,7 +1,9 @@
 -- `cut` (XCU cut).
 use Rattle.std.specs.Prelude.{ℕ, ◌==◌, Bool, false, List, [], ◌∷◌, map, filter, filter_map, Option, Some, None}
-use Rattle.std.specs.Prelude.{option_map, if◌then◌else◌}
+use Rattle.std.specs.Prelude.{option_map, codes, if◌then◌else◌}
 use Rattle.std.specs.List.{list_any, slice_split, join_with_byte, enumerate_from}
+use Rattle.retro_path.specs.Ascii.{newline}
+use Rattle.retro_text.specs.Ascii.{tab, letter}
 use Rattle.retro_text.specs.Lines.{lines_in, text_of_lines}
 use Rattle.retro_text.specs.Spans.{any_contains, spans_in}
 use Rattle.retro_text.specs.Request.{Given, has_option, argument_of}
@@ -13,8 +15,8 @@ use Rattle.retro_text.specs.declared.cut.Cut.TheVariants.{Bytes, Fields}
 
 -- one byte, but no newline; a tab if there is no argument
 abbrev pub delimiter_in : Option (List ℕ) → Option ℕ
-delimiter_in None = Some 9
-delimiter_in (Some (b ∷ [])) = if b == 10 then None else Some b
+delimiter_in None = Some tab
+delimiter_in (Some (b ∷ [])) = if b == newline then None else Some b
 delimiter_in (Some _) = None
 
 abbrev pub cut_of_fields : Option (List Span) → Option ℕ → Bool → Option Cut
@@ -29,7 +31,8 @@ cut_by _ _ _ _ = None
 
 unfoldable pub cut_in : List Given → Option Cut
 cut_in options =
-    cut_by (argument_of 98 options) (argument_of 102 options) (argument_of 100 options) (has_option 115 options)
+    cut_by (argument_of (letter (codes "b")) options) (argument_of (letter (codes "f")) options)
+    (argument_of (letter (codes "d")) options) (has_option (letter (codes "s")) options)
 
 -- ---- what is left of a text
 

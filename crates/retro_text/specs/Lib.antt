@@ -1,3 +1,4 @@
+pub mod Ascii
 pub mod Utility
 pub mod Usage
 pub mod Request

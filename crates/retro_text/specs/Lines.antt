@@ -1,10 +1,7 @@
 -- Lines of a text (XBD 3.206). A last line without a newline is a line too.
 use Rattle.std.specs.Prelude.{ℕ, ◌==◌, List, [], ◌∷◌, ◌++◌, flat_map}
 use Rattle.std.specs.List.{slice_split}
-
--- the byte that ends a line
-abbrev pub newline : ℕ
-newline = 10
+use Rattle.retro_path.specs.Ascii.{newline}
 
 -- the last piece of a text is a line if it isn't empty
 abbrev pub last_line : List ℕ → List (List ℕ)

@@ -1,8 +1,10 @@
 -- Options and operands in a utility's fields (XBD 12.2), by one rule for all utilities that take
 -- options.
-use Rattle.std.specs.Prelude.{ℕ, ◌==◌, Bool, false, List, [], ◌∷◌, ◌++◌, drop, Option, Some, None, if◌then◌else◌, codes}
+use Rattle.std.specs.Prelude.{ℕ, ◌==◌, Bool, false, List, [], ◌∷◌, ◌++◌, drop, Option, Some, None, if◌then◌else◌}
+use Rattle.std.specs.Prelude.{codes}
 use Rattle.std.specs.List.{list_any}
 use Rattle.retro_path.specs.Order.{text_eq}
+use Rattle.retro_text.specs.Ascii.{dash}
 use Rattle.retro_text.specs.declared.known_letters.KnownLetters.{KnownLetters}
 
 -- the option letters that a utility knows: those without and those with an argument
@@ -54,7 +56,7 @@ group known given (letter ∷ letters) =
 
 -- a field is an option if it is a dash and at least one more character
 abbrev pub is_option : List ℕ → Bool
-is_option (b ∷ c ∷ more) = b == 45
+is_option (b ∷ c ∷ more) = b == dash
 is_option _ = false
 
 abbrev pub after_group : Option Group → (List Given → Option ℕ → Option RequestValue) → Option RequestValue

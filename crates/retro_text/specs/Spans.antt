@@ -1,10 +1,12 @@
 -- Lists of spans (XCU cut, OPTIONS). A list writes positions, counted from 1. A span has indices,
 -- counted from 0.
-use Rattle.std.specs.Prelude.{ℕ, ◌==◌, ◌+◌, ◌-◌, ◌&&◌, ◌||◌, Bool, true, nat_le, List, [], ◌∷◌, ◌++◌, length, take, drop, position}
+use Rattle.std.specs.Prelude.{ℕ, ◌==◌, ◌+◌, ◌-◌, ◌&&◌, ◌||◌, Bool, true, nat_le, List, [], ◌∷◌, ◌++◌, length, take}
+use Rattle.std.specs.Prelude.{drop, position}
 use Rattle.std.specs.Prelude.{Option, Some, None, option_map, option_and_then, if◌then◌else◌}
 use Rattle.std.specs.List.{list_any, list_all, slice_split}
 use Rattle.std.specs.Char.{is_ascii_digit}
 use Rattle.std.specs.Str.Parse.{digits_value}
+use Rattle.retro_text.specs.Ascii.{tab, space, comma, dash}
 use Rattle.retro_text.specs.declared.span.Span.{Span}
 use Rattle.retro_text.specs.declared.span.TheConstants.{MAX_DIGITS}
 
@@ -45,15 +47,15 @@ span_between (b ∷ from) (c ∷ to) =
 
 abbrev pub span_at : Option ℕ → List ℕ → Option Span
 span_at None text = option_map (λ n. span n (Some n)) (index_in text)
-span_at (Some dash) text = span_between (take dash text) (drop (dash + 1) text)
+span_at (Some index) text = span_between (take index text) (drop (index + 1) text)
 
 -- `N`, `N-M`, `N-` or `-M`
 unfoldable pub span_in : List ℕ → Option Span
-span_in text = span_at (position (λ b. b == 45) text) text
+span_in text = span_at (position (λ b. b == dash) text) text
 
 -- a comma, a space or a tab
 abbrev pub is_separator : ℕ → Bool
-is_separator b = b == 44 || (b == 32 || b == 9)
+is_separator b = b == comma || (b == space || b == tab)
 
 abbrev pub add_span : List Span → Option Span → (List Span → Option (List Span)) → Option (List Span)
 add_span spans None next = None

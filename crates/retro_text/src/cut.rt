@@ -2,7 +2,7 @@
 ghost use Rattle.std.specs.Prelude.{◌≡◌, ◌==◌, ◌++◌, ◌∷◌, [], IfOk, OnOk};
 ghost use Rattle.std.specs.List.{slice_split, join_with_byte};
 ghost use Rattle.std.specs.Option.{option_copied};
-ghost use Rattle.retro_text.specs.Lines.{newline};
+ghost use Rattle.retro_path.specs.Ascii.{newline};
 ghost use Rattle.retro_text.specs.Cut.{cut_in, cut_text, line_text, delimiter_in};
 ghost use Rattle.retro_text.specs.Cut.{selected_items, separated};
 ghost use Rattle.retro_text.specs.Usage.{Reads};
@@ -157,8 +157,11 @@ impl Cut {
         }
     }
 
-    /// Returns what is left of a text: of each line that isn't dropped, what is left, and a newline.
-    #[tactic(auto, using(crate::proofs::CutLemmas::more_lines), unfolding(crate::specs::Cut::cut_text))]
+    /// Returns what is left of a text: for each line that isn't dropped, what is left of it and a
+    /// newline.
+    ///
+    /// Takes time in proportion to the text times the number of spans.
+    #[tactic(auto, using(crate::proofs::CutLemmas::more_lines))]
     pub fn text(&self, alloc: Global, text: &[u8]) -> Result<Bytes, AllocError>
         ensures { IfOk result (λ out. out ≡ cut_text self.now text.now) }
     {

@@ -1,6 +1,7 @@
 //! `echo` (XCU echo).
 ghost use Rattle.std.specs.Prelude.{◌≡◌, ◌++◌, ◌∷◌, IfOk, OnOk, map, string_bytes};
 ghost use Rattle.std.specs.List.{join_with_byte};
+ghost use Rattle.retro_text.specs.Ascii.{space};
 ghost use Rattle.retro_text.specs.Output.{echo_text, spaced};
 
 use retro_path::Bytes;
@@ -21,7 +22,7 @@ fn push_spaced(text: &mut Bytes, operands: &[String]) -> Result<(), AllocError>
 #[tactic(auto, using(crate::proofs::Joining::text_joins))]
 fn push_joined(text: &mut Bytes, operands: &[String]) -> Result<(), AllocError>
     ensures { OnOk result (text.new
-        ≡ text.old ++ join_with_byte 32 (map string_bytes operands.now)) }
+        ≡ text.old ++ join_with_byte space (map string_bytes operands.now)) }
 {
     if let [first, rest @ ..] = operands {
         text.extend(first.as_bytes())?;

@@ -12,8 +12,8 @@ use std::marker::Model;
 
 /// The options and operands in the fields of a utility (XBD 12.2).
 ///
-/// Letters may be grouped after one dash. An option's argument is the rest of its field, or the next
-/// field if the rest is empty. `--` ends the options, and so does the first operand.
+/// Letters may be grouped after one dash. An option's argument is the rest of its field, or the
+/// next field if the rest is empty. `--` ends the options, and so does the first operand.
 #[derive(Drop)]
 pub struct Request<'a> {
     options: Vec<Given<'a>>,

@@ -2,6 +2,7 @@
 ghost use Rattle.std.specs.Prelude.{◌≡◌, ◌==◌, position};
 ghost use Rattle.std.specs.List.{list_all};
 ghost use Rattle.std.specs.Char.{is_ascii_digit};
+ghost use Rattle.retro_text.specs.Ascii.{dash};
 ghost use Rattle.retro_text.specs.Spans.{contains, index_in, span_between, span_in};
 
 /// The greatest number of digits in a position.
@@ -66,7 +67,7 @@ fn span_between(from: &[u8], to: &[u8]) -> Option<Span>
 
 /// Returns the index of the first dash in a text.
 fn dash_in(text: &[u8]) -> Option<usize>
-    ensures { result ≡ position (λ b. b == 45) text.now }
+    ensures { result ≡ position (λ b. b == dash) text.now }
 {
     text.iter().position(|byte| *byte == b'-')
 }

@@ -2,11 +2,13 @@ use Rattle.std.proofs.Common.{◌≡◌, ◌==◌, ◌++◌, ◌∷◌, [], ◌<
 use Rattle.std.specs.List.{slice_split, join_with_byte}
 use Rattle.std.proofs.lemmas.List.{length_push, append_assoc}
 use Rattle.std.proofs.lemmas.List.FromFn.{length-enumerate_from}
-use Rattle.std.proofs.lemmas.Iterator.Consumers.{YieldsList-at, YieldsList-from_enumerate, YieldsList-turn, YieldsList-end}
+use Rattle.std.proofs.lemmas.Iterator.Consumers.{YieldsList-at, YieldsList-from_enumerate, YieldsList-turn}
+use Rattle.std.proofs.lemmas.Iterator.Consumers.{YieldsList-end}
 use Rattle.std.proofs.lemmas.Iterator.Splits.{YieldsList-from_slice_split}
 use Rattle.retro_text.specs.Cut.{selected_items, separated}
 use Rattle.retro_text.specs.Spans.{any_contains}
-use Rattle.retro_text.proofs.FieldLemmas.{joined_all, joined_from, field_selected, field_skipped, fields_end, enumerated}
+use Rattle.retro_text.proofs.FieldLemmas.{joined_all, joined_from, field_selected, field_skipped, fields_end}
+use Rattle.retro_text.proofs.FieldLemmas.{enumerated}
 use Rattle.retro_text.proofs.cut.push_fields.Goals as goal
 
 pub loop-index-init : goal.loop-index-init
@@ -32,7 +34,8 @@ loop-index-preserved-then-contains c =
     let at : c.in-Some.index ≡ n = omega (arith, item.0) in
     let field = c.in-Some.field.now in
     let chosen = ap (any_contains spans) (sym at) ∙ sym c.contains.ensures ∙ c.if-contains.true in
-    ap (λ text. text ++ joined_from d false spans (length (c.loop-index.yielded ++ (c.in-Some.index, c.in-Some.field) ∷ [])) fields)
+    ap (λ text. text ++ joined_from d false spans
+    (length (c.loop-index.yielded ++ (c.in-Some.index, c.in-Some.field) ∷ [])) fields)
     c.in_ok-push_field.ensures
     ∙ ap (λ k. (out ++ separated d c.loop-index.is_first field) ++ joined_from d false spans k fields)
     (length_push c.loop-index.yielded (c.in-Some.index, c.in-Some.field))
