@@ -8,3 +8,4 @@ pub mod Selecting
 pub mod FieldLemmas
 pub mod CutLemmas
 pub mod SpanSteps
+pub mod SearchLemmas

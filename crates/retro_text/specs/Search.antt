@@ -1,9 +1,11 @@
 -- `grep -F` (XCU grep).
-use Rattle.std.specs.Prelude.{ℕ, ◌==◌, ◌&&◌, ◌||◌, Bool, true, false, not, nat_eq, List, [], ◌∷◌, ◌++◌, filter, flat_map, length}
-use Rattle.std.specs.Prelude.{map, Option, Some, None, String, string_bytes, decimal, codes, if◌then◌else◌}
+use Rattle.std.specs.Prelude.{ℕ, ◌==◌, ◌&&◌, ◌||◌, Bool, true, false, not, nat_eq, List, [], ◌∷◌, ◌++◌, filter}
+use Rattle.std.specs.Prelude.{flat_map, length}
+use Rattle.std.specs.Prelude.{Option, Some, None, decimal, codes, if◌then◌else◌}
 use Rattle.std.specs.List.{list_any, slice_split, starts_with}
-use Rattle.std.specs.Borrow.{Bor}
+use Rattle.retro_path.specs.Ascii.{newline, colon}
 use Rattle.retro_path.specs.Order.{text_eq}
+use Rattle.retro_text.specs.Ascii.{letter}
 use Rattle.retro_text.specs.Request.{Given, RequestValue, has_option}
 use Rattle.retro_text.specs.Lines.{lines_in}
 
@@ -27,8 +29,9 @@ search_with patterns inverted whole counted quiet = record {
 -- newlines separate the patterns in their operand
 abbrev pub search : List Given → List ℕ → SearchValue
 search options operand =
-    search_with (slice_split (λ b. b == 10) operand) (has_option 118 options) (has_option 120 options)
-    (has_option 99 options) (has_option 113 options)
+    search_with (slice_split (λ b. b == newline) operand)
+    (has_option (letter (codes "v")) options) (has_option (letter (codes "x")) options)
+    (has_option (letter (codes "c")) options) (has_option (letter (codes "q")) options)
 
 -- the search of `-F`, and the operands after the patterns
 abbrev pub search_for : Bool → List Given → List (List ℕ) → Option (SearchValue × List (List ℕ))
@@ -37,11 +40,7 @@ search_for true options [] = None
 search_for false options operands = None
 
 unfoldable pub search_in : RequestValue → Option (SearchValue × List (List ℕ))
-search_in r = search_for (has_option 70 r.options) r.options r.operands
-
--- a search and its files, as the definitions say them
-abbrev pub search_and_files : SearchValue × Bor (List String) → SearchValue × List (List ℕ)
-search_and_files found = (found.0, map string_bytes found.1.now)
+search_in r = search_for (has_option (letter (codes "F")) r.options) r.options r.operands
 
 -- ---- which lines are selected
 
@@ -71,18 +70,18 @@ selected_lines s text = filter (selects s) (lines_in text)
 -- standard input
 abbrev pub label_of : Bool → List ℕ → List ℕ
 label_of several operand =
-    if several then (if text_eq operand (codes "-") then codes "(standard input)" else operand) ++ 58 ∷ [] else []
+    if several then (if text_eq operand (codes "-") then codes "(standard input)" else operand) ++ colon ∷ [] else []
 
 -- lines, each after a label
 abbrev pub labelled_text : List ℕ → List (List ℕ) → List ℕ
-labelled_text label lines = flat_map (λ line. label ++ line ++ 10 ∷ []) lines
+labelled_text label lines = flat_map (λ line. label ++ line ++ newline ∷ []) lines
 
 -- the output of an operand: its selected lines, or under `-c` their number, each after the label;
 -- under `-q` nothing
 unfoldable pub output_of : SearchValue → List ℕ → List (List ℕ) → List ℕ
 output_of s label lines =
     if s.quiet then []
-    else if s.counted then label ++ decimal (length lines) ++ 10 ∷ []
+    else if s.counted then label ++ decimal (length lines) ++ newline ∷ []
     else labelled_text label lines
 
 -- the status: 2 after a fault, but not under `-q` if a line was selected; else 0 if a line was

@@ -1,8 +1,11 @@
 //! `grep -F` (XCU grep).
-ghost use Rattle.std.specs.Prelude.{◌≡◌, ◌++◌, ◌∷◌, [], IfOk, length, option_map, decimal};
+ghost use Rattle.std.specs.Prelude.{◌≡◌, ◌++◌, ◌∷◌, [], IfOk, length, option_map, map};
+ghost use Rattle.std.specs.Prelude.{string_bytes};
+ghost use Rattle.std.specs.Prelude.{decimal};
 ghost use Rattle.std.specs.List.{list_any};
+ghost use Rattle.retro_path.specs.Ascii.{newline};
 ghost use Rattle.retro_text.specs.Lines.{lines_in};
-ghost use Rattle.retro_text.specs.Search.{search_in, search_and_files, is_part, is_match};
+ghost use Rattle.retro_text.specs.Search.{search_in, is_part, is_match};
 ghost use Rattle.retro_text.specs.Search.{matches, selects, labelled_text};
 ghost use Rattle.retro_text.specs.Search.{selected_lines, label_of, output_of, search_status};
 
@@ -12,6 +15,9 @@ use memchr::memmem;
 use retro_path::Bytes;
 use std::alloc::{AllocError, Global};
 use std::marker::Model;
+
+/// The byte that ends a line, and separates patterns.
+const NEWLINE: u8 = b'\n';
 
 /// A search of `grep -F`: its patterns, and the options that change it.
 #[derive(Drop)]
@@ -27,11 +33,12 @@ pub struct Search<'a> {
 impl<'a> Model for Search<'a> {
     ghost use Rattle.std.specs.Prelude.{◌==◌};
     ghost use Rattle.std.specs.List.{slice_split};
+    ghost use Rattle.retro_path.specs.Ascii.{newline};
     ghost use Rattle.retro_text.specs.Search.{SearchValue, search_with};
 
     ghost Value = { SearchValue };
 
-    ghost view = { λ a. search_with (slice_split (λ b. b == 10) a.patterns.now)
+    ghost view = { λ a. search_with (slice_split (λ b. b == newline) a.patterns.now)
         a.inverted a.whole a.counted a.quiet };
 }
 
@@ -63,7 +70,7 @@ fn is_match(whole: bool, pattern: &[u8], line: &[u8]) -> bool
 
 /// Returns a number after a label, and a newline.
 fn count_text(alloc: Global, label: &[u8], count: usize) -> Result<Bytes, AllocError>
-    ensures { IfOk result (λ text. text ≡ label.now ++ decimal count ++ 10 ∷ []) }
+    ensures { IfOk result (λ text. text ≡ label.now ++ decimal count ++ newline ∷ []) }
 {
     let mut text = Bytes::new(alloc);
     text.extend(label)?;
@@ -74,10 +81,12 @@ fn count_text(alloc: Global, label: &[u8], count: usize) -> Result<Bytes, AllocE
 }
 
 impl<'a> Search<'a> {
-    /// Returns the search that a request asks for, and the operands after its patterns, or `None` if
-    /// `-F` or the patterns are missing. Newlines separate the patterns in their operand.
+    /// Returns the search that a request asks for, and the operands after its patterns, or `None`
+    /// if `-F` or the patterns are missing. Newlines separate the patterns in their operand.
+    #[tactic(auto, unfolding(crate::specs::Search::search_in))]
     pub fn of(request: &Request<'a>) -> Option<(Search<'a>, &'a [String])>
-        ensures { option_map search_and_files result ≡ search_in request.now }
+        ensures { option_map (λ r. (r.0, map string_bytes r.1.now)) result
+            ≡ search_in request.now }
     {
         let [patterns, files @ ..] = request.operands() else {
             return None;
@@ -107,12 +116,9 @@ impl<'a> Search<'a> {
     fn matches(&self, line: &[u8]) -> bool
         ensures { result ≡ matches self.now line.now }
     {
-        for pattern in self.patterns.split(|byte| *byte == b'\n') {
-            if is_match(self.whole, pattern, line) {
-                return true;
-            }
-        }
-        false
+        self.patterns
+            .split(|byte| *byte == NEWLINE)
+            .any(|pattern| is_match(self.whole, pattern, line))
     }
 
     /// Returns whether a line is selected: it matches, or under `-v` it doesn't.
@@ -135,6 +141,7 @@ impl<'a> Search<'a> {
     }
 
     /// Returns the number of selected lines of a text.
+    #[tactic(auto, using(crate::proofs::SearchLemmas::counting))]
     fn count(&self, text: &[u8]) -> usize
         ensures { result ≡ length (selected_lines self.now text.now) }
     {
@@ -148,12 +155,8 @@ impl<'a> Search<'a> {
     }
 
     /// Returns the selected lines of a text, each after the label and with a newline.
-    fn selected_text(
-        &self,
-        alloc: Global,
-        label: &[u8],
-        text: &[u8],
-    ) -> Result<Bytes, AllocError>
+    #[tactic(auto, using(crate::proofs::SearchLemmas::labelling))]
+    fn selected_text(&self, alloc: Global, label: &[u8], text: &[u8]) -> Result<Bytes, AllocError>
         ensures { IfOk result (λ out. out
             ≡ labelled_text label.now (selected_lines self.now text.now)) }
     {
@@ -168,8 +171,9 @@ impl<'a> Search<'a> {
         Ok(out)
     }
 
-    /// Returns what the search prints of the text of an operand, whose label is `label`, and whether
-    /// it selects a line.
+    /// Returns what the search prints of the text of an operand with this label, and whether it
+    /// selects a line.
+    #[tactic(auto, using(crate::proofs::SearchLemmas::running))]
     pub fn run(&self, alloc: Global, label: &[u8], text: &[u8]) -> Result<Found, AllocError>
         ensures output { IfOk result (λ found. found.output
             ≡ output_of self.now label.now (selected_lines self.now text.now)) }
@@ -194,8 +198,8 @@ impl<'a> Search<'a> {
         Ok(Found { output, selected })
     }
 
-    /// Returns the status of the search: 2 after a fault, but not under `-q` if a line was selected;
-    /// else 0 if a line was selected, and 1 if none was.
+    /// Returns the status of the search: 2 after a fault, but not under `-q` if a line was
+    /// selected; else 0 if a line was selected, and 1 if none was.
     pub fn status(&self, selected: bool, fault: bool) -> u8
         ensures { result ≡ search_status self.now.quiet selected fault }
     {
