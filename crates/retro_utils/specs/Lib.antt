@@ -3,3 +3,7 @@ pub mod Outcomes
 pub mod Operands
 pub mod Reading
 pub mod Cat
+pub mod Directories
+pub mod Users
+pub mod KindTests
+pub mod Mkdir

@@ -8,15 +8,22 @@
 //! some later ones, which hold.
 #![tactic(auto)]
 
-mod cat;
 mod done;
 mod input;
+mod kind_test;
 mod operand;
 mod place;
 mod reason;
+mod utilities;
 
 pub use done::Done;
 pub use input::Input;
+pub use kind_test::KindTest;
 pub use place::Place;
 pub use reason::Reason;
 pub use retro_local::{Local, apply_notes, holds};
+pub use utilities::cat::cat;
+pub use utilities::cd::cd;
+pub use utilities::id::id;
+pub use utilities::mkdir::mkdir;
+pub use utilities::pwd::pwd;

@@ -6,7 +6,7 @@ use Rattle.retro_utils.specs.Cat.{concatenated}
 use Rattle.retro_utils.specs.Outcomes.{nothing_done}
 use Rattle.retro_utils.specs.Reading.{sources}
 use Rattle.retro_utils.specs.declared.done.Done.{Done}
-use Rattle.retro_utils.proofs.cat.concatenate.Given as goal
+use Rattle.retro_utils.proofs.utilities.cat.concatenate.Given as goal
 
 abbrev pub invariant-loop-operand : goal.invariant-loop-operand
 invariant-loop-operand g l = record {

@@ -1,0 +1,24 @@
+-- A path that can be used as a directory is one.
+use Rattle.std.proofs.Common.{◌≡◌, Bool, true, false, refl}
+use Rattle.std.specs.Bool.{if◌then◌else◌}
+use Rattle.retro_tree.specs.Node.{kind_of}
+use Rattle.retro_tree.specs.Path.{PathValue, is_null}
+use Rattle.retro_tree.specs.Tree.{node_in}
+use Rattle.retro_tree.specs.declared.kind.Kind.TheVariants as kinds
+use Rattle.retro_tree.specs.declared.node.Node.{Node}
+use Rattle.retro_tree.specs.declared.node.Node.TheVariants.{Missing, Dir, File}
+use Rattle.retro_tree.specs.declared.state.State.{State}
+use Rattle.retro_local.specs.Kinds.{kind_at}
+
+dir_of_kind : (n : Node) → kind_of n ≡ kinds.Dir → n ≡ Dir
+dir_of_kind Missing e = cc
+dir_of_kind Dir e = refl
+dir_of_kind (File bytes) e = cc
+
+pub directory_at : (p : PathValue) (s : State) → kind_at p s ≡ kinds.Dir → node_in p s.tree ≡ Dir
+unfolding kind_at
+directory_at p s e = go (is_null p) e
+  where
+    go : (b : Bool) → if b then kinds.File else kind_of (node_in p s.tree) ≡ kinds.Dir → node_in p s.tree ≡ Dir
+    go true e = cc
+    go false e = dir_of_kind (node_in p s.tree) e

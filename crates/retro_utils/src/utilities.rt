@@ -1,0 +1,7 @@
+//! The utilities, one a file.
+
+pub(crate) mod cat;
+pub(crate) mod cd;
+pub(crate) mod id;
+pub(crate) mod mkdir;
+pub(crate) mod pwd;

@@ -1,0 +1,59 @@
+//! `pwd` (XCU pwd).
+ghost use Rattle.std.specs.Prelude.{◌≡◌, IfOk, map};
+ghost use Rattle.retro_local.specs.Runs.{Computes, Extends};
+ghost use Rattle.retro_utils.specs.Directories.{names_text, path_text, pwd};
+
+use crate::done::Done;
+use retro_local::Local;
+use retro_tree::{Bytes, Name, Path, View};
+use std::alloc::{AllocError, Global};
+
+/// Returns the text of names, each preceded by a slash.
+fn names_text(alloc: Global, names: &[Name]) -> Result<Bytes, AllocError>
+    ensures { IfOk result (λ text. text ≡ names_text names.now) }
+{
+    let mut text = Bytes::new(alloc);
+    for name in names {
+        text.extend(b"/")?;
+        text.extend(name.as_str().as_bytes())?;
+    }
+    Ok(text)
+}
+
+/// Returns the text of a path: `/a/b`, and `/` for the root.
+fn path_text(alloc: Global, path: &Path) -> Result<Bytes, AllocError>
+    ensures { IfOk result (λ text. text ≡ path_text path.now) }
+{
+    match path.names() {
+        [] => {
+            let mut text = Bytes::new(alloc);
+            text.extend(b"/")?;
+            Ok(text)
+        }
+        names => names_text(alloc, names),
+    }
+}
+
+/// `pwd`: the directory of the session and a newline.
+#[tactic(auto, unfolding(crate::specs::Directories::pwd))]
+pub fn pwd<V: View>(
+    alloc: Global,
+    sid: u32,
+    operands: &[&str],
+    local: &mut Local<V>,
+) -> Result<Done, AllocError>
+    ensures means { IfOk result (λ done. Computes local.old local.new
+        (pwd sid (map (λ o. o.now) operands.now)) done) }
+    ensures extends { Extends sid local.old local.new }
+{
+    match operands {
+        [] => {
+            let cwd = local.cwd(alloc, sid)?;
+            let mut done = Done::nothing(alloc, 0);
+            done.out = path_text(alloc, &cwd)?;
+            done.out.extend(b"\n")?;
+            Ok(done)
+        }
+        [_, ..] => Ok(Done::usage(alloc, "pwd")?),
+    }
+}
