@@ -7,3 +7,5 @@ pub mod Directories
 pub mod Users
 pub mod KindTests
 pub mod Mkdir
+pub mod Cutting
+pub mod Searching

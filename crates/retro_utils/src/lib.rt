@@ -13,6 +13,8 @@ mod input;
 mod kind_test;
 mod operand;
 mod place;
+mod progress;
+mod reader;
 mod reason;
 mod utilities;
 
