@@ -1,1 +1,1 @@
-pub mod Directory
+pub mod Facts

@@ -9,3 +9,5 @@ pub mod KindTests
 pub mod Mkdir
 pub mod Cutting
 pub mod Searching
+pub mod Output
+pub mod Tee

@@ -7,7 +7,7 @@ use Rattle.retro_tree.specs.declared.kind.Kind.TheVariants as kinds
 use Rattle.retro_tree.specs.declared.node.Node.TheVariants.{Dir}
 use Rattle.retro_tree.specs.declared.state.State.{State}
 use Rattle.retro_local.specs.Kinds.{kind_at}
-use Rattle.retro_utils.specs.Operands.{Action, in_turn}
+use Rattle.retro_utils.specs.Operands.{Action, at_operand, in_turn}
 use Rattle.retro_utils.specs.Outcomes.{made_unless, nothing_done, usage}
 use Rattle.retro_utils.specs.Reasons.{no_directory}
 use Rattle.retro_utils.specs.declared.done.Done.{Done}
@@ -27,4 +27,4 @@ make_dir p s = made_unless (no_room (kind_at p s) p s) (put_node p Dir) s
 -- a directory for each operand in turn
 unfoldable pub mkdir : ℕ → List (List ℕ) → State → State × Done
 mkdir sid [] s = (s, usage (codes "mkdir"))
-mkdir sid (x ∷ xs) s = in_turn sid (codes "mkdir") make_dir (x ∷ xs) (nothing_done 0) s
+mkdir sid (x ∷ xs) s = in_turn (codes "mkdir") (at_operand sid make_dir) (x ∷ xs) (nothing_done 0) s

@@ -38,11 +38,11 @@ after_outcome name operand done (s, outcome) = (s, with_outcome name operand out
 abbrev pub then_done : State × Done → (Done → State → State × Done) → State × Done
 then_done (s, done) rest = rest done s
 
--- an operation at each operand in turn, with the faults of the utility with this name
-abbrev pub in_turn : ℕ → List ℕ → Action → List (List ℕ) → Done → State → State × Done
-in_turn sid name act [] done s = (s, done)
-in_turn sid name act (x ∷ xs) done s =
-    then_done (after_outcome name x done (at_operand sid act x s)) (in_turn sid name act xs)
+-- a step for each operand in turn, with the faults of the utility with this name
+abbrev pub in_turn : List ℕ → (List ℕ → State → State × Result (Unit {0}) Reason) → List (List ℕ) → Done
+    → State → State × Done
+in_turn name step [] done s = (s, done)
+in_turn name step (x ∷ xs) done s = then_done (after_outcome name x done (step x s)) (in_turn name step xs)
 
 -- `-` names standard input
 abbrev pub is_dash : List ℕ → Bool

@@ -7,3 +7,4 @@ pub(crate) mod grep;
 pub(crate) mod id;
 pub(crate) mod mkdir;
 pub(crate) mod pwd;
+pub(crate) mod tee;

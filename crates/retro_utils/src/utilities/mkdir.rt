@@ -19,7 +19,7 @@ use retro_tree::{Kind, Path, View};
 use std::alloc::{AllocError, Global};
 
 /// Puts a directory at a path, if its parent is a directory.
-#[tactic(auto, using(crate::proofs::Directory::directory_at))]
+#[tactic(auto, using(crate::proofs::Facts::directory_at))]
 fn put_in_parent<V: View>(
     alloc: Global,
     path: Path,
@@ -86,8 +86,8 @@ fn make_dirs<V: View>(
     local: &mut Local<V>,
 ) -> Result<Done, AllocError>
     ensures means { IfOk result (λ done. Computes local.old local.new
-        (in_turn sid (codes "mkdir") make_dir (map (λ o. o.now) operands.now) (nothing_done 0))
-        done) }
+        (in_turn (codes "mkdir") (at_operand sid make_dir) (map (λ o. o.now) operands.now)
+        (nothing_done 0)) done) }
     ensures extends { Extends sid local.old local.new }
 {
     let mut done = Done::nothing(alloc, 0);

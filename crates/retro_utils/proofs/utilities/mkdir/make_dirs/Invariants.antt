@@ -3,7 +3,7 @@ use Rattle.std.proofs.Common.{map, drop}
 use Rattle.std.specs.Prelude.{codes}
 use Rattle.retro_local.specs.Runs.{Continues, Extends}
 use Rattle.retro_utils.specs.Mkdir.{make_dir}
-use Rattle.retro_utils.specs.Operands.{in_turn}
+use Rattle.retro_utils.specs.Operands.{at_operand, in_turn}
 use Rattle.retro_utils.specs.Outcomes.{nothing_done}
 use Rattle.retro_utils.proofs.utilities.mkdir.make_dirs.Given as goal
 
@@ -11,6 +11,6 @@ abbrev pub invariant-loop-operand : goal.invariant-loop-operand
 invariant-loop-operand g l = record {
   extends : Extends l.sid l.initial.local l.local;
   continues : Continues l.initial.local l.local
-      (in_turn l.sid (codes "mkdir") make_dir (map (λ o. o.now) l.operands) (nothing_done 0))
-      (in_turn l.sid (codes "mkdir") make_dir (map (λ o. o.now) (drop l.operand-index l.operands)) l.done);
+      (in_turn (codes "mkdir") (at_operand l.sid make_dir) (map (λ o. o.now) l.operands) (nothing_done 0))
+      (in_turn (codes "mkdir") (at_operand l.sid make_dir) (map (λ o. o.now) (drop l.operand-index l.operands)) l.done);
 }
