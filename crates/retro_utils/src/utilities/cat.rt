@@ -1,5 +1,5 @@
 //! `cat` (XCU cat).
-ghost use Rattle.std.specs.Prelude.{◌≡◌, IfOk, map};
+ghost use Rattle.std.specs.Prelude.{◌≡◌, IfOk, map, string_bytes};
 ghost use Rattle.retro_local.specs.Runs.{Computes, Extends};
 ghost use Rattle.retro_utils.specs.Cat.{cat, concatenated};
 ghost use Rattle.retro_utils.specs.Outcomes.{nothing_done};
@@ -11,19 +11,20 @@ use crate::operand::read_source;
 use retro_local::Local;
 use retro_tree::View;
 use std::alloc::{AllocError, Global};
+use std::slice::from_ref;
 
 /// Returns the bytes of each operand in turn.
 fn concatenate<V: View>(
     alloc: Global,
     sid: u32,
-    operands: &[&str],
+    operands: &[String],
     input: Input,
     local: &mut Local<V>,
 ) -> Result<Done, AllocError>
     ensures means { IfOk result (λ done. Computes local.old local.new
         (λ s. (
           s,
-          concatenated (sources sid (map (λ o. o.now) operands.now) input s)
+          concatenated (sources sid (map string_bytes operands.now) input s)
               (nothing_done 0),
         )) done) }
     ensures extends { Extends sid local.old local.new }
@@ -42,16 +43,19 @@ fn concatenate<V: View>(
 pub fn cat<V: View>(
     alloc: Global,
     sid: u32,
-    operands: &[&str],
+    operands: &[String],
     input: Input,
     local: &mut Local<V>,
 ) -> Result<Done, AllocError>
     ensures means { IfOk result (λ done. Computes local.old local.new
-        (cat sid (map (λ o. o.now) operands.now) input) done) }
+        (cat sid (map string_bytes operands.now) input) done) }
     ensures extends { Extends sid local.old local.new }
 {
     match operands {
-        [] => Ok(concatenate(alloc, sid, &["-"], input, local)?),
+        [] => {
+            let dash = String::from_str(alloc, "-")?;
+            Ok(concatenate(alloc, sid, from_ref(&dash), input, local)?)
+        }
         [_, ..] => Ok(concatenate(alloc, sid, operands, input, local)?),
     }
 }

@@ -1,5 +1,5 @@
 //! `cd` (XCU cd).
-ghost use Rattle.std.specs.Prelude.{◌≡◌, IfOk, map};
+ghost use Rattle.std.specs.Prelude.{◌≡◌, IfOk, map, string_bytes};
 ghost use Rattle.retro_local.specs.Runs.{Computes, Extends};
 ghost use Rattle.retro_utils.specs.Directories.{cd, cd_home, cd_to, enter, home_in, home_not_set};
 ghost use Rattle.retro_utils.specs.Operands.{at_operand};
@@ -99,17 +99,17 @@ fn cd_home<V: View>(alloc: Global, place: Place, local: &mut Local<V>) -> Result
 pub fn cd<V: View>(
     alloc: Global,
     place: Place,
-    operands: &[&str],
+    operands: &[String],
     local: &mut Local<V>,
 ) -> Result<Done, AllocError>
     ensures means { IfOk result (λ done. Computes local.old local.new
-        (cd place (map (λ o. o.now) operands.now)) done) }
+        (cd place (map string_bytes operands.now)) done) }
     ensures extends { Extends place.sid local.old local.new }
 {
     match operands {
         [] => Ok(cd_home(alloc, place, local)?),
         [operand] => {
-            if *operand == "-" {
+            if operand.as_str() == "-" {
                 return Ok(Done::usage(alloc, "cd")?);
             }
             Ok(cd_to(alloc, place, operand, local)?)

@@ -1,5 +1,5 @@
 //! `id -u name` (XCU id).
-ghost use Rattle.std.specs.Prelude.{◌≡◌, IfOk, map};
+ghost use Rattle.std.specs.Prelude.{◌≡◌, IfOk, map, string_bytes};
 ghost use Rattle.retro_local.specs.Runs.{Computes, ExtendsTree};
 ghost use Rattle.retro_utils.specs.Users.{id, user_done};
 
@@ -34,11 +34,11 @@ fn user_done(alloc: Global, name: &str, user: Option<User>) -> Result<Done, Allo
 #[tactic(auto, unfolding(crate::specs::Users::id))]
 pub fn id<V: View>(
     alloc: Global,
-    operands: &[&str],
+    operands: &[String],
     local: &mut Local<V>,
 ) -> Result<Done, AllocError>
     ensures means { IfOk result (λ done. Computes local.old local.new
-        (id (map (λ o. o.now) operands.now)) done) }
+        (id (map string_bytes operands.now)) done) }
     ensures extends { ExtendsTree local.old local.new }
 {
     match operands {

@@ -1,5 +1,5 @@
 //! `mkdir` (XCU mkdir).
-ghost use Rattle.std.specs.Prelude.{◌≡◌, false, IfOk, codes, map};
+ghost use Rattle.std.specs.Prelude.{◌≡◌, false, IfOk, codes, map, string_bytes};
 ghost use Rattle.retro_tree.specs.Path.{is_null};
 ghost use Rattle.retro_tree.specs.State.{put_node};
 ghost use Rattle.retro_tree.specs.Path.{parent_of};
@@ -82,11 +82,11 @@ fn make_operand<V: View>(
 fn make_dirs<V: View>(
     alloc: Global,
     sid: u32,
-    operands: &[&str],
+    operands: &[String],
     local: &mut Local<V>,
 ) -> Result<Done, AllocError>
     ensures means { IfOk result (λ done. Computes local.old local.new
-        (in_turn (codes "mkdir") (at_operand sid make_dir) (map (λ o. o.now) operands.now)
+        (in_turn (codes "mkdir") (at_operand sid make_dir) (map string_bytes operands.now)
         (nothing_done 0)) done) }
     ensures extends { Extends sid local.old local.new }
 {
@@ -103,11 +103,11 @@ fn make_dirs<V: View>(
 pub fn mkdir<V: View>(
     alloc: Global,
     sid: u32,
-    operands: &[&str],
+    operands: &[String],
     local: &mut Local<V>,
 ) -> Result<Done, AllocError>
     ensures means { IfOk result (λ done. Computes local.old local.new
-        (mkdir sid (map (λ o. o.now) operands.now)) done) }
+        (mkdir sid (map string_bytes operands.now)) done) }
     ensures extends { Extends sid local.old local.new }
 {
     match operands {

@@ -1,5 +1,5 @@
 //! `pwd` (XCU pwd).
-ghost use Rattle.std.specs.Prelude.{◌≡◌, IfOk, map};
+ghost use Rattle.std.specs.Prelude.{◌≡◌, IfOk, map, string_bytes};
 ghost use Rattle.retro_local.specs.Runs.{Computes, Extends};
 ghost use Rattle.retro_utils.specs.Directories.{names_text, path_text, pwd};
 
@@ -39,11 +39,11 @@ fn path_text(alloc: Global, path: &Path) -> Result<Bytes, AllocError>
 pub fn pwd<V: View>(
     alloc: Global,
     sid: u32,
-    operands: &[&str],
+    operands: &[String],
     local: &mut Local<V>,
 ) -> Result<Done, AllocError>
     ensures means { IfOk result (λ done. Computes local.old local.new
-        (pwd sid (map (λ o. o.now) operands.now)) done) }
+        (pwd sid (map string_bytes operands.now)) done) }
     ensures extends { Extends sid local.old local.new }
 {
     match operands {

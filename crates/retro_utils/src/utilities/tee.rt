@@ -1,5 +1,5 @@
 //! `tee` (XCU tee).
-ghost use Rattle.std.specs.Prelude.{◌≡◌, [], IfOk, map};
+ghost use Rattle.std.specs.Prelude.{◌≡◌, [], IfOk, map, string_bytes};
 ghost use Rattle.retro_local.specs.Runs.{Computes, Extends, ExtendsTree};
 ghost use Rattle.retro_utils.specs.Outcomes.{nothing_done};
 ghost use Rattle.retro_utils.specs.Tee.{append_all, files_view, open_all, open_operand};
@@ -23,7 +23,7 @@ pub struct TeeOperands<'a> {
     /// `Append` for `-a`.
     pub mode: Mode,
     /// The operands.
-    pub operands: &'a [&'a str],
+    pub operands: &'a [String],
 }
 
 /// Opens the file at a path, and returns the path.
@@ -70,7 +70,7 @@ fn open_all<'a, V: View>(
     local: &mut Local<V>,
 ) -> Result<Opened<'a>, AllocError>
     ensures means { IfOk result (λ opened. Computes local.old local.new
-        (open_all sid tee.entry.mode (map (λ o. o.now) tee.entry.operands.now) ([], nothing_done 0))
+        (open_all sid tee.entry.mode (map string_bytes tee.entry.operands.now) ([], nothing_done 0))
         (files_view opened)) }
     ensures extends { Extends sid local.old local.new }
 {
@@ -135,7 +135,7 @@ pub fn tee<V: View>(
     local: &mut Local<V>,
 ) -> Result<Done, AllocError>
     ensures means { IfOk result (λ done. Computes local.old local.new
-        (tee sid operands.entry.mode (map (λ o. o.now) operands.entry.operands.now) input) done) }
+        (tee sid operands.entry.mode (map string_bytes operands.entry.operands.now) input) done) }
     ensures extends { Extends sid local.old local.new }
 {
     let mut input = input;
