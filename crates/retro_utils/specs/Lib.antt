@@ -5,7 +5,7 @@ pub mod Reading
 pub mod Cat
 pub mod Directories
 pub mod Users
-pub mod KindTests
+pub mod PathTests
 pub mod Mkdir
 pub mod Cutting
 pub mod Searching

@@ -1,5 +1,6 @@
 -- What utilities leave: output, diagnostics and a status.
 use Rattle.std.specs.Prelude.{ℕ, List, [], ◌++◌, Option, Some, None, Result, Ok, Err, codes}
+use Rattle.retro_text.specs.Output.{usage_text}
 use Rattle.retro_tree.specs.declared.state.State.{State}
 use Rattle.retro_utils.specs.Reasons.{fault_text}
 use Rattle.retro_utils.specs.declared.done.Done.{Done}
@@ -19,7 +20,7 @@ complaint text = record { out = []; err = text; status = 1 }
 
 -- the result of a use outside a utility's forms: `NAME: usage` and status 2
 abbrev pub usage : List ℕ → Done
-usage name = record { out = []; err = name ++ codes ": usage\n"; status = 2 }
+usage name = record { out = []; err = usage_text name; status = 2 }
 
 -- more output
 abbrev pub with_output : List ℕ → Done → Done

@@ -4,6 +4,7 @@ ghost use Rattle.retro_utils.specs.Outcomes.{nothing_done, usage, with_fault, wi
 ghost use Rattle.retro_utils.specs.Outcomes.{with_output, with_reading};
 
 use crate::reason::Reason;
+use retro_text::usage_text;
 use retro_tree::Bytes;
 use std::alloc::{AllocError, Global};
 
@@ -34,10 +35,11 @@ impl Done {
     pub(crate) fn usage(alloc: Global, name: &str) -> Result<Done, AllocError>
         ensures { IfOk result (λ done. done ≡ usage name.now) }
     {
-        let mut done = Done::nothing(alloc, 2);
-        done.err.extend(name.as_bytes())?;
-        done.err.extend(b": usage\n")?;
-        Ok(done)
+        Ok(Done {
+            out: Bytes::new(alloc),
+            err: usage_text(alloc, name)?,
+            status: 2,
+        })
     }
 
     /// Adds the diagnostic of a fault on an operand, and sets the status to 1.

@@ -10,11 +10,11 @@
 
 mod done;
 mod input;
-mod kind_test;
 mod mode;
 mod opened;
 mod operand;
 mod output;
+mod path_test;
 mod place;
 mod progress;
 mod reader;
@@ -23,7 +23,6 @@ mod utilities;
 
 pub use done::Done;
 pub use input::Input;
-pub use kind_test::KindTest;
 pub use mode::Mode;
 pub use output::{append, open};
 pub use place::Place;
