@@ -1,8 +1,10 @@
 -- What answers to questions say of the node at a path.
-use Rattle.std.proofs.Common.{◌≡◌, Bool, true, false, None, refl}
+use Rattle.std.proofs.Common.{◌≡◌, Bool, true, false, ◌||◌, ℕ, List, [], None, refl}
 use Rattle.std.specs.Bool.{if◌then◌else◌}
-use Rattle.retro_tree.specs.Node.{kind_of}
-use Rattle.retro_tree.specs.Path.{PathValue, is_null}
+use Rattle.retro_tree.specs.Ask.{names_in}
+use Rattle.retro_tree.specs.Lawful.{IsLawful}
+use Rattle.retro_tree.specs.Node.{is_dir, kind_of}
+use Rattle.retro_tree.specs.Path.{PathValue, is_null, is_root}
 use Rattle.retro_tree.specs.Tree.{node_in}
 use Rattle.retro_tree.specs.declared.kind.Kind.TheVariants as kinds
 use Rattle.retro_tree.specs.declared.node.Node.{Node}
@@ -10,8 +12,10 @@ use Rattle.retro_tree.specs.declared.node.Node.TheVariants.{Missing, Dir, File}
 use Rattle.retro_tree.specs.declared.state.State.{State}
 use Rattle.retro_tree.specs.declared.permit.Permit.{Permit}
 use Rattle.retro_tree.specs.declared.permit.Permit.TheVariants.{Yes, NoParent, NotDir, IsDir, TooLarge}
+use Rattle.retro_tree.proofs.MayMake.{none_in_file}
 use Rattle.retro_local.specs.Kinds.{kind_at}
 use Rattle.retro_utils.specs.Reasons.{refusal}
+use Rattle.retro_utils.specs.Rm.{ends_in_dots, is_protected}
 
 dir_of_kind : (n : Node) → kind_of n ≡ kinds.Dir → n ≡ Dir
 dir_of_kind Missing e = cc
@@ -33,3 +37,23 @@ granted NoParent e = cc
 granted NotDir e = cc
 granted IsDir e = cc
 granted TooLarge e = cc
+
+-- a file has no children in a lawful state
+file_is_no_dir : (n : Node) → kind_of n ≡ kinds.File → is_dir n ≡ false
+file_is_no_dir Missing e = refl
+file_is_no_dir Dir e = cc
+file_is_no_dir (File bytes) e = refl
+
+pub no_names : (p : PathValue) (s : State) → IsLawful s → kind_of (node_in p s.tree) ≡ kinds.File
+    → names_in p s.tree ≡ []
+no_names p s l e = none_in_file p s l (file_is_no_dir (node_in p s.tree) e)
+
+-- what isn't protected isn't the root
+pub below_root : (operand : List ℕ) (p : PathValue) → is_protected operand p ≡ false → is_root p ≡ false
+unfolding is_protected
+below_root operand p e = go (ends_in_dots operand) (is_root p) e
+  where
+    go : (a b : Bool) → (a || (b || is_null p)) ≡ false → b ≡ false
+    go true b e = cc
+    go false true e = cc
+    go false false e = refl

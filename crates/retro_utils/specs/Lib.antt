@@ -11,3 +11,4 @@ pub mod Cutting
 pub mod Searching
 pub mod Output
 pub mod Tee
+pub mod Rm

@@ -33,4 +33,5 @@ pub use utilities::cd::cd;
 pub use utilities::id::id;
 pub use utilities::mkdir::mkdir;
 pub use utilities::pwd::pwd;
+pub use utilities::rm::rm;
 pub use utilities::tee::{TeeOperands, tee};

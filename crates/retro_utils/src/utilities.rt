@@ -7,4 +7,5 @@ pub(crate) mod grep;
 pub(crate) mod id;
 pub(crate) mod mkdir;
 pub(crate) mod pwd;
+pub(crate) mod rm;
 pub(crate) mod tee;

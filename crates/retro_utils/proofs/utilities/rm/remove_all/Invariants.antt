@@ -1,0 +1,17 @@
+-- The operands so far are done, and the others are still to do.
+use Rattle.std.proofs.Common.{map, drop}
+use Rattle.std.specs.Prelude.{codes}
+use Rattle.retro_local.specs.Runs.{Continues, Extends}
+use Rattle.retro_utils.specs.Operands.{in_turn}
+use Rattle.retro_utils.specs.Outcomes.{nothing_done}
+use Rattle.retro_utils.specs.Rm.{remove_operand}
+use Rattle.retro_utils.proofs.utilities.rm.remove_all.Given as goal
+
+abbrev pub invariant-loop-operand : goal.invariant-loop-operand
+invariant-loop-operand g l = record {
+  extends : Extends l.sid l.initial.local l.local;
+  continues : Continues l.initial.local l.local
+      (in_turn (codes "rm") (remove_operand l.sid l.forced) (map (λ o. o.now) l.operands) (nothing_done 0))
+      (in_turn (codes "rm") (remove_operand l.sid l.forced) (map (λ o. o.now) (drop l.operand-index l.operands))
+      l.done);
+}

@@ -1,0 +1,165 @@
+//! `rm` without `-r` (XCU rm).
+ghost use Rattle.std.specs.Prelude.{◌≡◌, [], false, IfOk, codes, map};
+ghost use Rattle.retro_tree.specs.Path.{is_root};
+ghost use Rattle.retro_tree.specs.Resolving.{parts_of};
+ghost use Rattle.retro_local.specs.Runs.{Computes, Extends, ExtendsTree};
+ghost use Rattle.retro_utils.specs.Operands.{in_turn};
+ghost use Rattle.retro_utils.specs.Outcomes.{nothing_done};
+ghost use Rattle.retro_utils.specs.Rm.{ends_in_dots, is_protected, last_part, part_or, remove_at};
+ghost use Rattle.retro_utils.specs.Rm.{remove_file, remove_operand, rm};
+
+use crate::done::Done;
+use crate::operand::locate;
+use crate::reason::Reason;
+use retro_local::Local;
+use retro_tree::{Kind, Path, View};
+use std::alloc::{AllocError, Global};
+
+/// Splits a text at slashes.
+fn parts_of(alloc: Global, text: &str) -> Result<Vec<&str>, AllocError>
+    ensures { IfOk result (λ parts. map (λ part. part.now) parts.items ≡ parts_of text.now) }
+{
+    text.split('/').collect(alloc)
+}
+
+/// Returns a part, or the last one before it if it is empty.
+fn part_or<'a>(part: &'a str, last: &'a [u8]) -> &'a [u8]
+    ensures { result.now ≡ part_or part.entry.now last.entry.now }
+{
+    match part.as_bytes() {
+        [] => last,
+        bytes => bytes,
+    }
+}
+
+/// Returns the last part that isn't empty, or an empty one.
+fn last_part<'a>(parts: &[&'a str]) -> &'a [u8]
+    ensures { result.now ≡ last_part [] (map (λ part. part.now) parts.now) }
+{
+    let mut last = b"".as_slice();
+    for part in parts {
+        last = part_or(part, last);
+    }
+    last
+}
+
+/// Returns whether the last part of a text is `.` or `..`. Slashes after it don't count.
+#[tactic(auto, unfolding(crate::specs::Rm::ends_in_dots))]
+fn ends_in_dots(alloc: Global, text: &str) -> Result<bool, AllocError>
+    ensures { IfOk result (λ ends. ends ≡ ends_in_dots text.now) }
+{
+    let parts = parts_of(alloc, text)?;
+    let last = last_part(parts.as_slice());
+    Ok(last == b".".as_slice() || last == b"..".as_slice())
+}
+
+/// Returns whether neither `rm` nor `mv` takes away what an operand names.
+#[tactic(auto, unfolding(crate::specs::Rm::is_protected))]
+fn is_protected(alloc: Global, operand: &str, path: &Path) -> Result<bool, AllocError>
+    ensures { IfOk result (λ protected. protected ≡ is_protected operand.now path.now) }
+{
+    let dots = ends_in_dots(alloc, operand)?;
+    Ok(dots || path.names().is_empty() || path.is_null())
+}
+
+/// Removes the file at a path. If `forced`, a missing one isn't a fault.
+#[tactic(auto, unfolding(crate::specs::Rm::remove_file), using(crate::proofs::Facts::no_names))]
+fn remove_file<V: View>(
+    alloc: Global,
+    forced: bool,
+    path: Path,
+    local: &mut Local<V>,
+) -> Result<Result<(), Reason>, AllocError>
+    requires { is_root path ≡ false }
+    ensures means { IfOk result (λ outcome. Computes local.old local.new
+        (remove_file forced path) outcome) }
+    ensures extends { ExtendsTree local.old local.new }
+{
+    match local.kind(alloc, &path)? {
+        Kind::Missing if forced => Ok(Ok(())),
+        Kind::Missing => Ok(Err(Reason::NoSuchFile)),
+        Kind::Dir => Ok(Err(Reason::IsDirectory)),
+        Kind::File => {
+            local.remove(alloc, path)?;
+            Ok(Ok(()))
+        }
+    }
+}
+
+/// Removes the file at the path that an operand names, unless it is protected.
+#[tactic(auto, unfolding(crate::specs::Rm::remove_at), using(crate::proofs::Facts::below_root))]
+fn remove_at<V: View>(
+    alloc: Global,
+    forced: bool,
+    operand: &str,
+    path: Path,
+    local: &mut Local<V>,
+) -> Result<Result<(), Reason>, AllocError>
+    ensures means { IfOk result (λ outcome. Computes local.old local.new
+        (remove_at forced operand.now path) outcome) }
+    ensures extends { ExtendsTree local.old local.new }
+{
+    if is_protected(alloc, operand, &path)? {
+        return Ok(Err(Reason::NotPermitted));
+    }
+    Ok(remove_file(alloc, forced, path, local)?)
+}
+
+/// Removes the file that an operand names.
+fn remove_operand<V: View>(
+    alloc: Global,
+    sid: u32,
+    forced: bool,
+    operand: &str,
+    local: &mut Local<V>,
+) -> Result<Result<(), Reason>, AllocError>
+    ensures means { IfOk result (λ outcome. Computes local.old local.new
+        (remove_operand sid forced operand.now) outcome) }
+    ensures extends { Extends sid local.old local.new }
+{
+    match locate(alloc, sid, operand, local)? {
+        Ok(path) => Ok(remove_at(alloc, forced, operand, path, local)?),
+        Err(reason) => Ok(Err(reason)),
+    }
+}
+
+/// Removes the file of each operand in turn.
+fn remove_all<V: View>(
+    alloc: Global,
+    sid: u32,
+    forced: bool,
+    operands: &[&str],
+    local: &mut Local<V>,
+) -> Result<Done, AllocError>
+    ensures means { IfOk result (λ done. Computes local.old local.new
+        (in_turn (codes "rm") (remove_operand sid forced) (map (λ o. o.now) operands.now)
+        (nothing_done 0)) done) }
+    ensures extends { Extends sid local.old local.new }
+{
+    let mut done = Done::nothing(alloc, 0);
+    for operand in operands {
+        let outcome = remove_operand(alloc, sid, forced, operand, local)?;
+        done.outcome("rm", operand, outcome)?;
+    }
+    Ok(done)
+}
+
+/// `rm` without `-r`: removes the file of each operand. `forced` is `-f`.
+#[tactic(auto, unfolding(crate::specs::Rm::rm))]
+pub fn rm<V: View>(
+    alloc: Global,
+    sid: u32,
+    forced: bool,
+    operands: &[&str],
+    local: &mut Local<V>,
+) -> Result<Done, AllocError>
+    ensures means { IfOk result (λ done. Computes local.old local.new
+        (rm sid forced (map (λ o. o.now) operands.now)) done) }
+    ensures extends { Extends sid local.old local.new }
+{
+    match operands {
+        [] if forced => Ok(Done::nothing(alloc, 0)),
+        [] => Ok(Done::usage(alloc, "rm")?),
+        [_, ..] => Ok(remove_all(alloc, sid, forced, operands, local)?),
+    }
+}
