@@ -1,9 +1,10 @@
 -- What answers to questions say of the node at a path.
-use Rattle.std.proofs.Common.{◌≡◌, Bool, true, false, ◌||◌, ℕ, List, [], None, refl}
+use Rattle.std.proofs.Common.{◌≡◌, ◌≤◌, Bool, true, false, ◌||◌, ℕ, List, []}
+use Rattle.std.proofs.Common.{length, None, Result, Ok, refl, subst, arith}
 use Rattle.std.specs.Bool.{if◌then◌else◌}
 use Rattle.retro_tree.specs.Ask.{names_in}
 use Rattle.retro_tree.specs.Lawful.{IsLawful}
-use Rattle.retro_tree.specs.Node.{is_dir, kind_of}
+use Rattle.retro_tree.specs.Node.{file_limit, is_dir, kind_of, size_of}
 use Rattle.retro_tree.specs.Path.{PathValue, is_null, is_root}
 use Rattle.retro_tree.specs.Tree.{node_in}
 use Rattle.retro_tree.specs.declared.kind.Kind.TheVariants as kinds
@@ -13,8 +14,11 @@ use Rattle.retro_tree.specs.declared.state.State.{State}
 use Rattle.retro_tree.specs.declared.permit.Permit.{Permit}
 use Rattle.retro_tree.specs.declared.permit.Permit.TheVariants.{Yes, NoParent, NotDir, IsDir, TooLarge}
 use Rattle.retro_tree.proofs.MayMake.{none_in_file}
+use Rattle.retro_tree.proofs.TreeLaw.{told}
 use Rattle.retro_local.specs.Kinds.{kind_at}
+use Rattle.retro_utils.specs.Reading.{content, path_reading}
 use Rattle.retro_utils.specs.Reasons.{refusal}
+use Rattle.retro_utils.specs.declared.reason.Reason.{Reason}
 use Rattle.retro_utils.specs.Rm.{ends_in_dots, is_protected}
 
 dir_of_kind : (n : Node) → kind_of n ≡ kinds.Dir → n ≡ Dir
@@ -57,3 +61,21 @@ below_root operand p e = go (ends_in_dots operand) (is_root p) e
     go true b e = cc
     go false true e = cc
     go false false e = refl
+
+-- what is read of a path is within the limit of files in a lawful state
+abbrev fits : List ℕ → Type 0
+fits text = length text ≤ file_limit
+
+ok_same : (r : Result (List ℕ) Reason) (x y : List ℕ) → r ≡ Ok x → r ≡ Ok y → x ≡ y
+ok_same r x y e f = cc
+
+read_fits : (b : Bool) (n : Node) (text : List ℕ) → size_of n ≤ file_limit
+    → (if b then Ok [] else content n) ≡ Ok text → fits text
+read_fits true n text h e = subst fits (ok_same (Ok []) [] text refl e) (omega arith)
+read_fits false Missing text h e = cc
+read_fits false Dir text h e = cc
+read_fits false (File bytes) text h e = subst fits (ok_same (Ok bytes) bytes text refl e) h
+
+pub reading_fits : (p : PathValue) (s : State) (text : List ℕ) → IsLawful s → path_reading p s ≡ Ok text → fits text
+unfolding path_reading
+reading_fits p s text l e = read_fits (is_null p) (node_in p s.tree) text ((told s.tree l.tree).files p) e

@@ -12,3 +12,5 @@ pub mod Searching
 pub mod Output
 pub mod Tee
 pub mod Rm
+pub mod Transfers
+pub mod Cp

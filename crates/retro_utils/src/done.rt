@@ -2,9 +2,11 @@
 ghost use Rattle.std.specs.Prelude.{◌≡◌, IfOk, OnOk};
 ghost use Rattle.retro_utils.specs.Outcomes.{nothing_done, usage, with_fault, with_outcome};
 ghost use Rattle.retro_utils.specs.Outcomes.{with_output, with_reading};
+ghost use Rattle.retro_utils.specs.Transfers.{with_transfer};
 
 use crate::reason::Reason;
 use retro_text::usage_text;
+use crate::transfer_fault::TransferFault;
 use retro_tree::Bytes;
 use std::alloc::{AllocError, Global};
 
@@ -68,6 +70,24 @@ impl Done {
         match outcome {
             Ok(()) => Ok(()),
             Err(reason) => self.fault(name, operand, reason),
+        }
+    }
+
+    /// Adds the fault of a copy or a move, if it failed, on the operand that it names.
+    pub(crate) fn transfer(
+        &mut self,
+        name: &str,
+        source: &str,
+        last: &str,
+        outcome: Result<(), TransferFault>,
+    ) -> Result<(), AllocError>
+        ensures { OnOk result
+            (self.new ≡ with_transfer name.now source.now last.now outcome self.old) }
+    {
+        match outcome {
+            Ok(()) => Ok(()),
+            Err(TransferFault::Source(reason)) => self.fault(name, source, reason),
+            Err(TransferFault::Target(reason)) => self.fault(name, last, reason),
         }
     }
 

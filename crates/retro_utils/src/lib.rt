@@ -19,6 +19,8 @@ mod place;
 mod progress;
 mod reader;
 mod reason;
+mod target;
+mod transfer_fault;
 mod utilities;
 
 pub use done::Done;
@@ -30,6 +32,7 @@ pub use reason::Reason;
 pub use retro_local::{Local, apply_notes, holds};
 pub use utilities::cat::cat;
 pub use utilities::cd::cd;
+pub use utilities::cp::cp;
 pub use utilities::id::id;
 pub use utilities::mkdir::mkdir;
 pub use utilities::pwd::pwd;

@@ -1,0 +1,14 @@
+-- The sources so far are copied, and the others are still to copy.
+use Rattle.std.proofs.Common.{map, drop}
+use Rattle.retro_local.specs.Runs.{Continues, Extends}
+use Rattle.retro_utils.specs.Cp.{copy_all}
+use Rattle.retro_utils.specs.Outcomes.{nothing_done}
+use Rattle.retro_utils.proofs.utilities.cp.copy_all.Given as goal
+
+abbrev pub invariant-loop-source : goal.invariant-loop-source
+invariant-loop-source g l = record {
+  extends : Extends l.sid l.initial.local l.local;
+  continues : Continues l.initial.local l.local
+      (copy_all l.sid l.target l.last (map (λ o. o.now) l.sources) (nothing_done 0))
+      (copy_all l.sid l.target l.last (map (λ o. o.now) (drop l.source-index l.sources)) l.done);
+}
