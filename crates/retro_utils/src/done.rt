@@ -5,8 +5,8 @@ ghost use Rattle.retro_utils.specs.Outcomes.{with_output, with_reading};
 ghost use Rattle.retro_utils.specs.Transfers.{with_transfer};
 
 use crate::reason::Reason;
-use retro_text::usage_text;
 use crate::transfer_fault::TransferFault;
+use retro_text::usage_text;
 use retro_tree::Bytes;
 use std::alloc::{AllocError, Global};
 

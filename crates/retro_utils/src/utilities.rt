@@ -2,9 +2,9 @@
 
 pub(crate) mod cat;
 pub(crate) mod cd;
+pub(crate) mod cp;
 pub(crate) mod cut;
 pub(crate) mod grep;
-pub(crate) mod cp;
 pub(crate) mod id;
 pub(crate) mod mkdir;
 pub(crate) mod pwd;

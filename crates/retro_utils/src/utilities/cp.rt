@@ -1,5 +1,5 @@
 //! `cp` (XCU cp).
-ghost use Rattle.std.specs.Prelude.{◌≡◌, ◌≤◌, IfOk, length, map};
+ghost use Rattle.std.specs.Prelude.{◌≡◌, ◌≤◌, IfOk, length, map, string_bytes};
 ghost use Rattle.retro_tree.specs.Node.{file_limit};
 ghost use Rattle.retro_local.specs.Runs.{Always, Computes, Extends, ExtendsTree};
 ghost use Rattle.retro_utils.specs.Cp.{copy_all, copy_operand, copy_path, cp, write_copy};
@@ -87,11 +87,11 @@ fn copy_all<V: View>(
     alloc: Global,
     sid: u32,
     target: (&Target, &str),
-    sources: &[&str],
+    sources: &[String],
     local: &mut Local<V>,
 ) -> Result<Done, AllocError>
     ensures means { IfOk result (λ done. Computes local.old local.new
-        (copy_all sid target.entry.0.now target.entry.1.now (map (λ o. o.now) sources.now)
+        (copy_all sid target.entry.0.now target.entry.1.now (map string_bytes sources.now)
         (nothing_done 0)) done) }
     ensures extends { Extends sid local.old local.new }
 {
@@ -110,11 +110,11 @@ pub fn cp<V: View>(
     alloc: Global,
     sid: u32,
     last: &str,
-    sources: &[&str],
+    sources: &[String],
     local: &mut Local<V>,
 ) -> Result<Done, AllocError>
     ensures means { IfOk result (λ done. Computes local.old local.new
-        (cp sid last.now (map (λ o. o.now) sources.now)) done) }
+        (cp sid last.now (map string_bytes sources.now)) done) }
     ensures extends { Extends sid local.old local.new }
 {
     let several = match sources {

@@ -1,5 +1,5 @@
 //! `rm` without `-r` (XCU rm).
-ghost use Rattle.std.specs.Prelude.{◌≡◌, [], false, IfOk, codes, map};
+ghost use Rattle.std.specs.Prelude.{◌≡◌, [], false, IfOk, codes, map, string_bytes};
 ghost use Rattle.retro_tree.specs.Path.{is_root};
 ghost use Rattle.retro_tree.specs.Resolving.{parts_of};
 ghost use Rattle.retro_local.specs.Runs.{Computes, Extends, ExtendsTree};
@@ -128,11 +128,11 @@ fn remove_all<V: View>(
     alloc: Global,
     sid: u32,
     forced: bool,
-    operands: &[&str],
+    operands: &[String],
     local: &mut Local<V>,
 ) -> Result<Done, AllocError>
     ensures means { IfOk result (λ done. Computes local.old local.new
-        (in_turn (codes "rm") (remove_operand sid forced) (map (λ o. o.now) operands.now)
+        (in_turn (codes "rm") (remove_operand sid forced) (map string_bytes operands.now)
         (nothing_done 0)) done) }
     ensures extends { Extends sid local.old local.new }
 {
@@ -150,11 +150,11 @@ pub fn rm<V: View>(
     alloc: Global,
     sid: u32,
     forced: bool,
-    operands: &[&str],
+    operands: &[String],
     local: &mut Local<V>,
 ) -> Result<Done, AllocError>
     ensures means { IfOk result (λ done. Computes local.old local.new
-        (rm sid forced (map (λ o. o.now) operands.now)) done) }
+        (rm sid forced (map string_bytes operands.now)) done) }
     ensures extends { Extends sid local.old local.new }
 {
     match operands {

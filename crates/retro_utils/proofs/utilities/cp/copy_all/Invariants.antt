@@ -1,4 +1,5 @@
 -- The sources so far are copied, and the others are still to copy.
+use Rattle.std.specs.Prelude.{string_bytes}
 use Rattle.std.proofs.Common.{map, drop}
 use Rattle.retro_local.specs.Runs.{Continues, Extends}
 use Rattle.retro_utils.specs.Cp.{copy_all}
@@ -9,6 +10,6 @@ abbrev pub invariant-loop-source : goal.invariant-loop-source
 invariant-loop-source g l = record {
   extends : Extends l.sid l.initial.local l.local;
   continues : Continues l.initial.local l.local
-      (copy_all l.sid l.target l.last (map (λ o. o.now) l.sources) (nothing_done 0))
-      (copy_all l.sid l.target l.last (map (λ o. o.now) (drop l.source-index l.sources)) l.done);
+      (copy_all l.sid l.target l.last (map string_bytes l.sources) (nothing_done 0))
+      (copy_all l.sid l.target l.last (map string_bytes (drop l.source-index l.sources)) l.done);
 }
