@@ -1,0 +1,14 @@
+use Rattle.std.proofs.Common.{◌-◌, ◌^◌, length, drop}
+use Rattle.retro_local.specs.Runs.{Relates, ExtendsTree}
+use Rattle.retro_moves.specs.Removal.{OfTrees}
+use Rattle.retro_moves.specs.Move.{IsCopy}
+use Rattle.retro_moves.proofs.moving.+copy_tree.Given as goal
+
+abbrev pub decreases-copy_tree : goal.decreases-copy_tree
+decreases-copy_tree g l = 2 ^ 64 - length l.from.now
+
+abbrev pub invariant-loop-name : goal.invariant-loop-name
+invariant-loop-name g l = record {
+  copied : Relates (OfTrees (IsCopy l.from l.to (drop l.name-index l.name-items) l.paths.items)) l.fn.local l.local;
+  extends : ExtendsTree l.fn.local l.local;
+}
