@@ -13,8 +13,11 @@ ghost use Rattle.retro_tree.specs.Session.{session_in, value_limit};
 ghost use Rattle.retro_tree.specs.State.{grow_file, permit_of, put_node, put_status};
 ghost use Rattle.retro_tree.specs.Tree.{node_in};
 ghost use Rattle.retro_tree.specs.User.{user_in};
+ghost use Rattle.retro_tree.specs.declared.answer.Answer.TheVariants as answers;
 ghost use Rattle.retro_tree.specs.declared.answer.Answer.TheVariants.{Cwd};
+ghost use Rattle.retro_tree.specs.declared.ask.Ask.TheVariants as asks;
 ghost use Rattle.retro_tree.specs.declared.ask.Ask.TheVariants.{CwdOf};
+ghost use Rattle.retro_tree.specs.declared.change.Change.TheVariants.{Put};
 ghost use Rattle.retro_tree.specs.declared.node.Node.TheVariants.{Missing, Dir, File};
 ghost use Rattle.retro_tree.specs.declared.note.Note.{Note as NoteValue};
 ghost use Rattle.retro_tree.specs.declared.note.Note.TheVariants.{Asked, Made};
@@ -117,11 +120,12 @@ impl<'a, V: View> Local<'a, V> {
         }
     }
 
-    /// In each lawful state in which the notes hold, the state after them is lawful. Does nothing:
-    /// callers learn this fact by the call.
+    /// The notes hold in the view's state, and in each lawful state in which they hold, the state
+    /// after them is lawful. Does nothing: callers learn these facts by the call.
     #[tactic(auto, using(crate::proofs::Noting::noting))]
     pub fn keeps_law(&self)
-        ensures { (s : State) → IsLawful s → AllHold self.now.notes s
+        ensures hold { AllHold self.now.notes self.now.start }
+        ensures lawful { (s : State) → IsLawful s → AllHold self.now.notes s
             → IsLawful (reached self.now.notes s) }
     {
         let _ = &self.notes;
@@ -158,6 +162,8 @@ impl<'a, V: View> Local<'a, V> {
     pub fn kind(&mut self, alloc: Global, path: &Path) -> Result<Kind, AllocError>
         ensures means { IfOk result (λ kind. Computes self.old self.new
             (λ s. (s, kind_of (node_in path.now s.tree))) kind) }
+        ensures note { IfOk result (λ kind.
+            self.new ≡ noted self.old (Asked (asks.Kind path.now) (answers.Kind kind))) }
         ensures extends { ExtendsTree self.old self.new }
     {
         match self.ask(alloc, Ask::Kind(path.copy()?))? {
@@ -170,6 +176,8 @@ impl<'a, V: View> Local<'a, V> {
     pub fn node(&mut self, alloc: Global, path: &Path) -> Result<Node, AllocError>
         ensures means { IfOk result (λ node. Computes self.old self.new
             (λ s. (s, node_in path.now s.tree)) node) }
+        ensures note { IfOk result (λ node.
+            self.new ≡ noted self.old (Asked (asks.Bytes path.now) (answers.Bytes node))) }
         ensures extends { ExtendsTree self.old self.new }
     {
         match self.ask(alloc, Ask::Bytes(path.copy()?))? {
@@ -182,6 +190,8 @@ impl<'a, V: View> Local<'a, V> {
     pub fn names(&mut self, alloc: Global, path: &Path) -> Result<Option<Listing>, AllocError>
         ensures means { IfOk result (λ names. Computes self.old self.new
             (λ s. (s, listing (node_in path.now s.tree) (names_in path.now s.tree))) names) }
+        ensures note { IfOk result (λ names.
+            self.new ≡ noted self.old (Asked (asks.Names path.now) (answers.Names names))) }
         ensures extends { ExtendsTree self.old self.new }
     {
         match self.ask(alloc, Ask::Names(path.copy()?))? {
@@ -297,6 +307,7 @@ impl<'a, V: View> Local<'a, V> {
         requires below { is_root path ≡ false }
         requires childless { Always (λ s. names_in path s.tree ≡ []) self.old }
         ensures means { OnOk result (Transforms self.old self.new (put_node path Missing)) }
+        ensures note { OnOk result (self.new ≡ noted self.old (Made (Put path Missing))) }
         ensures extends { ExtendsTree self.old self.new }
     {
         self.make(alloc, Change::Put(path, Node::Missing))
