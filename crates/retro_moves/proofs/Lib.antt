@@ -6,3 +6,4 @@ pub mod Copies
 pub mod Clearing
 pub mod Moves
 pub mod MovedFiles
+pub mod RemovalTrails

@@ -1,5 +1,5 @@
 -- What a removal computes, over traces.
-use Rattle.std.proofs.Common.{◌≡◌, ℕ, false, List, [], ◌∷◌, ◌++◌, Option, Some, None, refl, sym, ap, ◌∙◌, subst}
+use Rattle.std.proofs.Common.{◌≡◌, ℕ, false, List, [], ◌∷◌, ◌++◌, Option, Some, refl, sym, ap, ◌∙◌, subst}
 use Rattle.retro_tree.specs.Path.{PathValue}
 use Rattle.retro_tree.specs.Node.{kind_of, is_dir}
 use Rattle.retro_tree.specs.Tree.{node_in}
@@ -51,11 +51,6 @@ no_dir (File bytes) e = refl
 listed : (ns ms : List (List ℕ)) → listing Dir ns ≡ Some ms → ns ≡ ms
 listed ns ms e = cc
 
-never : (node : Node) (ns : List (List ℕ)) → node ≡ Dir → listing node ns ≡ None → ⊥
-never Missing ns e f = cc
-never Dir ns e f = cc
-never (File bytes) ns e f = cc
-
 -- ---- what isn't a directory
 pub missing_removed : (old new : Trace) (p : PathValue) → Computes old new (kind_at p) kinds.Missing
     → KeepsLawful old → Computes old new (removal p) kinds.Missing
@@ -100,18 +95,6 @@ file_childless old mid p asked s l h law =
     (ap (λ x. is_dir (node_in p x.0.tree)) (sym was) ∙ no_dir _ (ap (λ x. x.1) was))
 
 -- ---- a directory
--- a directory always has a listing
-pub listing_removed : (old mid new : Trace) (p : PathValue) (f : State → State × Kind)
-    → Computes old mid (kind_at p) kinds.Dir → Computes mid new (names_at p) None → Computes old new f kinds.Dir
-listing_removed old mid new p f asked names = record {
-  held = λ s l h. asked.held s l (names.held s l h);
-  means = λ s l h.
-      let was = asked.means s l (names.held s l h) in
-      absurd (never (node_in p (reached mid.notes s).tree) (names_in p (reached mid.notes s).tree)
-      (ap (λ x. node_in p x.0.tree) (sym was) ∙ dir_of _ (ap (λ x. x.1) was))
-      (ap (λ x. x.1) (names.means s l h)));
-}
-
 pub names_start : (old mid new : Trace) (p : PathValue) (ns : List (List ℕ))
     → Computes old mid (kind_at p) kinds.Dir → Computes mid new (names_at p) (Some ns) → KeepsLawful old
     → Relates (OfTrees (IsThinned p ns)) old new

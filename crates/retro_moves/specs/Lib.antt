@@ -1,3 +1,4 @@
 pub mod Trees
 pub mod Removal
 pub mod Move
+pub mod RemovalNotes

@@ -1,9 +1,10 @@
 //! Removing a path with everything below it.
-ghost use Rattle.std.specs.Prelude.{◌≡◌, false, IfOk};
+ghost use Rattle.std.specs.Prelude.{◌≡◌, [], ◌∷◌, false, IfOk, OnOk};
 ghost use Rattle.retro_tree.specs.Node.{kind_of};
 ghost use Rattle.retro_tree.specs.Path.{is_root};
 ghost use Rattle.retro_tree.specs.Tree.{node_in};
 ghost use Rattle.retro_local.specs.Runs.{Computes, ExtendsTree};
+ghost use Rattle.retro_moves.specs.RemovalNotes.{RemovalNotes};
 ghost use Rattle.retro_moves.specs.Trees.{with_tree, without};
 
 use retro_local::Local;
@@ -13,7 +14,7 @@ use std::alloc::{AllocError, Global};
 /// Removes a path and everything below it, and returns the kind of what was there.
 ///
 /// Asks the kind of the path. If it is a directory, asks its names, removes each child likewise in
-/// the order of names, and then the directory.
+/// the order of names, and then the directory. Asks nothing else.
 pub fn remove_tree<V: View>(
     alloc: Global,
     path: &Path,
@@ -22,6 +23,8 @@ pub fn remove_tree<V: View>(
     requires { is_root path.now ≡ false }
     ensures means { IfOk result (λ kind. Computes local.old local.new
         (λ s. (with_tree (without path.now) s, kind_of (node_in path.now s.tree))) kind) }
+    ensures notes { OnOk result
+        (RemovalNotes (path.now ∷ []) local.old.notes local.new.notes) }
     ensures extends { ExtendsTree local.old local.new }
 {
     local.keeps_law();
@@ -32,9 +35,9 @@ pub fn remove_tree<V: View>(
             Ok(Kind::File)
         }
         Kind::Dir => {
-            let Some(names) = local.names(alloc, path)? else {
-                return Ok(Kind::Dir);
-            };
+            let names = local.names(alloc, path)?;
+            local.keeps_law();
+            let Some(names) = names else { unreachable!() };
             for name in names.names() {
                 let child = path.child(alloc, name)?;
                 remove_tree(alloc, &child, local)?;

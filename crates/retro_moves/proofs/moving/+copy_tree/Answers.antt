@@ -32,7 +32,7 @@ loop-name-init g t c =
     let start = dir_copied c.args.local.now c.names.new.self _ c.args.from.now c.args.to.now c.in-Some.names
     (rw c.in-Some.is at c.in_ok-names-in-Dir.ensures.means)
     (rw c.in_ok-copy-in-Dir.ensures at c.in_ok-put-in-Dir.ensures.means) c.requires.can
-    (rw c.in-Dir.is at c.requires.here) c.keeps_law.ensures in
+    (rw c.in-Dir.is at c.requires.here) c.keeps_law.ensures.lawful in
     record {
       copied = rw (
         c.names-name-items.ensures,
@@ -58,7 +58,7 @@ copy_tree-requires g t c κs within =
     let asked = rw c.in_ok-source-in-Dir.ensures.value at c.in_ok-node-in-Dir.ensures.means in
     let can = child_may c.args.local.now c.loop-name.local c.node.new.self c.args.from.now c.args.to.now n
     (drop (i + 1) names) _ c.in_ok-node-in-Dir.node (rw e at c.loop-name.invariant.copied)
-    (rw c.in-Dir.is at c.requires.here) c.keeps_law.ensures asked in
+    (rw c.in-Dir.is at c.requires.here) c.keeps_law.ensures.lawful asked in
     let here = child_here _ _ _ _ asked in
     let falls = deeper_falls c.args.from.now c.in_ok-source-in-Dir.source n c.in_ok-source-in-Dir.ensures.value
     c.in_ok-source-in-Dir.ensures.length in (
@@ -112,6 +112,6 @@ returns-in_ok-push-in_default g t c = record {
       (leaf_copied c.args.local.now _ c.args.from.now c.args.to.now c.args.node
       (leaf_of c.args.node c.in_default.not-Dir)
       (rw c.in_ok-copy-in_default.ensures at c.in_ok-put-in_default.ensures.means) c.requires.can c.requires.here
-      c.keeps_law.ensures);
+      c.keeps_law.ensures.lawful);
   extends = c.in_ok-put-in_default.ensures.extends;
 }
