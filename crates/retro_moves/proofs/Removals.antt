@@ -156,5 +156,5 @@ pub extends_more : (a b c : Trace) → ExtendsTree a b → ExtendsTree b c → E
 extends_more a b c h k = record {
   start = k.start ∙ h.start;
   later = λ base e. k.later base (h.later base e);
-  own = λ sid o. k.own sid (h.own sid o);
+  tree = k.tree ∙ h.tree;
 }
