@@ -14,3 +14,4 @@ pub mod Tee
 pub mod Rm
 pub mod Transfers
 pub mod Cp
+pub mod Utility

@@ -1,19 +1,19 @@
--- `rm` without `-r` (XCU rm).
-use Rattle.std.specs.Prelude.{ℕ, Bool, true, false, ◌||◌, List, [], ◌∷◌, Result, Ok, Err, codes, if◌then◌else◌}
+-- `rm` (XCU rm).
+use Rattle.std.specs.Prelude.{ℕ, Bool, true, false, ◌||◌, List, [], ◌∷◌, Option, Some, None, Result, Ok, Err, codes, if◌then◌else◌}
 use Rattle.retro_tree.specs.Node.{kind_of}
 use Rattle.retro_tree.specs.Order.{text_eq}
 use Rattle.retro_tree.specs.Path.{PathValue, is_null, is_root}
 use Rattle.retro_tree.specs.Resolving.{parts_of}
-use Rattle.retro_tree.specs.State.{put_node}
 use Rattle.retro_tree.specs.Tree.{node_in}
 use Rattle.retro_tree.specs.declared.kind.Kind.{Kind}
 use Rattle.retro_tree.specs.declared.kind.Kind.TheVariants as kinds
-use Rattle.retro_tree.specs.declared.node.Node.TheVariants.{Missing}
 use Rattle.retro_tree.specs.declared.state.State.{State}
 use Rattle.retro_utils.specs.Operands.{Action, at_operand, in_turn}
-use Rattle.retro_utils.specs.Outcomes.{nothing_done, usage}
+use Rattle.retro_utils.specs.Outcomes.{made_unless, nothing_done, usage}
+use Rattle.retro_moves.specs.Trees.{with_tree, without}
 use Rattle.retro_utils.specs.declared.done.Done.{Done}
 use Rattle.retro_utils.specs.declared.reason.Reason.{Reason}
+use Rattle.retro_utils.specs.declared.removal.Removal.{Removal}
 use Rattle.retro_utils.specs.declared.reason.Reason.TheVariants.{IsDirectory, NoSuchFile, NotPermitted}
 
 -- a part, or the last one before it if it is empty
@@ -35,24 +35,25 @@ ends_in_dots text =
 unfoldable pub is_protected : List ℕ → PathValue → Bool
 is_protected operand p = ends_in_dots operand || (is_root p || is_null p)
 
--- a file removed; a missing one isn't a fault under `-f`
-abbrev pub removed_by_kind : Bool → Kind → Action
-removed_by_kind forced kinds.Missing p s = (s, if forced then Ok tt else Err NoSuchFile)
-removed_by_kind forced kinds.Dir p s = (s, Err IsDirectory)
-removed_by_kind forced kinds.File p s = (put_node p Missing s, Ok tt)
+-- the reason why what has a kind isn't removed
+abbrev pub not_removed : Removal → Kind → Option Reason
+not_removed how kinds.Missing = if how.forced then None else Some NoSuchFile
+not_removed how kinds.Dir = if how.recursive then None else Some IsDirectory
+not_removed how kinds.File = None
 
-unfoldable pub remove_file : Bool → Action
-remove_file forced p s = removed_by_kind forced (kind_of (node_in p s.tree)) p s
+-- a path removed, with everything below it
+unfoldable pub remove_path : Removal → Action
+remove_path how p s = made_unless (not_removed how (kind_of (node_in p s.tree))) (with_tree (without p)) s
 
-unfoldable pub remove_at : Bool → List ℕ → Action
-remove_at forced operand p s =
-    if is_protected operand p then (s, Err NotPermitted) else remove_file forced p s
+unfoldable pub remove_at : Removal → List ℕ → Action
+remove_at how operand p s =
+    if is_protected operand p then (s, Err NotPermitted) else remove_path how p s
 
--- the file that an operand names removed
-abbrev pub remove_operand : ℕ → Bool → List ℕ → State → State × Result (Unit {0}) Reason
-remove_operand sid forced operand s = at_operand sid (remove_at forced operand) operand s
+-- what an operand names removed
+abbrev pub remove_operand : ℕ → Removal → List ℕ → State → State × Result (Unit {0}) Reason
+remove_operand sid how operand s = at_operand sid (remove_at how operand) operand s
 
--- the file of each operand in turn; `-f` needs no operand
-unfoldable pub rm : ℕ → Bool → List (List ℕ) → State → State × Done
-rm sid forced [] s = (s, if forced then nothing_done 0 else usage (codes "rm"))
-rm sid forced (x ∷ xs) s = in_turn (codes "rm") (remove_operand sid forced) (x ∷ xs) (nothing_done 0) s
+-- what each operand names in turn; `-f` needs no operand
+unfoldable pub rm : ℕ → Removal → List (List ℕ) → State → State × Done
+rm sid how [] s = (s, if how.forced then nothing_done 0 else usage (codes "rm"))
+rm sid how (x ∷ xs) s = in_turn (codes "rm") (remove_operand sid how) (x ∷ xs) (nothing_done 0) s

@@ -1,5 +1,6 @@
 -- The utilities by their names, over the fields after the name (XCU chapter 4).
 use Rattle.std.specs.Prelude.{ℕ, Bool, true, false, List, [], ◌∷◌, Option, Some, None, option_map, codes, if◌then◌else◌}
+use Rattle.retro_text.specs.Ascii.{letter}
 use Rattle.retro_text.specs.Condition.{ConditionValue, before_bracket, condition_in, known, path}
 use Rattle.retro_text.specs.Cut.{cut_in}
 use Rattle.retro_text.specs.Output.{echo_text}
@@ -76,7 +77,7 @@ cd_in place fields s = on_request (codes "cd") (λ r. cd place r.operands) (requ
 
 unfoldable pub id_in : List (List ℕ) → State → State × Done
 id_in fields s =
-    on_request (codes "id") (λ r. on_user (has_option 117 r.options) r) (request_in (known_letters (codes "u") []) fields) s
+    on_request (codes "id") (λ r. on_user (has_option (letter (codes "u")) r.options) r) (request_in (known_letters (codes "u") []) fields) s
 
 unfoldable pub cat_in : Place → List (List ℕ) → Input → State → State × Done
 cat_in place fields input s =
@@ -84,7 +85,7 @@ cat_in place fields input s =
 
 unfoldable pub tee_in : Place → List (List ℕ) → Input → State → State × Done
 tee_in place fields input s =
-    on_request (codes "tee") (λ r. tee place.sid (mode_of (has_option 97 r.options)) r.operands input)
+    on_request (codes "tee") (λ r. tee place.sid (mode_of (has_option (letter (codes "a")) r.options)) r.operands input)
     (request_in (known_letters (codes "a") []) fields) s
 
 unfoldable pub cut_by_options : Place → List (List ℕ) → Input → State → State × Done

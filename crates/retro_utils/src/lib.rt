@@ -19,6 +19,7 @@ mod place;
 mod progress;
 mod reader;
 mod reason;
+mod removal;
 mod target;
 mod transfer_fault;
 mod utilities;

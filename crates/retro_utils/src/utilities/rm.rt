@@ -1,17 +1,19 @@
-//! `rm` without `-r` (XCU rm).
-ghost use Rattle.std.specs.Prelude.{◌≡◌, [], false, IfOk, codes, map, string_bytes};
+//! `rm` (XCU rm).
+ghost use Rattle.std.specs.Prelude.{◌≡◌, [], true, false, IfOk, codes, map, string_bytes};
 ghost use Rattle.retro_tree.specs.Path.{is_root};
 ghost use Rattle.retro_tree.specs.Resolving.{parts_of};
 ghost use Rattle.retro_local.specs.Runs.{Computes, Extends, ExtendsTree};
 ghost use Rattle.retro_utils.specs.Operands.{in_turn};
 ghost use Rattle.retro_utils.specs.Outcomes.{nothing_done};
 ghost use Rattle.retro_utils.specs.Rm.{ends_in_dots, is_protected, last_part, part_or, remove_at};
-ghost use Rattle.retro_utils.specs.Rm.{remove_file, remove_operand, rm};
+ghost use Rattle.retro_utils.specs.Rm.{remove_operand, remove_path, rm};
 
 use crate::done::Done;
 use crate::operand::locate;
 use crate::reason::Reason;
+use crate::removal::Removal;
 use retro_local::Local;
+use retro_moves::remove_tree;
 use retro_tree::{Kind, Path, View};
 use std::alloc::{AllocError, Global};
 
@@ -62,8 +64,8 @@ fn is_protected(alloc: Global, operand: &str, path: &Path) -> Result<bool, Alloc
     Ok(dots || path.names().is_empty() || path.is_null())
 }
 
-/// Removes the file at a path. If `forced`, a missing one isn't a fault.
-#[tactic(auto, unfolding(crate::specs::Rm::remove_file), using(crate::proofs::Facts::no_names))]
+/// Removes the file at a path.
+#[tactic(auto, unfolding(crate::specs::Rm::remove_path), using(crate::proofs::Removing::removing, crate::proofs::Facts::no_names))]
 fn remove_file<V: View>(
     alloc: Global,
     forced: bool,
@@ -72,9 +74,10 @@ fn remove_file<V: View>(
 ) -> Result<Result<(), Reason>, AllocError>
     requires { is_root path ≡ false }
     ensures means { IfOk result (λ outcome. Computes local.old local.new
-        (remove_file forced path) outcome) }
+        (remove_path (record { forced = forced; recursive = false }) path) outcome) }
     ensures extends { ExtendsTree local.old local.new }
 {
+    local.keeps_law();
     match local.kind(alloc, &path)? {
         Kind::Missing if forced => Ok(Ok(())),
         Kind::Missing => Ok(Err(Reason::NoSuchFile)),
@@ -86,80 +89,120 @@ fn remove_file<V: View>(
     }
 }
 
-/// Removes the file at the path that an operand names, unless it is protected.
+/// Removes what is at a path with everything below it.
+#[tactic(auto, unfolding(crate::specs::Rm::remove_path), using(crate::proofs::Removing::removing))]
+fn remove_with_children<V: View>(
+    alloc: Global,
+    forced: bool,
+    path: &Path,
+    local: &mut Local<V>,
+) -> Result<Result<(), Reason>, AllocError>
+    requires { is_root path.now ≡ false }
+    ensures means { IfOk result (λ outcome. Computes local.old local.new
+        (remove_path (record { forced = forced; recursive = true }) path.now) outcome) }
+    ensures extends { ExtendsTree local.old local.new }
+{
+    local.keeps_law();
+    match remove_tree(alloc, path, local)? {
+        Kind::Missing if forced => Ok(Ok(())),
+        Kind::Missing => Ok(Err(Reason::NoSuchFile)),
+        Kind::Dir | Kind::File => Ok(Ok(())),
+    }
+}
+
+/// Removes what is at a path.
+fn remove_path<V: View>(
+    alloc: Global,
+    how: Removal,
+    path: Path,
+    local: &mut Local<V>,
+) -> Result<Result<(), Reason>, AllocError>
+    requires { is_root path ≡ false }
+    ensures means { IfOk result (λ outcome. Computes local.old local.new
+        (remove_path how path) outcome) }
+    ensures extends { ExtendsTree local.old local.new }
+{
+    if how.recursive {
+        Ok(remove_with_children(alloc, how.forced, &path, local)?)
+    } else {
+        Ok(remove_file(alloc, how.forced, path, local)?)
+    }
+}
+
+/// Removes what is at the path that an operand names, unless it is protected.
 #[tactic(auto, unfolding(crate::specs::Rm::remove_at), using(crate::proofs::Facts::below_root))]
 fn remove_at<V: View>(
     alloc: Global,
-    forced: bool,
+    how: Removal,
     operand: &str,
     path: Path,
     local: &mut Local<V>,
 ) -> Result<Result<(), Reason>, AllocError>
     ensures means { IfOk result (λ outcome. Computes local.old local.new
-        (remove_at forced operand.now path) outcome) }
+        (remove_at how operand.now path) outcome) }
     ensures extends { ExtendsTree local.old local.new }
 {
     if is_protected(alloc, operand, &path)? {
         return Ok(Err(Reason::NotPermitted));
     }
-    Ok(remove_file(alloc, forced, path, local)?)
+    Ok(remove_path(alloc, how, path, local)?)
 }
 
-/// Removes the file that an operand names.
+/// Removes what an operand names.
 fn remove_operand<V: View>(
     alloc: Global,
     sid: u32,
-    forced: bool,
+    how: Removal,
     operand: &str,
     local: &mut Local<V>,
 ) -> Result<Result<(), Reason>, AllocError>
     ensures means { IfOk result (λ outcome. Computes local.old local.new
-        (remove_operand sid forced operand.now) outcome) }
+        (remove_operand sid how operand.now) outcome) }
     ensures extends { Extends sid local.old local.new }
 {
     match locate(alloc, sid, operand, local)? {
-        Ok(path) => Ok(remove_at(alloc, forced, operand, path, local)?),
+        Ok(path) => Ok(remove_at(alloc, how, operand, path, local)?),
         Err(reason) => Ok(Err(reason)),
     }
 }
 
-/// Removes the file of each operand in turn.
+/// Removes what each operand names in turn.
 fn remove_all<V: View>(
     alloc: Global,
     sid: u32,
-    forced: bool,
+    how: Removal,
     operands: &[String],
     local: &mut Local<V>,
 ) -> Result<Done, AllocError>
     ensures means { IfOk result (λ done. Computes local.old local.new
-        (in_turn (codes "rm") (remove_operand sid forced) (map string_bytes operands.now)
+        (in_turn (codes "rm") (remove_operand sid how) (map string_bytes operands.now)
         (nothing_done 0)) done) }
     ensures extends { Extends sid local.old local.new }
 {
     let mut done = Done::nothing(alloc, 0);
     for operand in operands {
-        let outcome = remove_operand(alloc, sid, forced, operand, local)?;
+        let outcome = remove_operand(alloc, sid, how, operand, local)?;
         done.outcome("rm", operand, outcome)?;
     }
     Ok(done)
 }
 
-/// `rm` without `-r`: removes the file of each operand. `forced` is `-f`.
+/// `rm`: removes what each operand names.
 #[tactic(auto, unfolding(crate::specs::Rm::rm))]
 pub fn rm<V: View>(
     alloc: Global,
     sid: u32,
-    forced: bool,
+    how: Removal,
     operands: &[String],
     local: &mut Local<V>,
 ) -> Result<Done, AllocError>
     ensures means { IfOk result (λ done. Computes local.old local.new
-        (rm sid forced (map string_bytes operands.now)) done) }
+        (rm sid how (map string_bytes operands.now)) done) }
     ensures extends { Extends sid local.old local.new }
 {
     match operands {
-        [] if forced => Ok(Done::nothing(alloc, 0)),
+        [] if how.forced => Ok(Done::nothing(alloc, 0)),
         [] => Ok(Done::usage(alloc, "rm")?),
-        [_, ..] => Ok(remove_all(alloc, sid, forced, operands, local)?),
+        [_, ..] => Ok(remove_all(alloc, sid, how, operands, local)?),
     }
 }

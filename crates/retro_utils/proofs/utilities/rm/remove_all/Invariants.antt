@@ -12,7 +12,7 @@ abbrev pub invariant-loop-operand : goal.invariant-loop-operand
 invariant-loop-operand g l = record {
   extends : Extends l.sid l.initial.local l.local;
   continues : Continues l.initial.local l.local
-      (in_turn (codes "rm") (remove_operand l.sid l.forced) (map string_bytes l.operands) (nothing_done 0))
-      (in_turn (codes "rm") (remove_operand l.sid l.forced) (map string_bytes (drop l.operand-index l.operands))
+      (in_turn (codes "rm") (remove_operand l.sid l.how) (map string_bytes l.operands) (nothing_done 0))
+      (in_turn (codes "rm") (remove_operand l.sid l.how) (map string_bytes (drop l.operand-index l.operands))
       l.done);
 }
