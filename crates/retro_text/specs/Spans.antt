@@ -8,7 +8,6 @@ use Rattle.std.specs.Char.{is_ascii_digit}
 use Rattle.std.specs.Str.Parse.{digits_value}
 use Rattle.retro_text.specs.Ascii.{tab, space, comma, dash}
 use Rattle.retro_text.specs.declared.span.Span.{Span}
-use Rattle.retro_text.specs.declared.span.TheConstants.{MAX_DIGITS}
 
 abbrev pub span : ℕ → Option ℕ → Span
 span first last = record { first = first; last = last }
@@ -27,10 +26,14 @@ any_contains spans index = list_any (λ s. contains s index) spans
 
 -- ---- how spans are written
 
+-- the greatest number of digits in a position
+abbrev pub max_digits : ℕ
+max_digits = 9
+
 -- the index of a position: a number of one to nine digits, at least 1
 unfoldable pub index_in : List ℕ → Option ℕ
 index_in text =
-    if nat_le 1 (length text) && (nat_le (length text) MAX_DIGITS
+    if nat_le 1 (length text) && (nat_le (length text) max_digits
     && (list_all is_ascii_digit text && nat_le 1 (digits_value 10 text)))
     then Some (digits_value 10 text - 1) else None
 
