@@ -1,0 +1,13 @@
+//! Worked values of what utilities compute, as tables of rows: a call, what it is given, and what
+//! it returns.
+//!
+//! This crate has nothing but tests, which use public items alone. What rows want comes from the
+//! profile of the shell, never from the program's own output.
+#![tactic(auto)]
+
+#[cfg(test)]
+mod rows;
+#[cfg(test)]
+mod tables;
+#[cfg(test)]
+mod texts;
