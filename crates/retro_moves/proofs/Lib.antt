@@ -7,3 +7,4 @@ pub mod Clearing
 pub mod Moves
 pub mod MovedFiles
 pub mod RemovalTrails
+pub mod MoveTrails

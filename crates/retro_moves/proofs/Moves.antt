@@ -36,9 +36,6 @@ names_at p s = (s, listing (node_in p s.tree) (names_in p s.tree))
 listed : (ns ms : List (List ℕ)) → listing Dir ns ≡ Some ms → ns ≡ ms
 listed ns ms e = cc
 
-never : (ns : List (List ℕ)) → listing Dir ns ≡ None → ⊥
-never ns e = cc
-
 -- a question changes no state
 pub always_asked : {X : Type 0} (P : State → Type 0) (f : State → X) (old mid : Trace) (x : X)
     → Computes old mid (λ s. (s, f s)) x → Always P old → Always P mid
@@ -92,19 +89,6 @@ dir_copied old mid new p q ns names made can here law = record {
             (copy_start p q before.tree lawful.tree (can s l k lawful) is);
         others = refl;
       });
-}
-
--- a directory always has a listing
-pub listing_copied : (old mid : Trace) (p : PathValue) (R : State → State → Type 0)
-    → Computes old mid (names_at p) None → Always (λ s. node_in p s.tree ≡ Dir) old → KeepsLawful old
-    → Relates R old mid
-listing_copied old mid p R names here law = record {
-  held = names.held;
-  means = λ s l h.
-      let k = names.held s l h in
-      let before = reached old.notes s in
-      absurd (never (names_in p before.tree) ((λ i. listing (sym (here s l k (law s l k)) i) (names_in p before.tree))
-      ∙ ap (λ x. x.1) (names.means s l h)));
 }
 
 pub child_here : (mid asked : Trace) (p : PathValue) (node : Node) → Computes mid asked (node_at p) node

@@ -1,10 +1,14 @@
 //! Moving a directory with everything below it.
 ghost use Rattle.std.specs.Prelude.{◌≡◌, [], true, IfOk, OnOk};
-ghost use Rattle.retro_tree.specs.Lawful.{may_put};
+ghost use Rattle.retro_tree.specs.Lawful.{IsLawful, may_put};
 ghost use Rattle.retro_tree.specs.State.{put_node};
 ghost use Rattle.retro_tree.specs.Tree.{node_in};
+ghost use Rattle.retro_tree.specs.declared.change.Change.TheVariants.{Put};
+ghost use Rattle.retro_tree.specs.declared.note.Note.TheVariants.{Made};
 ghost use Rattle.retro_local.specs.Runs.{Always, ExtendsTree, Relates, Transforms};
+ghost use Rattle.retro_local.specs.Trace.{noted};
 ghost use Rattle.retro_moves.specs.Move.{CanCopy, IsCopy};
+ghost use Rattle.retro_moves.specs.MoveNotes.{MoveNotes, NodeNotes};
 ghost use Rattle.retro_moves.specs.Removal.{OfTrees};
 ghost use Rattle.retro_moves.specs.Trees.{CanMove, moved, with_tree};
 
@@ -17,7 +21,7 @@ use std::alloc::{AllocError, Global};
 ///
 /// Asks the names of the directory and puts it at its new path. Then does so with each path below
 /// it, in the order of names, after asking what it is. Then removes the old paths, from the last to
-/// the first.
+/// the first. Asks nothing else.
 pub fn move_dir<V: View>(
     alloc: Global,
     from: &Path,
@@ -27,6 +31,8 @@ pub fn move_dir<V: View>(
     requires { Always (λ s. CanMove from.now to.now s.tree) local.old }
     ensures means { OnOk result
         (Transforms local.old local.new (with_tree (moved from.now to.now))) }
+    ensures notes { OnOk result (IsLawful local.old.start
+        → MoveNotes from.now to.now local.old.notes local.new.notes) }
     ensures extends { ExtendsTree local.old local.new }
 {
     // `names` says that the names of the new path can be names of files.
@@ -51,6 +57,8 @@ fn copy_tree<V: View>(
     requires here { Always (λ s. node_in from.now s.tree ≡ node) local.old }
     ensures means { IfOk result (λ paths. Relates
         (OfTrees (IsCopy from.now to.now [] paths.items)) local.old local.new) }
+    ensures notes { IfOk result (λ paths. IsLawful local.old.start
+        → NodeNotes from.now to.now node paths.items local.old.notes local.new.notes) }
     ensures extends { ExtendsTree local.old local.new }
 {
     local.keeps_law();
@@ -58,6 +66,8 @@ fn copy_tree<V: View>(
     match node {
         Node::Dir => {
             let Some(names) = local.names(alloc, from)? else {
+                // Not in a lawful state, in which a directory has names.
+                local.keeps_law();
                 return Ok(paths);
             };
             put(alloc, to.copy()?, Node::Dir, local)?;
@@ -89,6 +99,7 @@ fn put<V: View>(
 ) -> Result<(), AllocError>
     requires { Always (λ s. may_put path node s.tree ≡ true) local.old }
     ensures means { OnOk result (Transforms local.old local.new (put_node path node)) }
+    ensures note { OnOk result (local.new ≡ noted local.old (Made (Put path node))) }
     ensures extends { ExtendsTree local.old local.new }
 {
     local.make(alloc, Change::Put(path, node))

@@ -1,9 +1,12 @@
-use Rattle.std.proofs.Common.{◌≡◌, ◌∷◌, ◌+◌, true, drop, drop-cons, add-one, arith}
-use Rattle.retro_tree.specs.Lawful.{may_put}
+use Rattle.std.proofs.Common.{refl, sym, subst, ◌∙◌, [], ◌≡◌, ◌∷◌, ◌+◌, true, drop, drop-cons, add-one, arith}
+use Rattle.std.proofs.Math.ListN.{drop_of_length-le}
+use Rattle.retro_tree.specs.Lawful.{IsLawful, may_put}
 use Rattle.retro_tree.specs.declared.node.Node.TheVariants.{Dir}
 use Rattle.retro_moves.proofs.Removals.{extends_more}
 use Rattle.retro_moves.proofs.Moves.{always_asked, may_put_copy, leaf_copied, dir_copied, child_here, child_may}
 use Rattle.retro_moves.proofs.Moves.{child_copied, leaf_of, deeper_falls}
+use Rattle.retro_moves.specs.MoveNotes.{NodeNotes}
+use Rattle.retro_moves.proofs.MoveTrails.{trail_start, trail_step, trail_end, leaf_noted, always_listed}
 use Rattle.retro_moves.proofs.moving.+copy_tree.Goals as goal
 
 -- ---- a directory
@@ -40,6 +43,8 @@ loop-name-init g t c =
         c.new-paths.ensures.items,
         c.in_ok-copy-in-Dir-2.ensures,
       ) start;
+      trail = λ l. trail_start c.args.from.now c.args.to.now c.names-name-items.result.now _ c.put.new.local
+          (rw (c.in_ok-push-in-Dir.ensures.items, c.new-paths.ensures.items, c.in_ok-copy-in-Dir-2.ensures) refl);
       extends = extends_more _ _ _ c.in_ok-names-in-Dir.ensures.extends c.in_ok-put-in-Dir.ensures.extends;
     }
 
@@ -96,6 +101,14 @@ loop-name-preserved g t c =
     c.in_ok-more-in-Dir.ensures.means) in
     record {
       copied = rw c.in_ok-append-in-Dir.ensures.items more;
+      trail = λ l. trail_step c.args.from.now c.args.to.now names (drop (i + 1) names) n c.loop-name.paths.items
+          c.in_ok-more-in-Dir.more.items _ c.in_ok-node-in-Dir.node c.put.new.local c.loop-name.local c.node.new.self
+          c.copy_tree.new.local ((rw e at c.loop-name.invariant.trail) l)
+          (rw c.in_ok-source-in-Dir.ensures.value at c.in_ok-node-in-Dir.ensures.note)
+          ((rw (c.in_ok-source-in-Dir.ensures.value, c.in_ok-target-in-Dir.ensures.value) at
+          c.in_ok-more-in-Dir.ensures.notes)
+          (subst IsLawful (sym (c.in_ok-node-in-Dir.ensures.extends.start ∙ c.loop-name.invariant.extends.start)) l))
+          c.in_ok-append-in-Dir.ensures.items;
       extends = extends_more _ _ _ c.loop-name.invariant.extends
           (extends_more _ _ _ c.in_ok-node-in-Dir.ensures.extends c.in_ok-more-in-Dir.ensures.extends);
     }
@@ -113,5 +126,28 @@ returns-in_ok-push-in_default g t c = record {
       (leaf_of c.args.node c.in_default.not-Dir)
       (rw c.in_ok-copy-in_default.ensures at c.in_ok-put-in_default.ensures.means) c.requires.can c.requires.here
       c.keeps_law.ensures.lawful);
+  notes = λ l. leaf_noted c.args.from.now c.args.to.now c.args.node _ c.args.local.now c.put-in_default.new.local
+      (leaf_of c.args.node c.in_default.not-Dir)
+      (rw (c.in_ok-push-in_default.ensures.items, c.new-paths.ensures.items, c.in_ok-copy-in_default-2.ensures) refl)
+      (rw c.in_ok-copy-in_default.ensures at c.in_ok-put-in_default.ensures.note);
   extends = c.in_ok-put-in_default.ensures.extends;
 }
+
+-- ---- notes
+pub returns-after-loop-name-clause-notes : goal.returns-after-loop-name-clause-notes
+returns-after-loop-name-clause-notes g t c l =
+    let none : drop c.loop-name.name-index c.names-name-items.result.now ≡ [] =
+    drop_of_length-le c.names-name-items.result.now c.loop-name-test.false in
+    subst (λ x. NodeNotes c.args.from.now c.args.to.now x c.loop-name.paths.items c.args.local.now.notes
+    c.loop-name.local.notes)
+    (sym c.in-Dir.is)
+    (trail_end c.args.from.now c.args.to.now c.names-name-items.result.now c.loop-name.paths.items c.args.local.now
+    c.names.new.self c.put.new.local c.loop-name.local
+    (rw (← c.names-name-items.ensures) at (rw c.in-Some.is at c.in_ok-names-in-Dir.ensures.note))
+    (rw c.in_ok-copy-in-Dir.ensures at c.in_ok-put-in-Dir.ensures.note) ((rw none at c.loop-name.invariant.trail) l))
+
+pub returns-in_default-2-clause-notes : goal.returns-in_default-2-clause-notes
+returns-in_default-2-clause-notes g t c l =
+    absurd (always_listed c.args.from.now c.args.local.now c.names.new.self (rw c.in-Dir.is at c.requires.here)
+    c.keeps_law.ensures.hold c.keeps_law.ensures.lawful (rw c.in_default-2.is at c.in_ok-names-in-Dir.ensures.means)
+    (rw c.in_default-2.is at c.in_ok-names-in-Dir.ensures.note) l c.keeps_law-in_default-2.ensures.hold)

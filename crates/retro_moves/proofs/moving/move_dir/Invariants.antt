@@ -2,11 +2,13 @@ use Rattle.std.proofs.Common.{vec_len}
 use Rattle.retro_local.specs.Runs.{Relates, ExtendsTree}
 use Rattle.retro_moves.specs.Removal.{OfTrees}
 use Rattle.retro_moves.specs.Move.{IsMoving}
+use Rattle.retro_moves.proofs.MoveTrails.{Removed}
 use Rattle.retro_moves.proofs.moving.move_dir.Given as goal
 
 abbrev pub invariant-loop-path : goal.invariant-loop-path
 invariant-loop-path g l = record {
   moving : Relates (OfTrees (IsMoving l.from l.to l.initial.paths.items l.paths.items)) l.fn.local l.local;
+  removed : Removed l.initial.paths.items l.paths.items l.initial.local l.local;
   extends : ExtendsTree l.fn.local l.local;
 }
 
