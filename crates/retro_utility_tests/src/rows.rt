@@ -1,8 +1,6 @@
 //! The call that each row names, and the test that makes these calls.
 use crate::tables::TEXTS;
-use crate::texts::{
-    bracket, condition, cut, grep, grep_status, lines, printed, request, utility,
-};
+use crate::texts::{bracket, condition, cut, grep, grep_status, lines, printed, request, utility};
 use retro_rows::rows;
 use std::alloc::Global;
 use std::test::Fail;

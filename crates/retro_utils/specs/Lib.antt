@@ -14,4 +14,3 @@ pub mod Tee
 pub mod Rm
 pub mod Transfers
 pub mod Cp
-pub mod Utility
