@@ -14,3 +14,5 @@ pub mod Tee
 pub mod Rm
 pub mod Transfers
 pub mod Cp
+pub mod MkdirParents
+pub mod MkdirSteps

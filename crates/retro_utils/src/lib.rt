@@ -36,6 +36,7 @@ pub use utilities::cd::cd;
 pub use utilities::cp::cp;
 pub use utilities::id::id;
 pub use utilities::mkdir::mkdir;
+pub use utilities::mkdir_parents::mkdir_parents;
 pub use utilities::pwd::pwd;
 pub use utilities::rm::rm;
 pub use utilities::tee::{TeeOperands, tee};

@@ -7,6 +7,7 @@ pub(crate) mod cut;
 pub(crate) mod grep;
 pub(crate) mod id;
 pub(crate) mod mkdir;
+pub(crate) mod mkdir_parents;
 pub(crate) mod pwd;
 pub(crate) mod rm;
 pub(crate) mod tee;
