@@ -31,12 +31,12 @@ abbrev pub with_fault : List ℕ → List ℕ → Reason → Done → Done
 with_fault name operand reason done =
     record done { err = done.err ++ fault_text name operand reason; status = 1 }
 
--- likewise, if there is a fault
+-- the diagnostic of a step, if it failed
 abbrev pub with_outcome : List ℕ → List ℕ → Result (Unit {0}) Reason → Done → Done
 with_outcome name operand (Ok done_well) done = done
 with_outcome name operand (Err reason) done = with_fault name operand reason done
 
--- what is left of an operand, or the fault on it
+-- the bytes that an operand gives as output, or the fault on it
 abbrev pub with_reading : List ℕ → List ℕ → Result (List ℕ) Reason → Done → Done
 with_reading name operand (Ok bytes) done = with_output bytes done
 with_reading name operand (Err reason) done = with_fault name operand reason done
