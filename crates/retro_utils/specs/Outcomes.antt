@@ -1,5 +1,5 @@
 -- What utilities leave: output, diagnostics and a status.
-use Rattle.std.specs.Prelude.{ℕ, List, [], ◌++◌, Option, Some, None, Result, Ok, Err, codes}
+use Rattle.std.specs.Prelude.{ℕ, List, [], ◌++◌, Option, Some, None, Result, Ok, Err}
 use Rattle.retro_text.specs.Output.{usage_text}
 use Rattle.retro_tree.specs.declared.state.State.{State}
 use Rattle.retro_utils.specs.Reasons.{fault_text}

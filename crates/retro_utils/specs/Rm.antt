@@ -1,5 +1,5 @@
 -- `rm` (XCU rm).
-use Rattle.std.specs.Prelude.{ℕ, Bool, true, false, ◌||◌, List, [], ◌∷◌, Option, Some, None, Result, Ok, Err}
+use Rattle.std.specs.Prelude.{ℕ, Bool, ◌||◌, List, [], ◌∷◌, Option, Some, None, Result, Err}
 use Rattle.std.specs.Prelude.{codes, if◌then◌else◌}
 use Rattle.retro_tree.specs.Node.{kind_of}
 use Rattle.retro_tree.specs.Order.{text_eq}

@@ -1,5 +1,5 @@
 -- `grep` of operands (XCU grep).
-use Rattle.std.specs.Prelude.{ℕ, ◌&&◌, ◌||◌, Bool, true, false, List, [], ◌∷◌, ◌++◌, length, Result, Ok, Err, codes, if◌then◌else◌}
+use Rattle.std.specs.Prelude.{ℕ, ◌&&◌, ◌||◌, Bool, true, false, List, [], ◌∷◌, ◌++◌, Result, Ok, Err, codes, if◌then◌else◌}
 use Rattle.std.specs.List.{list_any}
 use Rattle.retro_text.specs.Lines.{lines_in}
 use Rattle.retro_text.specs.Search.{SearchValue, label_of, output_of, search_status, selected_lines, selects}
