@@ -12,6 +12,7 @@ use Rattle.retro_tree.specs.declared.state.State.{State}
 use Rattle.retro_moves.specs.Trees.{with_tree, without}
 use Rattle.retro_moves.proofs.MovedFiles.{file_without}
 use Rattle.retro_moves.proofs.Without.{without_none}
+use Rattle.retro_utils.proofs.Facts.{no_names}
 
 is_missing : (n : Node) → kind_of n ≡ kinds.Missing → n ≡ Missing
 is_missing Missing e = refl
@@ -33,4 +34,4 @@ pub file_removed : (p : PathValue) (s : State) → IsLawful s → kind_of (node_
 file_removed p s l e =
     ap (λ t. with_tree (λ _. t) s) (file_without p s.tree l.tree (is_file (node_in p s.tree) e))
 
-pub ruleset removing = (missing_removed, file_removed)
+pub ruleset removing = (missing_removed, file_removed, no_names)

@@ -6,14 +6,14 @@ use Rattle.retro_tree.specs.Path.{PathValue, is_null}
 use Rattle.retro_tree.specs.State.{permit_of, put_node}
 use Rattle.retro_tree.specs.declared.node.Node.TheVariants as nodes
 use Rattle.retro_tree.specs.declared.state.State.{State}
-use Rattle.retro_utils.specs.Operands.{located, then_done}
+use Rattle.retro_utils.specs.Operands.{is_several, located, then_done}
 use Rattle.retro_utils.specs.Outcomes.{nothing_done, usage, with_fault}
 use Rattle.retro_utils.specs.Reading.{path_reading}
 use Rattle.retro_utils.specs.Reasons.{refusal}
 use Rattle.retro_utils.specs.declared.done.Done.{Done}
 use Rattle.retro_utils.specs.declared.reason.Reason.{Reason}
 use Rattle.retro_utils.specs.declared.reason.Reason.TheVariants.{SameFile}
-use Rattle.retro_utils.specs.Transfers.{after_transfer, is_several, target_of, target_path}
+use Rattle.retro_utils.specs.Transfers.{after_transfer, target_of, target_path}
 use Rattle.retro_utils.specs.declared.target.Target.{Target}
 use Rattle.retro_utils.specs.declared.transfer_fault.TransferFault.{TransferFault}
 use Rattle.retro_utils.specs.declared.transfer_fault.TransferFault.TheVariants as faults

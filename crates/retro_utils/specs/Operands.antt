@@ -1,5 +1,5 @@
 -- What operands name, and what is done at each of them in turn.
-use Rattle.std.specs.Prelude.{ℕ, Bool, List, [], ◌∷◌, Result, Ok, Err, codes}
+use Rattle.std.specs.Prelude.{ℕ, Bool, true, false, List, [], ◌∷◌, Result, Ok, Err, codes}
 use Rattle.retro_tree.specs.Order.{text_eq}
 use Rattle.retro_tree.specs.Path.{PathValue}
 use Rattle.retro_tree.specs.Resolving.{Resolved, resolve}
@@ -47,3 +47,9 @@ in_turn name step (x ∷ xs) done s = then_done (after_outcome name x done (step
 -- `-` names standard input
 abbrev pub is_dash : List ℕ → Bool
 is_dash operand = text_eq operand (codes "-")
+
+-- two or more
+abbrev pub is_several : List (List ℕ) → Bool
+is_several [] = false
+is_several (x ∷ []) = false
+is_several (x ∷ y ∷ more) = true

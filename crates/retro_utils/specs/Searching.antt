@@ -1,9 +1,11 @@
 -- `grep` of operands (XCU grep).
-use Rattle.std.specs.Prelude.{ℕ, ◌&&◌, ◌||◌, Bool, true, false, List, [], ◌∷◌, ◌++◌, Result, Ok, Err, codes, if◌then◌else◌}
+use Rattle.std.specs.Prelude.{ℕ, ◌&&◌, ◌||◌, Bool, true, false, List, [], ◌∷◌, ◌++◌, Result, Ok, Err}
+use Rattle.std.specs.Prelude.{codes, if◌then◌else◌}
 use Rattle.std.specs.List.{list_any}
 use Rattle.retro_text.specs.Lines.{lines_in}
 use Rattle.retro_text.specs.Search.{SearchValue, label_of, output_of, search_status, selected_lines, selects}
 use Rattle.retro_tree.specs.declared.state.State.{State}
+use Rattle.retro_utils.specs.Operands.{is_several}
 use Rattle.retro_utils.specs.Reading.{sources, or_dash}
 use Rattle.retro_utils.specs.Reasons.{fault_text}
 use Rattle.retro_utils.specs.declared.done.Done.{Done}
@@ -38,12 +40,9 @@ search_sources w several (x ∷ more) p =
 abbrev pub search_done : SearchValue → Progress → Done
 search_done w p = record { out = p.out; err = p.err; status = search_status w.quiet p.selected p.fault }
 
--- two or more
-abbrev pub is_several : List (List ℕ) → Bool
-is_several [] = false
-is_several (x ∷ []) = false
-is_several (x ∷ y ∷ more) = true
+-- what a search leaves of sources, where the files are given as operands
+abbrev pub searched : SearchValue → List (List ℕ) → List (List ℕ × Result (List ℕ) Reason) → Done
+searched w files all = search_done w (search_sources w (is_several files) all nothing_found)
 
 unfoldable pub grep : ℕ → SearchValue → List (List ℕ) → Input → State → State × Done
-grep sid w files input s =
-    (s, search_done w (search_sources w (is_several files) (sources sid (or_dash files) input s) nothing_found))
+grep sid w files input s = (s, searched w files (sources sid (or_dash files) input s))

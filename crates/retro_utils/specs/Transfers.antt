@@ -1,5 +1,5 @@
 -- What `cp` and `mv` share: the target of each source, and the operand that a fault is on (XCU cp, mv).
-use Rattle.std.specs.Prelude.{ℕ, Bool, true, false, List, [], ◌∷◌, ◌++◌, option_to_list, Result, Ok, Err, if◌then◌else◌}
+use Rattle.std.specs.Prelude.{ℕ, Bool, List, ◌++◌, option_to_list, Result, Ok, Err, if◌then◌else◌}
 use Rattle.retro_tree.specs.Path.{PathValue, last_of}
 use Rattle.retro_tree.specs.declared.kind.Kind.{Kind}
 use Rattle.retro_tree.specs.declared.kind.Kind.TheVariants as kinds
@@ -14,12 +14,6 @@ use Rattle.retro_utils.specs.declared.target.Target.{Target}
 use Rattle.retro_utils.specs.declared.target.Target.TheVariants.{Into, Onto}
 use Rattle.retro_utils.specs.declared.transfer_fault.TransferFault.{TransferFault}
 use Rattle.retro_utils.specs.declared.transfer_fault.TransferFault.TheVariants as faults
-
--- two or more
-abbrev pub is_several : List (List ℕ) → Bool
-is_several [] = false
-is_several (x ∷ []) = false
-is_several (x ∷ y ∷ more) = true
 
 -- the path that a source goes to: in a directory it keeps its last name
 abbrev pub target_path : Target → PathValue → PathValue

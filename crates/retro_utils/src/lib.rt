@@ -30,6 +30,7 @@ pub use mode::Mode;
 pub use output::{append, open};
 pub use place::Place;
 pub use reason::Reason;
+pub use removal::Removal;
 pub use retro_local::{Local, apply_notes, holds};
 pub use utilities::cat::cat;
 pub use utilities::cd::cd;

@@ -8,15 +8,25 @@ use std::alloc::AllocError;
 /// The reason why an operation on a path fails.
 #[derive(Drop, Clone, Copy, Debug, PartialEq, Eq)]
 pub enum Reason {
+    /// The file or its directory is missing.
     NoSuchFile,
+    /// A file is where a directory is needed.
     NotDirectory,
+    /// A directory is where a file is needed.
     IsDirectory,
+    /// The file would be over the limit.
     TooLarge,
+    /// A name is over the limit.
     NameTooLong,
+    /// Something is where a directory should be created.
     FileExists,
+    /// The path is one that is never removed or replaced.
     NotPermitted,
+    /// The source is its own target.
     SameFile,
+    /// The target is below the source.
     InvalidArgument,
+    /// The directory that would be replaced has children.
     NotEmpty,
 }
 

@@ -2,7 +2,7 @@
 ghost use Rattle.std.specs.Prelude.{◌≡◌, IfOk, map, string_bytes};
 ghost use Rattle.retro_local.specs.Runs.{Computes, Extends};
 ghost use Rattle.retro_utils.specs.Reading.{sources};
-ghost use Rattle.retro_utils.specs.Searching.{is_several, nothing_found, search_done, search_sources};
+ghost use Rattle.retro_utils.specs.Searching.{searched};
 
 use crate::done::Done;
 use crate::progress::Progress;
@@ -23,8 +23,8 @@ pub(crate) fn search_files<V: View>(
     ensures means { IfOk result (λ done. Computes local.old local.new
         (λ s. (
           s,
-          search_done search.now (search_sources search.now (is_several (map string_bytes files.now))
-              (sources reader.sid (map string_bytes files.now) reader.input s) nothing_found),
+          searched search.now (map string_bytes files.now)
+              (sources reader.sid (map string_bytes files.now) reader.input s),
         )) done) }
     ensures extends { Extends reader.sid local.old local.new }
 {

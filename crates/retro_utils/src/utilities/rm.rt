@@ -65,7 +65,7 @@ fn is_protected(alloc: Global, operand: &str, path: &Path) -> Result<bool, Alloc
 }
 
 /// Removes the file at a path.
-#[tactic(auto, unfolding(crate::specs::Rm::remove_path), using(crate::proofs::Removing::removing, crate::proofs::Facts::no_names))]
+#[tactic(auto, unfolding(crate::specs::Rm::remove_path), using(crate::proofs::Removing::removing))]
 fn remove_file<V: View>(
     alloc: Global,
     forced: bool,

@@ -12,6 +12,7 @@ decreases-copy_tree g l = 2 ^ 64 - length l.from.now
 abbrev pub invariant-loop-name : goal.invariant-loop-name
 invariant-loop-name g l = record {
   copied : Relates (OfTrees (IsCopy l.from l.to (drop l.name-index l.name-items) l.paths.items)) l.fn.local l.local;
-  trail : IsLawful l.fn.local.start → Trail l.from l.to l.name-items (drop l.name-index l.name-items) l.paths.items l.initial.local l.local;
+  trail : IsLawful l.fn.local.start
+      → Trail l.from l.to l.name-items (drop l.name-index l.name-items) l.paths.items l.initial.local l.local;
   extends : ExtendsTree l.fn.local l.local;
 }

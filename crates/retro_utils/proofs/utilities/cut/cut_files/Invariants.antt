@@ -14,6 +14,14 @@ invariant-loop-operand g l = record {
   sid : l.reader.sid ≡ l.fn.reader.sid;
   extends : Extends l.fn.reader.sid l.initial.local l.local;
   continues : Continues {X = State × Done} l.initial.local l.local
-      (λ s. (s, cut_sources l.how (sources l.fn.reader.sid (map string_bytes l.files) l.fn.reader.input s) (nothing_done 0)))
-      (λ s. (s, cut_sources l.how (sources l.fn.reader.sid (map string_bytes (drop l.operand-index l.files)) l.reader.input s) l.done));
+      (λ s. (
+        s,
+        cut_sources l.how
+            (sources l.fn.reader.sid (map string_bytes l.files) l.fn.reader.input s) (nothing_done 0),
+      ))
+      (λ s. (
+        s,
+        cut_sources l.how
+            (sources l.fn.reader.sid (map string_bytes (drop l.operand-index l.files)) l.reader.input s) l.done,
+      ));
 }
