@@ -14,5 +14,9 @@ pub mod Tee
 pub mod Rm
 pub mod Transfers
 pub mod Cp
+pub mod Mv
 pub mod MkdirParents
 pub mod MkdirSteps
+pub mod Conditions
+pub mod Calls
+pub mod Utility

@@ -22,6 +22,11 @@ complaint text = record { out = []; err = text; status = 1 }
 abbrev pub usage : List ℕ → Done
 usage name = record { out = []; err = usage_text name; status = 2 }
 
+-- a step with what was read of the fields, or a usage fault if they aren't a form of the synopsis
+abbrev pub or_usage : {X : Type 0} → List ℕ → Option X → (X → State → State × Done) → State → State × Done
+or_usage name None step s = (s, usage name)
+or_usage name (Some x) step s = step x s
+
 -- more output
 abbrev pub with_output : List ℕ → Done → Done
 with_output bytes done = record done { out = done.out ++ bytes }

@@ -2,13 +2,16 @@
 //!
 //! Each utility is a function on whole states, defined in `specs/`: it gives the state after it,
 //! its output, its diagnostics and its status. The code runs over a `Local`, and its notes say what
-//! was read and changed. The functions here take operands; the options are parsed elsewhere.
+//! was read and changed. `utility` runs the utility with a name on the fields after the name. The
+//! functions with a utility's name take its operands.
 //!
 //! If allocation fails, calls return `AllocError`. A `Local` then has its earlier notes and maybe
 //! some later ones, which hold.
 #![tactic(auto)]
 
+mod call;
 mod done;
+mod fields;
 mod input;
 mod mode;
 mod opened;
@@ -20,13 +23,16 @@ mod progress;
 mod reader;
 mod reason;
 mod removal;
+mod request;
 mod target;
 mod transfer_fault;
 mod utilities;
 
+pub use call::utility;
 pub use done::Done;
 pub use input::Input;
 pub use mode::Mode;
+pub use operand::locate;
 pub use output::{append, open};
 pub use place::Place;
 pub use reason::Reason;
@@ -38,6 +44,7 @@ pub use utilities::cp::cp;
 pub use utilities::id::id;
 pub use utilities::mkdir::mkdir;
 pub use utilities::mkdir_parents::mkdir_parents;
+pub use utilities::mv::mv;
 pub use utilities::pwd::pwd;
 pub use utilities::rm::rm;
 pub use utilities::tee::{TeeOperands, tee};

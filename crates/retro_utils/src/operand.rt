@@ -12,7 +12,7 @@ use std::alloc::{AllocError, Global};
 
 /// Returns the path that an operand names in a session, or the reason why it names none.
 #[tactic(auto, unfolding(crate::specs::Operands::located))]
-pub(crate) fn locate<V: View>(
+pub fn locate<V: View>(
     alloc: Global,
     sid: u32,
     operand: &str,

@@ -57,7 +57,7 @@ fn ends_in_dots(alloc: Global, text: &str) -> Result<bool, AllocError>
 
 /// Returns whether neither `rm` nor `mv` takes away what an operand names.
 #[tactic(auto, unfolding(crate::specs::Rm::is_protected))]
-fn is_protected(alloc: Global, operand: &str, path: &Path) -> Result<bool, AllocError>
+pub(crate) fn is_protected(alloc: Global, operand: &str, path: &Path) -> Result<bool, AllocError>
     ensures { IfOk result (λ protected. protected ≡ is_protected operand.now path.now) }
 {
     let dots = ends_in_dots(alloc, operand)?;

@@ -1,0 +1,25 @@
+//! The requests in the fields of utilities.
+ghost use Rattle.std.specs.Prelude.{◌≡◌, IfOk, map, string_bytes};
+ghost use Rattle.retro_text.specs.Request.{known_letters, request_in};
+
+use retro_text::{KnownLetters, Request, UsageError};
+use std::alloc::{AllocError, Global};
+
+/// Returns the options and operands in the fields of a utility that knows these letters: those of
+/// options without and with an argument. Returns `None` if the fields can't be read.
+pub(crate) fn request_of<'a>(
+    alloc: Global,
+    flags: &[u8],
+    arguments: &[u8],
+    fields: &'a [String],
+) -> Result<Option<Request<'a>>, AllocError>
+    ensures { IfOk result (λ request. request
+        ≡ request_in (known_letters flags.now arguments.now) (map string_bytes fields.entry.now)) }
+{
+    let known = KnownLetters { flags, arguments };
+    match Request::of(alloc, &known, fields) {
+        Ok(request) => Ok(Some(request)),
+        Err(UsageError::Usage) => Ok(None),
+        Err(UsageError::NoMem) => Err(AllocError),
+    }
+}
