@@ -6,7 +6,15 @@
 #![tactic(auto)]
 
 #[cfg(test)]
+mod json;
+#[cfg(test)]
 mod rows;
+#[cfg(test)]
+mod run_table;
+#[cfg(test)]
+mod runs;
+#[cfg(test)]
+mod shown;
 #[cfg(test)]
 mod tables;
 #[cfg(test)]

@@ -1,4 +1,6 @@
 //! The call that each row names, and the test that makes these calls.
+use crate::run_table::RUNS;
+use crate::runs::run;
 use crate::tables::TEXTS;
 use crate::texts::{bracket, condition, cut, grep, grep_status, lines, printed, request, utility};
 use retro_rows::rows;
@@ -22,15 +24,18 @@ fn called(alloc: Global, call: &str, given: &[String]) -> Result<String, Fail> {
         ("bracket", operands) => bracket(alloc, operands),
         ("echo" | "usage", operands) => printed(alloc, call, operands),
         ("utility", [name]) => utility(alloc, name),
+        ("run", [words, place, fields @ ..]) => run(alloc, words, place, fields),
         _ => Err("no such call")?,
     }
 }
 
 #[test]
 fn rows_hold(rt: HostRuntime) -> Result<(), Fail> {
-    for row in &rows(rt.alloc(), TEXTS)? {
-        let returned = called(rt.alloc(), &row.call, &row.given)?;
-        assert_eq!(rt; returned, row.wanted, "{}", row.text);
+    for table in [TEXTS, RUNS] {
+        for row in &rows(rt.alloc(), table)? {
+            let returned = called(rt.alloc(), &row.call, &row.given)?;
+            assert_eq!(rt; returned, row.wanted, "{}", row.text);
+        }
     }
     Ok(())
 }

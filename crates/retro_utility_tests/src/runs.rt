@@ -1,0 +1,114 @@
+//! Runs of utilities, with the notes that they leave, as text.
+//!
+//! What is there before a run is written as words: `/d/` is a directory, `/f=TEXT` a file, `@/d`
+//! the session's directory and `NAME=TEXT` a variable. A place is the session's number, with an `s`
+//! in a subshell; after it stands what standard input is: nothing, ` =TEXT`, or ` ` and the path of
+//! a file. A result is the status, the output and the diagnostics, and then the notes as JSON.
+use crate::json::note_json;
+use crate::rows::text;
+use crate::shown::Shown;
+use retro_tree::{Bytes, Change, Node, Path, Resolved, State, Text, VarName, View, resolve};
+use retro_utils::{Done, Input, Local, Place, holds, utility};
+use std::alloc::Global;
+use std::test::Fail;
+
+/// The path that a text names from the root.
+fn path(alloc: Global, given: &str) -> Result<Path, Fail> {
+    match resolve(alloc, &Path::root(alloc), given)? {
+        Resolved::Is(path) => Ok(path),
+        _ => Err("no path")?,
+    }
+}
+
+fn bytes(alloc: Global, given: &str) -> Result<Bytes, Fail> {
+    Ok(Bytes::of(Vec::from_slice(alloc, given.as_bytes())?))
+}
+
+/// The change that makes what a word says.
+fn change(alloc: Global, word: &str) -> Result<Change, Fail> {
+    if let Some(cwd) = word.strip_prefix("@") {
+        return Ok(Change::SetCwd(1, path(alloc, cwd)?));
+    }
+    match word.split_once("=") {
+        None => Ok(Change::Put(path(alloc, word)?, Node::Dir)),
+        Some((at, content)) if at.starts_with("/") => {
+            Ok(Change::Put(path(alloc, at)?, Node::File(bytes(alloc, content)?)))
+        }
+        Some((name, value)) => {
+            let name = VarName::of(alloc, name)?.ok_or("no variable")?;
+            Ok(Change::SetVar(1, name, Text::of(text(alloc, value)?)))
+        }
+    }
+}
+
+/// The changes that make what the words say.
+fn changes(alloc: Global, words: &str) -> Result<Vec<Change>, Fail> {
+    let mut changes = Vec::new(alloc);
+    for word in words.split(" ") {
+        if !word.is_empty() {
+            changes.push(change(alloc, word)?)?;
+        }
+    }
+    Ok(changes)
+}
+
+/// The place and the standard input that a text says.
+fn place(alloc: Global, given: &str) -> Result<(Place, Input), Fail> {
+    let (place, input) = given.split_once(" ").unwrap_or((given, "="));
+    let sub = place.ends_with("s");
+    let sid = place.strip_suffix("s").unwrap_or(place).parse()?;
+    let input = match input.strip_prefix("=") {
+        None => Input::File(path(alloc, input)?),
+        Some("") => Input::Empty,
+        Some(content) => Input::Bytes(bytes(alloc, content)?),
+    };
+    Ok((Place { sid, sub }, input))
+}
+
+/// A result as text.
+fn done_text(alloc: Global, done: Done) -> Result<String, Fail> {
+    let Done { out, err, status } = done;
+    let out = String::from_utf8(out.into_vec()).map_err(|_| "not UTF-8")?;
+    let err = String::from_utf8(err.into_vec()).map_err(|_| "not UTF-8")?;
+    Ok(format!(in alloc; "{status} [{out}] [{err}]")?)
+}
+
+/// What a utility leaves over a view, with its notes.
+fn over<V: View>(alloc: Global, view: &V, given: &str, fields: &[String]) -> Result<String, Fail> {
+    let [name, fields @ ..] = fields else {
+        return Err("no utility")?;
+    };
+    let (place, input) = place(alloc, given)?;
+    let mut local = Local::new(alloc, view);
+    let mut out = match utility(alloc, name, fields, input, &mut local, place)? {
+        Some(done) => done_text(alloc, done)?,
+        None => text(alloc, "none")?,
+    };
+    let notes = local.into_notes();
+    if !holds(alloc, &notes, view)? {
+        return Err("notes that don't hold")?;
+    }
+    for note in notes.as_slice() {
+        out.push(' ')?;
+        out.push_str(note_json(alloc, note)?.as_str())?;
+    }
+    Ok(out)
+}
+
+/// What a utility leaves over a state, and over an overlay that shows the same state: both results,
+/// where they differ.
+pub fn run(alloc: Global, words: &str, given: &str, fields: &[String]) -> Result<String, Fail> {
+    let root = State::empty(alloc)?;
+    let mut state = root.copy()?;
+    let mut shown = Shown::new(alloc, &root);
+    for change in changes(alloc, words)? {
+        state.apply(alloc, &change)?;
+        shown.apply(change)?;
+    }
+    let over_state = over(alloc, &state, given, fields)?;
+    let over_overlay = over(alloc, &shown, given, fields)?;
+    if over_state == over_overlay {
+        return Ok(over_state);
+    }
+    Ok(format!(in alloc; "{over_state} / {over_overlay}")?)
+}
