@@ -23,7 +23,7 @@ pub struct Done {
 
 impl Done {
     /// Returns a result without output and diagnostics.
-    pub(crate) fn nothing(alloc: Global, status: u8) -> Done
+    pub fn nothing(alloc: Global, status: u8) -> Done
         ensures { result ≡ nothing_done status }
     {
         Done {

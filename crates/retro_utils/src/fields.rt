@@ -2,8 +2,8 @@
 ghost use Rattle.std.specs.Prelude.{◌≡◌, IfOk, map, option_map, string_bytes};
 ghost use Rattle.retro_local.specs.Runs.{Computes, Extends, ExtendsTree};
 ghost use Rattle.retro_utils.specs.Calls.{cat_call, cd_call, cp_call, echo, id_call, mkdir_call};
-ghost use Rattle.retro_utils.specs.Calls.{mv_call, pwd_call, removal, rm_call, split_last, tee_call};
-ghost use Rattle.retro_utils.specs.Calls.{tee_mode};
+ghost use Rattle.retro_utils.specs.Calls.{mv_call, pwd_call, removal, rm_call, split_last};
+ghost use Rattle.retro_utils.specs.Calls.{tee_call, tee_mode};
 
 use crate::done::Done;
 use crate::input::Input;

@@ -2,8 +2,7 @@
 //!
 //! Each utility is a function on whole states, defined in `specs/`: it gives the state after it,
 //! its output, its diagnostics and its status. The code runs over a `Local`, and its notes say what
-//! was read and changed. `utility` runs the utility with a name on the fields after the name. The
-//! functions with a utility's name take its operands.
+//! was read and changed. `utility` runs the utility with a name on the fields after the name.
 //!
 //! If allocation fails, calls return `AllocError`. A `Local` then has its earlier notes and maybe
 //! some later ones, which hold.
@@ -36,15 +35,4 @@ pub use operand::locate;
 pub use output::{append, open};
 pub use place::Place;
 pub use reason::Reason;
-pub use removal::Removal;
 pub use retro_local::{Local, apply_notes, holds};
-pub use utilities::cat::cat;
-pub use utilities::cd::cd;
-pub use utilities::cp::cp;
-pub use utilities::id::id;
-pub use utilities::mkdir::mkdir;
-pub use utilities::mkdir_parents::mkdir_parents;
-pub use utilities::mv::mv;
-pub use utilities::pwd::pwd;
-pub use utilities::rm::rm;
-pub use utilities::tee::{TeeOperands, tee};

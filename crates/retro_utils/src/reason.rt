@@ -51,12 +51,7 @@ impl Reason {
 
     /// Appends the diagnostic `SPEAKER: WORD: REASON` and a newline.
     #[tactic(auto, unfolding(crate::specs::Reasons::fault_text))]
-    pub(crate) fn push_fault(
-        self,
-        text: &mut Bytes,
-        speaker: &str,
-        word: &str,
-    ) -> Result<(), AllocError>
+    pub fn push_fault(self, text: &mut Bytes, speaker: &str, word: &str) -> Result<(), AllocError>
         ensures { OnOk result (text.new ≡ text.old ++ fault_text speaker.now word.now self) }
     {
         text.extend(speaker.as_bytes())?;

@@ -2,7 +2,7 @@
 
 /// How `rm` removes.
 #[derive(Clone, Copy, Debug, PartialEq, Eq)]
-pub struct Removal {
+pub(crate) struct Removal {
     /// A missing file isn't a fault (`-f`).
     pub forced: bool,
     /// Directories are removed with everything below them (`-r`, `-R`).

@@ -40,7 +40,7 @@ fn concatenate<V: View>(
 
 /// `cat`: the bytes of each operand in turn, or of standard input if there is no operand.
 #[tactic(auto, unfolding(crate::specs::Cat::cat))]
-pub fn cat<V: View>(
+pub(crate) fn cat<V: View>(
     alloc: Global,
     sid: u32,
     operands: &[String],

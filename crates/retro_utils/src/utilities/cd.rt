@@ -96,7 +96,7 @@ fn cd_home<V: View>(alloc: Global, place: Place, local: &mut Local<V>) -> Result
 
 /// `cd`: goes to the directory that the operand names, or HOME.
 #[tactic(auto, unfolding(crate::specs::Directories::cd))]
-pub fn cd<V: View>(
+pub(crate) fn cd<V: View>(
     alloc: Global,
     place: Place,
     operands: &[String],

@@ -106,7 +106,7 @@ fn copy_all<V: View>(
 
 /// `cp`: copies each source to the target that the last operand names.
 #[tactic(auto, unfolding(crate::specs::Cp::cp))]
-pub fn cp<V: View>(
+pub(crate) fn cp<V: View>(
     alloc: Global,
     sid: u32,
     last: &str,

@@ -100,7 +100,7 @@ fn make_dirs<V: View>(
 
 /// `mkdir`: makes a directory for each operand.
 #[tactic(auto, unfolding(crate::specs::Mkdir::mkdir))]
-pub fn mkdir<V: View>(
+pub(crate) fn mkdir<V: View>(
     alloc: Global,
     sid: u32,
     operands: &[String],

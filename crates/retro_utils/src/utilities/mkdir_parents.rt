@@ -115,7 +115,7 @@ fn make_paths<V: View>(
 
 /// `mkdir -p`: makes each path that an operand names, with its missing parents.
 #[tactic(auto, unfolding(crate::specs::MkdirParents::mkdir_parents))]
-pub fn mkdir_parents<V: View>(
+pub(crate) fn mkdir_parents<V: View>(
     alloc: Global,
     sid: u32,
     operands: &[String],

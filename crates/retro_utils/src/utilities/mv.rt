@@ -212,7 +212,7 @@ fn move_all<V: View>(
 
 /// `mv`: moves each source to the target that the last operand names.
 #[tactic(auto, unfolding(crate::specs::Mv::mv))]
-pub fn mv<V: View>(
+pub(crate) fn mv<V: View>(
     alloc: Global,
     sid: u32,
     last: &str,

@@ -36,7 +36,7 @@ fn path_text(alloc: Global, path: &Path) -> Result<Bytes, AllocError>
 
 /// `pwd`: the directory of the session and a newline.
 #[tactic(auto, unfolding(crate::specs::Directories::pwd))]
-pub fn pwd<V: View>(
+pub(crate) fn pwd<V: View>(
     alloc: Global,
     sid: u32,
     operands: &[String],

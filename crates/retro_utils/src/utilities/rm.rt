@@ -189,7 +189,7 @@ fn remove_all<V: View>(
 
 /// `rm`: removes what each operand names.
 #[tactic(auto, unfolding(crate::specs::Rm::rm))]
-pub fn rm<V: View>(
+pub(crate) fn rm<V: View>(
     alloc: Global,
     sid: u32,
     how: Removal,

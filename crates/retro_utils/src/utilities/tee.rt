@@ -19,7 +19,7 @@ use std::alloc::{AllocError, Global};
 
 /// The operands of `tee`, and how it opens their files.
 #[derive(Clone, Copy, Debug)]
-pub struct TeeOperands<'a> {
+pub(crate) struct TeeOperands<'a> {
     /// `Append` for `-a`.
     pub mode: Mode,
     /// The operands.
@@ -127,7 +127,7 @@ fn write_all<V: View>(
 
 /// `tee`: writes standard input to the output and to each file.
 #[tactic(auto, unfolding(crate::specs::Tee::tee))]
-pub fn tee<V: View>(
+pub(crate) fn tee<V: View>(
     alloc: Global,
     sid: u32,
     operands: TeeOperands,
