@@ -27,7 +27,56 @@ shell: ,["/h/f","61"] :: cat ../h/./f/ => 0 a
 shell: %(EMPTY) :: cat %(n*256) => 1 cat: %(n*256): File name too long%(NL)
 shell: ,["/h/big","%(6e*1048576)"] :: echo a >> big => 1 sh: big: File too large%(NL)
 shell: ,["/h/big","%(6e*1048576)"] :: echo -n >> big; > big; echo a >> big; cat big => 0 a%(NL)
-shell: %(EMPTY) :: echo x > f > d; cat f => 0 sh: d: Is a directory%(NL)"##;
+shell: %(EMPTY) :: echo x > f > d; cat f => 0 sh: d: Is a directory%(NL)
+shell: ,["/h/t","613a623a630a6e6f0a783a793a7a"] :: cut -f 3,1 -d : t => 0 a:c%(NL)no%(NL)x:z%(NL)
+shell: ,["/h/t","613a623a630a6e6f0a783a793a7a"] :: cut -b 2-3,1 t => 0 a:b%(NL)no%(NL)x:y%(NL)
+shell: ,["/h/t","613a623a630a6e6f0a783a793a7a"] :: cut -f 1 t => 0 a:b:c%(NL)no%(NL)x:y:z%(NL)
+shell: ,["/h/t","613a623a630a6e6f0a783a793a7a"] :: cut -sf 1 t => 0 %(EMPTY)
+shell: ,["/h/t","613a623a630a6e6f0a783a793a7a"] :: cut -f 0 t => 2 cut: usage%(NL)
+shell: ,["/h/t","613a623a630a6e6f0a783a793a7a"] :: grep -Fcv b t => 0 2%(NL)
+shell: ,["/h/t","613a623a630a6e6f0a783a793a7a"] :: grep -Fx no t => 0 no%(NL)
+shell: ,["/h/t","613a623a630a6e6f0a783a793a7a"] :: grep -F no t none => 2 t:no%(NL)grep: none: No
+   such file or directory%(NL)
+shell: ,["/h/t","613a623a630a6e6f0a783a793a7a"] :: grep -Fq no t none => 0 %(EMPTY)
+shell: ,["/h/t","613a623a630a6e6f0a783a793a7a"] :: grep -Fq no none t => 0 grep: none: No such file
+   or directory%(NL)
+shell: ,["/h/t","613a623a630a6e6f0a783a793a7a"] :: grep -F zz t => 1 %(EMPTY)
+shell: ,["/h/t","613a623a630a6e6f0a783a793a7a"] :: grep -F no t none > o; cat o => 0 grep: none: No
+   such file or directory%(NL)t:no%(NL)
+shell: %(EMPTY) :: id -u alice => 0 100%(NL)
+shell: %(EMPTY) :: id -u bob => 1 id: bob: no such user%(NL)
+shell: %(EMPTY) :: test -n => 0 %(EMPTY)
+shell: %(EMPTY) :: [ a = b => 2 [: usage%(NL)
+shell: %(EMPTY) :: [ -d d ] => 0 %(EMPTY)
+shell: %(EMPTY) :: test -e none => 1 %(EMPTY)
+shell: %(EMPTY) :: false x => 1 %(EMPTY)
+shell: %(EMPTY) :: false; true => 0 %(EMPTY)
+shell: %(EMPTY) :: rm none => 1 rm: none: No such file or directory%(NL)
+shell: %(EMPTY) :: rm -f none => 0 %(EMPTY)
+shell: %(EMPTY) :: rm -f => 0 %(EMPTY)
+shell: %(EMPTY) :: rm => 2 rm: usage%(NL)
+shell: %(EMPTY) :: rm -r / => 1 rm: /: Operation not permitted%(NL)
+shell: %(EMPTY) :: rm d; rm -r d; test -e d => 1 rm: d: Is a directory%(NL)
+shell: ,["/h/t","613a623a630a6e6f0a783a793a7a"] :: cp t t => 1 cp: t: same file%(NL)
+shell: ,["/h/t","613a623a630a6e6f0a783a793a7a"] :: mv t /dev/null => 1 mv: t: Operation not
+   permitted%(NL)
+shell: %(EMPTY) :: mkdir n/e => 1 mkdir: n/e: No such file or directory%(NL)
+shell: %(EMPTY) :: mkdir -p a/b/c; cd a/b/c; pwd => 0 /h/a/b/c%(NL)
+shell: ,["/h/a"],["/h/f",""] :: mv a a/b; test -d a => 0 mv: a: Invalid argument%(NL)
+shell: ,["/h/a"],["/h/f",""] :: rm .. => 1 rm: ..: Operation not permitted%(NL)
+shell: ,["/h/a"],["/h/f",""] :: mkdir -p f => 1 mkdir: f: File exists%(NL)
+shell: ,["/h/a"],["/h/f",""] :: mkdir -p f/g => 1 mkdir: f/g: Not a directory%(NL)
+shell: ,["/h/t","613a623a630a6e6f0a783a793a7a"] :: cp t d; rm t; cut -b1 d/t t => 1
+   a%(NL)n%(NL)x%(NL)cut: t: No such file or directory%(NL)
+shell: %(EMPTY) :: mkdir d/e; echo x > d/e/f; mv d g; cat g/e/f d/e/f => 1 x%(NL)cat: d/e/f: No such
+   file or directory%(NL)
+shell: %(EMPTY) :: cd d :: pwd => 0 /h/d%(NL)
+shell: %(EMPTY) :: cd d; echo x > f :: cat ../d/f; cd; cat d/f => 0 x%(NL)x%(NL)
+shell: %(EMPTY) :: cd d > o; cat o => 1 cat: o: No such file or directory%(NL)
+shell: %(EMPTY) :: cd none :: pwd => 0 /h%(NL)
+shell: %(EMPTY) :: cd none => 1 cd: none: No such file or directory%(NL)
+shell: %(EMPTY) :: tee a d < b => 2 sh: unsupported line%(NL)
+shell: %(EMPTY) :: tee a d => 1 tee: d: Is a directory%(NL)"##;
 
 /// Documents: `script`, or the number of the refusal that applies first.
 pub const DOCUMENTS: &str = r##"script: {"script":1 => 12

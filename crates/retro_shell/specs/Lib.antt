@@ -1,5 +1,5 @@
-pub mod Diagnostics
-pub mod Utilities
+pub mod Printed
 pub mod Redirections
+pub mod Calls
 pub mod Commands
 pub mod Line

@@ -1,107 +1,76 @@
 -- Redirections of output (XCU 2.7), and the target that a command's output goes to.
-use Rattle.std.specs.Prelude.{ℕ, ◌≡◌, ◌==◌, false, List, [], ◌∷◌, ◌++◌, length, Option, Some, None, codes}
-use Rattle.std.specs.Prelude.{if◌then◌else◌}
+use Rattle.std.specs.Prelude.{ℕ, ◌==◌, List, [], ◌∷◌, ◌++◌, length, Result, Ok, Err, codes, if◌then◌else◌}
 use Rattle.retro_tree.specs.Path.{PathValue}
-use Rattle.retro_tree.specs.State.{put_node, grow_file, permit_of}
-use Rattle.retro_tree.specs.Session.{session_in}
-use Rattle.retro_tree.specs.Resolving.{resolve}
-use Rattle.retro_tree.specs.Path.{is_null}
-use Rattle.retro_tree.specs.Name.{AllNames}
 use Rattle.retro_tree.specs.declared.state.State.{State}
-use Rattle.retro_tree.specs.declared.node.Node.TheVariants as nodes
-use Rattle.retro_tree.specs.Resolving.{Resolved}
-use Rattle.retro_tree.specs.Resolving as resolved
 use Rattle.retro_syntax.specs.Plain.{PlainItem, word, truncate, append}
-use Rattle.retro_shell.specs.Diagnostics.{refusal, fault_text}
-use Rattle.retro_shell.specs.declared.diagnostics.Reason.{Reason}
-use Rattle.retro_shell.specs.declared.diagnostics.Reason.TheVariants as reasons
-use Rattle.retro_shell.specs.declared.utilities.Done.{Done}
-use Rattle.retro_shell.specs.declared.redirection.Printed.{Printed as PrintedValue}
-use Rattle.retro_shell.specs.declared.redirection.Mode.{Mode}
-use Rattle.retro_shell.specs.declared.redirection.Mode.TheVariants.{Truncate, Append}
-use Rattle.retro_shell.specs.declared.redirection.Target.{Target as TargetValue}
-use Rattle.retro_shell.specs.declared.redirection.Target.TheVariants as targets
-use Rattle.retro_shell.specs.declared.redirection.Opening.{Opening as OpenedValue}
-use Rattle.retro_shell.specs.declared.redirection.Opening.TheVariants as openings
+use Rattle.retro_utils.specs.Operands.{located}
+use Rattle.retro_utils.specs.Output.{appended, opened}
+use Rattle.retro_utils.specs.Reasons.{fault_text}
+use Rattle.retro_utils.specs.declared.done.Done.{Done}
+use Rattle.retro_utils.specs.declared.mode.Mode.{Mode}
+use Rattle.retro_utils.specs.declared.mode.Mode.TheVariants.{Truncate, Append}
+use Rattle.retro_utils.specs.declared.reason.Reason.{Reason}
+use Rattle.retro_shell.specs.Printed.{failure, printed}
+use Rattle.retro_shell.specs.declared.printed.Printed.{Printed}
+use Rattle.retro_shell.specs.declared.target.Target.{Target as TargetValue}
+use Rattle.retro_shell.specs.declared.target.Target.TheVariants as targets
 
-abbrev pub Printed : Type 0
-Printed = PrintedValue
-
--- the target of output: the terminal, /dev/null, or the file that a word names
+-- the target of output: the terminal, or the open file that a word named
 pub data Target : Type 0 where
   terminal : Target
-  null : Target
   file : List ℕ → PathValue → Target
-
--- the result of redirections: a target, or the word that failed with the reason
-pub data Opening : Type 0 where
-  ready : Target → Opening
-  failed : List ℕ → Reason → Opening
 
 abbrev pub target_view : TargetValue → Target
 target_view targets.Terminal = terminal
-target_view targets.Null = null
 target_view (targets.File name p) = file name.now p
 
-abbrev pub opening_view : OpenedValue → Opening
-opening_view (openings.Ready target) = ready (target_view target)
-opening_view (openings.Failed name reason) = failed name.now reason
+-- the result of redirections: a target, or the diagnostic of the one that failed
+abbrev pub Opening : Type 0
+Opening = Result Target Printed
 
--- a target's path is one that may hold a file
-abbrev pub IsFit : Target → Type 0
-IsFit terminal = Unit {0}
-IsFit null = Unit {0}
-IsFit (file name p) = (is_null p ≡ false) × AllNames p
+abbrev pub opening_view : Result TargetValue Printed → Opening
+opening_view (Ok target) = Ok (target_view target)
+opening_view (Err failed) = Err failed
 
-abbrev pub HasFitTarget : Opening → Type 0
-HasFitTarget (ready target) = IsFit target
-HasFitTarget (failed name reason) = Unit {0}
+abbrev pub file_opened : List ℕ → PathValue → State × Result (Unit {0}) Reason → State × Opening
+file_opened name p (s, Ok done) = (s, Ok (file name p))
+file_opened name p (s, Err reason) = (s, Err (failure name reason))
 
--- the state after a file is opened: `>` empties it, `>>` leaves it, and either creates a missing one
-abbrev pub open_effect : Mode → PathValue → State → State
-open_effect Truncate p s = put_node p (nodes.File []) s
-open_effect Append p s = grow_file p [] s
+abbrev pub redirection_at : Mode → List ℕ → Result PathValue Reason → State → State × Opening
+redirection_at mode name (Ok p) s = file_opened name p (opened mode p s)
+redirection_at mode name (Err reason) s = (s, Err (failure name reason))
 
-abbrev pub opening_by_reason : Option Reason → Mode → List ℕ → PathValue → State → State × Opening
-opening_by_reason None mode name p s = (open_effect mode p s, ready (file name p))
-opening_by_reason (Some reason) mode name p s = (s, failed name reason)
-
-abbrev pub opening_at : Mode → List ℕ → Resolved → State → State × Opening
-opening_at mode name resolved.Empty s = (s, failed name reasons.NoSuchFile)
-opening_at mode name resolved.LongName s = (s, failed name reasons.NameTooLong)
-opening_at mode name (resolved.Is p) s =
-    if is_null p then (s, ready null) else opening_by_reason (refusal (permit_of p 0 s)) mode name p s
-
--- opening the file that a word names for output; /dev/null discards what is written
-unfoldable pub opening : Mode → ℕ → List ℕ → State → State × Opening
-opening mode sid name s = opening_at mode name (resolve (session_in sid s.sessions).cwd name) s
+-- the file that a word names opened for output
+unfoldable pub redirection : ℕ → Mode → List ℕ → State → State × Opening
+redirection sid mode name s = redirection_at mode name (located sid name s) s
 
 -- the target after an item: that of its redirection, or the earlier one where the item is a word
-abbrev pub item_opening : ℕ → PlainItem → Target → State → State × Opening
-item_opening sid (word text) target s = (s, ready target)
-item_opening sid (truncate name) target s = opening Truncate sid name s
-item_opening sid (append name) target s = opening Append sid name s
+abbrev pub item_redirection : ℕ → PlainItem → Target → State → State × Opening
+item_redirection sid (word text) target s = (s, Ok target)
+item_redirection sid (truncate name) target s = redirection sid Truncate name s
+item_redirection sid (append name) target s = redirection sid Append name s
 
-abbrev pub where_ready : State × Opening → (Target → State → State × Opening) → State × Opening
-where_ready (s, ready target) more = more target s
-where_ready (s, failed name reason) more = (s, failed name reason)
+abbrev pub then_target : State × Opening → (Target → State → State × Opening) → State × Opening
+then_target (s, Ok target) rest = rest target s
+then_target (s, Err failed) rest = (s, Err failed)
 
 -- the redirections from left to right, up to the first that fails; the last target counts
 abbrev pub redirections : ℕ → List PlainItem → Target → State → State × Opening
-redirections sid [] target s = (s, ready target)
-redirections sid (item ∷ items) target s = where_ready (item_opening sid item target s) (redirections sid items)
+redirections sid [] target s = (s, Ok target)
+redirections sid (item ∷ items) target s =
+    then_target (item_redirection sid item target s) (redirections sid items)
 
-abbrev pub make_printed : List ℕ → ℕ → Printed
-make_printed text status = record { text = text; status = status }
+abbrev pub after_append : List ℕ → Done → State × Result (Unit {0}) Reason → State × Printed
+after_append name done (s, Ok written) = (s, printed done.err done.status)
+after_append name done (s, Err reason) = (s, printed (done.err ++ fault_text (codes "sh") name reason) 1)
 
-abbrev pub file_write : Option Reason → List ℕ → PathValue → Done → State → State × Printed
-file_write None name p done s = (grow_file p done.out s, make_printed done.err done.status)
-file_write (Some reason) name p done s = (s, make_printed (done.err ++ fault_text (codes "sh") name reason) 1)
+-- output appended to an open file, if there is any; output that can't be written is lost as a whole
+abbrev pub file_delivery : List ℕ → PathValue → Done → State → State × Printed
+file_delivery name p done s =
+    if length done.out == 0 then (s, printed done.err done.status)
+    else after_append name done (appended done.out p s)
 
--- output goes to its target and diagnostics to the terminal; output that can't be written is lost as a whole
+-- output goes to its target and diagnostics to the terminal
 unfoldable pub delivery : Target → Done → State → State × Printed
-delivery terminal done s = (s, make_printed (done.out ++ done.err) done.status)
-delivery null done s = (s, make_printed done.err done.status)
-delivery (file name p) done s =
-    if length done.out == 0 then (s, make_printed done.err done.status)
-    else file_write (refusal (permit_of p (length done.out) s)) name p done s
+delivery terminal done s = (s, printed (done.out ++ done.err) done.status)
+delivery (file name p) done s = file_delivery name p done s
