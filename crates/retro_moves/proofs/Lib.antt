@@ -1,6 +1,7 @@
 pub mod Without
 pub mod Thinning
 pub mod Removals
+pub mod RemovedFiles
 pub mod MovedNodes
 pub mod Copies
 pub mod Clearing

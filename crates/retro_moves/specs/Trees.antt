@@ -1,7 +1,9 @@
 -- Trees that change at many paths at once: without a path, and with a path moved (POSIX.1-2017 XCU rm,
 -- mv).
-use Rattle.std.specs.Prelude.{◌≡◌, false, not, [], ◌++◌, map, Option, Some, None, is_some}
+use Rattle.std.specs.Prelude.{◌≡◌, Bool, false, not, ◌||◌, if◌then◌else◌, [], ◌++◌, map, Option}
+use Rattle.std.specs.Prelude.{Some, None, is_some}
 use Rattle.std.specs.FinMap as finmap
+use Rattle.retro_tree.specs.Node.{is_dir}
 use Rattle.retro_tree.specs.Path.{PathValue, below, parent_of, null_path}
 use Rattle.retro_tree.specs.Tree.{Tree, node_in}
 use Rattle.retro_tree.specs.Ask.{names_in}
@@ -11,6 +13,10 @@ use Rattle.retro_tree.specs.declared.state.State.{State}
 -- a tree without a path and everything below it
 unfoldable pub without : PathValue → Tree → Tree
 without p tree = finmap.retain_keys tree (λ r. not (is_some (below p r)))
+
+-- a tree without a path and everything below it; unless `recursive`, a directory stays
+abbrev pub removed : Bool → PathValue → Tree → Tree
+removed recursive p tree = if recursive || not (is_dir (node_in p tree)) then without p tree else tree
 
 -- q continued by what follows a prefix, or the path itself if it doesn't have the prefix
 abbrev pub continued : PathValue → PathValue → Option PathValue → PathValue

@@ -1,9 +1,9 @@
 //! Removing and moving directories with everything below them, over a `Local`.
 //!
-//! `remove_tree` is `rm -r` of one path. `move_dir` is `mv` of a directory, once its tests have
-//! passed. Each asks about one path at a time and puts one node at a time; its clause `means` gives
-//! the whole tree after it: without a path, or with a path moved (`specs/Trees.antt`).
-//! `removals_of_files` and `moves_of_files` say what that is for a file.
+//! `remove` is `rm` of one path, with `-r` or without. `move_dir` is `mv` of a directory, once its
+//! tests have passed. Each asks about one path at a time and puts one node at a time; its clause
+//! `means` gives the whole tree after it: without a path, or with a path moved
+//! (`specs/Trees.antt`). `removals_of_files` and `moves_of_files` say what that is for a file.
 //!
 //! If allocation fails, calls return `AllocError`. The `Local` then has its earlier notes and maybe
 //! some later ones, which hold.
@@ -15,4 +15,4 @@ mod removal;
 
 pub use laws::{moves_of_files, removals_of_files};
 pub use moving::move_dir;
-pub use removal::remove_tree;
+pub use removal::remove;

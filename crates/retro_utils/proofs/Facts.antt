@@ -2,9 +2,8 @@
 use Rattle.std.proofs.Common.{◌≡◌, ◌≤◌, Bool, true, false, ◌||◌, ℕ, List, []}
 use Rattle.std.proofs.Common.{length, None, Result, Ok, refl, subst, arith}
 use Rattle.std.specs.Bool.{if◌then◌else◌}
-use Rattle.retro_tree.specs.Ask.{names_in}
 use Rattle.retro_tree.specs.Lawful.{IsLawful}
-use Rattle.retro_tree.specs.Node.{file_limit, is_dir, kind_of, size_of}
+use Rattle.retro_tree.specs.Node.{file_limit, kind_of, size_of}
 use Rattle.retro_tree.specs.Path.{PathValue, is_null, is_root}
 use Rattle.retro_tree.specs.Tree.{node_in}
 use Rattle.retro_tree.specs.declared.kind.Kind.TheVariants as kinds
@@ -13,7 +12,6 @@ use Rattle.retro_tree.specs.declared.node.Node.TheVariants.{Missing, Dir, File}
 use Rattle.retro_tree.specs.declared.state.State.{State}
 use Rattle.retro_tree.specs.declared.permit.Permit.{Permit}
 use Rattle.retro_tree.specs.declared.permit.Permit.TheVariants.{Yes, NoParent, NotDir, IsDir, TooLarge}
-use Rattle.retro_tree.proofs.MayMake.{none_in_file}
 use Rattle.retro_tree.proofs.TreeLaw.{told}
 use Rattle.retro_local.specs.Kinds.{kind_at}
 use Rattle.retro_utils.specs.Reading.{content, path_reading}
@@ -41,16 +39,6 @@ granted NoParent e = cc
 granted NotDir e = cc
 granted IsDir e = cc
 granted TooLarge e = cc
-
--- a file has no children in a lawful state
-file_is_no_dir : (n : Node) → kind_of n ≡ kinds.File → is_dir n ≡ false
-file_is_no_dir Missing e = refl
-file_is_no_dir Dir e = cc
-file_is_no_dir (File bytes) e = refl
-
-pub no_names : (p : PathValue) (s : State) → IsLawful s → kind_of (node_in p s.tree) ≡ kinds.File
-    → names_in p s.tree ≡ []
-no_names p s l e = none_in_file p s l (file_is_no_dir (node_in p s.tree) e)
 
 -- what isn't protected isn't the root
 pub below_root : (operand : List ℕ) (p : PathValue) → is_protected operand p ≡ false → is_root p ≡ false

@@ -1,19 +1,19 @@
 //! `rm` (XCU rm).
-ghost use Rattle.std.specs.Prelude.{◌≡◌, [], true, false, IfOk, codes, map, string_bytes};
+ghost use Rattle.std.specs.Prelude.{◌≡◌, [], false, IfOk, codes, map, string_bytes};
 ghost use Rattle.retro_tree.specs.Path.{is_root};
 ghost use Rattle.retro_tree.specs.Resolving.{parts_of};
 ghost use Rattle.retro_local.specs.Runs.{Computes, Extends, ExtendsTree};
 ghost use Rattle.retro_utils.specs.Operands.{in_turn};
 ghost use Rattle.retro_utils.specs.Outcomes.{nothing_done};
-ghost use Rattle.retro_utils.specs.Rm.{ends_in_dots, is_protected, last_part, part_or, remove_at};
-ghost use Rattle.retro_utils.specs.Rm.{remove_operand, remove_path, rm};
+ghost use Rattle.retro_utils.specs.Rm.{ends_in_dots, is_protected, last_part, not_removed, part_or};
+ghost use Rattle.retro_utils.specs.Rm.{remove_at, remove_operand, remove_path, rm};
 
 use crate::done::Done;
 use crate::operand::locate;
 use crate::reason::Reason;
 use crate::removal::Removal;
 use retro_local::Local;
-use retro_moves::remove_tree;
+use retro_moves::remove;
 use retro_tree::{Kind, Path, View};
 use std::alloc::{AllocError, Global};
 
@@ -64,49 +64,16 @@ pub(crate) fn is_protected(alloc: Global, operand: &str, path: &Path) -> Result<
     Ok(dots || path.names().is_empty() || path.is_null())
 }
 
-/// Removes the file at a path.
-#[tactic(auto, unfolding(crate::specs::Rm::remove_path), using(crate::proofs::Removing::removing))]
-fn remove_file<V: View>(
-    alloc: Global,
-    forced: bool,
-    path: Path,
-    local: &mut Local<V>,
-) -> Result<Result<(), Reason>, AllocError>
-    requires { is_root path ≡ false }
-    ensures means { IfOk result (λ outcome. Computes local.old local.new
-        (remove_path (record { forced = forced; recursive = false }) path) outcome) }
-    ensures extends { ExtendsTree local.old local.new }
+/// Returns the reason why what has a kind isn't removed, or `None`.
+fn not_removed(how: Removal, kind: Kind) -> Option<Reason>
+    ensures { result ≡ not_removed how kind }
 {
-    local.keeps_law();
-    match local.kind(alloc, &path)? {
-        Kind::Missing if forced => Ok(Ok(())),
-        Kind::Missing => Ok(Err(Reason::NoSuchFile)),
-        Kind::Dir => Ok(Err(Reason::IsDirectory)),
-        Kind::File => {
-            local.remove(alloc, path)?;
-            Ok(Ok(()))
-        }
-    }
-}
-
-/// Removes what is at a path with everything below it.
-#[tactic(auto, unfolding(crate::specs::Rm::remove_path), using(crate::proofs::Removing::removing))]
-fn remove_with_children<V: View>(
-    alloc: Global,
-    forced: bool,
-    path: &Path,
-    local: &mut Local<V>,
-) -> Result<Result<(), Reason>, AllocError>
-    requires { is_root path.now ≡ false }
-    ensures means { IfOk result (λ outcome. Computes local.old local.new
-        (remove_path (record { forced = forced; recursive = true }) path.now) outcome) }
-    ensures extends { ExtendsTree local.old local.new }
-{
-    local.keeps_law();
-    match remove_tree(alloc, path, local)? {
-        Kind::Missing if forced => Ok(Ok(())),
-        Kind::Missing => Ok(Err(Reason::NoSuchFile)),
-        Kind::Dir | Kind::File => Ok(Ok(())),
+    match kind {
+        Kind::Missing if how.forced => None,
+        Kind::Missing => Some(Reason::NoSuchFile),
+        Kind::Dir if how.recursive => None,
+        Kind::Dir => Some(Reason::IsDirectory),
+        Kind::File => None,
     }
 }
 
@@ -122,10 +89,11 @@ fn remove_path<V: View>(
         (remove_path how path) outcome) }
     ensures extends { ExtendsTree local.old local.new }
 {
-    if how.recursive {
-        Ok(remove_with_children(alloc, how.forced, &path, local)?)
-    } else {
-        Ok(remove_file(alloc, how.forced, path, local)?)
+    local.keeps_law();
+    let kind = remove(alloc, how.recursive, &path, local)?;
+    match not_removed(how, kind) {
+        None => Ok(Ok(())),
+        Some(reason) => Ok(Err(reason)),
     }
 }
 
