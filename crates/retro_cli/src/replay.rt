@@ -23,8 +23,7 @@ fn run_lines(
     let mut state = first;
     let mut outputs = Vec::new(alloc);
     for line in lines {
-        let (next, text) = step(alloc, state, line.sid, line.text.as_str())?;
-        state = next;
+        let text = step(alloc, &mut state, line.sid, line.text.as_str())?;
         outputs.push((line.number, text))?;
     }
     Ok((state, outputs))

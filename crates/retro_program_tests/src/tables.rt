@@ -21,7 +21,7 @@ shell: ,["/h/f","61"] :: echo z > f/g; echo next => 0 sh: f/g: Not a directory%(
 shell: %(EMPTY) :: nosuch > f; cat f => 0 sh: nosuch: not found%(NL)
 shell: %(EMPTY) :: echo -- -n => 0 -- -n%(NL)
 shell: %(EMPTY) :: cat /dev/null ../dev/null => 0 %(EMPTY)
-shell: %(EMPTY) :: echo a | cat => 2 sh: unsupported line%(NL)
+shell: %(EMPTY) :: echo a | cat => 0 a%(NL)
 shell: %(EMPTY) :: cat none > f; cat f => 0 cat: none: No such file or directory%(NL)
 shell: ,["/h/f","61"] :: cat ../h/./f/ => 0 a
 shell: %(EMPTY) :: cat %(n*256) => 1 cat: %(n*256): File name too long%(NL)
@@ -75,8 +75,37 @@ shell: %(EMPTY) :: cd d; echo x > f :: cat ../d/f; cd; cat d/f => 0 x%(NL)x%(NL)
 shell: %(EMPTY) :: cd d > o; cat o => 1 cat: o: No such file or directory%(NL)
 shell: %(EMPTY) :: cd none :: pwd => 0 /h%(NL)
 shell: %(EMPTY) :: cd none => 1 cd: none: No such file or directory%(NL)
-shell: %(EMPTY) :: tee a d < b => 2 sh: unsupported line%(NL)
-shell: %(EMPTY) :: tee a d => 1 tee: d: Is a directory%(NL)"##;
+shell: %(EMPTY) :: tee a d < b => 1 sh: b: No such file or directory%(NL)
+shell: %(EMPTY) :: tee a d => 1 tee: d: Is a directory%(NL)
+shell: %(EMPTY) :: false :: if test $? = 0; then echo ok; else echo bad; fi => 0 bad%(NL)
+shell: %(EMPTY) :: if test $? = 0; then echo ok; else echo bad; fi => 0 ok%(NL)
+shell: %(EMPTY) :: false :: while :; do :; done => 2 sh: unsupported line%(NL)
+shell: %(EMPTY) :: x="a  b" :: echo "$x" $x '$x' \$x => 0 a  b a b $x $x%(NL)
+shell: %(EMPTY) :: x="a  b" :: for i in $x; do echo "<$i>"; done => 0 <a>%(NL)<b>%(NL)
+shell: %(EMPTY) :: cd /tmp | cat; pwd => 0 /h%(NL)
+shell: %(EMPTY) :: ! false && echo y || echo n => 0 y%(NL)
+shell: %(EMPTY) :: nosuch; echo $? => 0 sh: nosuch: not found%(NL)127%(NL)
+shell: %(EMPTY) :: cat < none; echo $? => 0 sh: none: No such file or directory%(NL)1%(NL)
+shell: ,["/h/f","710a"] :: cat < f > f => 0 %(EMPTY)
+shell: ,["/h/f","710a"] :: cat < f > f :: cat f => 0 %(EMPTY)
+shell: %(EMPTY) :: echo "a'b"'c"d'\ e => 0 a'bc"d e%(NL)
+shell: %(EMPTY) :: x=; echo $x "" end => 0  end%(NL)
+shell: %(EMPTY) :: echo ~ "~" ~/x ~nobody ~mallory/q a#b => 0 /h ~ /h/x ~nobody /tmp/q a#b%(NL)
+shell: %(EMPTY) :: if false; then echo a; elif true; then echo b; else echo c; fi; echo $? => 0
+   b%(NL)0%(NL)
+shell: %(EMPTY) :: for i in; do echo x; done; echo $? => 0 0%(NL)
+shell: %(EMPTY) :: echo a > f | cat; cat f => 0 a%(NL)
+shell: %(EMPTY) :: echo hi >f>g; cat f; cat g => 0 hi%(NL)
+shell: %(EMPTY) :: echo a & => 2 sh: unsupported line%(NL)
+shell: %(EMPTY) :: echo a & :: %(#*4096) => 2 %(EMPTY)
+shell: %(EMPTY) :: %(#*4096) => 0 %(EMPTY)
+shell: %(EMPTY) :: %(#*4097) => 2 sh: unsupported line%(NL)
+shell: %(EMPTY) :: echo a & :: %(if *32):%(; then :; fi*32) => 0 %(EMPTY)
+shell: %(EMPTY) :: %(if *33):%(; then :; fi*33) => 2 sh: unsupported line%(NL)
+shell: %(EMPTY) :: false :: echo $? $?; echo $? => 0 1 1%(NL)0%(NL)
+shell: %(EMPTY) :: x=1 y=$x :: for x in $x 2; do echo $x$y; done :: echo $x => 0 2%(NL)
+shell: %(EMPTY) :: cat f :: echo b | tee f | cat :: cat f f | cut -b 1 > g :: cat < g => 0
+   b%(NL)b%(NL)"##;
 
 /// Documents: `script`, or the number of the refusal that applies first.
 pub const DOCUMENTS: &str = r##"script: {"script":1 => 12

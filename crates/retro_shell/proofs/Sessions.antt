@@ -1,9 +1,10 @@
--- A line's notes leave the same sessions.
+-- A line's notes leave a lawful state lawful, with the same sessions.
 use Rattle.std.proofs.Common.{ℕ, List, [], refl}
 use Rattle.retro_tree.specs.Notes.{after, AllAllowed}
 use Rattle.retro_tree.specs.declared.note.Note.{Note}
 use Rattle.retro_tree.specs.declared.state.State.{State}
 use Rattle.retro_tree.proofs.KeptSessions.{notes_keep_sessions}
+use Rattle.retro_tree.proofs.NoteLaws.{lawful_after}
 use Rattle.retro_local.specs.Trace.{IsOwn, named_sessions}
 use Rattle.retro_shell.specs.Line.{HasSameSessions}
 
@@ -15,4 +16,4 @@ pub owns_none : (sid : ℕ) → IsOwn sid []
 unfolding named_sessions
 owns_none sid = refl
 
-pub ruleset line_sessions = (same_sessions, owns_none)
+pub ruleset after_notes = (same_sessions, lawful_after)

@@ -1,5 +1,11 @@
-pub mod Printed
+pub mod Outcomes
+pub mod Fields
+pub mod FieldsCode
+pub mod Expansion
 pub mod Redirections
-pub mod Calls
+pub mod Simple
 pub mod Commands
+pub mod Trees
 pub mod Line
+pub mod Runs
+pub mod RunCode

@@ -1,20 +1,34 @@
-//! Runs a line of a session: the state after it, and the text that the terminal gets.
+//! Runs a line of a session, over any view of a state.
 //!
 //! The meaning of a line is a definition on whole states (`specs/Line.antt`). [`run_line`] runs a
-//! line over any view and notes what it reads and changes. [`play`] takes a state by reference and
-//! returns a new one; [`step`] takes a state by value and changes it in place.
+//! line over a view and returns a [`Run`]: the line, the notes of what it read and changed, and its
+//! output. The type keeps that the notes certify the line: in every lawful state with the session
+//! in which they hold, the line means just their changes and that output. So a run over any view
+//! counts wherever its notes hold.
 //!
-//! The only error is a failed allocation, `NoMem`. A `Local` then has its earlier notes and maybe
-//! some later ones, which hold.
+//! [`play`] runs a line on a copy of a state, and [`step`] changes a state in place.
+//!
+//! The only error is a failed allocation, `NoMem`. Arguments are then unchanged.
 #![tactic(auto)]
 
+mod assignment;
 mod call;
 mod command;
+mod context;
+mod diagnostics;
+mod execution;
+mod expansion;
+mod fields;
 mod line;
-mod printed;
+mod pipe;
+mod progress;
 mod redirection;
+mod run;
+mod simple;
+mod streams;
 mod target;
 
-pub use line::{play, run_line, step};
-pub use retro_utils::Local;
+pub use line::{play, run_line, run_parsed, step};
+pub use retro_utils::{apply_notes, holds};
+pub use run::Run;
 pub use std::alloc::AllocError as NoMem;

@@ -1,93 +1,145 @@
-//! Redirections of output (XCU 2.7).
+//! Redirections (XCU 2.7).
 ghost use Rattle.std.specs.Prelude.{◌≡◌, IfOk, map};
 ghost use Rattle.retro_local.specs.Runs.{Computes, Extends, ExtendsTree};
-ghost use Rattle.retro_syntax.specs.PlainViews.{plain_item_view};
-ghost use Rattle.retro_shell.specs.Redirections.{file_opened, item_redirection, opening_view};
-ghost use Rattle.retro_shell.specs.Redirections.{redirection, redirections, target_view, terminal};
-ghost use Rattle.retro_utils.specs.Output.{opened};
+ghost use Rattle.retro_syntax.specs.View.{item_view};
+ghost use Rattle.retro_tree.specs.declared.state.State.{State};
+ghost use Rattle.retro_shell.specs.Redirections.{input_from, output_to, redirection};
+ghost use Rattle.retro_shell.specs.Redirections.{redirection_to, redirections};
 
-use crate::printed::Printed;
+use crate::context::Context;
+use crate::diagnostics::failure;
+use crate::expansion::expand_word;
+use crate::streams::Streams;
 use crate::target::Target;
-use retro_syntax::PlainItem;
-use retro_tree::{NoMem, Path, View};
-use retro_utils::{Local, Mode, locate, open};
+use retro_syntax::tree::{Direction, Item};
+use retro_tree::{Kind, NoMem, Path, Text, View};
+use retro_utils::{Done, Input, Local, Mode, Reason, locate, open};
 use std::alloc::Global;
 
-/// Opens the file at a path for output, as the word that named it asks.
-fn open_path<'a, V: View>(
+/// A redirection with its expanded word.
+#[derive(Drop)]
+struct Redirection {
+    direction: Direction,
+    word: Text,
+}
+
+/// Reads from the file at a path, which a word named, if a file is there.
+fn read_from(
     alloc: Global,
-    mode: Mode,
-    word: &'a str,
+    word: &Text,
     path: Path,
-    local: &mut Local<V>,
-) -> Result<Result<Target<'a>, Printed>, NoMem>
-    ensures means { IfOk result (λ opening. Computes local.old local.new
-        (λ s. file_opened word.entry.now path (opened mode path s)) (opening_view opening)) }
-    ensures extends { ExtendsTree local.old local.new }
+    kind: Kind,
+    io: Streams,
+) -> Result<Result<Streams, Done>, NoMem>
+    ensures { IfOk result (λ outcome. outcome ≡ input_from word.now path kind io) }
 {
-    match open(alloc, mode, &path, local)? {
-        Ok(()) => Ok(Ok(Target::File(word, path))),
-        Err(reason) => Ok(Err(Printed::failure(alloc, word, reason)?)),
+    let Streams { input: _, output } = io;
+    match kind {
+        Kind::Missing => Ok(Err(failure(alloc, word.as_str(), Reason::NoSuchFile)?)),
+        Kind::Dir => Ok(Err(failure(alloc, word.as_str(), Reason::IsDirectory)?)),
+        Kind::File => Ok(Ok(Streams {
+            input: Input::File(path),
+            output,
+        })),
     }
 }
 
-/// Opens the file that a word names for output.
-#[tactic(auto, unfolding(crate::specs::Redirections::redirection))]
-fn open_word<'a, V: View>(
-    alloc: Global,
-    sid: u32,
-    mode: Mode,
-    word: &'a str,
-    local: &mut Local<V>,
-) -> Result<Result<Target<'a>, Printed>, NoMem>
-    ensures means { IfOk result (λ opening. Computes local.old local.new
-        (redirection sid mode word.entry.now) (opening_view opening)) }
-    ensures extends { Extends sid local.old local.new }
-{
-    match locate(alloc, sid, word, local)? {
-        Ok(path) => Ok(open_path(alloc, mode, word, path, local)?),
-        Err(reason) => Ok(Err(Printed::failure(alloc, word, reason)?)),
-    }
-}
-
-/// Makes the redirection of an item, if it is one. Returns its target, or else the earlier one.
-fn redirect_item<'a, V: View>(
-    alloc: Global,
-    sid: u32,
-    item: &PlainItem<'a>,
-    target: Target<'a>,
-    local: &mut Local<V>,
-) -> Result<Result<Target<'a>, Printed>, NoMem>
-    ensures means { IfOk result (λ opening. Computes local.old local.new
-        (item_redirection sid (plain_item_view item.now) (target_view target.entry))
-        (opening_view opening)) }
-    ensures extends { Extends sid local.old local.new }
-{
-    match item {
-        PlainItem::Word(_) => Ok(Ok(target)),
-        PlainItem::Truncate(word) => Ok(open_word(alloc, sid, Mode::Truncate, word, local)?),
-        PlainItem::Append(word) => Ok(open_word(alloc, sid, Mode::Append, word, local)?),
-    }
-}
-
-/// Makes the redirections of a command from left to right, up to the first that fails. Returns the
-/// last target, or the diagnostic of the one that failed.
-pub(crate) fn redirect<'a, V: View>(
-    alloc: Global,
-    sid: u32,
-    items: &[PlainItem<'a>],
-    local: &mut Local<V>,
-) -> Result<Result<Target<'a>, Printed>, NoMem>
-    ensures means { IfOk result (λ opening. Computes local.old local.new
-        (redirections sid (map plain_item_view items.now) terminal) (opening_view opening)) }
-    ensures extends { Extends sid local.old local.new }
-{
-    let mut target = Target::Terminal;
-    for item in items {
-        match redirect_item(alloc, sid, item, target, local)? {
-            Ok(next) => target = next,
-            Err(failure) => return Ok(Err(failure)),
+impl Redirection {
+    /// Writes to the file at a path, if it could be opened.
+    fn write_to(
+        self,
+        alloc: Global,
+        path: Path,
+        opened: Result<(), Reason>,
+        io: Streams,
+    ) -> Result<Result<Streams, Done>, NoMem>
+        ensures { IfOk result (λ outcome. (s : State) →
+            (s, outcome) ≡ output_to self.word path io (s, opened)) }
+    {
+        let Redirection { direction: _, word } = self;
+        let Streams { input, output: _ } = io;
+        match opened {
+            Ok(()) => Ok(Ok(Streams {
+                input,
+                output: Target::File(word, path),
+            })),
+            Err(reason) => Ok(Err(failure(alloc, word.as_str(), reason)?)),
         }
     }
-    Ok(Ok(target))
+
+    /// Makes the redirection to the file at a path.
+    fn make_at<V: View>(
+        self,
+        alloc: Global,
+        path: Path,
+        io: Streams,
+        local: &mut Local<V>,
+    ) -> Result<Result<Streams, Done>, NoMem>
+        ensures means { IfOk result (λ outcome. Computes local.old local.new
+            (redirection_to self.direction self.word path io) outcome) }
+        ensures extends { ExtendsTree local.old local.new }
+    {
+        match self.direction {
+            Direction::From => {
+                let kind = local.kind_at(alloc, &path)?;
+                Ok(read_from(alloc, &self.word, path, kind, io)?)
+            }
+            Direction::Onto => {
+                let opened = open(alloc, Mode::Truncate, &path, local)?;
+                Ok(self.write_to(alloc, path, opened, io)?)
+            }
+            Direction::Append => {
+                let opened = open(alloc, Mode::Append, &path, local)?;
+                Ok(self.write_to(alloc, path, opened, io)?)
+            }
+        }
+    }
+
+    /// Makes the redirection. Returns the new streams, or the result of a command that doesn't run
+    /// because the redirection failed.
+    #[tactic(auto, unfolding(crate::specs::Redirections::redirection))]
+    fn make<V: View>(
+        self,
+        alloc: Global,
+        sid: u32,
+        io: Streams,
+        local: &mut Local<V>,
+    ) -> Result<Result<Streams, Done>, NoMem>
+        ensures means { IfOk result (λ outcome. Computes local.old local.new
+            (redirection sid self.direction self.word io) outcome) }
+        ensures extends { Extends sid local.old local.new }
+    {
+        match locate(alloc, sid, self.word.as_str(), local)? {
+            Ok(path) => Ok(self.make_at(alloc, path, io, local)?),
+            Err(reason) => Ok(Err(failure(alloc, self.word.as_str(), reason)?)),
+        }
+    }
+}
+
+/// Makes the redirections of a command from left to right, up to the first that fails.
+pub(crate) fn redirect<V: View>(
+    alloc: Global,
+    context: Context,
+    items: &[Item],
+    io: Streams,
+    local: &mut Local<V>,
+) -> Result<Result<Streams, Done>, NoMem>
+    ensures means { IfOk result (λ outcome. Computes local.old local.new
+        (redirections context (map item_view items.now) io) outcome) }
+    ensures extends { Extends context.place.sid local.old local.new }
+{
+    let mut io = io;
+    for item in items {
+        if let Item::Redirect(direction, word) = item {
+            let redirection = Redirection {
+                direction: *direction,
+                word: expand_word(alloc, context, word, local)?,
+            };
+            match redirection.make(alloc, context.place.sid, io, local)? {
+                Ok(next) => io = next,
+                Err(failed) => return Ok(Err(failed)),
+            }
+        }
+    }
+    Ok(Ok(io))
 }

@@ -5,7 +5,6 @@ pub mod Sound
 pub mod ViewLemmas
 pub mod ParserLemmas
 pub mod LineLemmas
-pub mod PlainLemmas
 pub mod WritingLemmas
 pub mod QuotingLemmas
 pub mod DepthLemmas

@@ -10,8 +10,6 @@ pub mod Fits
 pub mod ParserViews
 pub mod Quoting
 pub mod QuotingViews
-pub mod Plain
-pub mod PlainViews
 pub mod Lines
 pub mod Writing
 pub mod LexerLaws

@@ -10,7 +10,6 @@
 //! that the tokens are, written out.
 //!
 //! A word is a list of pieces. [`tree::Word::tilde_prefix`] finds its tilde prefix.
-//! [`plain_commands`] returns the commands of a line of plain commands only.
 //!
 //! If allocation fails, calls return `NoMem` and leave their arguments unchanged.
 #![tactic(auto)]
@@ -22,7 +21,6 @@ mod lexer;
 mod lines;
 mod parsed;
 mod parser;
-mod plain;
 mod syntax_error;
 mod tildes;
 pub mod tree;
@@ -42,7 +40,6 @@ pub use lines::{
     LONGEST_LINE, Line, Refused, one_line, parse, parsed_is_spelling, writing_is_read,
 };
 pub use parsed::Parsed;
-pub use plain::{PlainCommand, PlainItem, plain_commands};
 pub use tildes::TildePrefix;
 
 /// The parser finds exactly the tree that tokens spell, and no tokens spell two trees.

@@ -3,7 +3,7 @@ use crate::paths::{joined_path, near, resolved};
 use crate::scripts::parts;
 use crate::states::{allows, lawfulness, played, state_answer};
 use crate::tables::{EXPANSIONS, PATHS, SCRIPTS, STATES, TREES};
-use crate::trees::{plain, tilde, tree};
+use crate::trees::{tilde, tree};
 use retro_rows::rows;
 use retro_tree::{Name, VarName, is_relative};
 use std::alloc::Global;
@@ -29,7 +29,6 @@ fn called(alloc: Global, call: &str, given: &[String]) -> Result<String, Fail> {
         ("child" | "below", [path, other]) => near(alloc, call, path, other),
         ("tree", [line]) => tree(alloc, line),
         ("tilde", [line]) => tilde(alloc, line),
-        ("plain", [line]) => plain(alloc, line),
         ("state", [changes, question]) => state_answer(alloc, changes, question),
         ("allows", [changes, change]) => allows(alloc, changes, change),
         ("lawful", [changes]) => lawfulness(alloc, changes),

@@ -238,7 +238,8 @@ pub fn played(alloc: Global, given: &str, line: &str) -> Result<String, Fail> {
         return Err("a lawless state")?;
     }
     let (_, printed) = play(alloc, &state, 1, line)?;
-    let (_, same) = step(alloc, state, 1, line)?;
+    let mut state = state;
+    let same = step(alloc, &mut state, 1, line)?;
     if printed != same {
         return Err("two outputs")?;
     }

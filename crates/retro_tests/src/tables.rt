@@ -177,17 +177,7 @@ tilde: ~a\b/c => none
 tilde: \~ => none
 tilde: a~ => none
 tilde: x=a~ => none
-tilde: x=""~ => none
-plain: echo a > f;cat>>g =>  echo a >f; cat >>g;
-plain: a 'b' => none
-plain: a $b => none
-plain: ~ => none
-plain: a ~b => none
-plain: x=1 => none
-plain: a | b => none
-plain: ! a => none
-plain: a < f => none
-plain: a && b => none"##;
+tilde: x=""~ => none"##;
 
 /// Each form of an expansion that the profile leaves out: as a word, in double quotes, as a value,
 /// after a redirection, and as a word of a `for`.

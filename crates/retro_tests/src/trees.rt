@@ -3,7 +3,7 @@ use crate::rows::text;
 use retro_syntax::tree::{
     AndOr, Assignment, Command, Commands, Connector, Direction, Item, Piece, Pipeline, Simple, Word,
 };
-use retro_syntax::{Line, Parsed, PlainItem, Refused, TildePrefix, parse, plain_commands};
+use retro_syntax::{Line, Parsed, Refused, TildePrefix, parse};
 use std::alloc::{AllocError, Global};
 use std::test::Fail;
 
@@ -191,24 +191,4 @@ pub fn tilde(alloc: Global, given: &str) -> Result<String, Fail> {
         Some(prefix) => Ok(format!(in alloc; "{}|{}", prefix.login, prefix.rest)?),
         None => text(alloc, "none"),
     }
-}
-
-/// The parts of the plain commands of a text, or `none` where its line isn't a list of such.
-pub fn plain(alloc: Global, given: &str) -> Result<String, Fail> {
-    let line = parse(alloc, given)?;
-    let Some(commands) = plain_commands(alloc, &line)? else {
-        return text(alloc, "none");
-    };
-    let mut out = String::new(alloc);
-    for command in &commands {
-        for item in &command.items {
-            match item {
-                PlainItem::Word(word) => show_between(&mut out, " ", word, "")?,
-                PlainItem::Truncate(word) => show_between(&mut out, " >", word, "")?,
-                PlainItem::Append(word) => show_between(&mut out, " >>", word, "")?,
-            }
-        }
-        out.push(';')?;
-    }
-    Ok(out)
 }

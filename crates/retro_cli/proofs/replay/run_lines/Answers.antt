@@ -11,12 +11,12 @@ step-requires-clause-session c =
 pub loop-line-preserved : goal.loop-line-preserved
 loop-line-preserved c = record {
   runs =
-      runs_next c.loop-line.state c.in_ok-next.next c.in_ok-next.text c.loop-line.outputs.items c.push.new.self.items
+      runs_next c.loop-line.state c.step.new.state c.in_ok-text.text c.loop-line.outputs.items c.push.new.self.items
       c.args.lines.now c.loop-line.line-index c.line-item.result _
-      c.loop-line-test.true c.line-item.is (c.in_ok-next.ensures.means ∙ ap (λ t. line c.line-item.result.sid t
+      c.loop-line-test.true c.line-item.is (c.in_ok-text.ensures.means ∙ ap (λ t. line c.line-item.result.sid t
       c.loop-line.state) c.as_str.ensures) c.in_ok-push.ensures.items c.loop-line.invariant.runs;
-  lawful = c.in_ok-next.ensures.lawful;
+  lawful = c.in_ok-text.ensures.lawful;
   known =
-      sessions_after c.loop-line.state c.in_ok-next.next c.args.lines.now c.loop-line.line-index c.line-item.result
-      c.loop-line-test.true c.line-item.is c.in_ok-next.ensures.sessions c.loop-line.invariant.known;
+      sessions_after c.loop-line.state c.step.new.state c.args.lines.now c.loop-line.line-index c.line-item.result
+      c.loop-line-test.true c.line-item.is c.in_ok-text.ensures.sessions c.loop-line.invariant.known;
 }
