@@ -1,11 +1,25 @@
-//! Scripts: a first state, and the lines that sessions run from it.
+//! Scripts, and recordings of them.
 //!
-//! The type [`Script`] keeps that its first state is lawful, that its line numbers are at least 1
-//! and rise, and that each line's session exists in the first state.
+//! A [`Script`] is a first state, and the lines that sessions run from it. The type keeps that the
+//! first state is lawful, that line numbers are at least 1 and rise, and that each line's session
+//! exists in the first state.
+//!
+//! A [`Recording`] has for each line a [`Noted`]: the notes of what the line read and changed, and
+//! what it printed. [`keep`] and [`keep_alone`] run the lines of a script in order and record them.
+//! [`Recording::new`] makes a recording of parts, or refuses them.
 //!
 //! If allocation fails, calls return `NoMem` and leave their arguments unchanged.
 #![tactic(auto)]
 
+mod laws;
+mod noted;
+mod recorder;
+mod recording;
+mod requirements;
 mod script;
 
+pub use laws::recordings_run_their_scripts;
+pub use noted::Noted;
+pub use recorder::{keep, keep_alone};
+pub use recording::Recording;
 pub use script::{EditFault, LinesFault, Script, ScriptFault, ScriptLine};

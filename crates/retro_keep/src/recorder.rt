@@ -1,0 +1,129 @@
+//! Running a script's lines one by one, and recording them.
+ghost use Rattle.std.specs.Prelude.{◌≡◌, ◌++◌, ◌∷◌, [], IfOk, IsTrue, List, OnOk, map};
+ghost use Rattle.std.specs.FinMap as map_of;
+ghost use Rattle.retro_tree.specs.Lawful.{IsLawful};
+ghost use Rattle.retro_tree.specs.declared.state.State.{State as StateValue};
+ghost use Rattle.retro_keep.specs.Recording.{IsRecordingOf, recorded_outcome};
+ghost use Rattle.retro_keep.specs.Recorder.{HasRecorded, text_of};
+ghost use Rattle.retro_keep.specs.Runs.{outcome};
+ghost use Rattle.retro_keep.specs.declared.script.ScriptLine.{ScriptLine as ScriptLineValue};
+
+use crate::noted::Noted;
+use crate::recording::Recording;
+use crate::script::{Script, ScriptLine};
+use rayon::prelude::*;
+use retro_shell::{apply_notes, run_parsed};
+use retro_syntax::Parsed;
+use retro_tree::{NoMem, State};
+use std::alloc::Global;
+use std::thread::Threads;
+
+/// The lines that were run so far, and the state after them.
+#[derive(Drop)]
+struct Recorder {
+    lines: Vec<(u32, Noted)>,
+    state: State,
+}
+
+impl Recorder {
+    /// Returns the recorder of a script's lines, before the first of them.
+    fn new(alloc: Global, script: &Script) -> Result<Recorder, NoMem>
+        ensures { IfOk result (λ recorder.
+            HasRecorded [] script.now.first recorder.lines.items recorder.state) }
+    {
+        Ok(Recorder {
+            lines: Vec::with_capacity(alloc, script.lines().len())?,
+            state: script.first().copy()?,
+        })
+    }
+
+    /// Runs a line, which is given parsed, and records it.
+    fn record(&mut self, alloc: Global, line: &ScriptLine, parsed: &Parsed) -> Result<(), NoMem>
+        requires text { parsed.now ≡ line.now.text }
+        requires lawful { IsLawful self.old.state }
+        requires session { IsTrue (map_of.contains_key self.old.state.sessions line.now.sid) }
+        ensures { OnOk result ((first : StateValue) (done : List ScriptLineValue)
+            → HasRecorded done first self.old.lines.items self.old.state
+            → HasRecorded (done ++ line.now ∷ []) first self.new.lines.items self.new.state) }
+    {
+        let run = run_parsed(alloc, &self.state, line.sid, parsed)?;
+        let (text, notes, output) = run.into_parts();
+        apply_notes(alloc, &notes, &mut self.state)?;
+        let noted = Noted {
+            sid: line.sid,
+            text,
+            notes,
+            output,
+        };
+        self.lines.push((line.number, noted))?;
+        Ok(())
+    }
+
+    /// Returns the recording of a script whose lines were all recorded.
+    fn finish(self, script: &Script) -> Result<Recording, NoMem>
+        requires { HasRecorded script.now.lines script.now.first self.lines.items self.state }
+        ensures recording { IfOk result (λ r. IsRecordingOf script.now r) }
+        ensures outcome { IfOk result (λ r.
+            outcome script.now.lines script.now.first ≡ recorded_outcome r) }
+    {
+        let first = script.first().copy()?;
+        let Recorder { lines, state } = self;
+        Ok(Recording::of(first, lines, state))
+    }
+}
+
+/// Parses the texts of lines, in order, in as many threads as there are processors.
+fn parse_lines<T: Threads + Sync>(
+    rt: &T,
+    alloc: Global,
+    lines: &[ScriptLine],
+) -> Result<Vec<Parsed>, NoMem>
+    ensures { IfOk result (λ parsed. parsed.items ≡ map text_of lines.now) }
+{
+    lines
+        .par_iter()
+        .with_min_len(1)
+        .map(
+            |line: &ScriptLine| -> Result<Parsed, NoMem>
+                ensures { IfOk result (λ parsed. parsed ≡ line.now.text) }
+            { parse_line(alloc, line) },
+        )
+        .collect::<Result<Vec<Parsed>, NoMem>>(rt, alloc)?
+}
+
+/// Parses the text of a line.
+fn parse_line(alloc: Global, line: &ScriptLine) -> Result<Parsed, NoMem>
+    ensures { IfOk result (λ parsed. parsed ≡ line.now.text) }
+{
+    Parsed::of(alloc, String::from_str(alloc, line.text.as_str())?)
+}
+
+/// Records a script: parses the texts of its lines in parallel, and runs the lines in order.
+pub fn keep<T: Threads + Sync>(rt: &T, alloc: Global, script: &Script) -> Result<Recording, NoMem>
+    ensures recording { IfOk result (λ r. IsRecordingOf script.now r) }
+    ensures outcome { IfOk result (λ r.
+        outcome script.now.lines script.now.first ≡ recorded_outcome r) }
+{
+    let lines = script.lines();
+    let parsed = parse_lines(rt, alloc, lines)?;
+    let mut recorder = Recorder::new(alloc, script)?;
+    for (index, line) in lines.iter().enumerate() {
+        recorder.record(alloc, line, &parsed[index])?;
+    }
+    recorder.finish(script)
+}
+
+/// Records a script on one thread, as [`keep`] does: parses and runs its lines one by one.
+pub fn keep_alone(alloc: Global, script: &Script) -> Result<Recording, NoMem>
+    ensures recording { IfOk result (λ r. IsRecordingOf script.now r) }
+    ensures outcome { IfOk result (λ r.
+        outcome script.now.lines script.now.first ≡ recorded_outcome r) }
+{
+    let lines = script.lines();
+    let mut recorder = Recorder::new(alloc, script)?;
+    for line in lines {
+        let parsed = parse_line(alloc, line)?;
+        recorder.record(alloc, line, &parsed)?;
+    }
+    recorder.finish(script)
+}

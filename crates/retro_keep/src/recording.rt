@@ -1,0 +1,122 @@
+//! Recordings.
+ghost use Rattle.std.specs.Prelude.{◌≡◌, ◌↔◌, IfOk, IfSome, IsTrue, is_some};
+ghost use Rattle.std.specs.Option.{option_copied};
+ghost use Rattle.retro_keep.specs.Recording.{IsWellFormed, last_state, noted_at};
+
+use crate::noted::Noted;
+use crate::requirements::{are_parts, make_changes};
+use retro_tree::{NoMem, State};
+use std::alloc::Global;
+use std::marker::Model;
+
+/// A first state, and the lines that were run from it, each with its notes and its output.
+///
+/// The first state is lawful, line numbers are at least 1 and rise, each line's session exists and
+/// is the only one that its notes name, each noted answer is of its query's kind, and each noted
+/// change is lawful where it is made. Whether the notes are those of the line isn't known: a
+/// recording can be read from a document. [`keep`](crate::keep) makes one whose notes are.
+#[derive(Drop)]
+pub struct Recording {
+    first: State,
+    lines: Vec<(u32, Noted)>,
+    last: State,
+}
+
+impl Model for Recording {
+    ghost use Rattle.retro_keep.specs.Recording.{RecordingValue};
+    ghost use Rattle.retro_keep.specs.RecordingCode.{IsKept, coded_recording};
+
+    ghost Value = { RecordingValue };
+
+    ghost coded = { coded_recording };
+
+    ghost view = { λ r. record { first = r.first; lines = r.lines.items } };
+
+    ghost invariant = { λ r. IsKept (record { first = r.first; lines = r.lines.items }) r.last };
+}
+
+impl Recording {
+    /// Returns the recording of these parts, or `None` if they aren't one: if the first state isn't
+    /// lawful, numbers don't rise from 1 on, a line's session doesn't exist or isn't that of its
+    /// notes, an answer isn't of its query's kind, or a change isn't lawful where it is made.
+    pub fn new(
+        alloc: Global,
+        first: State,
+        lines: Vec<(u32, Noted)>,
+    ) -> Result<Option<Recording>, NoMem>
+        ensures value { IfOk result (λ found. IfSome found (λ r.
+            r ≡ record { first = first; lines = lines.items })) }
+        ensures exact { IfOk result (λ found. IsTrue (is_some found)
+            ↔ IsWellFormed (record { first = first; lines = lines.items })) }
+    {
+        let mut first = first;
+        if !first.validate(alloc)? || !are_parts(&first, &lines) {
+            return Ok(None);
+        }
+        let mut last = first.copy()?;
+        if !make_changes(alloc, &lines, &mut last)? {
+            return Ok(None);
+        }
+        Ok(Some(Recording { first, lines, last }))
+    }
+
+    /// Makes a recording of parts that are one, with its last state. Takes no memory.
+    pub(crate) fn of(first: State, lines: Vec<(u32, Noted)>, last: State) -> Recording
+        requires well_formed { IsWellFormed (record { first = first; lines = lines.items }) }
+        requires last { last ≡ last_state lines.items first }
+        ensures { result ≡ record { first = first; lines = lines.items } }
+    {
+        Recording { first, lines, last }
+    }
+
+    /// Returns the state before the first line.
+    pub fn first(&self) -> &State
+        ensures value { result.now ≡ self.now.first }
+        ensures well_formed { IsWellFormed self.now }
+    {
+        &self.first
+    }
+
+    /// Returns the lines with their numbers, in order.
+    pub fn lines(&self) -> &[(u32, Noted)]
+        ensures value { result.now ≡ self.now.lines }
+        ensures well_formed { IsWellFormed self.now }
+    {
+        self.lines.as_slice()
+    }
+
+    /// Returns what the line with a number noted, or `None` if no line has the number. Searches by
+    /// halves.
+    pub fn run_of(&self, number: u32) -> Option<&Noted>
+        ensures value { option_copied result ≡ noted_at number self.now.lines }
+        ensures well_formed { IsWellFormed self.now }
+    {
+        match self
+            .lines
+            .as_slice()
+            .binary_search_by_key(&number, |line| line.0)
+        {
+            Ok(index) => Some(&self.lines[index].1),
+            Err(_) => None,
+        }
+    }
+
+    /// Returns the state after the changes of all lines.
+    pub fn last(&self) -> &State
+        ensures value { result.now ≡ last_state self.now.lines self.now.first }
+        ensures well_formed { IsWellFormed self.now }
+    {
+        &self.last
+    }
+
+    /// Returns the first state, the lines and the last state. Takes no memory.
+    pub fn into_parts(self) -> (State, Vec<(u32, Noted)>, State)
+        ensures first { result.0 ≡ self.first }
+        ensures lines { result.1.items ≡ self.lines }
+        ensures last { result.2 ≡ last_state self.lines self.first }
+        ensures well_formed { IsWellFormed self }
+    {
+        let Recording { first, lines, last } = self;
+        (first, lines, last)
+    }
+}
