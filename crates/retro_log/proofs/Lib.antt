@@ -5,3 +5,17 @@ pub mod Keyed
 pub mod Limits
 pub mod Entries
 pub mod Floats
+pub mod Worst
+pub mod Fits
+pub mod Changes
+pub mod Listed
+pub mod KeyedTrip
+pub mod PathTrip
+pub mod TreeTrip
+pub mod SessionsTrip
+pub mod NotesTrip
+pub mod LogTrip
+pub mod LogShape
+pub mod Newline
+pub mod RecordedLimits
+pub mod ReadLimits

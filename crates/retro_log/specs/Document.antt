@@ -1,24 +1,28 @@
--- Which script a document is, or its first refusal (RFC 8259 for the JSON text).
+-- Which script or which recording a document is, or its first refusal (RFC 8259 for the JSON text).
 use Rattle.std.specs.Prelude.{ℕ, ◌==◌, List, [], ◌∷◌, Bool, true, ◌&&◌, Option, None, Result, Ok, Err, bytes_eq, codes}
-use Rattle.std.specs.Prelude.{if◌then◌else◌, ok_or, ⊤}
-use Rattle.std.specs.List.{list_any}
+use Rattle.std.specs.Prelude.{if◌then◌else◌, is_some, map, ok_or, ⊤}
+use Rattle.std.specs.List.{list_all, list_any}
 use Rattle.std.specs.Str.{is_utf8}
 use Rattle.serde_json.specs.Data.{Data, Members, no_members, member}
 use Rattle.serde_json.specs.Read.{read}
 use Rattle.serde_json.specs.Find.{get, as_object}
 use Rattle.retro_tree.specs.declared.state.State.{State}
-use Rattle.retro_keep.specs.Script.{ScriptValue, script_of_lines}
+use Rattle.retro_keep.specs.Recording.{RecordingValue, number_in, sid_in}
+use Rattle.retro_keep.specs.Script.{ScriptValue, have_sessions, rises_from, script_of_lines}
+use Rattle.retro_keep.specs.declared.noted.Noted.{Noted}
 use Rattle.retro_keep.specs.declared.script.LinesFault.{LinesFault}
 use Rattle.retro_keep.specs.declared.script.LinesFault.TheVariants as lines_faults
 use Rattle.retro_log.specs.declared.fault.Part.TheVariants.{Document, Version}
 use Rattle.retro_log.specs.declared.fault.Refusal.{Refusal}
-use Rattle.retro_log.specs.declared.fault.Refusal.TheVariants.{NumbersNotRising, UnknownSession, NotJson, WrongShape}
-use Rattle.retro_log.specs.declared.fault.Refusal.TheVariants.{UnknownKey, BadVersion}
+use Rattle.retro_log.specs.declared.fault.Refusal.TheVariants.{NumbersNotRising, UnknownSession, LawlessTree, NotJson}
+use Rattle.retro_log.specs.declared.fault.Refusal.TheVariants.{WrongShape, UnknownKey, BadVersion}
 use Rattle.retro_log.specs.Steps.{◌>>=◌, guard}
 use Rattle.retro_log.specs.Shape.{Text, unsigned_in}
 use Rattle.retro_log.specs.TreePart.{tree_of}
 use Rattle.retro_log.specs.SessionsPart.{sessions_of}
 use Rattle.retro_log.specs.LinesPart.{lines_of}
+use Rattle.retro_log.specs.LogLinesPart.{log_lines_of}
+use Rattle.retro_log.specs.Allowed.{are_lines_allowed}
 
 -- ---- documents: an object with some keys, and a version
 
@@ -36,6 +40,9 @@ only_keys keys d = do
   members ← ok_or (as_object d) (WrongShape Document)
   guard (has_keys (is_key keys) members) UnknownKey
 
+abbrev pub has_member : Data → Text → Bool
+has_member d k = is_some (get k d)
+
 -- the value at a key; at a doubled key the last value, as `serde_json` reads it
 abbrev pub member_at : Text → Data → Result Data Refusal
 member_at k d = ok_or (get k d) (WrongShape Document)
@@ -45,17 +52,22 @@ version_is wanted d = do
   version ← ok_or (unsigned_in d) (WrongShape Version)
   guard (version == wanted) BadVersion
 
+-- a document of one kind: an object with these keys, no others, and this version at one of them
+abbrev pub has_form : List Text → Text → ℕ → Data → Result ⊤ Refusal
+has_form keys kind wanted d = do
+  known ← only_keys keys d
+  whole ← guard (list_all (has_member d) keys) (WrongShape Document)
+  version ← member_at kind d
+  version_is wanted version
+
 -- the JSON value that the bytes are, as UTF-8
 abbrev pub json_of : List ℕ → Option Data
 json_of bytes = if is_utf8 bytes then read bytes else None
 
--- ---- scripts
+-- ---- the parts that scripts and logs have
 
-abbrev pub script_keys : List Text
-script_keys = codes "script" ∷ codes "tree" ∷ codes "sessions" ∷ codes "lines" ∷ []
-
-abbrev pub script_version : ℕ
-script_version = 1
+abbrev pub part_keys : List Text
+part_keys = codes "tree" ∷ codes "sessions" ∷ codes "lines" ∷ []
 
 -- a state, of its two parts
 abbrev pub state_of : Data → Data → Result State Refusal
@@ -63,6 +75,20 @@ state_of tree_data sessions_data = do
   tree ← tree_of tree_data
   sessions ← sessions_of sessions_data
   Ok (record { tree = tree; sessions = sessions })
+
+abbrev pub first_of : Data → Result State Refusal
+first_of d = do
+  tree_data ← member_at (codes "tree") d
+  sessions_data ← member_at (codes "sessions") d
+  state_of tree_data sessions_data
+
+-- ---- scripts
+
+abbrev pub script_keys : List Text
+script_keys = codes "script" ∷ part_keys
+
+abbrev pub script_version : ℕ
+script_version = 1
 
 abbrev pub lines_refusal : LinesFault → Refusal
 lines_refusal lines_faults.NumbersNotRising = NumbersNotRising
@@ -74,13 +100,9 @@ with_refusal (Err fault) = Err (lines_refusal fault)
 
 unfoldable pub script_of : Data → Result ScriptValue Refusal
 script_of d = do
-  known ← only_keys script_keys d
-  version ← member_at (codes "script") d
-  tree_data ← member_at (codes "tree") d
-  sessions_data ← member_at (codes "sessions") d
+  form ← has_form script_keys (codes "script") script_version d
+  first ← first_of d
   lines_data ← member_at (codes "lines") d
-  first_version ← version_is script_version version
-  first ← state_of tree_data sessions_data
   lines ← lines_of lines_data
   with_refusal (script_of_lines first lines)
 
@@ -89,3 +111,38 @@ unfoldable pub script_in : List ℕ → Result ScriptValue Refusal
 script_in bytes = do
   d ← ok_or (json_of bytes) NotJson
   script_of d
+
+-- ---- logs
+
+abbrev pub log_keys : List Text
+log_keys = codes "log" ∷ part_keys
+
+abbrev pub log_version : ℕ
+log_version = 1
+
+-- the recording of a first state and lines; noted answers aren't compared with the states
+unfoldable pub recording_of : State → List (ℕ × Noted) → Result RecordingValue Refusal
+recording_of first lines = do
+  rising ← guard (rises_from 0 (map number_in lines)) NumbersNotRising
+  known ← guard (have_sessions first (map sid_in lines)) UnknownSession
+  lawful ← guard (are_lines_allowed lines first) LawlessTree
+  Ok (record { first = first; lines = lines })
+
+unfoldable pub log_parts_of : Data → Result (State × List (ℕ × Noted)) Refusal
+log_parts_of d = do
+  form ← has_form log_keys (codes "log") log_version d
+  first ← first_of d
+  lines_data ← member_at (codes "lines") d
+  lines ← log_lines_of lines_data
+  Ok (first, lines)
+
+unfoldable pub log_of : Data → Result RecordingValue Refusal
+log_of d = do
+  (first, lines) ← log_parts_of d
+  recording_of first lines
+
+-- the recording that the bytes are
+unfoldable pub log_in : List ℕ → Result RecordingValue Refusal
+log_in bytes = do
+  d ← ok_or (json_of bytes) NotJson
+  log_of d

@@ -8,13 +8,17 @@ use Rattle.retro_log.specs.declared.fault.Refusal.TheVariants.{WrongShape}
 use Rattle.retro_log.specs.Steps.{◌>>=◌, each, guard}
 use Rattle.retro_log.specs.Shape.{cells, text_in, u32_in}
 
-abbrev pub line_cells : List Data → Result ScriptLine Refusal
-line_cells (n ∷ s ∷ t ∷ []) = do
+-- what a line of a script or of a log begins with
+abbrev pub head_of : Data → Data → Data → Result ScriptLine Refusal
+head_of n s t = do
   number ← u32_in Lines n
   counted ← guard (nat_lt 0 number) (WrongShape Lines)
   sid ← u32_in Lines s
   text ← text_in Lines t
   Ok (record { number = number; sid = sid; text = text })
+
+abbrev pub line_cells : List Data → Result ScriptLine Refusal
+line_cells (n ∷ s ∷ t ∷ []) = head_of n s t
 line_cells _ = Err (WrongShape Lines)
 
 unfoldable pub line_of : Data → Result ScriptLine Refusal

@@ -17,3 +17,8 @@ FailsAs e read = IsMeant (refused e) read
 -- the result, seen by `view`, is what reading gives, unless memory ran out
 abbrev pub ReadsAs : {X Y : Type 0} → (X → Y) → Result X LogFault → Result Y Refusal → Type 0
 ReadsAs view result read = UnlessOutOfMemory (λ x. Ok (view x)) refused result read
+
+-- a value seen by `view`, or the refusal
+abbrev pub seen : {X Y : Type 0} → (X → Y) → Result X Refusal → Result Y Refusal
+seen view (Ok x) = Ok (view x)
+seen view (Err refusal) = Err refusal

@@ -30,7 +30,8 @@ pub enum Refusal {
     NumbersNotRising,
     /// A line's session is missing among the sessions.
     UnknownSession,
-    /// The directories and files don't make a tree.
+    /// The directories and files don't make a tree, or a change of a log isn't lawful where it is
+    /// made.
     LawlessTree,
     /// A name, a file or a variable's value is too long.
     OverLimit,
@@ -88,6 +89,14 @@ impl<T: Drop> From<AllocFailed<T>> for LogFault {
 
     fn from(_error: AllocFailed<T>) -> LogFault {
         LogFault::NoMem
+    }
+}
+
+impl From<Refusal> for LogFault {
+    ghost from_gives = { λ refusal fault. fault ≡ faults.Refused refusal };
+
+    fn from(refusal: Refusal) -> LogFault {
+        LogFault::Refused(refusal)
     }
 }
 

@@ -1,35 +1,58 @@
 //! Reading the lines of a script.
-ghost use Rattle.std.specs.Prelude.{◌≡◌, map};
+ghost use Rattle.std.specs.Prelude.{◌≡◌, map, IfOk};
 ghost use Rattle.serde_json.specs.View.{view};
-ghost use Rattle.retro_log.specs.ReadsAs.{ReadsAs};
+ghost use Rattle.retro_log.specs.ReadsAs.{ReadsAs, seen};
 ghost use Rattle.retro_log.specs.Steps.{each};
-ghost use Rattle.retro_log.specs.LinesPart.{line_of, lines_of};
+ghost use Rattle.retro_log.specs.LinesPart.{head_of, line_of, lines_of};
 
 use crate::fault::{LogFault, Part, Refusal};
 use crate::reading::shape::{cells, text, u32_in};
+use crate::reading::worst::Judged;
 use retro_keep::ScriptLine;
-use retro_tree::Text;
+use retro_tree::{NoMem, Text};
 use serde_json::Value;
 use std::alloc::Global;
+
+/// The number of a line, its session and its text.
+fn head_parts<'v>(number: &Value, sid: &Value, text_value: &'v Value) -> Judged<(u32, u32, &'v str)>
+    ensures { head_of (view number.now) (view sid.now) (view text_value.now)
+        ≡ seen (λ h. record { number = h.0; sid = h.1; text = h.2.now }) result }
+{
+    let number = u32_in(Part::Lines, number)?;
+    if number == 0 {
+        return Err(Refusal::WrongShape(Part::Lines));
+    }
+    let sid = u32_in(Part::Lines, sid)?;
+    let text = text(Part::Lines, text_value)?;
+    Ok((number, sid, text))
+}
+
+/// What a line of a script or of a log begins with.
+pub fn read_head(
+    alloc: Global,
+    number: &Value,
+    sid: &Value,
+    text: &Value,
+) -> Result<Judged<ScriptLine>, NoMem>
+    ensures { IfOk result (λ head. head
+        ≡ head_of (view number.now) (view sid.now) (view text.now)) }
+{
+    match head_parts(number, sid, text) {
+        Ok((number, sid, text)) => Ok(Ok(ScriptLine {
+            number,
+            sid,
+            text: Text::of(String::from_str(alloc, text)?),
+        })),
+        Err(refusal) => Ok(Err(refusal)),
+    }
+}
 
 #[tactic(auto, unfolding(crate::specs::LinesPart::line_of))]
 fn read_line(alloc: Global, value: &Value) -> Result<ScriptLine, LogFault>
     ensures { ReadsAs (λ line. line) result (line_of (view value.now)) }
 {
     match cells(Part::Lines, value)? {
-        [number_value, sid, text_value] => {
-            let line_number = u32_in(Part::Lines, number_value)?;
-            if line_number == 0 {
-                return Err(LogFault::Refused(Refusal::WrongShape(Part::Lines)));
-            }
-            let sid = u32_in(Part::Lines, sid)?;
-            let text = text(Part::Lines, text_value)?;
-            Ok(ScriptLine {
-                number: line_number,
-                sid,
-                text: Text::of(String::from_str(alloc, text)?),
-            })
-        }
+        [number, sid, text] => Ok(read_head(alloc, number, sid, text)??),
         _ => Err(LogFault::Refused(Refusal::WrongShape(Part::Lines))),
     }
 }

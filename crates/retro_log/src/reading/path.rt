@@ -3,12 +3,12 @@ ghost use Rattle.std.specs.Prelude.{◌≡◌, ◌==◌, true, [], map, IfOk, If
 ghost use Rattle.std.specs.Option.{unwrap_or};
 ghost use Rattle.std.specs.List.{list_all, slice_split};
 ghost use Rattle.serde_json.specs.View.{view};
-ghost use Rattle.retro_log.specs.ReadsAs.{ReadsAs};
 ghost use Rattle.retro_log.specs.PathText.{is_written_name, is_short_name, names_of_parts, path_of};
 ghost use Rattle.retro_log.specs.PathText.{path_in};
 
-use crate::fault::{LogFault, Part, Refusal};
+use crate::fault::{Part, Refusal};
 use crate::reading::shape::text;
+use crate::reading::worst::Judged;
 use retro_tree::{NAME_LIMIT, NoMem, Path};
 use serde_json::Value;
 use std::alloc::Global;
@@ -21,7 +21,7 @@ const NUL: u8 = 0;
 
 /// Whether a text may be written as a name in a path.
 #[tactic(auto, unfolding(crate::specs::PathText::is_written_name))]
-fn is_written_name(name: &str) -> bool
+pub fn is_written_name(name: &str) -> bool
     ensures { result ≡ is_written_name name.now }
 {
     !name.is_empty()
@@ -100,13 +100,17 @@ fn path_of(alloc: Global, names: &[&str]) -> Result<Option<Path>, NoMem>
 
 /// The path that a text names, or `None` if a name is too long.
 #[tactic(auto, unfolding(crate::specs::PathText::path_in, crate::specs::PathText::names_in))]
-pub fn path_in(alloc: Global, part: Part, value: &Value) -> Result<Option<Path>, LogFault>
-    ensures { ReadsAs (λ path. path) result (path_in part (view value.now)) }
+pub fn path_in(alloc: Global, part: Part, value: &Value) -> Result<Judged<Option<Path>>, NoMem>
+    ensures { IfOk result (λ path. path ≡ path_in part (view value.now)) }
 {
-    let parts = split_path(alloc, text(part, value)?)?;
+    let text = match text(part, value) {
+        Ok(text) => text,
+        Err(refusal) => return Ok(Err(refusal)),
+    };
+    let parts = split_path(alloc, text)?;
     match names_of_parts(parts.as_slice()) {
-        Some(names) => Ok(path_of(alloc, names)?),
-        None => Err(LogFault::Refused(Refusal::WrongShape(part))),
+        Some(names) => Ok(Ok(path_of(alloc, names)?)),
+        None => Ok(Err(Refusal::WrongShape(part))),
     }
 }
 

@@ -104,7 +104,7 @@ fn read_row(alloc: Global, value: &Value) -> Result<SessionRow, LogFault>
     match cells(Part::Sessions, value)? {
         [sid, cwd, status, values] => {
             let sid = u32_in(Part::Sessions, sid)?;
-            let cwd = path_in(alloc, Part::Sessions, cwd)?;
+            let cwd = path_in(alloc, Part::Sessions, cwd)??;
             let status = u8_in(Part::Sessions, status)?;
             let vars = read_var_map(alloc, values)?;
             Ok(SessionRow {

@@ -1,5 +1,5 @@
 //! Reading the tree.
-ghost use Rattle.std.specs.Prelude.{◌≡◌, ◌∷◌, Some, Ok, map, IfOk, option_map, true};
+ghost use Rattle.std.specs.Prelude.{◌≡◌, ◌∷◌, Some, map, IfOk, option_map, true};
 ghost use Rattle.std.specs.List.{list_all};
 ghost use Rattle.std.specs.FinMap as map;
 ghost use Rattle.std.specs.Option.{unwrap_or};
@@ -11,16 +11,16 @@ ghost use Rattle.serde_json.specs.View.{view};
 ghost use Rattle.retro_log.specs.Keyed.{map_of};
 ghost use Rattle.retro_log.specs.ReadsAs.{ReadsAs};
 ghost use Rattle.retro_log.specs.Steps.{each};
-ghost use Rattle.retro_log.specs.TreePart.{bytes_in, file_in, entry_fits, has_entry};
+ghost use Rattle.retro_log.specs.TreePart.{file_in, entry_fits, has_entry};
 ghost use Rattle.retro_log.specs.TreePart.{is_within_limits, path_entry, root_entry, row_of};
 ghost use Rattle.retro_log.specs.TreePart.{tree_of};
 ghost use Rattle.retro_log.specs.Views.{row_view};
 
 use crate::fault::{LogFault, Part, Refusal};
+use crate::reading::hex_text::bytes_in;
 use crate::reading::path::{path_in, path_or_root};
 use crate::reading::shape::{cells, text};
-use hex::FromHexError;
-use retro_tree::{Bytes, Entry, FILE_LIMIT, NoMem, Node, Path, State};
+use retro_tree::{Entry, FILE_LIMIT, NoMem, Node, Path, State};
 use serde_json::Value;
 use std::alloc::Global;
 
@@ -32,20 +32,9 @@ pub struct Row {
     pub entry: Option<Entry>,
 }
 
-/// The bytes that hex digits of either case encode, or `None` if they are bad.
-fn bytes_in(alloc: Global, hex: &str) -> Result<Option<Bytes>, LogFault>
-    ensures { ReadsAs (λ bytes. bytes) result (Ok (bytes_in hex.now)) }
-{
-    match hex::decode(alloc, hex) {
-        Ok(bytes) => Ok(Some(Bytes::of(bytes))),
-        Err(FromHexError::OutOfMemory) => Err(LogFault::NoMem),
-        Err(_) => Ok(None),
-    }
-}
-
 /// The file whose bytes hex digits encode, or `None` if they are bad.
-fn file_in(alloc: Global, hex: &str) -> Result<Option<Entry>, LogFault>
-    ensures { ReadsAs (λ entry. entry) result (Ok (file_in hex.now)) }
+fn file_in(alloc: Global, hex: &str) -> Result<Option<Entry>, NoMem>
+    ensures { IfOk result (λ entry. entry ≡ file_in hex.now) }
 {
     match bytes_in(alloc, hex)? {
         Some(bytes) => Ok(Some(Entry::File(bytes))),
@@ -59,11 +48,11 @@ fn read_row(alloc: Global, value: &Value) -> Result<Row, LogFault>
 {
     match cells(Part::Tree, value)? {
         [path] => Ok(Row {
-            path: path_in(alloc, Part::Tree, path)?,
+            path: path_in(alloc, Part::Tree, path)??,
             entry: Some(Entry::Dir),
         }),
         [path, hex] => {
-            let path = path_in(alloc, Part::Tree, path)?;
+            let path = path_in(alloc, Part::Tree, path)??;
             let entry = file_in(alloc, text(Part::Tree, hex)?)?;
             Ok(Row { path, entry })
         }

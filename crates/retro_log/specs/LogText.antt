@@ -1,0 +1,28 @@
+-- The texts of logs.
+use Rattle.std.specs.Prelude.{ℕ, List, [], ◌∷◌, ◌++◌, map, codes}
+use Rattle.serde_json.specs.Data.{Data, string, object, no_members, member}
+use Rattle.serde_json.specs.Written.{compact_text}
+use Rattle.retro_keep.specs.Recording.{RecordingValue}
+use Rattle.retro_keep.specs.declared.noted.Noted.{Noted}
+use Rattle.retro_log.specs.Values.{array_of, number_data, hex_data, tree_data, sessions_data}
+use Rattle.retro_log.specs.NoteValues.{notes_data}
+
+-- `[number,sid,text,notes,"hex"]`, where the hex is what the line printed
+unfoldable pub line_data : ℕ × Noted → Data
+line_data l = array_of
+    (number_data l.0 ∷ number_data l.1.sid ∷ string l.1.text ∷ notes_data l.1.notes ∷ hex_data l.1.output ∷ [])
+
+unfoldable pub lines_data : List (ℕ × Noted) → Data
+lines_data lines = array_of (map line_data lines)
+
+-- `{"lines":..,"log":1,"sessions":..,"tree":..}`, with the keys in byte order
+unfoldable pub log_data : RecordingValue → Data
+log_data r = object
+    (member (codes "lines") (lines_data r.lines)
+    (member (codes "log") (number_data 1)
+    (member (codes "sessions") (sessions_data r.first.sessions)
+    (member (codes "tree") (tree_data r.first.tree) no_members))))
+
+-- a log: compact, with a newline at the end
+unfoldable pub log_text : RecordingValue → List ℕ
+log_text r = compact_text (log_data r) ++ codes "\n"

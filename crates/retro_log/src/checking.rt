@@ -1,0 +1,44 @@
+//! Checking that a recording is one of its lines.
+ghost use Rattle.std.specs.Prelude.{◌≡◌, IfOk, IsTrue, true};
+ghost use Rattle.std.specs.FinMap as map;
+ghost use Rattle.retro_tree.specs.Lawful.{IsLawful};
+ghost use Rattle.retro_tree.specs.Notes.{after};
+ghost use Rattle.retro_keep.specs.Recording.{IsRecorded, IsRecordingOf, script_in};
+
+use retro_keep::{Noted, Recording};
+use retro_shell::{apply_notes, run_line};
+use retro_tree::{NoMem, State};
+use std::alloc::Global;
+
+/// Runs each line of a recording in the state before it, and returns whether each notes and prints
+/// just what the recording has. If so, it is a recording of the script that its lines are.
+pub fn check(alloc: Global, recording: &Recording) -> Result<bool, NoMem>
+    ensures { IfOk result (λ yes. yes ≡ true
+        → IsRecordingOf (script_in recording.now) recording.now) }
+{
+    let mut state = recording.first().copy()?;
+    for line in recording.lines() {
+        if !runs_as_noted(alloc, &mut state, &line.1)? {
+            return Ok(false);
+        }
+    }
+    Ok(true)
+}
+
+/// Runs a line in a state, and returns whether it notes and prints just what is noted. Makes the
+/// noted changes then.
+#[tactic(auto, using(retro_shell::proofs::Sessions::after_notes))]
+fn runs_as_noted(alloc: Global, state: &mut State, noted: &Noted) -> Result<bool, NoMem>
+    requires lawful { IsLawful state.old }
+    requires session { IsTrue (map.contains_key state.old.sessions noted.now.sid) }
+    ensures recorded { IfOk result (λ yes. yes ≡ true → IsRecorded noted.now state.old) }
+    ensures state { IfOk result (λ yes. yes ≡ true
+        → state.new ≡ after noted.now.notes state.old) }
+{
+    let run = run_line(alloc, &*state, noted.sid, noted.text.as_str())?;
+    if !run.notes().is_same(&noted.notes) || *run.output() != noted.output {
+        return Ok(false);
+    }
+    apply_notes(alloc, &noted.notes, state)?;
+    Ok(true)
+}

@@ -1,0 +1,112 @@
+//! Reading a log's document.
+ghost use Rattle.std.specs.Prelude.{◌≡◌, IfOk, IsTrue, map, Ok};
+ghost use Rattle.std.specs.List.{list_all};
+ghost use Rattle.serde_json.specs.View.{view};
+ghost use Rattle.retro_tree.specs.Lawful.{IsLawful};
+ghost use Rattle.retro_keep.specs.Recording.{is_line_of_kind, is_own_line, number_in, sid_in};
+ghost use Rattle.retro_keep.specs.Script.{have_sessions, rises_from};
+ghost use Rattle.retro_log.specs.ReadsAs.{ReadsAs};
+ghost use Rattle.retro_log.specs.Document.{log_in, log_of, log_parts_of, recording_of};
+
+use crate::fault::{LogFault, Refusal};
+use crate::reading::document::{has_form, json, member, read_first};
+use crate::reading::log_lines::read_log_lines;
+use retro_keep::{Noted, Recording};
+use retro_tree::State;
+use serde_json::Value;
+use std::alloc::Global;
+use std::mem;
+
+/// The keys of a log's document.
+const LOG_KEYS: [&str; 4] = ["log", "tree", "sessions", "lines"];
+
+/// The version of a log's document.
+const LOG_VERSION: u64 = 1;
+
+/// Whether line numbers rise, the first above 0.
+fn are_rising(lines: &[(u32, Noted)]) -> bool
+    ensures { result ≡ rises_from 0 (map number_in lines.now) }
+{
+    let mut last = 0;
+    for line in lines {
+        if line.0 <= last {
+            return false;
+        }
+        last = line.0;
+    }
+    true
+}
+
+/// Whether each line's session is in a state.
+fn have_sessions(state: &State, lines: &[(u32, Noted)]) -> bool
+    ensures { result ≡ have_sessions state.now (map sid_in lines.now) }
+{
+    for line in lines {
+        if !state.has_session(line.1.sid) {
+            return false;
+        }
+    }
+    true
+}
+
+/// The recording of a lawful state and of lines whose notes are their session's, with answers of
+/// their queries' kinds.
+#[tactic(auto, unfolding(crate::specs::Document::recording_of))]
+fn recording_of(
+    alloc: Global,
+    first: State,
+    lines: Vec<(u32, Noted)>,
+) -> Result<Recording, LogFault>
+    requires lawful { IsLawful first }
+    requires own { IsTrue (list_all is_own_line lines.items) }
+    requires of_kind { IsTrue (list_all is_line_of_kind lines.items) }
+    ensures { ReadsAs (λ r. r) result (recording_of first lines.items) }
+{
+    if !are_rising(lines.as_slice()) {
+        return Err(LogFault::Refused(Refusal::NumbersNotRising));
+    }
+    if !have_sessions(&first, lines.as_slice()) {
+        return Err(LogFault::Refused(Refusal::UnknownSession));
+    }
+    match Recording::new(alloc, first, lines)? {
+        Some(recording) => Ok(recording),
+        None => Err(LogFault::Refused(Refusal::LawlessTree)),
+    }
+}
+
+/// The first state, which is lawful, and the lines of a log.
+#[tactic(auto, unfolding(crate::specs::Document::log_parts_of))]
+fn read_parts(alloc: Global, value: &Value) -> Result<(State, Vec<(u32, Noted)>), LogFault>
+    ensures value { ReadsAs (λ parts. (parts.0, parts.1.items)) result
+        (log_parts_of (view value.now)) }
+    ensures lawful { IfOk result (λ parts. IsLawful parts.0) }
+    ensures own { IfOk result (λ parts. IsTrue (list_all is_own_line parts.1.items)) }
+    ensures of_kind { IfOk result (λ parts. IsTrue (list_all is_line_of_kind parts.1.items)) }
+{
+    has_form(&LOG_KEYS, "log", LOG_VERSION, value)?;
+    let first = read_first(alloc, value)?;
+    let lines = read_log_lines(alloc, member(value, "lines")?)??;
+    Ok((first, lines))
+}
+
+/// The recording that the bytes are, or the first refusal in this order:
+///
+/// - the bytes aren't UTF-8, or not one JSON value,
+/// - the value is no object, has a foreign key, or lacks a key (the last value of a doubled key
+///   counts),
+/// - the version is another one,
+/// - the tree and the sessions, as for a script,
+/// - the lines: a wrong shape, then bad hex, then a broken limit, each anywhere in the list,
+/// - numbers don't rise, then a session is missing, then a change isn't lawful in the state that
+///   it meets.
+///
+/// Noted answers aren't compared with the states.
+#[tactic(auto, unfolding(crate::specs::Document::log_in, crate::specs::Document::log_of))]
+pub fn read_log(alloc: Global, bytes: &[u8]) -> Result<Recording, LogFault>
+    ensures { ReadsAs (λ recording. recording) result (log_in bytes.now) }
+{
+    let value = json(alloc, bytes)?;
+    let (first, lines) = read_parts(alloc, &value)?;
+    mem::drop(value);
+    recording_of(alloc, first, lines)
+}

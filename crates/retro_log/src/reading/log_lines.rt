@@ -1,0 +1,89 @@
+//! Reading the lines of a log.
+ghost use Rattle.std.specs.Prelude.{◌≡◌, IfOk, map};
+ghost use Rattle.serde_json.specs.View.{view};
+ghost use Rattle.retro_log.specs.ReadsAs.{seen};
+ghost use Rattle.retro_log.specs.Worst.{every};
+ghost use Rattle.retro_log.specs.LogLinesPart.{log_line_cells, log_line_of, log_lines_of};
+ghost use Rattle.retro_log.specs.LogLinesPart.{with_run};
+
+use crate::fault::{Part, Refusal};
+use crate::reading::fields::hex_field;
+use crate::reading::lines::read_head;
+use crate::reading::notes::notes_field;
+use crate::reading::shape::cells;
+use crate::reading::worst::{Judged, both, with_item};
+use retro_keep::{Noted, ScriptLine};
+use retro_tree::NoMem;
+use serde_json::Value;
+use std::alloc::Global;
+
+/// A line with its notes and its output.
+fn with_run(
+    alloc: Global,
+    head: ScriptLine,
+    notes: &Value,
+    output: &Value,
+) -> Result<Judged<(u32, Noted)>, NoMem>
+    ensures { IfOk result (λ line. line
+        ≡ with_run head (view notes.now) (view output.now)) }
+{
+    let ScriptLine { number, sid, text } = head;
+    match both(notes_field(alloc, sid, notes)?, hex_field(alloc, output)?) {
+        Ok((notes, output)) => {
+            let noted = Noted {
+                sid,
+                text,
+                notes,
+                output,
+            };
+            Ok(Ok((number, noted)))
+        }
+        Err(refusal) => Ok(Err(refusal)),
+    }
+}
+
+fn line_of_cells(alloc: Global, cells: &[Value]) -> Result<Judged<(u32, Noted)>, NoMem>
+    ensures { IfOk result (λ line. line ≡ log_line_cells (map view cells.now)) }
+{
+    match cells {
+        [number, sid, text, notes, output] => match read_head(alloc, number, sid, text)? {
+            Ok(head) => with_run(alloc, head, notes, output),
+            Err(refusal) => Ok(Err(refusal)),
+        },
+        _ => Ok(Err(Refusal::WrongShape(Part::Lines))),
+    }
+}
+
+#[tactic(auto, unfolding(crate::specs::LogLinesPart::log_line_of))]
+fn read_line(alloc: Global, value: &Value) -> Result<Judged<(u32, Noted)>, NoMem>
+    ensures { IfOk result (λ line. line ≡ log_line_of (view value.now)) }
+{
+    match cells(Part::Lines, value) {
+        Ok(cells) => line_of_cells(alloc, cells),
+        Err(refusal) => Ok(Err(refusal)),
+    }
+}
+
+fn read_items(alloc: Global, items: &[Value]) -> Result<Judged<Vec<(u32, Noted)>>, NoMem>
+    ensures { IfOk result (λ lines. seen (λ v. v.items) lines
+        ≡ every log_line_of (map view items.now)) }
+{
+    let mut lines = Ok(Vec::new(alloc));
+    for item in items {
+        let line = read_line(alloc, item)?;
+        lines = with_item(lines, line)?;
+    }
+    Ok(lines)
+}
+
+/// The lines that a value is, whatever their numbers, their sessions and their changes; or the
+/// worst refusal of the whole list.
+#[tactic(auto, unfolding(crate::specs::LogLinesPart::log_lines_of))]
+pub fn read_log_lines(alloc: Global, value: &Value) -> Result<Judged<Vec<(u32, Noted)>>, NoMem>
+    ensures { IfOk result (λ lines. seen (λ v. v.items) lines ≡ log_lines_of (view value.now)) }
+{
+    match cells(Part::Lines, value) {
+        Ok(items) => read_items(alloc, items),
+        Err(refusal) => Ok(Err(refusal)),
+    }
+}

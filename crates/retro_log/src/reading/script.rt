@@ -1,0 +1,48 @@
+//! Reading a script's document.
+ghost use Rattle.std.specs.Prelude.{◌≡◌};
+ghost use Rattle.serde_json.specs.View.{view};
+ghost use Rattle.retro_log.specs.ReadsAs.{ReadsAs};
+ghost use Rattle.retro_log.specs.Document.{script_in, script_of};
+
+use crate::fault::LogFault;
+use crate::reading::document::{has_form, json, member, read_first};
+use crate::reading::lines::read_lines;
+use retro_keep::Script;
+use serde_json::Value;
+use std::alloc::Global;
+
+/// The keys of a script's document.
+const SCRIPT_KEYS: [&str; 4] = ["script", "tree", "sessions", "lines"];
+
+/// The version of a script's document.
+const SCRIPT_VERSION: u64 = 1;
+
+#[tactic(auto, unfolding(crate::specs::Document::script_of))]
+fn read_value(alloc: Global, value: &Value) -> Result<Script, LogFault>
+    ensures { ReadsAs (λ script. script) result (script_of (view value.now)) }
+{
+    has_form(&SCRIPT_KEYS, "script", SCRIPT_VERSION, value)?;
+    let first = read_first(alloc, value)?;
+    let lines = read_lines(alloc, member(value, "lines")?)?;
+    Ok(Script::of_lawful(first, lines)?)
+}
+
+/// The script that the bytes are, or the first refusal in this order:
+///
+/// - the bytes aren't UTF-8, or not one JSON value,
+/// - the value is no object, has a foreign key, or lacks a key (the last value of a doubled key
+///   counts),
+/// - the version is another one,
+/// - the tree: a row has a wrong shape, then bad hex, then breaks a limit, then the law,
+/// - the sessions: a row has a wrong shape or a doubled number, then breaks a limit,
+/// - the lines: a row has a wrong shape, then numbers don't rise, then a session is missing.
+///
+/// Each item is tested over the whole list before the next item. The first state of the script is
+/// known to be lawful.
+#[tactic(auto, unfolding(crate::specs::Document::script_in))]
+pub fn read_script(alloc: Global, bytes: &[u8]) -> Result<Script, LogFault>
+    ensures { ReadsAs (λ script. script) result (script_in bytes.now) }
+{
+    let value = json(alloc, bytes)?;
+    read_value(alloc, &value)
+}
