@@ -1,18 +1,21 @@
 -- What the program does: the first refusal of words and an input, the texts that answer a request, and
 -- what a run leaves. Each command adds a row to `request_refusal` and to `Answered`.
-use Rattle.std.specs.Prelude.{◌≡◌, ℕ, List, Option, Some, None, IsSome, Result, Ok, Err}
+use Rattle.std.specs.Prelude.{◌≡◌, ℕ, List, Option, Some, None, IsSome, IsOk, Result, Ok, Err, codes, option_map}
 use Rattle.std.specs.Result.{result_err}
 use Rattle.std.specs.Io.KnownBytes.{Appends}
 use Rattle.retro_tree.specs.declared.state.State.{State}
 use Rattle.retro_keep.specs.Script.{ScriptValue}
 use Rattle.retro_keep.specs.Edit.{without}
 use Rattle.retro_keep.specs.Runs.{Output, outcome}
-use Rattle.retro_log.specs.Document.{script_in}
+use Rattle.retro_keep.specs.Recording.{RecordingValue, IsRecordingOf}
+use Rattle.retro_keep.specs.Recording as recordings
+use Rattle.retro_log.specs.Document.{script_in, log_in}
+use Rattle.retro_log.specs.LogText.{log_text}
 use Rattle.retro_log.specs.Numbers.{refusal_number}
 use Rattle.retro_log.specs.declared.fault.Refusal.{Refusal}
 use Rattle.retro_cli.specs.Output.{AppendsPart}
 use Rattle.retro_cli.specs.Report.{replay_text}
-use Rattle.retro_cli.specs.Words.{Request, replay, request_in}
+use Rattle.retro_cli.specs.Words.{Request, replay, record_script, check_log, request_in}
 use Rattle.retro_cli.specs.declared.stop.TheConstants.{BAD_WORDS, UNKNOWN_LINE}
 use Rattle.retro_cli.specs.declared.exit.Exit.{Exit}
 use Rattle.retro_cli.specs.declared.exit.Exit.TheVariants as exits
@@ -38,11 +41,41 @@ replay_document cancelled (Err refusal) = Err (refusal_number refusal)
 unfoldable pub replay_answer : List ℕ → Text → Result Text ℕ
 replay_answer cancelled input = replay_document cancelled (script_in input)
 
+-- ---- the log of a script, and the answer to whether a log is a recording
+
+-- a text is the log of a recording of the script that the input is
+pub record IsLogOf (input text : Text) : Type 0 where
+  pub script : ScriptValue
+  pub is_script : script_in input ≡ Ok script
+  pub recording : RecordingValue
+  pub recorded : IsRecordingOf script recording
+  pub is_log : text ≡ log_text recording
+
+-- the input is the log of a recording of its lines
+pub record IsRecordedLog (input : Text) : Type 0 where
+  pub recording : RecordingValue
+  pub is_log : log_in input ≡ Ok recording
+  pub recorded : IsRecordingOf (recordings.script_in recording) recording
+
+-- `yes` only for a recording, and `no` for a log
+abbrev pub IsVerdict : Text → Exit → Text → Type 0
+IsVerdict input exits.Done text = IsRecordedLog input × (text ≡ codes "yes\n")
+IsVerdict input exits.CheckNo text = IsOk (log_in input) × (text ≡ codes "no\n")
+IsVerdict input (exits.Refused number) text = ⊥
+IsVerdict input exits.OutOfMemory text = ⊥
+IsVerdict input exits.ReadFailed text = ⊥
+IsVerdict input exits.WriteFailed text = ⊥
+
 -- ---- refusals
+
+abbrev pub document_refusal : {Y : Type 0} → Result Y Refusal → Option ℕ
+document_refusal document = option_map refusal_number (result_err document)
 
 -- the number of the first refusal of a request about an input
 abbrev pub request_refusal : Request → Text → Option ℕ
 request_refusal (replay cancelled) input = result_err (replay_answer cancelled input)
+request_refusal record_script input = document_refusal (script_in input)
+request_refusal check_log input = document_refusal (log_in input)
 
 abbrev pub refusal_in : Option Request → Text → Option ℕ
 refusal_in None input = Some BAD_WORDS
@@ -56,11 +89,9 @@ refusal_of words input = refusal_in (request_in words) input
 
 -- whether a text answers a request about an input, and the program ends so once it is written
 abbrev pub Answered : Request → Text → Exit → Text → Type 0
-Answered (replay cancelled) input exits.Done text = replay_answer cancelled input ≡ Ok text
-Answered (replay cancelled) input (exits.Refused number) text = ⊥
-Answered (replay cancelled) input exits.OutOfMemory text = ⊥
-Answered (replay cancelled) input exits.ReadFailed text = ⊥
-Answered (replay cancelled) input exits.WriteFailed text = ⊥
+Answered (replay cancelled) input exit text = (exit ≡ exits.Done) × (replay_answer cancelled input ≡ Ok text)
+Answered record_script input exit text = (exit ≡ exits.Done) × IsLogOf input text
+Answered check_log input exit text = IsVerdict input exit text
 
 -- the answer to words about an input
 pub record Answers (words : List Text) (input : Text) (exit : Exit) (text : Text) : Type 0 where
@@ -73,16 +104,22 @@ pub record Answers (words : List Text) (input : Text) (exit : Exit) (text : Text
 -- whether the words lead to such an exit: bad ones to refusal 31 or out of memory alone
 abbrev pub WordsAllow : List Text → Exit → Type 0
 WordsAllow words exits.Done = IsSome (request_in words)
+WordsAllow words exits.CheckNo = request_in words ≡ Some check_log
 WordsAllow words (exits.Refused number) = request_in words ≡ None → number ≡ BAD_WORDS
 WordsAllow words exits.OutOfMemory = Unit {0}
 WordsAllow words exits.ReadFailed = IsSome (request_in words)
 WordsAllow words exits.WriteFailed = IsSome (request_in words)
 
+-- an answer to words about an input was written whole, and the program ends so
+abbrev pub Wrote : List Text → Text → Option Text → Option Text → Exit → Type 0
+Wrote words input old new exit = (text : Text) × Answers words input exit text × Appends old new text
+
 -- what a run on words and an input leaves: `old` and `new` are what the writer held before and after
 abbrev pub Runs : List Text → Text → Option Text → Option Text → Exit → Type 0
-Runs words input old new exits.Done = (text : Text) × Answers words input exits.Done text × Appends old new text
+Runs words input old new exits.Done = Wrote words input old new exits.Done
+Runs words input old new exits.CheckNo = Wrote words input old new exits.CheckNo
 Runs words input old new (exits.Refused number) = refusal_of words input ≡ Some number
 Runs words input old new exits.OutOfMemory = Unit {0}
 Runs words input old new exits.ReadFailed = Unit {0}
 Runs words input old new exits.WriteFailed =
-    (text : Text) × Answers words input exits.Done text × AppendsPart old new text
+    (exit : Exit) × (text : Text) × Answers words input exit text × AppendsPart old new text

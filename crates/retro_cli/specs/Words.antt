@@ -36,13 +36,16 @@ bare = record {
   subs = [];
 }
 
--- the command `replay`
+-- the commands `replay`, `record` and `check`
 abbrev pub program : App
-program = with_subcommand bare (command (codes "replay") (cancel ∷ []))
+program =
+    with_subcommand
+    (with_subcommand (with_subcommand bare (command (codes "replay") (cancel ∷ []))) (command (codes "record") []))
+    (command (codes "check") [])
 
 -- ---- the command in words, as `clap` reads them
 
--- a command's name, and the text of its option
+-- a command's name, and the text of its option, if it has one
 pub record Call : Type 0 where
   pub name : Text
   pub cancel : Option Text
@@ -60,13 +63,18 @@ call_in words = unless_fault (fault_of program words) (option_map call_of (subco
 
 -- ---- what the words ask for
 
--- to run a script's lines without those that have these numbers
+-- to run a script's lines without those that have these numbers, to record the lines of a script, or to
+-- check whether a log is a recording
 pub data Request : Type 0 where
   replay : List ℕ → Request
+  record_script : Request
+  check_log : Request
 
 abbrev pub request_of : Call → Option Request
 request_of g =
-    if pointwise nat_eq g.name (codes "replay") then option_map replay (option_and_then list_in g.cancel) else None
+    if pointwise nat_eq g.name (codes "replay") then option_map replay (option_and_then list_in g.cancel)
+    else if pointwise nat_eq g.name (codes "record") then Some record_script
+    else if pointwise nat_eq g.name (codes "check") then Some check_log else None
 
 -- what the words ask for, or none if they are bad
 unfoldable pub request_in : List Text → Option Request
@@ -79,6 +87,8 @@ call_view g = record { name = g.name.now; cancel = option_map (λ s. s.now) g.ca
 
 abbrev pub request_view : RequestValue → Request
 request_view (requests.Replay numbers) = replay numbers.items
+request_view requests.Record = record_script
+request_view requests.Check = check_log
 
 -- a fault as the definitions say it: none if memory ran out
 abbrev pub not_found : {Y : Type 0} → WordsFault → Option (Option Y)

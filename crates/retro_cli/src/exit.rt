@@ -1,9 +1,9 @@
 //! How the program ends.
-ghost use Rattle.std.specs.Prelude.{◌≡◌, Ok, OnOk};
+ghost use Rattle.std.specs.Prelude.{◌≡◌, true, Ok, OnOk};
 ghost use Rattle.std.specs.Io.KnownBytes.{Appends};
-ghost use Rattle.retro_cli.specs.Exit.{exit_of, message_of, status_of};
-ghost use Rattle.retro_cli.specs.declared.exit.Exit.TheVariants as exits;
+ghost use Rattle.retro_cli.specs.Exit.{exit_of, has_answered, message_of, status_of};
 
+use crate::ending::Ending;
 use crate::stop::Stop;
 use std::io;
 use std::io::Write;
@@ -13,6 +13,8 @@ use std::io::Write;
 pub enum Exit {
     /// The answer was written whole.
     Done,
+    /// The log isn't a recording, and the answer `no` was written whole.
+    CheckNo,
     /// The words, the document or the request are refused, with the refusal's number: 31 for bad
     /// words, 8 to 16 for a document, 21 for a cancelled number that no line has. Nothing was
     /// written.
@@ -28,11 +30,12 @@ pub enum Exit {
 
 impl Exit {
     /// How the program ends after a run.
-    pub(crate) fn of(run: Result<(), Stop>) -> Exit
+    pub(crate) fn of(run: Result<Ending, Stop>) -> Exit
         ensures { result ≡ exit_of run }
     {
         match run {
-            Ok(()) => Exit::Done,
+            Ok(Ending::Done) => Exit::Done,
+            Ok(Ending::CheckNo) => Exit::CheckNo,
             Err(Stop::NoMem) => Exit::OutOfMemory,
             Err(Stop::Refused(number)) => Exit::Refused(number),
             Err(Stop::ReadFailed) => Exit::ReadFailed,
@@ -49,17 +52,18 @@ impl Exit {
             Exit::Refused(_) => 1,
             Exit::OutOfMemory => 2,
             Exit::ReadFailed | Exit::WriteFailed => 3,
+            Exit::CheckNo => 4,
         }
     }
 
-    /// Writes the line for standard error: nothing if the program is done. It allocates nothing.
+    /// Writes the line for standard error: nothing if an answer was written. It allocates nothing.
     pub fn write_message<W: Write>(self, writer: &mut W) -> io::Result<()>
         ensures message { OnOk result
             (Appends (W.contents writer.old) (W.contents writer.new) (message_of self)) }
-        ensures done { self ≡ exits.Done → (result ≡ Ok tt) × (writer.new ≡ writer.old) }
+        ensures done { has_answered self ≡ true → (result ≡ Ok tt) × (writer.new ≡ writer.old) }
     {
         match self {
-            Exit::Done => Ok(()),
+            Exit::Done | Exit::CheckNo => Ok(()),
             Exit::Refused(number) => writeln!(writer, "retro: refused {number}"),
             Exit::OutOfMemory => writeln!(writer, "retro: out of memory"),
             Exit::ReadFailed => writeln!(writer, "retro: read failed"),

@@ -6,6 +6,8 @@
 //! If allocation fails, calls return `NoMem` and leave their arguments unchanged.
 #![tactic(auto)]
 
+mod answers;
+mod ending;
 mod exit;
 mod input;
 mod numbers;

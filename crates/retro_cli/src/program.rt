@@ -10,47 +10,25 @@ ghost use Rattle.retro_cli.specs.Words.{request_view, request_in};
 ghost use Rattle.retro_cli.specs.declared.exit.Exit.TheVariants as exits;
 ghost use Rattle.retro_cli.specs.declared.stop.Stop.TheVariants as stops;
 
+use crate::answers::answer;
+use crate::ending::Ending;
 use crate::exit::Exit;
 use crate::input::Input;
 use crate::output::Output;
-use crate::replay::replay;
-use crate::report::replay_report;
 use crate::stop::Stop;
-use crate::words::{Request, read_words};
-use retro_log::read_script;
-use std::alloc::{AllocGlobal, Global};
+use crate::words::read_words;
+use std::alloc::AllocGlobal;
 use std::io::{Read, Write};
-
-/// The report of a replay of the script that the input is, without the cancelled lines.
-#[tactic(auto, unfolding(crate::specs::Program::replay_answer))]
-fn replay_input(alloc: Global, cancel: &[u32], input: &[u8]) -> Result<Vec<u8>, Stop>
-    ensures { ReturnsAs (λ text. text.items) result (replay_answer cancel.now input.now) }
-{
-    let script = read_script(alloc, input)?.without(alloc, cancel)?;
-    let (state, outputs) = replay(alloc, script)?;
-    Ok(replay_report(alloc, &state, &outputs)?)
-}
-
-/// The text that answers a request about an input.
-fn answer(alloc: Global, request: &Request, input: &[u8]) -> Result<Vec<u8>, Stop>
-    ensures ok { IfOk result (λ text.
-        Answered (request_view request.now) input.now exits.Done text.items) }
-    ensures err { IfErr result (λ stop.
-        Refuses stop (request_refusal (request_view request.now) input.now)) }
-{
-    match request {
-        Request::Replay { cancel } => replay_input(alloc, cancel, input),
-    }
-}
+use std::thread::Threads;
 
 /// Reads the words, reads the input to its end, and writes the answer.
 #[tactic(auto, unfolding(crate::specs::Program::refusal_of))]
-fn run<R: Read, W: Write>(
-    alloc: Global,
+fn run<T: Threads + Sync + AllocGlobal, R: Read, W: Write>(
+    rt: &T,
     words: &[String],
     input: &mut Input<R>,
     output: &mut Output<W>,
-) -> Result<(), Stop>
+) -> Result<Ending, Stop>
     ensures runs { IfSome (R.remaining input.old.reader) (λ bytes.
         Runs (map string_bytes words.now) bytes
         (W.contents output.old.writer) (W.contents output.new.writer) (exit_of result)) }
@@ -65,15 +43,16 @@ fn run<R: Read, W: Write>(
     ensures write_failure { output.old.has_failed ≡ false → output.new.has_failed ≡ true →
         result ≡ Err stops.WriteFailed }
 {
-    let request = read_words(alloc, words)?;
-    let bytes = input.read_to_end(alloc)?;
-    let text = answer(alloc, &request, &bytes)?;
-    output.write_all(&text)
+    let request = read_words(rt.alloc(), words)?;
+    let bytes = input.read_to_end(rt.alloc())?;
+    let (text, ending) = answer(rt, &request, bytes)?;
+    output.write_all(&text)?;
+    Ok(ending)
 }
 
 /// Runs the program: reads the words, of which the first is the program's name, reads the input to
 /// its end, and writes the answer.
-pub fn run_with<T: AllocGlobal, R: Read, W: Write>(
+pub fn run_with<T: Threads + Sync + AllocGlobal, R: Read, W: Write>(
     rt: &T,
     words: &[String],
     input: &mut Input<R>,
@@ -93,5 +72,5 @@ pub fn run_with<T: AllocGlobal, R: Read, W: Write>(
     ensures write_failure { output.old.has_failed ≡ false → output.new.has_failed ≡ true →
         result ≡ exits.WriteFailed }
 {
-    Exit::of(run(rt.alloc(), words, input, output))
+    Exit::of(run(rt, words, input, output))
 }

@@ -16,6 +16,10 @@ use std::alloc::{AllocError, AllocFailed, Global};
 pub(crate) enum Request {
     /// To run a script's lines without those that have these numbers.
     Replay { cancel: Vec<u32> },
+    /// To record the lines of a script.
+    Record,
+    /// To check whether a log is a recording.
+    Check,
 }
 
 /// Why words ask for nothing.
@@ -67,6 +71,14 @@ fn replay_command<'a>(alloc: Global) -> Result<Command<'a>, AllocError>
     Command::new(alloc, "replay").arg(cancel_option(alloc))
 }
 
+/// A command without options.
+fn plain_command<'a>(alloc: Global, name: &'a str) -> Command<'a>
+    ensures shape { app_of result ≡ record { top = command name.entry.now []; subs = [] } }
+    ensures local { (fields_of result).has_globals ≡ false }
+{
+    Command::new(alloc, name)
+}
+
 fn bare_command<'a>(alloc: Global) -> Command<'a>
     ensures { app_of result ≡ bare }
 {
@@ -79,7 +91,10 @@ fn bare_command<'a>(alloc: Global) -> Command<'a>
 fn program_command<'a>(alloc: Global) -> Result<Command<'a>, AllocError>
     ensures { IfOk result (λ c. app_of c ≡ program) }
 {
-    bare_command(alloc).subcommand(replay_command(alloc)?)
+    bare_command(alloc)
+        .subcommand(replay_command(alloc)?)?
+        .subcommand(plain_command(alloc, "record"))?
+        .subcommand(plain_command(alloc, "check"))
 }
 
 fn read_call<'a>(alloc: Global, words: &'a [String]) -> Result<CommandCall<'a>, WordsFault>
@@ -117,6 +132,8 @@ pub(crate) fn read_words(alloc: Global, words: &[String]) -> Result<Request, Wor
             }),
             None => Err(WordsFault::BadWords),
         },
+        "record" => Ok(Request::Record),
+        "check" => Ok(Request::Check),
         _ => Err(WordsFault::BadWords),
     }
 }

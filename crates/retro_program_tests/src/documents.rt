@@ -1,6 +1,6 @@
-//! Documents, and the scripts that they are.
+//! Documents, and the scripts and recordings that they are.
 use retro_keep::EditFault;
-use retro_log::{LogFault, read_script, sessions_value, tree_value};
+use retro_log::{LogFault, read_log, read_script, sessions_value, tree_value};
 use std::alloc::Global;
 use std::test::Fail;
 
@@ -32,6 +32,31 @@ pub fn script_part(alloc: Global, part: &str, value: &str) -> Result<String, Fai
         _ => return Err("no such part")?,
     };
     script(alloc, format!(in alloc; "{before}{value}{after}")?.as_str())
+}
+
+/// The number of a log's refusal, or `log`.
+pub fn log(alloc: Global, document: &str) -> Result<String, Fail> {
+    match read_log(alloc, document.as_bytes()) {
+        Ok(_) => Ok(String::from_str(alloc, "log")?),
+        Err(LogFault::NoMem) => Err("out of memory")?,
+        Err(LogFault::Refused(refusal)) => Ok(format!(in alloc; "{}", refusal.number())?),
+    }
+}
+
+/// What a log is that has these lines, of two sessions, over a directory `/d` with a file `f`.
+pub fn logged(alloc: Global, lines: &str) -> Result<String, Fail> {
+    let tree = r#"[["/d"],["/d/f","61"]]"#;
+    let sessions = r#"[[1,"/",0,[]],[2,"/",0,[]]]"#;
+    let start = format!(in alloc; r#"{{"log":1,"tree":{tree},"sessions":{sessions},"lines":"#)?;
+    log(alloc, format!(in alloc; "{start}{lines}}}")?.as_str())
+}
+
+/// What such a log is that has this note in a line of the first session.
+pub fn note(alloc: Global, note: &str) -> Result<String, Fail> {
+    logged(
+        alloc,
+        format!(in alloc; r#"[[1,1,"",[{note}],""]]"#)?.as_str(),
+    )
 }
 
 /// The tree and the sessions of a document as they are written, and its lines.

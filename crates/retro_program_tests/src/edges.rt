@@ -2,10 +2,11 @@
 use crate::programs::words;
 use crate::tables::EMPTY;
 use retro_cli::{Exit, Input, Output, run_with};
-use std::alloc::{AllocError, Global};
+use std::alloc::{AllocError, AllocGlobal, Global};
 use std::io;
 use std::io::{ErrorKind, Read, Write};
 use std::test::Fail;
+use std::thread::Threads;
 
 /// The report of an empty script.
 const EMPTY_REPORT: &[u8] = b"{\"outputs\":[],\"sessions\":[],\"tree\":[]}\n";
@@ -84,8 +85,8 @@ impl Write for Sip {
 
 /// A run on the empty script, whose reader and writer fail at these calls: the exit, how often each
 /// was called, and what was written.
-fn run_edges(
-    rt: &HostRuntime,
+fn run_edges<T: Threads + Sync + AllocGlobal>(
+    rt: &T,
     (reads, kind): (u32, ErrorKind),
     (writes, failure): (u32, Failure),
 ) -> Result<(Exit, u32, u32, Vec<u8>), AllocError> {

@@ -10,6 +10,10 @@ mod documents;
 #[cfg(test)]
 mod edges;
 #[cfg(test)]
+mod log_tables;
+#[cfg(test)]
+mod logs;
+#[cfg(test)]
 mod programs;
 #[cfg(test)]
 mod rows;

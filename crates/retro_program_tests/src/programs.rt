@@ -3,8 +3,9 @@ use crate::tables::input_named;
 use hex::decode;
 use retro_cli::{Exit, Input, Output, run_with};
 use serde_json::Value;
-use std::alloc::{AllocError, Global};
+use std::alloc::{AllocError, AllocGlobal, Global};
 use std::test::Fail;
+use std::thread::Threads;
 
 /// What every script of shell rows has before and after its own entries of the tree.
 const BEFORE_ENTRIES: &str = concat!(
@@ -27,7 +28,11 @@ pub fn words(alloc: Global, given: &str) -> Result<Vec<String>, AllocError> {
 }
 
 /// Runs the program: how it ended, and what it wrote.
-fn output(rt: &HostRuntime, given: &str, input: &str) -> Result<(Exit, Vec<u8>), AllocError> {
+fn output<T: Threads + Sync + AllocGlobal>(
+    rt: &T,
+    given: &str,
+    input: &str,
+) -> Result<(Exit, Vec<u8>), AllocError> {
     let words = words(rt.alloc(), given)?;
     let mut reader = input.as_bytes();
     let mut out = Vec::new(rt.alloc());
@@ -42,7 +47,11 @@ fn output(rt: &HostRuntime, given: &str, input: &str) -> Result<(Exit, Vec<u8>),
 
 /// The exit status of the program on words and an input, its line for standard error, and what it
 /// writes.
-pub fn run(rt: &HostRuntime, given: &str, input: &str) -> Result<String, Fail> {
+pub fn run<T: Threads + Sync + AllocGlobal>(
+    rt: &T,
+    given: &str,
+    input: &str,
+) -> Result<String, Fail> {
     let alloc = rt.alloc();
     let (exit, mut out) = output(rt, given, input_named(input))?;
     exit.write_message(&mut out)?;
@@ -73,7 +82,11 @@ fn last_line(alloc: Global, report: &Value) -> Option<(u64, &str)> {
 }
 
 /// The status and the output of the last of session 1's lines, in a script of them.
-pub fn shell(rt: &HostRuntime, entries: &str, lines: &[String]) -> Result<String, Fail> {
+pub fn shell<T: Threads + Sync + AllocGlobal>(
+    rt: &T,
+    entries: &str,
+    lines: &[String],
+) -> Result<String, Fail> {
     let alloc = rt.alloc();
     let script = script_of(alloc, entries, lines)?;
     let (_, out) = output(rt, "retro replay", &script)?;

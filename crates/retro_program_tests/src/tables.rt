@@ -219,7 +219,6 @@ run: retro --help :: PAIR => 1 retro: refused 31
 run: retro -h :: PAIR => 1 retro: refused 31
 run: retro help :: PAIR => 1 retro: refused 31
 run: retro --version :: PAIR => 1 retro: refused 31
-run: retro record :: PAIR => 1 retro: refused 31
 run: retro repl :: PAIR => 1 retro: refused 31
 run: retro replay --help :: PAIR => 1 retro: refused 31
 run: retro replay more :: PAIR => 1 retro: refused 31
@@ -239,7 +238,26 @@ run: retro replay --cancel 00000000001 :: PAIR => 1 retro: refused 31
 run: retro replay --cancel 9, :: [ => 1 retro: refused 31
 run: retro replay --cancel 9 :: PAIR => 1 retro: refused 21
 run: retro replay --cancel 9 :: [ => 1 retro: refused 12
-run: retro replay --cancel 4294967295 :: PAIR => 1 retro: refused 21"##;
+run: retro replay --cancel 4294967295 :: PAIR => 1 retro: refused 21
+run: retro record :: EMPTY => 0 {"lines":[],"log":1,"sessions":[],"tree":[]}
+run: retro record :: UNORDERED => 0 {"lines":[],"log":1,"sessions":[[1,"/",0,[]]],"tree":[["/a"],
+  ["/a/b","4a"]]}
+run: retro record :: PAIR => 0 {"lines":[[1,1,"echo a > f",[["cwd","/"],["canwrite","/f",0,"yes"],
+  ["put","/f",["f",""]],["canwrite","/f",2,"yes"],["grow","/f","610a"],["setstatus",0]],""],[2,1,
+  "cat f",[["cwd","/"],["bytes","/f",["f","610a"]],["setstatus",0]],"610a"]],"log":1,"sessions":[[1,
+  "/",0,[]]],"tree":[]}
+run: retro record --cancel 1 :: PAIR => 1 retro: refused 31
+run: retro record more :: PAIR => 1 retro: refused 31
+run: retro record :: LOG => 1 retro: refused 14
+run: retro record :: [ => 1 retro: refused 12
+run: retro check :: LOG => 0 yes
+run: retro check :: ALTERED => 4 no
+run: retro check :: FORGED => 4 no
+run: retro check :: EMPTY_LOG => 0 yes
+run: retro check --cancel 1 :: LOG => 1 retro: refused 31
+run: retro check :: PAIR => 1 retro: refused 14
+run: retro check :: {"log":2,"tree":[],"sessions":[],"lines":[]} => 1 retro: refused 16
+run: retro replay :: LOG => 1 retro: refused 14"##;
 
 /// The empty script.
 pub const EMPTY: &str = r#"{"script":1,"tree":[],"sessions":[],"lines":[]}"#;
@@ -254,6 +272,27 @@ pub fn input_named(name: &str) -> &str {
         "PAIR" => concat!(
             r#"{"script":1,"tree":[],"sessions":[[1,"/",0,[]]],"#,
             r#""lines":[[1,1,"echo a > f"],[2,1,"cat f"]]}"#
+        ),
+        "EMPTY_LOG" => r#"{"log":1,"tree":[],"sessions":[],"lines":[]}"#,
+        "LOG" => concat!(
+            r#"{"lines":[[1,1,"echo a > f",[["cwd","/"],["canwrite","/f",0,"yes"],"#,
+            r#"["put","/f",["f",""]],["canwrite","/f",2,"yes"],["grow","/f","610a"],"#,
+            r#"["setstatus",0]],""],[2,1,"cat f",[["cwd","/"],["bytes","/f",["f","610a"]],"#,
+            r#"["setstatus",0]],"610a"]],"log":1,"sessions":[[1,"/",0,[]]],"tree":[]}"#
+        ),
+        // Line 2 reads other bytes than line 1 wrote.
+        "ALTERED" => concat!(
+            r#"{"lines":[[1,1,"echo a > f",[["cwd","/"],["canwrite","/f",0,"yes"],"#,
+            r#"["put","/f",["f",""]],["canwrite","/f",2,"yes"],["grow","/f","610a"],"#,
+            r#"["setstatus",0]],""],[2,1,"cat f",[["cwd","/"],["bytes","/f",["f","620a"]],"#,
+            r#"["setstatus",0]],"610a"]],"log":1,"sessions":[[1,"/",0,[]]],"tree":[]}"#
+        ),
+        // Line 2 writes without a query.
+        "FORGED" => concat!(
+            r#"{"log":1,"tree":[],"sessions":[[1,"/",0,[]]],"lines":[[1,1,"mkdir d",["#,
+            r#"["cwd","/"],["kind","/d","missing"],["kind","/","dir"],["put","/d",["d"]],"#,
+            r#"["setstatus",0]],""],[2,1,"echo x > d/f",[["put","/d/f",["f","780a"]],"#,
+            r#"["setstatus",0]],""]]}"#
         ),
         _ => name,
     }

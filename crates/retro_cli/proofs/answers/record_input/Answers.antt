@@ -1,0 +1,11 @@
+use Rattle.std.proofs.Common.{rules}
+use Rattle.retro_cli.proofs.answers.record_input.Goals as goal
+
+pub returns-clause-ok : goal.returns-clause-ok
+returns-clause-ok g c = record {
+  script = c.in_ok-script.script;
+  is_script = search rules;
+  recording = c.in_ok-recording.recording;
+  recorded = c.in_ok-recording.ensures.recording;
+  is_log = c.in_ok-write_log.ensures.text;
+}

@@ -1,0 +1,73 @@
+//! The answers to requests about an input.
+ghost use Rattle.std.specs.Prelude.{◌≡◌, Ok, IfOk, IfErr};
+ghost use Rattle.retro_cli.specs.Exit.{exit_of};
+ghost use Rattle.retro_cli.specs.Program.{Answered, IsLogOf, IsVerdict, document_refusal};
+ghost use Rattle.retro_cli.specs.Program.{replay_answer, request_refusal};
+ghost use Rattle.retro_cli.specs.Stop.{Refuses, ReturnsAs};
+ghost use Rattle.retro_cli.specs.Words.{request_view};
+ghost use Rattle.retro_log.specs.Document.{log_in, script_in};
+
+use crate::ending::Ending;
+use crate::replay::replay;
+use crate::report::replay_report;
+use crate::stop::Stop;
+use crate::words::Request;
+use retro_keep::keep;
+use retro_log::{check, read_log, read_script, write_log};
+use std::alloc::{AllocGlobal, Global};
+use std::thread::Threads;
+
+/// The report of a replay of the script that the input is, without the cancelled lines.
+#[tactic(auto, unfolding(crate::specs::Program::replay_answer))]
+fn replay_input(alloc: Global, cancel: &[u32], input: Vec<u8>) -> Result<Vec<u8>, Stop>
+    ensures { ReturnsAs (λ text. text.items) result (replay_answer cancel.now input.items) }
+{
+    let script = read_script(alloc, &input)?.without(alloc, cancel)?;
+    drop(input);
+    let (state, outputs) = replay(alloc, script)?;
+    Ok(replay_report(alloc, &state, &outputs)?)
+}
+
+/// The log of a recording of the script that the input is.
+fn record_input<T: Threads + Sync + AllocGlobal>(rt: &T, input: Vec<u8>) -> Result<Vec<u8>, Stop>
+    ensures ok { IfOk result (λ text. IsLogOf input.items text.items) }
+    ensures err { IfErr result (λ stop. Refuses stop (document_refusal (script_in input.items))) }
+{
+    let script = read_script(rt.alloc(), &input)?;
+    drop(input);
+    let recording = keep(rt, rt.alloc(), &script)?;
+    Ok(write_log(rt.alloc(), &recording)?)
+}
+
+/// The answer to whether the log that the input is, is a recording of its lines.
+fn check_input(alloc: Global, input: Vec<u8>) -> Result<(Vec<u8>, Ending), Stop>
+    ensures ok { IfOk result (λ answer.
+        IsVerdict input.items (exit_of (Ok answer.1)) answer.0.items) }
+    ensures err { IfErr result (λ stop. Refuses stop (document_refusal (log_in input.items))) }
+{
+    let recording = read_log(alloc, &input)?;
+    drop(input);
+    if check(alloc, &recording)? {
+        Ok((Vec::from_slice(alloc, b"yes\n")?, Ending::Done))
+    } else {
+        Ok((Vec::from_slice(alloc, b"no\n")?, Ending::CheckNo))
+    }
+}
+
+/// The text that answers a request about an input, and how the program ends once it is written.
+pub(crate) fn answer<T: Threads + Sync + AllocGlobal>(
+    rt: &T,
+    request: &Request,
+    input: Vec<u8>,
+) -> Result<(Vec<u8>, Ending), Stop>
+    ensures ok { IfOk result (λ answer.
+        Answered (request_view request.now) input.items (exit_of (Ok answer.1)) answer.0.items) }
+    ensures err { IfErr result (λ stop.
+        Refuses stop (request_refusal (request_view request.now) input.items)) }
+{
+    match request {
+        Request::Replay { cancel } => Ok((replay_input(rt.alloc(), cancel, input)?, Ending::Done)),
+        Request::Record => Ok((record_input(rt, input)?, Ending::Done)),
+        Request::Check => Ok(check_input(rt.alloc(), input)?),
+    }
+}
