@@ -26,20 +26,21 @@ def build():
     subprocess.run([f"{TOP}/retro", "replay"], input=empty, stdout=subprocess.DEVNULL, check=True)
 
 
-# Runs a program below a small process of its own, since a child's peak memory includes its parent's. So no
-# peak below that of the small parent, some 10 MB, can be measured.
+# Runs a program below a small process of its own, since a child's peak memory includes its parent's.
+# So no peak below that of the small parent, some 10 MB, can be measured.
 MEASURE = """
 import os, subprocess, sys, time
 given = open(sys.argv[1], "rb")
 start = time.perf_counter()
-child = subprocess.Popen(sys.argv[2:], stdin=given, stdout=subprocess.DEVNULL, stderr=subprocess.DEVNULL)
+null = subprocess.DEVNULL
+child = subprocess.Popen(sys.argv[2:], stdin=given, stdout=null, stderr=null)
 _, status, usage = os.wait4(child.pid, 0)
 print(time.perf_counter() - start, usage.ru_maxrss / 1024, os.waitstatus_to_exitcode(status))
 """
 
 
 def measured(words, given, room, wanted):
-    """The seconds and the peak megabytes of a run, which must end with one of the wanted statuses."""
+    """The seconds and the peak megabytes of a run, which must end with a wanted status."""
     parts = [sys.executable, "-S", "-c", MEASURE, given, *words]
     said = subprocess.run(parts, cwd=room, capture_output=True, text=True, check=True).stdout
     seconds, memory, status = said.split()
@@ -48,12 +49,13 @@ def measured(words, given, room, wanted):
     return float(seconds), float(memory)
 
 
-def instructions(document):
-    """The millions of instructions of a replay, as callgrind counts them."""
+def instructions(document, command="replay"):
+    """The millions of instructions of a run, as callgrind counts them."""
     with tempfile.TemporaryDirectory() as room:
-        words = ["valgrind", "--tool=callgrind", f"--callgrind-out-file={room}/out", PROGRAM, "replay"]
-        said = subprocess.run(words, input=document.encode(), capture_output=True, check=True).stderr
-    return int(re.search(rb"Collected\s*:\s*(\d+)", said)[1]) / 1e6
+        words = ["valgrind", "--tool=callgrind", f"--callgrind-out-file={room}/out", PROGRAM, command]
+        run = subprocess.run(words, input=document.encode(), stdout=subprocess.DEVNULL,
+                             stderr=subprocess.PIPE)
+    return int(re.search(rb"Collected\s*:\s*(\d+)", run.stderr)[1]) / 1e6
 
 
 def ratio(now, before):

@@ -1,0 +1,58 @@
+"""Generated scripts for the benchmarks: each is a tree, the sessions, and lines of a session and a text."""
+
+
+def growing(size):
+    return [], [1], [(1, "echo -n a >> f")] * size
+
+
+def spread(size):
+    tree = [[f"/d{at}"] for at in range(100)]
+    lines = [(at % 100 + 1, f"echo -n a >> d{at % 100}/f{at // 100 % 100}") for at in range(size)]
+    return tree, range(1, 101), lines
+
+
+def tree_of(size):
+    tree = []
+    for at in range(size // 100):
+        tree.append([f"/d{at}"])
+        tree.extend([f"/d{at}/f{name}", "61"] for name in range(99))
+    some = [at * (size // 100) // 5 for at in range(5)]
+    lines = [(1, f"cat d{at}/f7 > d{at}/new") for at in some]
+    lines += [(1, f"echo more >> d{at}/f9; cat d{at}/none") for at in some]
+    return tree, [1], lines
+
+
+MIX = (
+    "cat d{0}/f",
+    "grep -F 7,a d{0}/f | cut -d , -f 1,3 > d{0}/found",
+    "cp d{0}/f d{0}/copy",
+    "test -f d{0}/copy && x=d{0}",
+    "if test \"$x\" = d{0}; then echo \"in $x\"; else echo 'elsewhere'; fi",
+    "for i in a b $x; do echo $i >> d{0}/log; done",
+)
+
+
+def mix(size):
+    text = "".join(f"{at},abcdefghij,klmnopqrst\n" for at in range(10)).encode().hex()
+    tree = []
+    for at in range(100):
+        tree += [[f"/d{at}"], [f"/d{at}/f", text]]
+    return tree, [1], [(1, MIX[at % len(MIX)].format(at // len(MIX) % 100)) for at in range(size)]
+
+
+def moving(size):
+    """Trees that are made, moved and removed, over ten sessions."""
+    lines = []
+    for at in range(size):
+        tree = f"t{at // 5 % 50}"
+        lines.append((at % 10 + 1, (
+            f"mkdir -p {tree}/a/b",
+            f"echo {at} > {tree}/a/b/f; echo {at} > {tree}/a/g",
+            f"mv {tree} moved{tree}",
+            f"cat moved{tree}/a/b/f moved{tree}/a/g",
+            f"rm -r moved{tree}",
+        )[at % 5]))
+    return [], range(1, 11), lines
+
+
+CASES = {"growing": growing, "spread": spread, "tree": tree_of, "mix": mix, "moving": moving}
