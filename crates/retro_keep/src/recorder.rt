@@ -1,5 +1,6 @@
 //! Running a script's lines one by one, and recording them.
-ghost use Rattle.std.specs.Prelude.{◌≡◌, ◌++◌, ◌∷◌, [], IfOk, IsTrue, List, OnOk, map};
+ghost use Rattle.std.specs.Prelude.{◌≡◌, ◌≤◌, ◌+◌, ◌++◌, ◌∷◌, [], IfOk, IsTrue, List, OnOk, drop};
+ghost use Rattle.std.specs.Prelude.{length, map, take};
 ghost use Rattle.std.specs.FinMap as map_of;
 ghost use Rattle.retro_tree.specs.Lawful.{IsLawful};
 ghost use Rattle.retro_tree.specs.declared.state.State.{State as StateValue};
@@ -17,6 +18,10 @@ use retro_syntax::Parsed;
 use retro_tree::{NoMem, State};
 use std::alloc::Global;
 use std::thread::Threads;
+
+/// How many lines are parsed before they are run: enough to keep all threads busy. The trees of all
+/// lines of a long script would take more memory than its recording.
+const PARSED_AT_ONCE: usize = 4096;
 
 /// The lines that were run so far, and the state after them.
 #[derive(Drop)]
@@ -59,6 +64,29 @@ impl Recorder {
         Ok(())
     }
 
+    /// Runs the lines of a script from an index on, which are given parsed, and records them.
+    fn record_parsed(
+        &mut self,
+        alloc: Global,
+        script: &Script,
+        start: usize,
+        parsed: &[Parsed],
+    ) -> Result<(), NoMem>
+        requires texts { parsed.now
+            ≡ map text_of (take (length parsed.now) (drop start script.now.lines)) }
+        requires within { start + length parsed.now ≤ length script.now.lines }
+        requires recorded { HasRecorded (take start script.now.lines) script.now.first
+            self.old.lines.items self.old.state }
+        ensures { OnOk result (HasRecorded (take (start + length parsed.now) script.now.lines)
+            script.now.first self.new.lines.items self.new.state) }
+    {
+        let lines = script.lines();
+        for (index, parsed) in parsed.iter().enumerate() {
+            self.record(alloc, &lines[start + index], parsed)?;
+        }
+        Ok(())
+    }
+
     /// Returns the recording of a script whose lines were all recorded.
     fn finish(self, script: &Script) -> Result<Recording, NoMem>
         requires { HasRecorded script.now.lines script.now.first self.lines.items self.state }
@@ -98,17 +126,21 @@ fn parse_line(alloc: Global, line: &ScriptLine) -> Result<Parsed, NoMem>
     Parsed::of(alloc, String::from_str(alloc, line.text.as_str())?)
 }
 
-/// Records a script: parses the texts of its lines in parallel, and runs the lines in order.
+/// Records a script: parses the texts of its lines in parallel, some at once, and runs the lines in
+/// order.
 pub fn keep<T: Threads + Sync>(rt: &T, alloc: Global, script: &Script) -> Result<Recording, NoMem>
     ensures recording { IfOk result (λ r. IsRecordingOf script.now r) }
     ensures outcome { IfOk result (λ r.
         outcome script.now.lines script.now.first ≡ recorded_outcome r) }
 {
     let lines = script.lines();
-    let parsed = parse_lines(rt, alloc, lines)?;
     let mut recorder = Recorder::new(alloc, script)?;
-    for (index, line) in lines.iter().enumerate() {
-        recorder.record(alloc, line, &parsed[index])?;
+    let mut start = 0;
+    while start < lines.len() {
+        let count = (lines.len() - start).min(PARSED_AT_ONCE);
+        let parsed = parse_lines(rt, alloc, &lines[start..start + count])?;
+        recorder.record_parsed(alloc, script, start, &parsed)?;
+        start += count;
     }
     recorder.finish(script)
 }
