@@ -16,6 +16,7 @@ pub mod SessionsTrip
 pub mod NotesTrip
 pub mod LogTrip
 pub mod LogShape
+pub mod ReadBack
 pub mod Newline
 pub mod RecordedLimits
 pub mod ReadLimits

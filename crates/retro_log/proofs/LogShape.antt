@@ -93,7 +93,7 @@ notes_float : (notes : List Note) → has_float (notes_data notes) ≡ false
 unfolding notes_data
 notes_float notes = array_float note_data note_float notes
 
-line_float : (l : ℕ × Noted) → has_float (line_data l) ≡ false
+pub line_float : (l : ℕ × Noted) → has_float (line_data l) ≡ false
 unfolding line_data
 line_float l = rw (notes_float l.1.notes) refl
 
@@ -120,7 +120,7 @@ row_low e = entry_low (path_text e.0) e.1
     entry_low path Dir = omega arith
     entry_low path (File bytes) = omega arith
 
-tree_low : (tree : Tree) → depth (tree_data tree) ≤ 2
+pub tree_low : (tree : Tree) → depth (tree_data tree) ≤ 2
 unfolding tree_data
 tree_low tree = let a = items_low row_data 1 row_low (filter is_listed (map.entries tree)) in omega (arith, a)
 
@@ -132,7 +132,7 @@ session_low : (e : ℕ × Session) → depth (session_data e) ≤ 3
 unfolding session_data
 session_low e = let a = vars_low e.1.vars in omega (arith, a)
 
-sessions_low : (sessions : map.FinMap nat_cmp Session) → depth (sessions_data sessions) ≤ 4
+pub sessions_low : (sessions : map.FinMap nat_cmp Session) → depth (sessions_data sessions) ≤ 4
 unfolding sessions_data
 sessions_low sessions = let a = items_low session_data 3 session_low (map.entries sessions) in omega (arith, a)
 
@@ -194,7 +194,7 @@ notes_low : (notes : List Note) → depth (notes_data notes) ≤ 3
 unfolding notes_data
 notes_low notes = let a = items_low note_data 2 note_low notes in omega (arith, a)
 
-line_low : (l : ℕ × Noted) → depth (line_data l) ≤ 4
+pub line_low : (l : ℕ × Noted) → depth (line_data l) ≤ 4
 unfolding line_data
 line_low l = let a = notes_low l.1.notes in omega (arith, a)
 

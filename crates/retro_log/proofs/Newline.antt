@@ -1,4 +1,4 @@
--- A newline after what `Value::to_vec` wrote changes nothing of what is read.
+-- A newline after the text of a value changes nothing of what is read.
 use Rattle.std.proofs.Common.{◌≡◌, ◌∙◌, ℕ, Bool, true, false, cond, ◌&&◌, List, [], ◌∷◌, ◌++◌, refl, sym, ap}
 use Rattle.std.proofs.Common.{ap₂, subst, append_assoc, append-nil}
 use Rattle.std.specs.Prelude.{option_and_then, IsUtf8}
@@ -14,9 +14,7 @@ use Rattle.json.specs.Tree.{json_tokens, items_tokens, members_tokens}
 use Rattle.json.proofs.Numbered.{ArePrintableOrBad-tokens}
 use Rattle.json.proofs.Printed.Strings.{content-escape, lex-escape}
 use Rattle.json.proofs.Printed.Numbers.{lex-number, in_word-ended}
-use Rattle.serde_json.specs.Data.{Data}
 use Rattle.serde_json.specs.Read.{read, of_json, max_depth}
-use Rattle.serde_json.specs.Written.{IsInOrder}
 
 -- ---- a text is cut into tokens alike before two rests that are cut alike
 
@@ -158,11 +156,11 @@ all_good : (ts : List Token) → ArePrintableOrBad ts → NoneBad ts → AreGood
 all_good [] h k = tt
 all_good (t ∷ ts) h k = (good t h.0 (λ e. subst NotBad e k.0), all_good ts h.1 k.1)
 
-pub newline_reads : (text : List ℕ) (d : Data) → text ≡ print (tokens text) → IsInOrder text d
+pub newline_reads : (text : List ℕ) (j : json.Json) → text ≡ print (tokens text) → tokens text ≡ json_tokens j
     → read (text ++ 10 ∷ []) ≡ read text
-newline_reads text d printed order =
+newline_reads text j printed same_tokens =
     let goods : AreGood (tokens text) =
-    all_good (tokens text) (ArePrintableOrBad-tokens text) (subst NoneBad (sym order.1) (none_bad order.0)) in
+    all_good (tokens text) (ArePrintableOrBad-tokens text) (subst NoneBad (sym same_tokens) (none_bad j)) in
     let same : lex between (text ++ 10 ∷ []) ≡ lex between text =
     ap (λ s. lex between (s ++ 10 ∷ [])) printed ∙ newline_lexed false (tokens text) goods
     ∙ ap (lex between) (append-nil _) ∙ sym (ap (lex between) printed) in

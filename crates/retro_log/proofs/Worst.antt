@@ -103,3 +103,29 @@ unfolding every
 judging_done f va out items i le so_far =
     let none : every f (map va (drop i items)) ≡ Ok [] = ap (λ xs. every f (map va xs)) (drop_of_length-le items le) in
     sym (join_end out) ∙ ap (join out) (sym none) ∙ so_far
+
+-- ---- a loop that takes its items from a list: `out` is what was read before the rest
+
+abbrev pub IsJudgedBefore : {A D B : Type 0} → (D → Result B Refusal) → (A → D) → Result (List B) Refusal → List A
+    → List A → Type 0
+IsJudgedBefore f va out rest items = join out (every f (map va rest)) ≡ every f (map va items)
+
+pub taking_starts : {A D B : Type 0} (f : D → Result B Refusal) (va : A → D) (items : List A)
+    → IsJudgedBefore f va (Ok []) items items
+taking_starts f va items = join_start (every f (map va items))
+
+pub taking_goes_on : {A D B : Type 0} (f : D → Result B Refusal) (va : A → D) (out new : Result (List B) Refusal)
+    (x : A) (rest items : List A) (y : Result B Refusal)
+    → y ≡ f (va x) → new ≡ with_item out y
+    → IsJudgedBefore f va out (x ∷ rest) items → IsJudgedBefore f va new rest items
+unfolding every
+taking_goes_on f va out new x rest items y read pushed so_far =
+    let others = every f (map va rest) in
+    let step : join new others ≡ join out (before (f (va x)) others) =
+    ap (λ n. join n others) (pushed ∙ ap (with_item out) read) ∙ regroup out (f (va x)) others in
+    step ∙ so_far
+
+pub taking_done : {A D B : Type 0} (f : D → Result B Refusal) (va : A → D) (out : Result (List B) Refusal)
+    (items : List A) → IsJudgedBefore f va out [] items → out ≡ every f (map va items)
+unfolding every
+taking_done f va out items so_far = sym (join_end out) ∙ so_far

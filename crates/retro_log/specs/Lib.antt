@@ -21,3 +21,4 @@ pub mod Typed
 pub mod NoNul
 pub mod NoteLimits
 pub mod RoundTrip
+pub mod ReadBack

@@ -16,12 +16,15 @@ unfoldable pub lines_data : List (ℕ × Noted) → Data
 lines_data lines = array_of (map line_data lines)
 
 -- `{"lines":..,"log":1,"sessions":..,"tree":..}`, with the keys in byte order
-unfoldable pub log_data : RecordingValue → Data
-log_data r = object
-    (member (codes "lines") (lines_data r.lines)
+abbrev pub log_object : Data → Data → Data → Data
+log_object lines sessions tree = object
+    (member (codes "lines") lines
     (member (codes "log") (number_data 1)
-    (member (codes "sessions") (sessions_data r.first.sessions)
-    (member (codes "tree") (tree_data r.first.tree) no_members))))
+    (member (codes "sessions") sessions
+    (member (codes "tree") tree no_members))))
+
+unfoldable pub log_data : RecordingValue → Data
+log_data r = log_object (lines_data r.lines) (sessions_data r.first.sessions) (tree_data r.first.tree)
 
 -- a log: compact, with a newline at the end
 unfoldable pub log_text : RecordingValue → List ℕ

@@ -1,4 +1,4 @@
--- Reading several things that are all judged: the worst refusal counts.
+-- Reading several things, of which the worst refusal counts.
 use Rattle.std.specs.Prelude.{List, [], ◌∷◌, ◌++◌, Result, Ok, Err}
 use Rattle.retro_log.specs.declared.fault.Refusal.{Refusal}
 use Rattle.retro_log.specs.declared.fault.Refusal.TheVariants.{WrongShape, BadHex}

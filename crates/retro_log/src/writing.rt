@@ -4,6 +4,7 @@ mod line;
 mod log;
 mod notes;
 mod sessions;
+mod text;
 mod tree;
 
 pub use fields::hex_value;

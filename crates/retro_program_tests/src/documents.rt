@@ -35,12 +35,32 @@ pub fn script_part(alloc: Global, part: &str, value: &str) -> Result<String, Fai
 }
 
 /// The number of a log's refusal, or `log`.
-pub fn log(alloc: Global, document: &str) -> Result<String, Fail> {
-    match read_log(alloc, document.as_bytes()) {
+fn log_of(alloc: Global, document: &[u8]) -> Result<String, Fail> {
+    match read_log(alloc, document) {
         Ok(_) => Ok(String::from_str(alloc, "log")?),
         Err(LogFault::NoMem) => Err("out of memory")?,
         Err(LogFault::Refused(refusal)) => Ok(format!(in alloc; "{}", refusal.number())?),
     }
+}
+
+/// What a log is.
+pub fn log(alloc: Global, document: &str) -> Result<String, Fail> {
+    log_of(alloc, document.as_bytes())
+}
+
+/// What each front of a log is that lacks the last brace, if all are alike.
+pub fn log_fronts(alloc: Global, document: &str) -> Result<String, Fail> {
+    let Some(longest) = document.strip_suffix("}") else {
+        return Err("no brace at the end")?;
+    };
+    let all = log_of(alloc, longest.as_bytes())?;
+    for end in 0..longest.len() {
+        let front = log_of(alloc, &longest.as_bytes()[..end])?;
+        if front != all {
+            return Ok(format!(in alloc; "{front} for {end} bytes")?);
+        }
+    }
+    Ok(all)
 }
 
 /// What a log is that has these lines, of two sessions, over a directory `/d` with a file `f`.

@@ -21,6 +21,10 @@ log: {"lines":[[1,1,"echo a > f",[["cwd","/"],["canwrite","/f",0,"yes"],["put","
   ["canwrite","/f",2,"yes"],["grow","/f","610a"],["setstatus",0]],""],[2,1,"cat f",[["cwd","/"],
   ["bytes","/f",["f","610a"]],["setstatus",0]],"610a"]],"log":1,"sessions":[[1,"/",0,[]]],
   "tree":[]} => log
+log fronts: {"lines":[[1,1,"echo a > f",[["cwd","/"],["canwrite","/f",0,"yes"],["put","/f",
+  ["f",""]],["canwrite","/f",2,"yes"],["grow","/f","610a"],["setstatus",0]],""],[2,1,"cat f",
+  [["cwd","/"],["bytes","/f",["f","610a"]],["setstatus",0]],"610a"]],"log":1,
+  "sessions":[[1,"/",0,[]]],"tree":[]} => 12
 log: {"log":1,"tree":[],"sessions":[[1,"/",0,[]]],"lines":[[1,1,"mkdir d",[["cwd","/"],["kind",
   "/d","missing"],["kind","/","dir"],["put","/d",["d"]],["setstatus",0]],""],[2,1,"echo x > d/f",
   [["put","/d/f",["f","780a"]],["setstatus",0]],""]]} => log

@@ -1,5 +1,5 @@
 //! The call that each row names, and the test that makes these calls.
-use crate::documents::{log, logged, note, script, script_part, without, written};
+use crate::documents::{log, log_fronts, logged, note, script, script_part, without, written};
 use crate::log_tables::{LOG_LINES, LOGS, NOTES};
 use crate::programs::{run, shell};
 use crate::tables::{DOCUMENTS, PROGRAMS, SHELL};
@@ -19,6 +19,7 @@ fn called<T: Threads + Sync + AllocGlobal>(
         ("without", [lines, numbers]) => without(alloc, lines, numbers),
         ("script", [document]) => script(alloc, document),
         ("log", [document]) => log(alloc, document),
+        ("log fronts", [document]) => log_fronts(alloc, document),
         ("logged", [lines]) => logged(alloc, lines),
         ("note", [given]) => note(alloc, given),
         ("written", [document]) => written(alloc, document),

@@ -72,6 +72,16 @@ pub fn member<'v>(value: &'v Value, key: &str) -> Judged<&'v Value>
     }
 }
 
+/// The value at a key, taken out of its object.
+pub fn take_member(value: &mut Value, key: &str) -> Judged<Value>
+    ensures { seen view result ≡ member_at key.now (view value.old) }
+{
+    match value.get_mut(key) {
+        Some(found) => Ok(found.take()),
+        None => Err(Refusal::WrongShape(Part::Document)),
+    }
+}
+
 /// Whether a value is a version's number.
 fn version_is(version: u64, value: &Value) -> Judged<()>
     ensures { result ≡ version_is version (view value.now) }

@@ -9,13 +9,12 @@ ghost use Rattle.retro_log.specs.ReadsAs.{ReadsAs};
 ghost use Rattle.retro_log.specs.Document.{log_in, log_of, log_parts_of, recording_of};
 
 use crate::fault::{LogFault, Refusal};
-use crate::reading::document::{has_form, json, member, read_first};
+use crate::reading::document::{has_form, json, read_first, take_member};
 use crate::reading::log_lines::read_log_lines;
 use retro_keep::{Noted, Recording};
 use retro_tree::State;
 use serde_json::Value;
 use std::alloc::Global;
-use std::mem;
 
 /// The keys of a log's document.
 const LOG_KEYS: [&str; 4] = ["log", "tree", "sessions", "lines"];
@@ -76,16 +75,17 @@ fn recording_of(
 
 /// The first state, which is lawful, and the lines of a log.
 #[tactic(auto, unfolding(crate::specs::Document::log_parts_of))]
-fn read_parts(alloc: Global, value: &Value) -> Result<(State, Vec<(u32, Noted)>), LogFault>
+fn read_parts(alloc: Global, value: Value) -> Result<(State, Vec<(u32, Noted)>), LogFault>
     ensures value { ReadsAs (λ parts. (parts.0, parts.1.items)) result
-        (log_parts_of (view value.now)) }
+        (log_parts_of (view value)) }
     ensures lawful { IfOk result (λ parts. IsLawful parts.0) }
     ensures own { IfOk result (λ parts. IsTrue (list_all is_own_line parts.1.items)) }
     ensures of_kind { IfOk result (λ parts. IsTrue (list_all is_line_of_kind parts.1.items)) }
 {
-    has_form(&LOG_KEYS, "log", LOG_VERSION, value)?;
-    let first = read_first(alloc, value)?;
-    let lines = read_log_lines(alloc, member(value, "lines")?)??;
+    let mut value = value;
+    has_form(&LOG_KEYS, "log", LOG_VERSION, &value)?;
+    let first = read_first(alloc, &value)?;
+    let lines = read_log_lines(alloc, take_member(&mut value, "lines")?)??;
     Ok((first, lines))
 }
 
@@ -106,7 +106,6 @@ pub fn read_log(alloc: Global, bytes: &[u8]) -> Result<Recording, LogFault>
     ensures { ReadsAs (λ recording. recording) result (log_in bytes.now) }
 {
     let value = json(alloc, bytes)?;
-    let (first, lines) = read_parts(alloc, &value)?;
-    mem::drop(value);
+    let (first, lines) = read_parts(alloc, value)?;
     recording_of(alloc, first, lines)
 }

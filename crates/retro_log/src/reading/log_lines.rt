@@ -64,13 +64,21 @@ fn read_line(alloc: Global, value: &Value) -> Result<Judged<(u32, Noted)>, NoMem
     }
 }
 
-fn read_items(alloc: Global, items: &[Value]) -> Result<Judged<Vec<(u32, Noted)>>, NoMem>
+/// A line, whose value is freed once it is read.
+fn take_line(alloc: Global, value: Value) -> Result<Judged<(u32, Noted)>, NoMem>
+    ensures { IfOk result (λ line. line ≡ log_line_of (view value)) }
+{
+    read_line(alloc, &value)
+}
+
+#[tactic(auto, using(crate::proofs::Worst::taking_starts))]
+fn read_items(alloc: Global, items: Vec<Value>) -> Result<Judged<Vec<(u32, Noted)>>, NoMem>
     ensures { IfOk result (λ lines. seen (λ v. v.items) lines
-        ≡ every log_line_of (map view items.now)) }
+        ≡ every log_line_of (map view items.items)) }
 {
     let mut lines = Ok(Vec::new(alloc));
     for item in items {
-        let line = read_line(alloc, item)?;
+        let line = take_line(alloc, item)?;
         lines = with_item(lines, line)?;
     }
     Ok(lines)
@@ -79,11 +87,11 @@ fn read_items(alloc: Global, items: &[Value]) -> Result<Judged<Vec<(u32, Noted)>
 /// The lines that a value is, whatever their numbers, their sessions and their changes; or the
 /// worst refusal of the whole list.
 #[tactic(auto, unfolding(crate::specs::LogLinesPart::log_lines_of))]
-pub fn read_log_lines(alloc: Global, value: &Value) -> Result<Judged<Vec<(u32, Noted)>>, NoMem>
-    ensures { IfOk result (λ lines. seen (λ v. v.items) lines ≡ log_lines_of (view value.now)) }
+pub fn read_log_lines(alloc: Global, value: Value) -> Result<Judged<Vec<(u32, Noted)>>, NoMem>
+    ensures { IfOk result (λ lines. seen (λ v. v.items) lines ≡ log_lines_of (view value)) }
 {
-    match cells(Part::Lines, value) {
-        Ok(items) => read_items(alloc, items),
-        Err(refusal) => Ok(Err(refusal)),
+    match value {
+        Value::Array(items) => read_items(alloc, items),
+        _ => Ok(Err(Refusal::WrongShape(Part::Lines))),
     }
 }

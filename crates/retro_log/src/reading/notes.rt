@@ -61,11 +61,12 @@ fn read_note(alloc: Global, sid: u32, value: &Value) -> Result<Judged<Note>, NoM
     }
 }
 
+#[tactic(auto, using(crate::proofs::Worst::judging_starts))]
 fn read_items(alloc: Global, sid: u32, items: &[Value]) -> Result<Judged<Vec<Note>>, NoMem>
     ensures { IfOk result (λ notes. seen (λ v. v.items) notes
         ≡ every (note_of sid) (map view items.now)) }
 {
-    let mut notes = Ok(Vec::new(alloc));
+    let mut notes = Ok(Vec::with_capacity(alloc, items.len())?);
     for item in items {
         let note = read_note(alloc, sid, item)?;
         notes = with_item(notes, note)?;

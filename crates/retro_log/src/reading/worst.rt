@@ -1,4 +1,4 @@
-//! Reading several things that are all judged: the worst refusal counts.
+//! Reading several things, of which the worst refusal counts.
 ghost use Rattle.std.specs.Prelude.{◌≡◌, IfOk};
 ghost use Rattle.retro_log.specs.ReadsAs.{seen};
 ghost use Rattle.retro_log.specs.Worst.{both, with_item, worse};

@@ -1,17 +1,21 @@
-//! The JSON values that the lines of a log are written as.
-ghost use Rattle.std.specs.Prelude.{◌≡◌, IfOk, OnOk, true};
+//! Writing the lines of a log.
+ghost use Rattle.std.specs.Prelude.{◌≡◌, ◌++◌, IfOk, OnOk, true};
 ghost use Rattle.std.specs.List.{list_all};
 ghost use Rattle.serde_json.specs.View.{view};
+ghost use Rattle.serde_json.specs.Written.{comma_if, compact_text};
 ghost use Rattle.retro_log.specs.LogText.{line_data, lines_data};
+ghost use Rattle.retro_log.specs.ReadBack.{IsReadBack};
 ghost use Rattle.retro_log.specs.Typed.{line_typed};
 
 use crate::writing::fields::{hex_value, number_value};
 use crate::writing::notes::notes_value;
+use crate::writing::text::push_value;
 use retro_keep::Noted;
 use retro_tree::NoMem;
 use serde_json::{Value, json};
 use std::alloc::Global;
 
+/// The JSON value of a line: `[number,sid,text,notes,"hex"]`.
 #[tactic(auto, unfolding(crate::specs::LogText::line_data, crate::specs::Typed::line_typed))]
 fn line_value(alloc: Global, number: u32, noted: &Noted) -> Result<Value, NoMem>
     ensures value { IfOk result (λ v. view v ≡ line_data (number, noted.now)) }
@@ -24,15 +28,39 @@ fn line_value(alloc: Global, number: u32, noted: &Noted) -> Result<Value, NoMem>
     json!(in alloc; [number, sid, noted.text.as_str(), notes, output])
 }
 
-/// The lines of a log: a list of `[number,sid,text,notes,"hex"]`.
-#[tactic(auto, unfolding(crate::specs::LogText::lines_data))]
-pub fn lines_value(alloc: Global, lines: &[(u32, Noted)]) -> Result<Value, NoMem>
-    ensures value { IfOk result (λ v. view v ≡ lines_data lines.now) }
+/// Appends a line, after a comma if it is a later one.
+fn push_line(
+    alloc: Global,
+    later: bool,
+    number: u32,
+    noted: &Noted,
+    text: &mut Vec<u8>,
+) -> Result<(), NoMem>
+    ensures text { OnOk result (text.new.items
+        ≡ text.old.items ++ (comma_if later ++ compact_text (line_data (number, noted.now)))) }
+    ensures read_back { OnOk result (IsReadBack (line_data (number, noted.now))) }
+    ensures typed { OnOk result (line_typed (number, noted.now) ≡ true) }
+{
+    if later {
+        text.push(b',')?;
+    }
+    let line = line_value(alloc, number, noted)?;
+    push_value(alloc, &line, text)
+}
+
+/// Appends the lines of a log, one by one: a list of `[number,sid,text,notes,"hex"]`.
+pub fn push_lines(alloc: Global, lines: &[(u32, Noted)], text: &mut Vec<u8>) -> Result<(), NoMem>
+    ensures text { OnOk result
+        (text.new.items ≡ text.old.items ++ compact_text (lines_data lines.now)) }
+    ensures read_back { OnOk result (IsReadBack (lines_data lines.now)) }
     ensures typed { OnOk result (list_all line_typed lines.now ≡ true) }
 {
-    let mut items = Vec::new(alloc);
+    text.push(b'[')?;
+    let mut later = false;
     for (number, noted) in lines {
-        items.push(line_value(alloc, *number, noted)?)?;
+        push_line(alloc, later, *number, noted, text)?;
+        later = true;
     }
-    Ok(Value::Array(items))
+    text.push(b']')?;
+    Ok(())
 }

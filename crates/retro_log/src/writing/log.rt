@@ -1,34 +1,39 @@
 //! Writing logs.
-ghost use Rattle.std.specs.Prelude.{◌≡◌, ◌⊎◌, IfOk, OnOk, Ok, true};
-ghost use Rattle.serde_json.specs.View.{view};
+ghost use Rattle.std.specs.Prelude.{◌≡◌, ◌⊎◌, ◌++◌, IfOk, OnOk, Ok, true};
+ghost use Rattle.serde_json.specs.Written.{compact_text};
 ghost use Rattle.retro_keep.specs.Recording.{IsRecordingOf, IsWellFormed, script_in};
 ghost use Rattle.retro_log.specs.Document.{log_in};
 ghost use Rattle.retro_log.specs.LogText.{log_data, log_text};
 ghost use Rattle.retro_log.specs.NoNul.{recording_without_nul};
+ghost use Rattle.retro_log.specs.ReadBack.{IsReadBack};
 ghost use Rattle.retro_log.specs.RoundTrip.{WasRead};
 ghost use Rattle.retro_log.specs.Typed.{recording_typed};
 
-use crate::writing::line::lines_value;
+use crate::writing::line::push_lines;
 use crate::writing::sessions::sessions_value;
+use crate::writing::text::push_value;
 use crate::writing::tree::tree_value;
 use retro_keep::Recording;
 use retro_tree::NoMem;
-use serde_json::{Value, json};
 use std::alloc::Global;
 
-/// The version of a log.
-const LOG_VERSION: u32 = 1;
-
+/// Appends the log of a recording without its newline. Only one line at a time is a JSON value.
 #[tactic(auto, unfolding(crate::specs::LogText::log_data, crate::specs::Typed::recording_typed))]
-fn log_value(alloc: Global, recording: &Recording) -> Result<Value, NoMem>
-    ensures value { IfOk result (λ v. view v ≡ log_data recording.now) }
+fn push_log(alloc: Global, recording: &Recording, text: &mut Vec<u8>) -> Result<(), NoMem>
+    ensures text { OnOk result (text.new.items
+        ≡ text.old.items ++ compact_text (log_data recording.now)) }
+    ensures read_back { OnOk result (IsReadBack (log_data recording.now)) }
     ensures typed { OnOk result (recording_typed recording.now ≡ true) }
     ensures well_formed { OnOk result (IsWellFormed recording.now) }
 {
-    let tree = tree_value(alloc, recording.first())?;
-    let sessions = sessions_value(alloc, recording.first())?;
-    let lines = lines_value(alloc, recording.lines())?;
-    json!(in alloc; {"log": LOG_VERSION, "tree": tree, "sessions": sessions, "lines": lines})
+    text.extend_from_slice(b"{\"lines\":")?;
+    push_lines(alloc, recording.lines(), text)?;
+    text.extend_from_slice(b",\"log\":1,\"sessions\":")?;
+    push_value(alloc, &sessions_value(alloc, recording.first())?, text)?;
+    text.extend_from_slice(b",\"tree\":")?;
+    push_value(alloc, &tree_value(alloc, recording.first())?, text)?;
+    text.push(b'}')?;
+    Ok(())
 }
 
 /// The log of a recording: compact JSON (RFC 8259) with keys in byte order, and a newline.
@@ -41,8 +46,8 @@ pub fn write_log(alloc: Global, recording: &Recording) -> Result<Vec<u8>, NoMem>
         IsRecordingOf (script_in recording.now) recording.now ⊎ WasRead recording.now
         → recording_without_nul recording.now ≡ true → log_in text.items ≡ Ok recording.now) }
 {
-    let value = log_value(alloc, recording)?;
-    let mut text = value.to_vec(alloc)?;
+    let mut text = Vec::new(alloc);
+    push_log(alloc, recording, &mut text)?;
     text.push(b'\n')?;
     Ok(text)
 }

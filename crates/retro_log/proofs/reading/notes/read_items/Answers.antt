@@ -1,11 +1,8 @@
 use Rattle.serde_json.specs.View.{view}
 use Rattle.retro_log.specs.NotesPart.{note_of}
 use Rattle.retro_log.specs.ReadsAs.{seen}
-use Rattle.retro_log.proofs.Worst.{judging_starts, judging_goes_on, judging_done}
+use Rattle.retro_log.proofs.Worst.{judging_goes_on, judging_done}
 use Rattle.retro_log.proofs.reading.notes.read_items.Goals as goal
-
-pub loop-item-init : goal.loop-item-init
-loop-item-init c = rw c.new.ensures.items (judging_starts (note_of c.args.sid) view c.args.items.now)
 
 pub loop-item-preserved : goal.loop-item-preserved
 loop-item-preserved c =
