@@ -1,0 +1,48 @@
+//! Sources of the values of cells.
+ghost use Rattle.std.specs.Prelude.{◌≡◌};
+ghost use Rattle.retro_tree.specs.Cell.{value};
+ghost use Rattle.retro_tree.specs.declared.state.State.{State as StateValue};
+ghost use Rattle.retro_effects.specs.ValueRef.{ref_value};
+
+use crate::value_ref::ValueRef;
+use retro_tree::{Cell, Entry, State};
+
+/// A source that knows the value of each cell of one state. `State` is one of itself.
+pub trait Cells {
+    /// The state.
+    ghost state: { Self → StateValue };
+
+    /// Borrows the value of a cell. Takes no memory.
+    fn get(&self, cell: &Cell) -> ValueRef<'_>
+        ensures { ref_value result ≡ value cell.now (state self.now) };
+}
+
+impl Cells for State {
+    ghost state = { λ s. s };
+
+    #[tactic(auto, using(retro_tree::proofs::Lookups::var_of_none), unfolding(retro_tree::specs::Cell::value, retro_tree::specs::Tree::node_in, retro_tree::specs::Session::default_session))]
+    fn get(&self, cell: &Cell) -> ValueRef<'_> {
+        match cell {
+            Cell::At(path) => match self.tree().get(path) {
+                None => ValueRef::Missing,
+                Some(Entry::Dir) => ValueRef::Dir,
+                Some(Entry::File(bytes)) => ValueRef::File(bytes.as_slice()),
+            },
+            Cell::Cwd(sid) => match self.sessions().get(*sid) {
+                None => ValueRef::Root,
+                Some(session) => ValueRef::Cwd(&session.cwd),
+            },
+            Cell::Var(sid, name) => match self.sessions().get(*sid) {
+                None => ValueRef::Unset,
+                Some(session) => match session.vars.get(name) {
+                    None => ValueRef::Unset,
+                    Some(text) => ValueRef::Text(text),
+                },
+            },
+            Cell::Status(sid) => match self.sessions().get(*sid) {
+                None => ValueRef::Status(0),
+                Some(session) => ValueRef::Status(session.status),
+            },
+        }
+    }
+}

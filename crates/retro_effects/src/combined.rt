@@ -1,0 +1,76 @@
+//! Views of the combined state of a view and an overlay.
+ghost use Rattle.std.specs.Prelude.{◌≡◌, ◌↔◌, IfOk, IsTrue};
+ghost use Rattle.retro_tree.specs.Notes.{Holds};
+ghost use Rattle.retro_tree.specs.Overlay.{Fits};
+ghost use Rattle.retro_tree.specs.Commit.{committed};
+ghost use Rattle.retro_tree.specs.State.{SameSessions};
+ghost use Rattle.retro_tree.specs.Exact.{IsExact};
+ghost use Rattle.retro_tree.specs.declared.state.State.{State};
+
+use retro_local::holds;
+use retro_tree::{Answer, Ask, Listing, Notes, Overlay, Path, View};
+use std::alloc::{AllocError, Global};
+use std::marker::Model;
+
+/// A view of the combined state of another view and an overlay. Each entry of the overlay fits its
+/// cell, so the combined state is the one that a commit makes.
+#[derive(Drop)]
+pub struct Combined<'a, V: View> {
+    view: &'a V,
+    overlay: &'a Overlay,
+}
+
+impl<'a, V: View> Model for Combined<'a, V> {
+    ghost use Rattle.retro_tree.specs.Overlay.{Fits};
+    ghost use Rattle.retro_tree.specs.Commit.{committed};
+    ghost use Rattle.retro_tree.specs.declared.state.State.{State};
+    ghost use Rattle.retro_local.specs.TraceCode.{coded_state};
+
+    ghost Value = { State };
+
+    ghost coded = { coded_state };
+
+    ghost view = { λ a. committed a.overlay.now (V.state a.view.now) };
+
+    ghost invariant = { λ a. Fits a.overlay.now };
+}
+
+impl<'a, V: View> Combined<'a, V> {
+    /// Combines a view and an overlay. Takes no memory.
+    pub fn new(view: &'a V, overlay: &'a Overlay) -> Self
+        requires { Fits overlay.now }
+        ensures { result ≡ committed overlay.now (V.state view.now) }
+    {
+        Combined { view, overlay }
+    }
+}
+
+impl<'a, V: View> View for Combined<'a, V> {
+    ghost state = { λ v. v };
+
+    #[tactic(auto, using(retro_tree::proofs::Fitting::fits_overlays))]
+    fn answer(&self, alloc: Global, ask: &Ask) -> Result<Answer, AllocError> {
+        self.overlay.answer(alloc, self.view, ask)
+    }
+
+    #[tactic(auto, using(retro_tree::proofs::Fitting::fits_overlays))]
+    fn children(&self, alloc: Global, path: &Path) -> Result<Listing, AllocError> {
+        self.overlay.children(alloc, self.view, path)
+    }
+}
+
+/// Returns whether notes hold in the repaired state, which an exact overlay makes of the state of a
+/// view.
+pub fn equiv<V: View>(
+    alloc: Global,
+    notes: &Notes,
+    view: &V,
+    overlay: &Overlay,
+) -> Result<bool, AllocError>
+    requires { Fits overlay.now }
+    ensures { IfOk result (λ b. (t : State) → IsExact overlay.now (V.state view.now) t
+        → SameSessions (V.state view.now) t → IsTrue b ↔ Holds notes.now t) }
+{
+    let repaired = Combined::new(view, overlay);
+    holds(alloc, notes, &repaired)
+}

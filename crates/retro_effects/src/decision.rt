@@ -1,0 +1,146 @@
+//! How a line changes one cell's entry of an exact overlay.
+ghost use Rattle.std.specs.Prelude.{◌≡◌, ◌≢◌, ◌↔◌, ◌++◌, ℕ, List, Some, IfOk, IsTrue};
+ghost use Rattle.std.specs.Option.{option_copied};
+ghost use Rattle.retro_tree.specs.Overlay.{combined_value};
+ghost use Rattle.retro_tree.specs.Exact.{IsDifference};
+ghost use Rattle.retro_tree.specs.declared.overlay_entry.OverlayEntry.TheVariants as OverlayEntry;
+ghost use Rattle.retro_effects.specs.ValueRef.{ref_value};
+ghost use Rattle.retro_effects.specs.Write.{entry_after, decided_entry};
+ghost use Rattle.retro_effects.specs.Decision.{Appends};
+
+use crate::bytes::{same_bytes, same_in_parts};
+use crate::grown_ref::GrownRef;
+use crate::value_ref::ValueRef;
+use crate::write::Write;
+use retro_tree::{Node, OverlayEntry, Value};
+use std::alloc::{AllocError, Global};
+
+/// Returns the bytes that an effect appends to a file, or `None` if it sets a value.
+fn appended<'a>(effect: Option<&'a OverlayEntry>) -> Option<&'a [u8]>
+    ensures { Appends (option_copied result) (option_copied effect.entry) }
+{
+    match effect {
+        None => Some(&[]),
+        Some(OverlayEntry::Growth(bytes)) => Some(bytes.as_slice()),
+        Some(OverlayEntry::Value(_)) => None,
+    }
+}
+
+/// Returns whether a file is the same with either end appended. The file isn't read.
+fn same_ends(end: &[u8], other: &[u8]) -> bool
+    ensures { (file : List ℕ) → IsTrue result ↔ (file ++ end.now ≡ file ++ other.now) }
+{
+    same_bytes(end, other)
+}
+
+/// Returns whether two files that differ are the same with an end appended to each. If they have
+/// the same length, they aren't, and nothing of them is read.
+#[tactic(auto, using(crate::proofs::TwoParts::apart))]
+fn become_same(file: &[u8], end: &[u8], other: &[u8], other_end: &[u8]) -> bool
+    requires { file.now ≢ other.now }
+    ensures { IsTrue result ↔ (file.now ++ end.now ≡ other.now ++ other_end.now) }
+{
+    file.len() != other.len() && same_in_parts(file, end, other, other_end)
+}
+
+/// Returns whether two values are the same after an effect on each.
+fn same_after(
+    value: ValueRef<'_>,
+    effect: Option<&OverlayEntry>,
+    other: ValueRef<'_>,
+    other_effect: Option<&OverlayEntry>,
+) -> bool
+    ensures { IsTrue result
+        ↔ (combined_value (option_copied effect.entry) (ref_value value.entry)
+        ≡ combined_value (option_copied other_effect.entry) (ref_value other.entry)) }
+{
+    GrownRef::combine(value, effect).is_same(GrownRef::combine(other, other_effect))
+}
+
+/// Returns whether a cell has the same value in both states after a line. Files that only grow are
+/// read as little as possible.
+#[tactic(auto, using(crate::proofs::Decisions::growths))]
+fn agree(
+    value: ValueRef<'_>,
+    entry: Option<&OverlayEntry>,
+    recorded: Option<&OverlayEntry>,
+    chosen: Option<&OverlayEntry>,
+) -> bool
+    requires { let was = ref_value value in let over = option_copied entry in
+        IsDifference over was (combined_value over was) }
+    ensures { let was = ref_value value.entry in
+        IsTrue result ↔ (combined_value (option_copied recorded.entry) was
+        ≡ combined_value (option_copied chosen.entry)
+        (combined_value (option_copied entry.entry) was)) }
+{
+    if let (ValueRef::File(file), Some(end), Some(other_end)) = (
+        value,
+        appended(recorded),
+        appended(chosen),
+    ) {
+        match entry {
+            None => return same_ends(end, other_end),
+            Some(OverlayEntry::Value(Value::Node(Node::File(other)))) => {
+                return become_same(file, end, other.as_slice(), other_end);
+            }
+            Some(_) => {}
+        }
+    }
+    match entry {
+        Some(OverlayEntry::Value(other)) => {
+            same_after(value, recorded, ValueRef::of(other), chosen)
+        }
+        _ => same_after(value, recorded, value, chosen),
+    }
+}
+
+/// Returns the write that makes a cell's entry the value of the repaired state after a line.
+fn write_of(
+    alloc: Global,
+    value: ValueRef<'_>,
+    entry: Option<&OverlayEntry>,
+    chosen: Option<OverlayEntry>,
+) -> Result<Write, AllocError>
+    requires { let was = ref_value value in let over = option_copied entry in
+        IsDifference over was (combined_value over was) }
+    ensures { let was = ref_value value.entry in let over = option_copied entry.entry in
+        IfOk result (λ write. entry_after write over
+        ≡ Some (OverlayEntry.Value (combined_value chosen (combined_value over was)))) }
+{
+    match (chosen, entry) {
+        (Some(OverlayEntry::Value(value)), _) => Ok(Write::Set(value)),
+        (Some(OverlayEntry::Growth(bytes)), Some(_)) => Ok(Write::Grow(bytes)),
+        (Some(OverlayEntry::Growth(bytes)), None) => {
+            let mut copy = value.to_value(alloc)?;
+            copy.grow(&bytes)?;
+            Ok(Write::Set(copy))
+        }
+        (None, Some(_)) => Ok(Write::Keep),
+        (None, None) => Ok(Write::Set(value.to_value(alloc)?)),
+    }
+}
+
+/// Returns what is done to a cell's entry of an exact overlay over a line, so that the overlay is
+/// exact again: a write, or `None` to remove it. The cell's value in the recorded state is `value`
+/// and its entry `entry`. The effects on the cell are `recorded` in the recorded state and `chosen`
+/// in the repaired one.
+#[tactic(auto, using(crate::proofs::Decisions::deciding))]
+pub(crate) fn decide(
+    alloc: Global,
+    value: ValueRef<'_>,
+    entry: Option<&OverlayEntry>,
+    recorded: Option<&OverlayEntry>,
+    chosen: Option<OverlayEntry>,
+) -> Result<Option<Write>, AllocError>
+    requires { let was = ref_value value in let over = option_copied entry in
+        IsDifference over was (combined_value over was) }
+    ensures { let was = ref_value value.entry in let over = option_copied entry.entry in
+        IfOk result (λ write. IsDifference (decided_entry write over)
+        (combined_value (option_copied recorded.entry) was)
+        (combined_value chosen (combined_value over was))) }
+{
+    if agree(value, entry, recorded, chosen.as_ref()) {
+        return Ok(None);
+    }
+    Ok(Some(write_of(alloc, value, entry, chosen)?))
+}

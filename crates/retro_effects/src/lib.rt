@@ -1,0 +1,41 @@
+//! What notes do to the cells of a state, and the exact overlay of a repair, which they advance.
+//!
+//! A `ValueRef` is a borrowed value of a cell, and `Cells` lends the values of one state. `touches`
+//! and `changes` say which cells notes read or write, and `effects` gives a cell's value after
+//! them. `overlay_of` gives what notes do to all cells, without a state: as an overlay that has an
+//! entry for each cell that they change.
+//!
+//! A repair compares two states: the recorded state, as the lines were run, and the repaired one.
+//! An overlay is exact if it has entries for exactly the cells in which they differ, each with the
+//! repaired value. `advance` keeps it exact over a line, whatever notes the line has in the one
+//! state and in the other. `is_met` says whether notes read or write a cell that differs.
+//! `Combined` is a view of a view with an overlay, and `equiv` says whether notes hold in the
+//! repaired state.
+//!
+//! If allocation fails, calls return `AllocError` and leave their arguments unchanged.
+#![tactic(auto)]
+
+mod advancing;
+mod bytes;
+mod cells;
+mod combined;
+mod decision;
+mod grown_ref;
+mod meeting;
+mod overlays;
+mod plan;
+mod planner;
+mod touching;
+mod undo;
+mod value_ref;
+mod write;
+mod write_map;
+mod writing;
+
+pub use advancing::advance;
+pub use cells::Cells;
+pub use combined::{Combined, equiv};
+pub use meeting::is_met;
+pub use overlays::overlay_of;
+pub use touching::{changes, effects, note_touches, touches, writes, written};
+pub use value_ref::ValueRef;

@@ -1,0 +1,134 @@
+//! Planning of how a line changes an exact overlay.
+ghost use Rattle.std.specs.Prelude.{◌≡◌, ◌||◌, IfOk, OnOk, None, []};
+ghost use Rattle.std.specs.Option.{option_copied};
+ghost use Rattle.std.specs.FinMap as map;
+ghost use Rattle.retro_tree.specs.Notes.{after, cell_eq};
+ghost use Rattle.retro_tree.specs.Overlay.{OverlayMap};
+ghost use Rattle.retro_tree.specs.Exact.{IsExact, IsTight};
+ghost use Rattle.retro_tree.specs.declared.cell.Cell.{Cell as StateCell};
+ghost use Rattle.retro_tree.specs.declared.state.State.{State};
+ghost use Rattle.retro_effects.specs.Plan.{carried_out, IsPlan, is_planned, Covers};
+
+use crate::cells::Cells;
+use crate::decision::decide;
+use crate::overlays::overlay_of;
+use crate::plan::Plan;
+use retro_tree::{Cell, Notes, Overlay, OverlayEntry};
+use std::alloc::{AllocError, Global};
+
+/// The recorded state before a line, and the exact overlay that makes the repaired state of it.
+#[derive(Drop)]
+pub(crate) struct Planner<'a, C: Cells> {
+    alloc: Global,
+    cells: &'a C,
+    overlay: &'a Overlay,
+}
+
+impl<'a, C: Cells> Planner<'a, C> {
+    /// Returns a planner. Takes no memory.
+    pub(crate) fn new(alloc: Global, cells: &'a C, overlay: &'a Overlay) -> Self
+        ensures cells { result.cells.now ≡ cells.now }
+        ensures overlay { result.overlay.now ≡ overlay.now }
+    {
+        Planner {
+            alloc,
+            cells,
+            overlay,
+        }
+    }
+
+    /// Plans one cell, with the effects on it in the recorded and in the repaired state.
+    #[tactic(auto, using(crate::proofs::Plans::planning))]
+    fn plan_cell(
+        &self,
+        plan: &mut Plan,
+        cell: Cell,
+        recorded: Option<&OverlayEntry>,
+        chosen: Option<OverlayEntry>,
+    ) -> Result<(), AllocError>
+        requires { IsTight self.now.overlay.now (C.state self.now.cells.now) }
+        ensures plan { OnOk result ((a b : OverlayMap)
+            → map.get a cell ≡ option_copied recorded.entry
+            → map.get b cell ≡ chosen
+            → IsPlan self.now.overlay.now a b (C.state self.now.cells.now)
+            plan.old.writes plan.old.removals.items
+            → IsPlan self.now.overlay.now a b (C.state self.now.cells.now)
+            plan.new.writes plan.new.removals.items) }
+        ensures covers { OnOk result ((c : StateCell)
+            → is_planned plan.new.writes plan.new.removals.items c
+            ≡ (cell_eq cell c || is_planned plan.old.writes plan.old.removals.items c)) }
+    {
+        let value = self.cells.get(&cell);
+        match decide(self.alloc, value, self.overlay.get(&cell), recorded, chosen)? {
+            Some(write) => plan.writes.insert(cell, write)?,
+            None => plan.removals.push(cell)?,
+        }
+        Ok(())
+    }
+
+    /// Plans the cells on which only the recorded notes have an effect.
+    #[tactic(auto, using(crate::proofs::Covering::covering))]
+    fn plan_recorded(
+        &self,
+        plan: &mut Plan,
+        recorded: &Overlay,
+        chosen: &Overlay,
+    ) -> Result<(), AllocError>
+        requires tight { IsTight self.now.overlay.now (C.state self.now.cells.now) }
+        requires writes { plan.old.writes ≡ map.empty }
+        requires removals { plan.old.removals.items ≡ [] }
+        ensures plan { OnOk result (IsPlan self.now.overlay.now recorded.now chosen.now
+            (C.state self.now.cells.now) plan.new.writes plan.new.removals.items) }
+        ensures covers { OnOk result (Covers recorded.now chosen.now
+            plan.new.writes plan.new.removals.items [] (map.entries chosen.now)) }
+    {
+        for (cell, effect) in recorded.iter() {
+            if chosen.get(cell).is_none() {
+                self.plan_cell(plan, cell.copy()?, Some(effect), None)?;
+            }
+        }
+        Ok(())
+    }
+
+    /// Plans the cells on which the chosen notes have an effect.
+    #[tactic(auto, using(crate::proofs::Covering::covering))]
+    fn plan_chosen(
+        &self,
+        plan: &mut Plan,
+        recorded: &Overlay,
+        chosen: Overlay,
+    ) -> Result<(), AllocError>
+        requires tight { IsTight self.now.overlay.now (C.state self.now.cells.now) }
+        requires plan { IsPlan self.now.overlay.now recorded.now chosen
+            (C.state self.now.cells.now) plan.old.writes plan.old.removals.items }
+        requires covers { Covers recorded.now chosen
+            plan.old.writes plan.old.removals.items [] (map.entries chosen) }
+        ensures plan { OnOk result (IsPlan self.now.overlay.now recorded.now chosen
+            (C.state self.now.cells.now) plan.new.writes plan.new.removals.items) }
+        ensures covers { OnOk result (Covers recorded.now chosen
+            plan.new.writes plan.new.removals.items [] []) }
+    {
+        for (cell, effect) in chosen.into_entries() {
+            let recorded_effect = recorded.get(&cell);
+            self.plan_cell(plan, cell, recorded_effect, Some(effect))?;
+        }
+        Ok(())
+    }
+
+    /// Plans a line: the recorded notes in the recorded state, the chosen ones in the repaired one.
+    #[tactic(auto, using(crate::proofs::Advanced::advancing))]
+    pub(crate) fn plan(&self, recorded: &Notes, chosen: &Notes) -> Result<Plan, AllocError>
+        requires { IsTight self.now.overlay.now (C.state self.now.cells.now) }
+        ensures { IfOk result (λ plan. (t : State)
+            → IsExact self.now.overlay.now (C.state self.now.cells.now) t
+            → IsExact (carried_out plan.writes plan.removals.items self.now.overlay.now)
+            (after recorded.now (C.state self.now.cells.now)) (after chosen.now t)) }
+    {
+        let recorded = overlay_of(self.alloc, recorded)?;
+        let chosen = overlay_of(self.alloc, chosen)?;
+        let mut plan = Plan::new(self.alloc);
+        self.plan_recorded(&mut plan, &recorded, &chosen)?;
+        self.plan_chosen(&mut plan, &recorded, chosen)?;
+        Ok(plan)
+    }
+}

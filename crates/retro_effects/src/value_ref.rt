@@ -1,0 +1,64 @@
+//! Borrowed values of cells.
+ghost use Rattle.std.specs.Prelude.{◌≡◌, IfOk};
+ghost use Rattle.retro_effects.specs.ValueRef.{ref_value};
+
+use retro_tree::{Bytes, Node, Path, Text, Value};
+use std::alloc::{AllocError, Global};
+
+/// A borrowed value of a cell.
+#[derive(Clone, Copy)]
+pub enum ValueRef<'a> {
+    /// Nothing is at the path.
+    Missing,
+    /// A directory is at the path.
+    Dir,
+    /// A file with these bytes is at the path.
+    File(&'a [u8]),
+    /// A session's directory.
+    Cwd(&'a Path),
+    /// The root, as the directory of a session that doesn't exist.
+    Root,
+    /// A variable's value.
+    Text(&'a Text),
+    /// The variable isn't set.
+    Unset,
+    /// A session's status.
+    Status(u8),
+}
+
+impl<'a> ValueRef<'a> {
+    /// Borrows a value.
+    pub fn of(value: &'a Value) -> ValueRef<'a>
+        ensures { ref_value result ≡ value.now }
+    {
+        match value {
+            Value::Node(Node::Missing) => ValueRef::Missing,
+            Value::Node(Node::Dir) => ValueRef::Dir,
+            Value::Node(Node::File(bytes)) => ValueRef::File(bytes.as_slice()),
+            Value::Cwd(path) => ValueRef::Cwd(path),
+            Value::Text(Some(text)) => ValueRef::Text(text),
+            Value::Text(None) => ValueRef::Unset,
+            Value::Status(status) => ValueRef::Status(*status),
+        }
+    }
+
+    /// Returns a copy that owns what it holds.
+    pub fn to_value(self, alloc: Global) -> Result<Value, AllocError>
+        ensures { IfOk result (λ value. value ≡ ref_value self.entry) }
+    {
+        match self {
+            ValueRef::Missing => Ok(Value::Node(Node::Missing)),
+            ValueRef::Dir => Ok(Value::Node(Node::Dir)),
+            ValueRef::File(bytes) => {
+                let mut copy = Bytes::new(alloc);
+                copy.extend(bytes)?;
+                Ok(Value::Node(Node::File(copy)))
+            }
+            ValueRef::Cwd(path) => Ok(Value::Cwd(path.copy()?)),
+            ValueRef::Root => Ok(Value::Cwd(Path::root(alloc))),
+            ValueRef::Text(text) => Ok(Value::Text(Some(text.copy()?))),
+            ValueRef::Unset => Ok(Value::Text(None)),
+            ValueRef::Status(status) => Ok(Value::Status(status)),
+        }
+    }
+}

@@ -1,0 +1,55 @@
+//! Maps from cells to writes.
+ghost use Rattle.std.specs.Prelude.{◌≡◌, OnOk};
+ghost use Rattle.std.specs.FinMap as map;
+
+use crate::write::Write;
+use retro_tree::Cell;
+use std::alloc::{AllocError, Global};
+use std::collections::BTreeMap;
+use std::collections::btree_map::IntoIter;
+use std::marker::Model;
+
+/// The writes of some cells' entries.
+#[derive(Drop)]
+pub(crate) struct WriteMap {
+    writes: BTreeMap<Cell, Write>,
+}
+
+impl Model for WriteMap {
+    ghost use Rattle.std.specs.FinMap as map;
+    ghost use Rattle.retro_tree.specs.CellOrder.{cell_cmp, coded_cell};
+    ghost use Rattle.retro_effects.specs.Write.{coded_write};
+    ghost use Rattle.retro_effects.specs.declared.write.Write.{Write};
+
+    ghost Value = { map.FinMap cell_cmp Write };
+
+    ghost coded = { map.code coded_cell coded_write };
+
+    ghost view = { λ a. map.from_entries a.writes.entries };
+}
+
+impl WriteMap {
+    /// Returns no writes. Takes no memory.
+    pub(crate) fn new(alloc: Global) -> WriteMap
+        ensures { result ≡ map.empty }
+    {
+        WriteMap {
+            writes: BTreeMap::new(alloc),
+        }
+    }
+
+    /// Sets the write of a cell.
+    pub(crate) fn insert(&mut self, cell: Cell, write: Write) -> Result<(), AllocError>
+        ensures ok { OnOk result (self.new ≡ map.insert self.old cell write) }
+    {
+        self.writes.insert(cell, write)?;
+        Ok(())
+    }
+
+    /// Returns the writes with their cells, in order of cells.
+    pub(crate) fn into_entries(self) -> IntoIter<Cell, Write>
+        ensures { result ≡ map.entries self }
+    {
+        self.writes.into_iter()
+    }
+}
