@@ -1,0 +1,16 @@
+pub mod Numbers
+pub mod Unions
+pub mod Lines
+pub mod Gathering
+pub mod Readers
+pub mod Meetings
+pub mod Buffers
+pub mod Lookups
+pub mod LineVersions
+pub mod Chains
+pub mod Rule
+pub mod Checkpoints
+pub mod RecordedVersions
+pub mod Marking
+pub mod Recalled
+pub mod Tracking

@@ -1,0 +1,10 @@
+use Rattle.std.proofs.Common.{◌≡◌, List}
+use Rattle.retro_history.specs.Index.{Line}
+use Rattle.retro_history.specs.IndexSteps.{Indexes, next_of}
+use Rattle.retro_history.specs.Numbers.{earliest}
+use Rattle.retro_history.proofs.index.Index.next_meeting.Given as goal
+
+abbrev pub invariant-loop-cell : goal.invariant-loop-cell
+invariant-loop-cell l =
+    (lines : List Line) → Indexes l.self lines
+    → earliest l.next (next_of l.after l.cell-iterator lines) ≡ next_of l.after l.cells.keys lines

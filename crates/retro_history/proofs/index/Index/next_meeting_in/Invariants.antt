@@ -1,0 +1,12 @@
+use Rattle.std.proofs.Common.{◌≡◌, List, map}
+use Rattle.std.specs.FinMap as finmap
+use Rattle.retro_history.specs.Index.{Line}
+use Rattle.retro_history.specs.IndexSteps.{Indexes, next_of}
+use Rattle.retro_history.specs.Numbers.{earliest}
+use Rattle.retro_history.proofs.index.Index.next_meeting_in.Given as goal
+
+abbrev pub invariant-loop-cell : goal.invariant-loop-cell
+invariant-loop-cell l =
+    (lines : List Line) → Indexes l.self lines
+    → earliest l.next (next_of l.after (map (λ e. e.0) l.cell-iterator) lines)
+    ≡ next_of l.after (finmap.keys l.overlay) lines

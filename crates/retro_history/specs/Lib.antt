@@ -1,0 +1,12 @@
+pub mod Index
+pub mod Numbers
+pub mod Uses
+pub mod UsesCode
+pub mod IndexSteps
+pub mod Recorded
+pub mod Versions
+pub mod Tracks
+pub mod TrackCode
+pub mod Version
+pub mod History
+pub mod TrackMarks

@@ -1,0 +1,234 @@
+//! Histories.
+ghost use Rattle.std.specs.Prelude.{◌≡◌, IfOk};
+ghost use Rattle.retro_tree.specs.Ask.{answer, names_in};
+ghost use Rattle.retro_tree.specs.Cell.{value};
+ghost use Rattle.retro_tree.specs.declared.ask.Ask.TheVariants as Ask;
+ghost use Rattle.retro_tree.specs.declared.answer.Answer.TheVariants as Answer;
+ghost use Rattle.retro_effects.specs.ValueRef.{ref_value};
+ghost use Rattle.std.specs.FinMap as map;
+ghost use Rattle.retro_history.specs.History.{parts_before, version_ref_parts};
+ghost use Rattle.retro_history.specs.Index.{IsNextMeeting, listed_at, read_at, written_at};
+ghost use Rattle.retro_keep.specs.Recording.{IsWellFormed};
+ghost use Rattle.retro_history.specs.Recorded.{recorded_before};
+ghost use Rattle.retro_history.specs.Versions.{checkpoints, greatest_below, rolled_back};
+
+use crate::at::At;
+use crate::index::Index;
+use crate::rolled::Rolled;
+use crate::tracks::Tracks;
+use crate::version_ref::VersionRef;
+use retro_effects::{Cells, ValueRef};
+use retro_keep::Recording;
+use retro_tree::{Cell, Listing, NoMem, Overlay, Path, Text, User, Value};
+use std::alloc::Global;
+use std::collections::BTreeSet;
+use std::marker::Model;
+
+/// What was in each cell of the machine before each line of a recording.
+///
+/// A history borrows its recording. Making it takes two passes over the notes; no state is copied.
+#[derive(Drop)]
+pub struct History<'a> {
+    recording: &'a Recording,
+    tracks: Tracks<'a>,
+    index: Index,
+}
+
+impl<'a> Model for History<'a> {
+    ghost use Rattle.retro_keep.specs.Recording.{RecordingValue};
+    ghost use Rattle.retro_keep.specs.RecordingCode.{coded_recording};
+    ghost use Rattle.retro_history.specs.Tracks.{IsHistory};
+
+    ghost Value = { RecordingValue };
+
+    ghost coded = { coded_recording };
+
+    ghost view = { λ a. a.recording.now };
+
+    ghost invariant = { λ a. IsHistory a.recording.now a.tracks a.index };
+}
+
+impl<'a> History<'a> {
+    /// Makes the history of a recording.
+    pub fn of(alloc: Global, recording: &'a Recording) -> Result<History<'a>, NoMem>
+        ensures { IfOk result (λ history. history ≡ recording.now) }
+    {
+        let first = recording.first();
+        let mut tracks = Tracks::new(alloc);
+        for line in recording.lines() {
+            tracks.apply_notes(alloc, first, line.0, &line.1.notes)?;
+        }
+        let index = Index::of(alloc, recording.lines())?;
+        Ok(History {
+            recording,
+            tracks,
+            index,
+        })
+    }
+
+    /// Returns the recording.
+    pub fn recording(&self) -> &'a Recording
+        ensures { result.now ≡ self.now }
+    {
+        self.recording
+    }
+
+    /// Returns the value of a cell before the line with a number, which is after all lines with
+    /// numbers below it. No line needs to have the number.
+    pub fn value_at(&self, alloc: Global, cell: &Cell, number: u32) -> Result<Value, NoMem>
+        ensures { IfOk result (λ v. v ≡ value cell.now (recorded_before number self.now)) }
+    {
+        self.get(cell, number).to_value(alloc)
+    }
+
+    /// Borrows the value of a cell before the line with a number. Takes no memory. Searches by
+    /// halves in the versions of the cell.
+    pub fn get(&self, cell: &Cell, number: u32) -> ValueRef<'_>
+        ensures { ref_value result ≡ value cell.now (recorded_before number self.now) }
+    {
+        self.version_before(cell, number).value
+    }
+
+    /// Returns the numbers of the checkpoints of a cell, which rise. The first one is 0.
+    pub fn checkpoints(&self, alloc: Global, cell: &Cell) -> Result<Vec<u32>, NoMem>
+        ensures { IfOk result (λ numbers. numbers.items ≡ checkpoints cell.now self.now) }
+    {
+        match self.tracks.get(cell) {
+            Some(track) => track.checkpoints(alloc),
+            None => Vec::from_slice(alloc, &[0]),
+        }
+    }
+
+    /// Rolls a cell back to before the line with a number: to the last checkpoint below the number,
+    /// with the growths after it that are below the number.
+    pub fn rollback(&self, alloc: Global, cell: &Cell, number: u32) -> Result<Rolled, NoMem>
+        ensures rule { IfOk result (λ r. r ≡ rolled_back cell.now number self.now) }
+        ensures from { IfOk result (λ r.
+            r.from ≡ greatest_below number (checkpoints cell.now self.now)) }
+        ensures value { IfOk result (λ r.
+            r.value ≡ value cell.now (recorded_before number self.now)) }
+    {
+        let version = self.version_before(cell, number);
+        Ok(Rolled {
+            from: version.checkpoint,
+            value: version.value.to_value(alloc)?,
+        })
+    }
+
+    /// Returns the password entry of a login name before the line with a number, or `None` if there
+    /// is none: the recorded answer to [`Ask::User`](retro_tree::Ask::User).
+    #[tactic(auto, unfolding(retro_tree::specs::Ask::answer))]
+    pub fn entry_at(&self, alloc: Global, name: &Text, number: u32) -> Result<Option<User>, NoMem>
+        ensures { IfOk result (λ user.
+            Answer.User user ≡ answer (Ask.User name.now) (recorded_before number self.now)) }
+    {
+        Ok(self.at(number).user(alloc, name)?)
+    }
+
+    /// Returns the names in a directory before the line with a number, or `None` if no directory is
+    /// there: the recorded answer to [`Ask::Names`](retro_tree::Ask::Names).
+    #[tactic(auto, unfolding(retro_tree::specs::Ask::answer))]
+    pub fn names_at(
+        &self,
+        alloc: Global,
+        path: &Path,
+        number: u32,
+    ) -> Result<Option<Listing>, NoMem>
+        ensures { IfOk result (λ names.
+            Answer.Names names ≡ answer (Ask.Names path.now) (recorded_before number self.now)) }
+    {
+        Ok(self.at(number).listing(alloc, path)?)
+    }
+
+    /// Returns the numbers of the lines that write a cell, which rise. A line writes a cell if its
+    /// notes have a change of it, even one that leaves its value.
+    pub fn writers(&self, alloc: Global, cell: &Cell) -> Result<Vec<u32>, NoMem>
+        ensures { IfOk result (λ numbers. numbers.items ≡ written_at cell.now self.now.lines) }
+    {
+        self.index.writers(alloc, cell)
+    }
+
+    /// Returns the numbers of the lines that read a cell, which rise. A line reads a cell if the
+    /// answer to one of its queries can depend on it, so a listing reads the cells of all children,
+    /// existing or not.
+    pub fn readers(&self, alloc: Global, cell: &Cell) -> Result<Vec<u32>, NoMem>
+        ensures { IfOk result (λ numbers. numbers.items ≡ read_at cell.now self.now.lines) }
+    {
+        self.index.readers(alloc, cell)
+    }
+
+    /// Borrows the numbers of the lines that write a cell, which rise. Takes no memory.
+    pub fn written_by(&self, cell: &Cell) -> &[u32]
+        ensures { result.now ≡ written_at cell.now self.now.lines }
+    {
+        self.index.written_by(cell)
+    }
+
+    /// Borrows the numbers of the lines that query the names in a directory, which rise. Takes no
+    /// memory.
+    pub fn listed_by(&self, path: &Path) -> &[u32]
+        ensures { result.now ≡ listed_at path.now self.now.lines }
+    {
+        self.index.listed_by(path)
+    }
+
+    /// Returns the least number above `after` of a line that reads or writes one of the cells, or
+    /// `None` if there is no such line. Takes a few look-ups for each cell.
+    pub fn next_meeting(
+        &self,
+        alloc: Global,
+        cells: &BTreeSet<Cell>,
+        after: u32,
+    ) -> Result<Option<u32>, NoMem>
+        ensures { IfOk result (λ next. IsNextMeeting cells.now.keys after self.now.lines next) }
+    {
+        self.index.next_meeting(alloc, cells, after)
+    }
+
+    /// Returns the least number above `after` of a line that reads or writes a cell with an entry
+    /// in an overlay, or `None` if there is no such line. Takes a few look-ups for each entry.
+    pub fn next_meeting_in(
+        &self,
+        alloc: Global,
+        overlay: &Overlay,
+        after: u32,
+    ) -> Result<Option<u32>, NoMem>
+        ensures { IfOk result (λ next.
+            IsNextMeeting (map.keys overlay.now) after self.now.lines next) }
+    {
+        self.index.next_meeting_in(alloc, overlay, after)
+    }
+
+    /// Returns the names of the children of a path before the line with a number, whatever node is
+    /// at the path itself. Takes time in proportion to the paths below it.
+    pub(crate) fn children(&self, alloc: Global, path: &Path, number: u32) -> Result<Listing, NoMem>
+        ensures { IfOk result (λ names.
+            names ≡ names_in path.now (recorded_before number self.now).tree) }
+    {
+        let marks = self.tracks.marks_below(alloc, path, number)?;
+        marks.children(alloc, self.recording.first(), path)
+    }
+
+    /// Returns the recorded state before the line with a number, as a view. Takes no memory.
+    pub fn at(&self, number: u32) -> At<'_, 'a>
+        ensures { result ≡ recorded_before number self.now }
+    {
+        At::new(self, number)
+    }
+
+    /// Returns the checkpoint and the value of a cell before the line with a number.
+    fn version_before(&self, cell: &Cell, number: u32) -> VersionRef<'_>
+        ensures value { version_ref_parts result ≡ parts_before cell.now number self.now }
+        ensures well_formed { IsWellFormed self.now }
+    {
+        if let Some(track) = self.tracks.get(cell) {
+            if let Some(version) = track.version_below(number) {
+                return version;
+            }
+        }
+        VersionRef {
+            checkpoint: 0,
+            value: self.recording.first().get(cell),
+        }
+    }
+}

@@ -1,0 +1,44 @@
+//! The history of a recording: what was in each cell of the machine before each line, and which
+//! lines wrote, read and listed what.
+//!
+//! A [`History`] borrows a recording and keeps the versions of each cell that its lines change.
+//! [`History::value_at`] and [`History::rollback`] give the value of a cell before a line, and
+//! [`History::at`] the whole recorded state before a line: as a view that answers queries, and as
+//! a source of borrowed values.
+//!
+//! A version is a checkpoint if it is a whole value. Else it is a growth of the version before it.
+//! Checkpoints aren't copied: values are borrowed from the recording, and all versions of a file
+//! that grows share one buffer.
+//!
+//! [`History::writers`] and [`History::readers`] give the lines that write or read a cell, and
+//! [`History::next_meeting`] the next line that reads or writes one of some cells, by look-ups in
+//! an index. A listing of a directory reads the cell of each child, also of children that never
+//! existed.
+//!
+//! If allocation fails, calls return `NoMem` and leave their arguments unchanged.
+#![tactic(auto)]
+
+mod access;
+mod at;
+mod cell_uses;
+mod history;
+mod index;
+mod laws;
+mod line_numbers;
+mod note_cells;
+mod path_lines;
+mod place;
+mod rising;
+mod rolled;
+mod track;
+mod tracks;
+mod uses;
+mod version;
+mod version_ref;
+
+pub use at::At;
+pub use history::History;
+pub use laws::{
+    checkpoints_rise, recorded_states_follow_the_lines, versions_give_the_recorded_values,
+};
+pub use rolled::Rolled;

@@ -1,0 +1,54 @@
+//! Places of values.
+ghost use Rattle.std.specs.Prelude.{◌≡◌, IfOk, OnErr, length, take};
+ghost use Rattle.retro_tree.specs.Change.{value_grown};
+ghost use Rattle.retro_history.specs.Version.{EndsAt, place_value};
+
+use retro_effects::ValueRef;
+use retro_tree::NoMem;
+
+/// Where the value of a version is.
+#[derive(Clone, Copy)]
+pub(crate) enum Place<'a> {
+    /// In the recording.
+    Borrowed(ValueRef<'a>),
+    /// A file that has grown, in the buffer of its track.
+    Buffer(Span),
+}
+
+/// A range of a buffer.
+#[derive(Clone, Copy)]
+pub(crate) struct Span {
+    /// The index of the first byte.
+    pub(crate) start: usize,
+    /// The index after the last byte.
+    pub(crate) end: usize,
+}
+
+impl<'a> Place<'a> {
+    /// Appends bytes to the value and returns its new place. The buffer keeps its bytes and may get
+    /// more. A file in the recording is copied into it. A file in the buffer must be at its end.
+    pub(crate) fn extend(self, buffer: &mut Vec<u8>, more: &[u8]) -> Result<Place<'a>, NoMem>
+        requires { EndsAt (length buffer.old.items) self }
+        ensures value { IfOk result (λ new. place_value buffer.new.items new
+            ≡ value_grown more.now (place_value buffer.old.items self.entry)) }
+        ensures end { IfOk result (λ new. EndsAt (length buffer.new.items) new) }
+        ensures kept { take (length buffer.old.items) buffer.new.items ≡ buffer.old.items }
+        ensures err { OnErr result (EndsAt (length buffer.new.items) self.entry) }
+    {
+        let start = match self {
+            Place::Borrowed(ValueRef::Missing) => buffer.len(),
+            Place::Borrowed(ValueRef::File(bytes)) => {
+                let start = buffer.len();
+                buffer.extend_from_slice(bytes)?;
+                start
+            }
+            Place::Buffer(span) => span.start,
+            Place::Borrowed(_) => return Ok(self),
+        };
+        buffer.extend_from_slice(more)?;
+        Ok(Place::Buffer(Span {
+            start,
+            end: buffer.len(),
+        }))
+    }
+}

@@ -1,0 +1,11 @@
+//! Values that are rolled back to.
+use retro_tree::Value;
+
+/// What was in a cell before a line, by its versions.
+#[derive(Drop)]
+pub struct Rolled {
+    /// The number of the last checkpoint before the line, or 0 if there is none.
+    pub from: u32,
+    /// The value of that checkpoint with the growths between it and the line.
+    pub value: Value,
+}
