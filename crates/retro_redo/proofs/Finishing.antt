@@ -1,0 +1,229 @@
+-- The end of a repair: all lines are settled.
+use Rattle.std.proofs.Common.{◌≡◌, ◌∙◌, ℕ, Bool, true, false, not, List, [], ◌∷◌, length, map, Option, Some, None}
+use Rattle.std.proofs.Common.{Result, Ok, Err}
+use Rattle.std.proofs.Common.{IsTrue, arith, refl, sym, ap, ap₂, cond, subst, nat_lt, ◌<◌}
+use Rattle.std.proofs.Common.{IfOk, ◌↔◌}
+use Rattle.std.specs.Option.{is_some}
+use Rattle.std.proofs.lemmas.Bool.{false≢true, ltb-true, lt-ltb}
+use Rattle.retro_tree.specs.Overlay.{OverlayMap}
+use Rattle.retro_tree.specs.declared.state.State.{State}
+use Rattle.retro_tree.proofs.Small.{first_true, both_true, and_true}
+use Rattle.retro_keep.specs.Edit.{is_among}
+use Rattle.retro_keep.specs.Recording.{AllRecorded, IsRecordingOf, IsWellFormed, RecordingValue, last_state}
+use Rattle.retro_keep.specs.Recording.{number_in, output_in}
+use Rattle.retro_keep.specs.Recording.{script_in, script_line, sid_in}
+use Rattle.retro_keep.specs.Script.{IsScript, ScriptValue, have_sessions, number_of, rises_from, script_of_lines}
+use Rattle.retro_keep.specs.Script.{sid_of}
+use Rattle.retro_keep.specs.declared.script.LinesFault.{LinesFault}
+use Rattle.retro_keep.specs.declared.script.LinesFault.TheVariants as lines_faults
+use Rattle.retro_keep.specs.declared.script.ScriptLine.{ScriptLine}
+use Rattle.retro_keep.proofs.Recorded.{well_formed}
+use Rattle.retro_redo.specs.Final.{IsFinal}
+use Rattle.retro_redo.specs.Keeping.{Keeps}
+use Rattle.retro_redo.specs.Moments.{AreVerdicts, IsMet, Picks, others}
+use Rattle.retro_redo.specs.Progress.{ProgressValue, cancelled_in, lines_chosen, next_line, repaired_now}
+use Rattle.retro_redo.specs.Progress.{repaired_recording}
+use Rattle.retro_redo.specs.Repair.{IsRepair, moments_of, script_of_others}
+use Rattle.retro_redo.specs.Progress.{compensations_chosen, verdicts_chosen}
+use Rattle.retro_redo.specs.declared.repair.Repair.{Repair}
+use Rattle.retro_redo.proofs.Choices.{last_chosen}
+use Rattle.retro_redo.proofs.Final.{settles_final}
+use Rattle.retro_redo.proofs.Positions.{Line, all_settled}
+
+-- ---- the script of the other lines
+
+numbers_are : (lines : List Line) → map number_of (map script_line lines) ≡ map number_in lines
+numbers_are [] = refl
+numbers_are (l ∷ lines) = ap (λ ns. l.0 ∷ ns) (numbers_are lines)
+
+sids_are : (lines : List Line) → map sid_of (map script_line lines) ≡ map sid_in lines
+sids_are [] = refl
+sids_are (l ∷ lines) = ap (λ ns. l.1.sid ∷ ns) (sids_are lines)
+
+rises_from_less : (m n : ℕ) (numbers : List ℕ) → m < n → IsTrue (rises_from n numbers) → IsTrue (rises_from m numbers)
+rises_from_less m n [] less rising = refl
+rises_from_less m n (number ∷ numbers) less rising =
+    let above = ltb-true n number (first_true (nat_lt n number) _ rising) in
+    and_true _ _ (lt-ltb m number (omega arith)) (both_true (nat_lt n number) _ rising)
+
+rises_with : (n : ℕ) (l : ScriptLine) (kept : List ScriptLine) (b : Bool) → nat_lt n l.number ≡ true
+    → IsTrue (rises_from l.number (map number_of kept))
+    → IsTrue (rises_from n (map number_of (cond b (l ∷ kept) kept)))
+rises_with n l kept true above later = and_true _ _ above later
+rises_with n l kept false above later = rises_from_less n l.number _ (ltb-true n l.number above) later
+
+rises_others : (cancelled : ℕ → Bool) (n : ℕ) (lines : List ScriptLine) → IsTrue (rises_from n (map number_of lines))
+    → IsTrue (rises_from n (map number_of (others cancelled lines)))
+rises_others cancelled n [] rising = refl
+rises_others cancelled n (l ∷ lines) rising =
+    rises_with n l (others cancelled lines) (not (cancelled l.number)) (first_true (nat_lt n l.number) _ rising)
+    (rises_others cancelled l.number lines (both_true (nat_lt n l.number) _ rising))
+
+known_with : (first : State) (l : ScriptLine) (lines kept : List ScriptLine) (b : Bool)
+    → IsTrue (have_sessions first (map sid_of (l ∷ lines))) → IsTrue (have_sessions first (map sid_of kept))
+    → IsTrue (have_sessions first (map sid_of (cond b (l ∷ kept) kept)))
+known_with first l lines kept true known later =
+    and_true _ _ (first_true _ (have_sessions first (map sid_of lines)) known) later
+known_with first l lines kept false known later = later
+
+known_others : (first : State) (cancelled : ℕ → Bool) (lines : List ScriptLine)
+    → IsTrue (have_sessions first (map sid_of lines))
+    → IsTrue (have_sessions first (map sid_of (others cancelled lines)))
+known_others first cancelled [] known = refl
+known_others first cancelled (l ∷ lines) known =
+    known_with first l lines (others cancelled lines) (not (cancelled l.number)) known
+    (known_others first cancelled lines (both_true _ (have_sessions first (map sid_of lines)) known))
+
+pub script_others : (cancelled : ℕ → Bool) (r : RecordingValue) → IsWellFormed r
+    → IsScript (script_of_others cancelled r)
+script_others cancelled r w = record {
+  lawful = w.lawful;
+  rising = rises_others cancelled 0 (map script_line r.lines) (ap (rises_from 0) (numbers_are r.lines) ∙ w.rising);
+  known = known_others r.first cancelled (map script_line r.lines)
+      (ap (have_sessions r.first) (sids_are r.lines) ∙ w.known);
+}
+
+-- the code makes this script of the lines that aren't cancelled
+pub script_made : (cancelled : ℕ → Bool) (r : RecordingValue) (first : State) (lines : List ScriptLine)
+    → IsWellFormed r → first ≡ r.first → lines ≡ others cancelled (map script_line r.lines)
+    → script_of_lines first lines ≡ Ok (script_of_others cancelled r)
+unfolding script_of_lines
+script_made cancelled r first lines w e f =
+    let is = script_others cancelled r w in
+    ap₂ script_of_lines e f
+    ∙ ap (λ b. cond (not b) (Err lines_faults.NumbersNotRising) (if_known
+    (have_sessions r.first (map sid_of (others cancelled (map script_line r.lines)))))) is.rising
+    ∙ ap if_known is.known
+  where
+    if_known : Bool → Result ScriptValue LinesFault
+    if_known b = cond (not b) (Err lines_faults.UnknownSession) (Ok (script_of_others cancelled r))
+
+pub no_fault : {A E : Type 0} (x : A) (e : E) → Ok x ≡ Err e → ⊥
+no_fault x e h = cc
+
+pub script_is : (made : ScriptValue) (s : ScriptValue)
+    → ◌≡◌ {A = Result ScriptValue LinesFault} (Ok made) (Ok s) → made ≡ s
+script_is made s h = cc
+
+-- the numbers of lines that a recording of a script has
+pub numbers_of : (script : ScriptValue) (r : RecordingValue) → IsRecordingOf script r
+    → map number_in r.lines ≡ map number_of script.lines
+numbers_of script r is = sym (numbers_are r.lines) ∙ ap (map number_of) is.lines
+
+-- ---- the answer
+
+-- each settled line has its choice
+pub all_chosen : (p q : ProgressValue) (overlay : OverlayMap) (met : List ℕ) → q ≡ p → Keeps q overlay met
+    → next_line p ≡ None → length q.choices ≡ length q.recording.lines
+all_chosen p q overlay met e keeps ended =
+    all_settled (cancelled_in q) q.recording.lines q.choices q.recording.first q.recording.first keeps.settles
+    (ap next_line e ∙ ended)
+
+module _ (p : ProgressValue) (overlay : OverlayMap) (met : List ℕ) (keeps : Keeps p overlay met)
+    (w : IsWellFormed p.recording) (ended : next_line p ≡ None)
+    (is : IsRecordingOf (script_in p.recording) p.recording) where
+  all : length p.choices ≡ length p.recording.lines
+  all = all_settled (cancelled_in p) p.recording.lines p.choices p.recording.first p.recording.first keeps.settles ended
+
+  final : IsFinal (cancelled_in p) p.recording.lines p.choices p.recording.first p.recording.first
+  final = settles_final (cancelled_in p) p.recording.lines p.choices p.recording.first p.recording.first is.recorded
+      w.lawful w.known keeps.settles all
+
+  -- the lines as chosen are a recording's
+  pub chosen_well_formed : IsWellFormed (repaired_recording p)
+  chosen_well_formed =
+      well_formed (script_of_others (cancelled_in p) p.recording) (lines_chosen p.recording.lines p.choices)
+      (script_others (cancelled_in p) p.recording w) final.lines_are final.recorded
+
+  pub is_repair : (repair : Repair)
+      → repair.recording ≡ repaired_recording p
+      → repair.state ≡ last_state repair.recording.lines repair.recording.first
+      → repair.outputs.items ≡ map output_in repair.recording.lines
+      → repair.verdicts.items ≡ verdicts_chosen p.recording.lines p.choices
+      → repair.compensations.items ≡ compensations_chosen p.recording.lines p.choices
+      → repair.met.items ≡ met → IsRepair (cancelled_in p) p.recording repair
+  is_repair repair recording state outputs verdicts compensated met_are =
+      let chosen = lines_chosen p.recording.lines p.choices in
+      let state_is : repair.state ≡ repaired_now p = state
+      ∙ ap (λ (r : RecordingValue). last_state r.lines r.first) recording
+      ∙ last_chosen p.recording.lines p.choices p.recording.first in
+      let outputs_are : repair.outputs.items ≡ map output_in chosen = outputs
+      ∙ ap (λ (r : RecordingValue). map output_in r.lines) recording in
+      record {
+        outcome_is = ap₂ (λ s os. (s, os)) state_is outputs_are ∙ sym final.outcome_is;
+        compensated = compensated ∙ sym final.compensated;
+        verdicts_are = subst (λ vs. AreVerdicts (cancelled_in p) (moments_of (cancelled_in p) p.recording) vs)
+            (sym verdicts) final.verdicts;
+        met_are = subst (λ ns. Picks (IsMet (cancelled_in p)) (moments_of (cancelled_in p) p.recording) ns)
+            (sym met_are) (subst (λ ms. Picks (IsMet (cancelled_in p)) ms met) (sym final.on_the_way) keeps.are_met);
+        recording_is = record {
+          first = ap (λ (r : RecordingValue). r.first) recording;
+          lines = ap (λ (r : RecordingValue). map script_line r.lines) recording ∙ final.lines_are;
+          recorded = subst (λ (r : RecordingValue). AllRecorded r.lines r.first) (sym recording) final.recorded;
+        };
+      }
+
+-- ---- the end of the code, where q is the progress as its fields are, and p as contracts see it
+
+pub if_ok_all : {X E : Type 0} {P : X → Type 0} (r : Result X E) → ((x : X) → P x) → IfOk r P
+if_ok_all (Ok x) h = h x
+if_ok_all (Err e) h = tt
+
+pub if_ok_map : {X E : Type 0} {P Q : X → Type 0} (r : Result X E) → IfOk r P → ((x : X) → P x → Q x) → IfOk r Q
+if_ok_map (Ok x) k h = h x k
+if_ok_map (Err e) k h = tt
+
+pub none_is : {X : Type 0} (found : Option X) → ((x : X) → found ≡ Some x → ⊥) → found ≡ None
+none_is None h = refl
+none_is (Some x) h = absurd (h x refl)
+
+same_recording : (first f : State) (lines ls : List Line) → first ≡ f → lines ≡ ls
+    → ◌≡◌ {A = RecordingValue} (record { first = first; lines = lines }) (record { first = f; lines = ls })
+same_recording first f lines ls e g = λ i. record { first = e i; lines = g i }
+
+module _ (p q : ProgressValue) (overlay : OverlayMap) (met : List ℕ) (e : q ≡ p) (keeps : Keeps q overlay met)
+    (w : IsWellFormed q.recording) (ended : next_line p ≡ None) (first : State) (lines : List Line)
+    (first_is : first ≡ q.recording.first) (lines_are : lines ≡ lines_chosen q.recording.lines q.choices)
+    (found : Option RecordingValue)
+    (exact : IsTrue (is_some found) ↔ IsWellFormed (record { first = first; lines = lines })) where
+  is_in : IsRecordingOf (script_in p.recording) p.recording → IsRecordingOf (script_in q.recording) q.recording
+  is_in is = subst (λ x. IsRecordingOf (script_in x.recording) x.recording) (sym e) is
+
+  ended_in : next_line q ≡ None
+  ended_in = ap next_line e ∙ ended
+
+  made : ◌≡◌ {A = RecordingValue} (record { first = first; lines = lines }) (repaired_recording q)
+  made = same_recording first q.recording.first lines (lines_chosen q.recording.lines q.choices) first_is lines_are
+
+  -- on a recording the lines as chosen make one
+  pub found_none : found ≡ None → IsRecordingOf (script_in p.recording) p.recording → ⊥
+  found_none none is =
+      false≢true (sym (ap is_some none)
+      ∙ exact.1 (subst IsWellFormed (sym made) (chosen_well_formed q overlay met keeps w ended_in (is_in is))))
+
+  -- a recording that is made is well formed
+  pub found_some : (r : RecordingValue) → found ≡ Some r → IsWellFormed (repaired_recording p)
+  found_some r some =
+      subst (λ x. IsWellFormed (repaired_recording x)) e (subst IsWellFormed made (exact.0 (ap is_some some)))
+
+  pub repair_found : (repair : Repair) → IsRecordingOf (script_in p.recording) p.recording
+      → repair.recording ≡ record { first = first; lines = lines }
+      → repair.state ≡ last_state repair.recording.lines repair.recording.first
+      → repair.outputs.items ≡ map output_in repair.recording.lines
+      → repair.verdicts.items ≡ verdicts_chosen q.recording.lines q.choices
+      → repair.compensations.items ≡ compensations_chosen q.recording.lines q.choices
+      → repair.met.items ≡ met → IsRepair (cancelled_in p) p.recording repair
+  repair_found repair is recording state outputs verdicts compensated met_are =
+      subst (λ x. IsRepair (cancelled_in x) x.recording repair) e
+      (is_repair q overlay met keeps w ended_in (is_in is) repair (recording ∙ made) state outputs verdicts
+      compensated met_are)
+
+-- the same numbers are cancelled
+pub repair_same : (a b : List ℕ) (r q : RecordingValue) (repair : Repair)
+    → ((n : ℕ) → is_among a n ≡ is_among b n) → r ≡ q
+    → (IsRecordingOf (script_in r) r → IsRepair (is_among a) r repair)
+    → IsRecordingOf (script_in q) q → IsRepair (is_among b) q repair
+repair_same a b r q repair same e h is =
+    subst (λ (x : ℕ → Bool). IsRepair x q repair) (λ i n. same n i)
+    (subst (λ (x : RecordingValue). IsRepair (is_among a) x repair) e
+    (h (subst (λ (x : RecordingValue). IsRecordingOf (script_in x) x) (sym e) is)))

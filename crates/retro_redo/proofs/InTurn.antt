@@ -1,0 +1,30 @@
+-- Lines left out in turn.
+use Rattle.std.proofs.Common.{◌≡◌, ◌∙◌, ◌==◌, ◌||◌, ℕ, Bool, true, false, not, List, [], ◌∷◌, ◌++◌, cond, refl, sym, ap}
+use Rattle.retro_keep.specs.Edit.{is_among, lines_without}
+use Rattle.retro_keep.specs.declared.script.ScriptLine.{ScriptLine}
+
+or_assoc : (a b c : Bool) → (a || (b || c)) ≡ ((a || b) || c)
+or_assoc true b c = refl
+or_assoc false b c = refl
+
+among_both : (c d : List ℕ) (n : ℕ) → is_among (c ++ d) n ≡ (is_among c n || is_among d n)
+among_both [] d n = refl
+among_both (k ∷ c) d n =
+    ap (λ b. (k == n) || b) (among_both c d n) ∙ or_assoc (k == n) (is_among c n) (is_among d n)
+
+one_line : (d : List ℕ) (l : ScriptLine) (rest both : List ScriptLine) (x y : Bool) → is_among d l.number ≡ y
+    → lines_without d rest ≡ both
+    → lines_without d (cond (not x) (l ∷ rest) rest) ≡ cond (not (x || y)) (l ∷ both) both
+one_line d l rest both true y e h = h
+one_line d l rest both false y e h =
+    ap (λ b. cond (not b) (l ∷ lines_without d rest) (lines_without d rest)) e
+    ∙ ap (λ ls. cond (not y) (l ∷ ls) ls) h
+
+pub left_out_in_turn : (c d : List ℕ) (lines : List ScriptLine)
+    → lines_without d (lines_without c lines) ≡ lines_without (c ++ d) lines
+left_out_in_turn c d [] = refl
+left_out_in_turn c d (l ∷ lines) =
+    one_line d l (lines_without c lines) (lines_without (c ++ d) lines) (is_among c l.number) (is_among d l.number) refl
+    (left_out_in_turn c d lines)
+    ∙ ap (λ b. cond (not b) (l ∷ lines_without (c ++ d) lines) (lines_without (c ++ d) lines))
+    (sym (among_both c d l.number))

@@ -1,0 +1,9 @@
+pub mod Final
+pub mod Positions
+pub mod Sessions
+pub mod Keeping
+pub mod Choices
+pub mod Finishing
+pub mod Numbers
+pub mod Before
+pub mod InTurn

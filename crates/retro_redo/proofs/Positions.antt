@@ -1,0 +1,111 @@
+-- One more line settled: the states, the choices and the moments.
+use Rattle.std.proofs.Common.{◌≡◌, ◌∙◌, inl, inr, ℕ, Bool, List, [], ◌∷◌, ◌++◌, length, Some, None}
+use Rattle.std.proofs.Common.{suc, refl, ap, arith, subst}
+use Rattle.std.specs.List.{slice_get}
+use Rattle.retro_tree.specs.Notes.{after}
+use Rattle.retro_tree.specs.declared.state.State.{State}
+use Rattle.retro_keep.specs.Recording.{last_state}
+use Rattle.retro_keep.specs.declared.noted.Noted.{Noted}
+use Rattle.retro_redo.specs.Moments.{Moment, Picks}
+use Rattle.retro_redo.specs.Progress.{IsRunTaken, MayStep, Settles, chosen, recorded_after, repaired_after, settled}
+use Rattle.retro_redo.specs.declared.step.Step.{Step}
+
+abbrev pub Line : Type 0
+Line = ℕ × Noted
+
+pub not_none : {A : Type 0} (x : A) → None ≡ Some x → ⊥
+not_none x e = cc
+
+-- ---- no line settled
+pub recorded_none : (lines : List Line) (s : State) → recorded_after lines [] s ≡ s
+recorded_none [] s = refl
+recorded_none (l ∷ lines) s = refl
+
+pub repaired_none : (lines : List Line) (t : State) → repaired_after lines [] t ≡ t
+repaired_none [] t = refl
+repaired_none (l ∷ lines) t = refl
+
+pub settled_none : (lines : List Line) (s t : State) → settled lines [] s t ≡ []
+settled_none [] s t = refl
+settled_none (l ∷ lines) s t = refl
+
+pub settles_none : (cancelled : ℕ → Bool) (lines : List Line) (s t : State) → Settles cancelled lines [] s t
+settles_none cancelled [] s t = tt
+settles_none cancelled (l ∷ lines) s t = tt
+
+-- ---- one line more
+pub recorded_more : (lines : List Line) (steps : List Step) (l : Line) (step : Step) (s : State)
+    → slice_get lines (length steps) ≡ Some l
+    → recorded_after lines (steps ++ step ∷ []) s ≡ after l.1.notes (recorded_after lines steps s)
+recorded_more [] steps l step s next = absurd (not_none l next)
+recorded_more (k ∷ lines) [] l step s next =
+    let e : k ≡ l = cc in
+    recorded_none lines (after k.1.notes s) ∙ ap (λ (x : Line). after x.1.notes s) e
+recorded_more (k ∷ lines) (d ∷ steps) l step s next = recorded_more lines steps l step (after k.1.notes s) next
+
+pub repaired_more : (lines : List Line) (steps : List Step) (l : Line) (step : Step) (t : State)
+    → slice_get lines (length steps) ≡ Some l
+    → repaired_after lines (steps ++ step ∷ []) t ≡ after (chosen step l.1) (repaired_after lines steps t)
+repaired_more [] steps l step t next = absurd (not_none l next)
+repaired_more (k ∷ lines) [] l step t next =
+    let e : k ≡ l = cc in
+    repaired_none lines (after (chosen step k.1) t) ∙ ap (λ (x : Line). after (chosen step x.1) t) e
+repaired_more (k ∷ lines) (d ∷ steps) l step t next = repaired_more lines steps l step (after (chosen d k.1) t) next
+
+abbrev pub moment : Line → State → State → Moment
+moment l s t = record { number = l.0; noted = l.1; recorded = s; repaired = t }
+
+pub settled_more : (lines : List Line) (steps : List Step) (l : Line) (step : Step) (s t : State)
+    → slice_get lines (length steps) ≡ Some l
+    → settled lines (steps ++ step ∷ []) s t
+    ≡ settled lines steps s t ++ moment l (recorded_after lines steps s) (repaired_after lines steps t) ∷ []
+settled_more [] steps l step s t next = absurd (not_none l next)
+settled_more (k ∷ lines) [] l step s t next =
+    let e : k ≡ l = cc in
+    ap (λ ms. moment k s t ∷ ms) (settled_none lines (after k.1.notes s) (after (chosen step k.1) t))
+    ∙ ap (λ (x : Line). moment x s t ∷ []) e
+settled_more (k ∷ lines) (d ∷ steps) l step s t next =
+    ap (λ ms. moment k s t ∷ ms) (settled_more lines steps l step (after k.1.notes s) (after (chosen d k.1) t) next)
+
+pub settles_more : (cancelled : ℕ → Bool) (lines : List Line) (steps : List Step) (l : Line) (step : Step) (s t : State)
+    → slice_get lines (length steps) ≡ Some l → Settles cancelled lines steps s t
+    → MayStep cancelled (recorded_after lines steps s) (repaired_after lines steps t) l step → IsRunTaken step
+    → Settles cancelled lines (steps ++ step ∷ []) s t
+settles_more cancelled [] steps l step s t next h may run = absurd (not_none l next)
+settles_more cancelled (k ∷ lines) [] l step s t next h may run =
+    let e : l ≡ k = cc in (
+      subst (λ (x : Line). MayStep cancelled s t x step) e may,
+      run,
+      settles_none cancelled lines (after k.1.notes s) (after (chosen step k.1) t),
+    )
+settles_more cancelled (k ∷ lines) (d ∷ steps) l step s t next h may run =
+    (h.0, h.1, settles_more cancelled lines steps l step (after k.1.notes s) (after (chosen d k.1) t) next h.2 may run)
+
+-- ---- picked moments
+pub picks_met : (P : Moment → Type 0) (ms : List Moment) (m : Moment) (ns : List ℕ) → Picks P ms ns → P m
+    → Picks P (ms ++ m ∷ []) (ns ++ m.number ∷ [])
+picks_met P [] m ns h p = inl (p, [], ap (λ xs. xs ++ m.number ∷ []) h, refl)
+picks_met P (k ∷ ms) m ns (inl h) p =
+    inl (h.0, h.1 ++ m.number ∷ [], ap (λ xs. xs ++ m.number ∷ []) h.2, picks_met P ms m h.1 h.3 p)
+picks_met P (k ∷ ms) m ns (inr h) p = inr (h.0, picks_met P ms m ns h.1 p)
+
+pub picks_unmet : (P : Moment → Type 0) (ms : List Moment) (m : Moment) (ns : List ℕ) → Picks P ms ns → ¬ (P m)
+    → Picks P (ms ++ m ∷ []) ns
+picks_unmet P [] m ns h p = inr (p, h)
+picks_unmet P (k ∷ ms) m ns (inl h) p = inl (h.0, h.1, h.2, picks_unmet P ms m h.1 h.3 p)
+picks_unmet P (k ∷ ms) m ns (inr h) p = inr (h.0, picks_unmet P ms m ns h.1 p)
+
+-- ---- all lines settled
+pub all_settled : (cancelled : ℕ → Bool) (lines : List Line) (steps : List Step) (s t : State)
+    → Settles cancelled lines steps s t → slice_get lines (length steps) ≡ None → length steps ≡ length lines
+all_settled cancelled [] [] s t h next = refl
+all_settled cancelled [] (step ∷ steps) s t h next = absurd h
+all_settled cancelled (l ∷ lines) [] s t h next = cc
+all_settled cancelled (l ∷ lines) (step ∷ steps) s t h next =
+    ap suc (all_settled cancelled lines steps (after l.1.notes s) (after (chosen step l.1) t) h.2 next)
+
+pub recorded_all : (lines : List Line) (steps : List Step) (s : State) → length steps ≡ length lines
+    → recorded_after lines steps s ≡ last_state lines s
+recorded_all [] steps s all = refl
+recorded_all (l ∷ lines) [] s all = absurd (omega (arith, all))
+recorded_all (l ∷ lines) (step ∷ steps) s all = recorded_all lines steps (after l.1.notes s) (omega (arith, all))

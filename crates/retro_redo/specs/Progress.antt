@@ -1,0 +1,146 @@
+-- The progress of a repair: the choices made so far, and the states that they make.
+use Rattle.std.specs.Prelude.{◌≡◌, ℕ, Bool, true, false, List, [], ◌∷◌, ◌++◌, ◌⊎◌, Option, length, option_map}
+use Rattle.std.specs.List.{slice_get}
+use Rattle.retro_tree.specs.Notes.{after, AgreeOn, Holds}
+use Rattle.retro_tree.specs.declared.note.Note.{Note}
+use Rattle.retro_tree.specs.declared.state.State.{State}
+use Rattle.retro_shell.specs.Runs.{IsRun, RunValue}
+use Rattle.retro_keep.specs.Edit.{is_among}
+use Rattle.retro_keep.specs.Recording.{RecordingValue}
+use Rattle.retro_keep.specs.declared.noted.Noted.{Noted}
+use Rattle.retro_redo.specs.Moments.{Moment, compensation}
+use Rattle.retro_redo.specs.declared.compensation.Compensation.{Compensation}
+use Rattle.retro_redo.specs.declared.step.Step.{Step}
+use Rattle.retro_redo.specs.declared.step.Step.TheVariants.{Cancel, Keep, Take}
+use Rattle.retro_redo.specs.declared.verdict.Verdict.{Verdict}
+use Rattle.retro_redo.specs.declared.verdict.Verdict.TheVariants.{Cancelled, Redone, Kept}
+
+-- what is repaired, which lines are cancelled, and the choices for its first lines
+pub record ProgressValue : Type 0 where
+  pub recording : RecordingValue
+  pub cancel : List ℕ
+  pub choices : List Step
+
+abbrev pub is_cancel : Step → Bool
+is_cancel Cancel = true
+is_cancel Keep = false
+is_cancel (Take run) = false
+
+-- the notes by which the repaired state goes on over a line
+abbrev pub chosen : Step → Noted → List Note
+chosen Cancel noted = []
+chosen Keep noted = noted.notes
+chosen (Take run) noted = run.notes
+
+-- the settled lines, with the states before them
+abbrev pub settled : List (ℕ × Noted) → List Step → State → State → List Moment
+settled [] steps s t = []
+settled (l ∷ lines) [] s t = []
+settled (l ∷ lines) (step ∷ steps) s t =
+    record { number = l.0; noted = l.1; recorded = s; repaired = t }
+    ∷ settled lines steps (after l.1.notes s) (after (chosen step l.1) t)
+
+-- the recorded state and the repaired state after the settled lines
+abbrev pub recorded_after : List (ℕ × Noted) → List Step → State → State
+recorded_after [] steps s = s
+recorded_after (l ∷ lines) [] s = s
+recorded_after (l ∷ lines) (step ∷ steps) s = recorded_after lines steps (after l.1.notes s)
+
+abbrev pub repaired_after : List (ℕ × Noted) → List Step → State → State
+repaired_after [] steps t = t
+repaired_after (l ∷ lines) [] t = t
+repaired_after (l ∷ lines) (step ∷ steps) t = repaired_after lines steps (after (chosen step l.1) t)
+
+abbrev pub recorded_now : ProgressValue → State
+recorded_now p = recorded_after p.recording.lines p.choices p.recording.first
+
+abbrev pub repaired_now : ProgressValue → State
+repaired_now p = repaired_after p.recording.lines p.choices p.recording.first
+
+-- the settled lines, with the states before them
+abbrev pub settled_now : ProgressValue → List Moment
+settled_now p = settled p.recording.lines p.choices p.recording.first p.recording.first
+
+-- whether the line with a number is cancelled
+abbrev pub cancelled_in : ProgressValue → ℕ → Bool
+cancelled_in p = is_among p.cancel
+
+-- the next line to settle, and its number
+abbrev pub next_line : ProgressValue → Option (ℕ × Noted)
+next_line p = slice_get p.recording.lines (length p.choices)
+
+abbrev pub next_number : ProgressValue → Option ℕ
+next_number p = option_map (λ l. l.0) (next_line p)
+
+-- ---- which choices a line allows
+
+-- A cancelled line is cancelled. A line is kept if its notes agree with both states or hold in the
+-- repaired one, and else a run of its session and its text is taken whose notes hold there.
+abbrev pub MayStep : (ℕ → Bool) → State → State → ℕ × Noted → Step → Type 0
+MayStep cancelled s t l Cancel = cancelled l.0 ≡ true
+MayStep cancelled s t l Keep = (cancelled l.0 ≡ false) × (AgreeOn l.1.notes s t ⊎ Holds l.1.notes t)
+MayStep cancelled s t l (Take run) =
+    (cancelled l.0 ≡ false) × (¬ (Holds l.1.notes t)) × (run.sid ≡ l.1.sid) × (run.text ≡ l.1.text)
+    × Holds run.notes t
+
+-- what the type of runs keeps of a taken one
+abbrev pub IsRunTaken : Step → Type 0
+IsRunTaken Cancel = Unit {0}
+IsRunTaken Keep = Unit {0}
+IsRunTaken (Take run) = IsRun run
+
+-- each choice is one that its line allows
+abbrev pub Settles : (ℕ → Bool) → List (ℕ × Noted) → List Step → State → State → Type 0
+Settles cancelled lines [] s t = Unit {0}
+Settles cancelled [] (step ∷ steps) s t = ⊥
+Settles cancelled (l ∷ lines) (step ∷ steps) s t =
+    MayStep cancelled s t l step × IsRunTaken step
+    × Settles cancelled lines steps (after l.1.notes s) (after (chosen step l.1) t)
+
+-- ---- what the choices come to
+
+-- what each settled line with its choice gives, in order
+abbrev pub by_choices : {A : Type 0} → (ℕ × Noted → Step → List A) → List (ℕ × Noted) → List Step → List A
+by_choices f [] steps = []
+by_choices f (l ∷ lines) [] = []
+by_choices f (l ∷ lines) (step ∷ steps) = f l step ++ by_choices f lines steps
+
+abbrev pub noted_of : RunValue → Noted
+noted_of run = record { sid = run.sid; text = run.text; notes = run.notes; output = run.output }
+
+-- the lines of the repaired recording
+abbrev pub line_chosen : ℕ × Noted → Step → List (ℕ × Noted)
+line_chosen l Cancel = []
+line_chosen l Keep = l ∷ []
+line_chosen l (Take run) = (l.0, noted_of run) ∷ []
+
+abbrev pub lines_chosen : List (ℕ × Noted) → List Step → List (ℕ × Noted)
+lines_chosen = by_choices line_chosen
+
+-- the first state and the lines as chosen
+abbrev pub repaired_recording : ProgressValue → RecordingValue
+repaired_recording p =
+    record { first = p.recording.first; lines = lines_chosen p.recording.lines p.choices }
+
+-- what a line prints by its choice
+abbrev pub output_chosen : Noted → Step → List ℕ
+output_chosen noted Cancel = []
+output_chosen noted Keep = noted.output
+output_chosen noted (Take run) = run.output
+
+abbrev pub compensation_chosen : ℕ × Noted → Step → List Compensation
+compensation_chosen l step = compensation l.0 l.1.output (output_chosen l.1 step)
+
+abbrev pub compensations_chosen : List (ℕ × Noted) → List Step → List Compensation
+compensations_chosen = by_choices compensation_chosen
+
+abbrev pub verdict_of : Step → Verdict
+verdict_of Cancel = Cancelled
+verdict_of Keep = Kept
+verdict_of (Take run) = Redone
+
+abbrev pub verdict_chosen : ℕ × Noted → Step → List (ℕ × Verdict)
+verdict_chosen l step = (l.0, verdict_of step) ∷ []
+
+abbrev pub verdicts_chosen : List (ℕ × Noted) → List Step → List (ℕ × Verdict)
+verdicts_chosen = by_choices verdict_chosen

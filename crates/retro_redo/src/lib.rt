@@ -1,0 +1,39 @@
+//! Selective repair: what a recording would be without its cancelled lines.
+//!
+//! A [`Repairer`] settles the lines of a recording one by one. It compares two states: the recorded
+//! one, and the repaired one, in which cancelled lines never ran. It keeps an overlay of exactly
+//! the cells in which they differ. A line is *met* if it reads or writes one of these cells. A line
+//! whose notes don't hold in the repaired state is run again; every other line is kept as recorded.
+//!
+//! [`repair_alone`] repairs a recording on one thread. State and outputs of the [`Repair`] are
+//! those of running all other lines one by one. Where an output differs from the recorded one, it
+//! has a [`Compensation`], and its recording is one of the other lines.
+//!
+//! If allocation fails, calls return `NoMem`, or `OutOfMemory` if they have other refusals.
+#![tactic(auto)]
+
+mod cancelled;
+mod compensation;
+mod gate;
+mod laws;
+mod others;
+mod outcome;
+mod progress;
+mod repair;
+mod repair_fault;
+mod repairer;
+mod repairing;
+mod step;
+mod tally;
+mod verdict;
+
+pub use compensation::Compensation;
+pub use gate::{Gate, Quiet, Turn};
+pub use laws::{repairs_come_to_the_whole_run, repairs_in_turn_leave_out_both};
+pub use repair::Repair;
+pub use repair_fault::RepairFault;
+pub use repairer::Repairer;
+pub use repairing::{repair_alone, repair_watched};
+pub use step::Step;
+pub use tally::Tally;
+pub use verdict::Verdict;

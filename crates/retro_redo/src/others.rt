@@ -1,0 +1,161 @@
+//! Repairs that run all lines again that aren't cancelled.
+ghost use Rattle.std.specs.Prelude.{◌≡◌, ◌++◌, IfOk, OnOk, map};
+ghost use Rattle.std.specs.List.{flat_map};
+ghost use Rattle.retro_keep.specs.Edit.{is_among};
+ghost use Rattle.retro_keep.specs.Recording.{IsWellFormed, number_in, script_line};
+ghost use Rattle.retro_redo.specs.Moments.{others};
+ghost use Rattle.retro_redo.specs.Repair.{IsRunAgain, compensation_again, script_of_others};
+ghost use Rattle.retro_redo.specs.Repair.{verdict_again};
+
+use crate::cancelled::has_number;
+use crate::compensation::Compensation;
+use crate::outcome::outputs;
+use crate::repair::Repair;
+use crate::tally::Tally;
+use crate::verdict::Verdict;
+use retro_keep::{Noted, Recording, Script, ScriptLine, keep_alone};
+use retro_tree::{Bytes, NoMem};
+use std::alloc::Global;
+use std::collections::BTreeSet;
+
+/// Runs all lines of a recording that aren't cancelled, and returns the repair that redoes them
+/// all. This is the answer for a log whose notes aren't those of its lines, if the lines as chosen
+/// make no recording.
+pub(crate) fn run_others(
+    alloc: Global,
+    recording: &Recording,
+    cancelled: &BTreeSet<u32>,
+    tally: Tally,
+) -> Result<Repair, NoMem>
+    ensures tally { IfOk result (λ repair. repair.tally ≡ tally) }
+    ensures again { IfOk result (λ repair.
+        IsRunAgain (is_among cancelled.now.keys) recording.now repair) }
+{
+    let script = script_of_others(alloc, recording, cancelled)?;
+    let again = keep_alone(alloc, &script)?;
+    let lines = recording.lines();
+    let compensations = compensations(alloc, lines, &again)?;
+    let verdicts = verdicts(alloc, lines, cancelled)?;
+    let met = numbers(alloc, again.lines())?;
+    let outputs = outputs(alloc, again.lines())?;
+    let state = again.last().copy()?;
+    Ok(Repair {
+        state,
+        outputs,
+        verdicts,
+        met,
+        compensations,
+        tally,
+        recording: again,
+    })
+}
+
+/// Returns the script of the lines that aren't cancelled.
+fn script_of_others(
+    alloc: Global,
+    recording: &Recording,
+    cancelled: &BTreeSet<u32>,
+) -> Result<Script, NoMem>
+    ensures { IfOk result (λ script.
+        script ≡ script_of_others (is_among cancelled.now.keys) recording.now) }
+{
+    let lines = other_lines(alloc, recording.lines(), cancelled)?;
+    match Script::of_lawful(recording.first().copy()?, lines) {
+        Ok(script) => Ok(script),
+        Err(_) => unreachable!(),
+    }
+}
+
+/// Returns the lines that aren't cancelled.
+fn other_lines(
+    alloc: Global,
+    lines: &[(u32, Noted)],
+    cancelled: &BTreeSet<u32>,
+) -> Result<Vec<ScriptLine>, NoMem>
+    ensures { IfOk result (λ found.
+        found.items ≡ others (is_among cancelled.now.keys) (map script_line lines.now)) }
+{
+    let mut found = Vec::new(alloc);
+    for line in lines {
+        if !has_number(cancelled, line.0) {
+            found.push(ScriptLine {
+                number: line.0,
+                sid: line.1.sid,
+                text: line.1.text.copy()?,
+            })?;
+        }
+    }
+    Ok(found)
+}
+
+/// Returns the lines that print something else than was recorded, with both outputs.
+fn compensations(
+    alloc: Global,
+    lines: &[(u32, Noted)],
+    again: &Recording,
+) -> Result<Vec<Compensation>, NoMem>
+    ensures { IfOk result (λ compensations.
+        compensations.items ≡ flat_map (compensation_again again.now) lines.now) }
+{
+    let mut compensations = Vec::new(alloc);
+    for line in lines {
+        compensate(alloc, &mut compensations, line, again)?;
+    }
+    Ok(compensations)
+}
+
+/// Appends a line's compensation, if it prints something else than was recorded.
+fn compensate(
+    alloc: Global,
+    compensations: &mut Vec<Compensation>,
+    line: &(u32, Noted),
+    again: &Recording,
+) -> Result<(), NoMem>
+    ensures { OnOk result (compensations.new.items
+        ≡ compensations.old.items ++ compensation_again again.now line.now) }
+{
+    let now = match again.run_of(line.0) {
+        None => Bytes::new(alloc),
+        Some(noted) => noted.output.copy()?,
+    };
+    if now != line.1.output {
+        compensations.push(Compensation {
+            number: line.0,
+            before: line.1.output.copy()?,
+            now,
+        })?;
+    }
+    Ok(())
+}
+
+/// Returns the numbers of lines with their verdicts: all others are redone.
+fn verdicts(
+    alloc: Global,
+    lines: &[(u32, Noted)],
+    cancelled: &BTreeSet<u32>,
+) -> Result<Vec<(u32, Verdict)>, NoMem>
+    ensures { IfOk result (λ verdicts.
+        verdicts.items ≡ map (verdict_again (is_among cancelled.now.keys)) lines.now) }
+{
+    let mut verdicts = Vec::new(alloc);
+    for line in lines {
+        let verdict = if has_number(cancelled, line.0) {
+            Verdict::Cancelled
+        } else {
+            Verdict::Redone
+        };
+        verdicts.push((line.0, verdict))?;
+    }
+    Ok(verdicts)
+}
+
+/// Returns the numbers of lines.
+fn numbers(alloc: Global, lines: &[(u32, Noted)]) -> Result<Vec<u32>, NoMem>
+    ensures { IfOk result (λ numbers. numbers.items ≡ map number_in lines.now) }
+{
+    let mut numbers = Vec::new(alloc);
+    for line in lines {
+        numbers.push(line.0)?;
+    }
+    Ok(numbers)
+}

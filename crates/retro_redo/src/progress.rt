@@ -1,0 +1,274 @@
+//! The progress of a repair.
+ghost use Rattle.std.specs.Prelude.{◌≡◌, ◌↔◌, ◌∷◌, ◌++◌, [], IfOk, IfSome, None, IsSome};
+ghost use Rattle.std.specs.Prelude.{IsTrue, MatchBool, OnErr, OnOk, Some, ◌⊎◌, true, false, ℕ};
+ghost use Rattle.std.specs.Option.{option_copied};
+ghost use Rattle.retro_tree.specs.Exact.{IsExact, IsTight};
+ghost use Rattle.retro_tree.specs.Notes.{AgreeOn, Holds, after};
+ghost use Rattle.retro_tree.specs.declared.state.State.{State};
+ghost use Rattle.retro_effects.specs.Meeting.{Met};
+ghost use Rattle.retro_keep.specs.Recording.{IsRecordingOf, IsWellFormed, script_in};
+ghost use Rattle.retro_keep.specs.declared.noted.Noted.{Noted as NotedValue};
+ghost use Rattle.retro_redo.specs.Progress.{IsRunTaken, MayStep, ProgressValue};
+ghost use Rattle.retro_redo.specs.Progress.{cancelled_in, chosen, is_cancel};
+ghost use Rattle.retro_redo.specs.Progress.{next_line, next_number};
+ghost use Rattle.retro_redo.specs.Progress.{recorded_now, repaired_now, repaired_recording};
+ghost use Rattle.retro_redo.specs.Repair.{IsRepair, IsRunAgain};
+
+use crate::cancelled::has_number;
+use crate::gate::{Gate, Turn};
+use crate::others::run_others;
+use crate::outcome::{chosen_lines, compensations, outputs, verdicts};
+use crate::repair::Repair;
+use crate::step::Step;
+use crate::tally::Tally;
+use retro_effects::{Cells, Combined, advance, equiv, is_met};
+use retro_keep::{Noted, Recording};
+use retro_shell::{Run, run_line};
+use retro_tree::{NoMem, Notes, Overlay, View};
+use std::alloc::Global;
+use std::collections::BTreeSet;
+use std::marker::Model;
+
+/// The lines of a recording that a repair has settled, in order, and what their choices come to:
+/// the cells in which the repaired state differs from the recorded one, and the lines that were
+/// met.
+///
+/// It doesn't know the recorded states. Calls that need the one before the next line are given it,
+/// as a view or as the values of its cells.
+#[derive(Drop)]
+pub(crate) struct Progress<'a> {
+    recording: &'a Recording,
+    cancelled: BTreeSet<u32>,
+    choices: Vec<Step>,
+    overlay: Overlay,
+    met: Vec<u32>,
+}
+
+impl<'a> Model for Progress<'a> {
+    ghost use Rattle.retro_redo.specs.Progress.{ProgressValue};
+    ghost use Rattle.retro_redo.specs.ProgressCode.{coded_progress};
+    ghost use Rattle.retro_redo.specs.Keeping.{Keeps};
+
+    ghost Value = { ProgressValue };
+
+    ghost coded = { coded_progress };
+
+    ghost view = { λ a. record {
+      recording = a.recording.now;
+      cancel = a.cancelled.keys;
+      choices = a.choices.items;
+    } };
+
+    ghost invariant = { λ a. Keeps (record {
+      recording = a.recording.now;
+      cancel = a.cancelled.keys;
+      choices = a.choices.items;
+    }) a.overlay a.met.items };
+}
+
+impl<'a> Progress<'a> {
+    /// Returns the progress of a repair that has settled no line. Takes no memory.
+    pub(crate) fn new(
+        alloc: Global,
+        recording: &'a Recording,
+        cancelled: BTreeSet<u32>,
+    ) -> Progress<'a>
+        ensures { result
+            ≡ record { recording = recording.now; cancel = cancelled.keys; choices = [] } }
+    {
+        Progress {
+            recording,
+            cancelled,
+            choices: Vec::new(alloc),
+            overlay: Overlay::new(alloc),
+            met: Vec::new(alloc),
+        }
+    }
+
+    /// Returns the next line to settle.
+    pub(crate) fn line(&self) -> Option<&'a (u32, Noted)>
+        ensures line { option_copied result ≡ next_line self.now }
+        ensures well_formed { IsWellFormed self.now.recording }
+    {
+        self.recording.lines().get(self.choices.len())
+    }
+
+    /// Returns the number of the next line to settle, or `None` if all lines are settled.
+    pub(crate) fn next(&self) -> Option<u32>
+        ensures { result ≡ next_number self.now }
+    {
+        match self.line() {
+            None => None,
+            Some(line) => Some(line.0),
+        }
+    }
+
+    /// Returns the overlay of the cells in which the repaired state differs from the recorded one,
+    /// before the next line.
+    pub(crate) fn overlay(&self) -> &Overlay
+        ensures { IsExact result.now (recorded_now self.now) (repaired_now self.now) }
+    {
+        &self.overlay
+    }
+
+    /// Returns whether the next line reads or writes a cell in which the states differ.
+    pub(crate) fn is_met(&self) -> bool
+        requires { IsSome (next_line self.now) }
+        ensures { (l : ℕ × NotedValue) → next_line self.now ≡ Some l
+            → MatchBool result (Met l.1.notes (recorded_now self.now) (repaired_now self.now))
+            (AgreeOn l.1.notes (recorded_now self.now) (repaired_now self.now)) }
+    {
+        let line = self.line().unwrap();
+        is_met(&line.1.notes, &self.overlay)
+    }
+
+    /// Returns whether the notes of the next line hold in the repaired state.
+    pub(crate) fn equiv<V: View>(&self, alloc: Global, recorded: &V) -> Result<bool, NoMem>
+        requires next { IsSome (next_line self.now) }
+        requires recorded { V.state recorded.now ≡ recorded_now self.now }
+        ensures { (l : ℕ × NotedValue) → next_line self.now ≡ Some l
+            → IfOk result (λ b. IsTrue b ↔ Holds l.1.notes (repaired_now self.now)) }
+    {
+        let line = self.line().unwrap();
+        equiv(alloc, &line.1.notes, recorded, &self.overlay)
+    }
+
+    /// Runs the next line again, in the repaired state. Calls the observer around the execution.
+    pub(crate) fn redo<V: View, G: Gate>(
+        &self,
+        alloc: Global,
+        recorded: &V,
+        gate: &G,
+    ) -> Result<Run, NoMem>
+        requires next { IsSome (next_line self.now) }
+        requires recorded { V.state recorded.now ≡ recorded_now self.now }
+        ensures sid { (l : ℕ × NotedValue) → next_line self.now ≡ Some l
+            → IfOk result (λ run. run.sid ≡ l.1.sid) }
+        ensures text { (l : ℕ × NotedValue) → next_line self.now ≡ Some l
+            → IfOk result (λ run. run.text ≡ l.1.text) }
+        ensures holds { IfOk result (λ run. Holds run.notes (repaired_now self.now)) }
+    {
+        let line = self.line().unwrap();
+        let repaired = Combined::new(recorded, &self.overlay);
+        gate.begin(line.0, Turn::Place);
+        let run = run_line(alloc, &repaired, line.1.sid, line.1.text.as_str());
+        gate.end(line.0, Turn::Place);
+        run
+    }
+
+    /// Settles the next line. `recorded` is the recorded state before it.
+    pub(crate) fn step<C: Cells>(
+        &mut self,
+        alloc: Global,
+        recorded: &C,
+        step: Step,
+    ) -> Result<(), NoMem>
+        requires next { IsSome (next_line self.old) }
+        requires recorded { C.state recorded.now ≡ recorded_now self.old }
+        requires may { (l : ℕ × NotedValue) → next_line self.old ≡ Some l
+            → MayStep (cancelled_in self.old) (recorded_now self.old)
+            (repaired_now self.old) l step }
+        ensures ok { OnOk result
+            (self.new ≡ record self.old { choices = self.old.choices ++ step ∷ [] }) }
+        ensures err { OnErr result (self.new ≡ self.old) }
+    {
+        check_run(&step);
+        let line = self.line().unwrap();
+        let is_met = is_step_met(&step, &line.1, &self.overlay);
+        self.choices.reserve(1)?;
+        self.met.reserve(1)?;
+        advance_by(alloc, &mut self.overlay, recorded, &line.1, &step)?;
+        self.choices.push_reserved(step);
+        if is_met {
+            self.met.push_reserved(line.0);
+        }
+        Ok(())
+    }
+
+    /// Returns whether the line with a number is cancelled.
+    pub(crate) fn is_cancelled(&self, number: u32) -> bool
+        ensures { result ≡ cancelled_in self.now number }
+    {
+        has_number(&self.cancelled, number)
+    }
+
+    /// Returns the repair, once all lines are settled.
+    pub(crate) fn finish(self, alloc: Global, tally: Tally) -> Result<Repair, NoMem>
+        requires { next_line self ≡ None }
+        ensures tally { IfOk result (λ repair. repair.tally ≡ tally) }
+        ensures repair { IfOk result (λ repair.
+            IsRecordingOf (script_in self.entry.recording) self.entry.recording
+            → IsRepair (cancelled_in self.entry) self.entry.recording repair) }
+        ensures again { IfOk result (λ repair. ¬ (IsWellFormed (repaired_recording self.entry))
+            → IsRunAgain (cancelled_in self.entry) self.entry.recording repair) }
+    {
+        let Progress {
+            recording,
+            cancelled,
+            choices,
+            overlay: _,
+            met,
+        } = self;
+        let lines = recording.lines();
+        let verdicts = verdicts(alloc, lines, choices.as_slice())?;
+        let compensations = compensations(alloc, lines, choices.as_slice())?;
+        let chosen = chosen_lines(alloc, lines, choices.as_slice())?;
+        let first = recording.first().copy()?;
+        let Some(repaired) = Recording::new(alloc, first, chosen)? else {
+            return run_others(alloc, recording, &cancelled, tally);
+        };
+        let outputs = outputs(alloc, repaired.lines())?;
+        let state = repaired.last().copy()?;
+        Ok(Repair {
+            state,
+            outputs,
+            verdicts,
+            met,
+            compensations,
+            tally,
+            recording: repaired,
+        })
+    }
+}
+
+/// Returns what the type of runs keeps of the run that a step takes, if it takes one.
+fn check_run(step: &Step)
+    ensures { IsRunTaken step.now }
+{
+    if let Step::Take(run) = step {
+        let _ = run.sid();
+    }
+}
+
+/// Returns whether a line is met for which a step was chosen. A cancelled line isn't met.
+fn is_step_met(step: &Step, noted: &Noted, overlay: &Overlay) -> bool
+    ensures { (s t : State) → IsExact overlay.now s t → MatchBool result
+        ((is_cancel step.now ≡ false) × Met noted.now.notes s t)
+        ((is_cancel step.now ≡ true) ⊎ AgreeOn noted.now.notes s t) }
+{
+    if step.is_cancel() {
+        return false;
+    }
+    is_met(&noted.notes, overlay)
+}
+
+/// Advances an exact overlay by a line, for which a step was chosen.
+fn advance_by<C: Cells>(
+    alloc: Global,
+    overlay: &mut Overlay,
+    recorded: &C,
+    noted: &Noted,
+    step: &Step,
+) -> Result<(), NoMem>
+    requires { IsTight overlay.old (C.state recorded.now) }
+    ensures exact { OnOk result ((t : State) → IsExact overlay.old (C.state recorded.now) t
+        → IsExact overlay.new (after noted.now.notes (C.state recorded.now))
+        (after (chosen step.now noted.now) t)) }
+    ensures err { OnErr result (overlay.new ≡ overlay.old) }
+{
+    match step {
+        Step::Cancel => advance(alloc, overlay, recorded, &noted.notes, &Notes::new(alloc)),
+        Step::Keep => advance(alloc, overlay, recorded, &noted.notes, &noted.notes),
+        Step::Take(run) => advance(alloc, overlay, recorded, &noted.notes, run.notes()),
+    }
+}

@@ -1,0 +1,46 @@
+//! Refusals of repairs.
+ghost use Rattle.std.specs.Prelude.{◌≡◌};
+ghost use Rattle.retro_redo.specs.RepairFault.{fault_number};
+ghost use Rattle.retro_redo.specs.declared.repair_fault.RepairFault.TheVariants as faults;
+
+use std::alloc::AllocError;
+use thiserror::Error;
+
+/// Why a repair is refused.
+#[derive(Clone, Copy, Debug, Drop, PartialEq, Eq, Error)]
+pub enum RepairFault {
+    /// No line has this number (refusal 21).
+    #[error("no line has the number {0}")]
+    NoSuchLine(u32),
+    /// The list of pieces is empty or has a zero (refusal 22).
+    #[error("no cut into pieces")]
+    NoCut,
+    /// Over sixteen workers (refusal 23).
+    #[error("too many workers")]
+    TooManyWorkers,
+    /// Out of memory (refusal 24).
+    #[error("out of memory")]
+    OutOfMemory,
+}
+
+impl RepairFault {
+    /// Returns the number of the refusal, from 21 to 24.
+    pub fn number(&self) -> u8
+        ensures { result ≡ fault_number self.now }
+    {
+        match self {
+            RepairFault::NoSuchLine(_) => 21,
+            RepairFault::NoCut => 22,
+            RepairFault::TooManyWorkers => 23,
+            RepairFault::OutOfMemory => 24,
+        }
+    }
+}
+
+impl From<AllocError> for RepairFault {
+    ghost from_gives = { λ _ fault. fault ≡ faults.OutOfMemory };
+
+    fn from(_error: AllocError) -> RepairFault {
+        RepairFault::OutOfMemory
+    }
+}

@@ -1,0 +1,57 @@
+//! Repairs on one thread.
+ghost use Rattle.std.specs.Prelude.{◌≡◌, IfErr, IfOk, OnOk};
+ghost use Rattle.retro_keep.specs.Edit.{is_among};
+ghost use Rattle.retro_keep.specs.Recording.{IsRecordingOf, script_in};
+ghost use Rattle.retro_redo.specs.Cancelling.{AreLines, Refuses};
+ghost use Rattle.retro_redo.specs.Repair.{IsRepair, no_guesses};
+
+use crate::gate::{Gate, Quiet};
+use crate::repair::Repair;
+use crate::repair_fault::RepairFault;
+use crate::repairer::Repairer;
+use crate::tally::Tally;
+use retro_history::History;
+use retro_keep::Recording;
+use std::alloc::Global;
+
+/// Repairs a recording on one thread: returns what it would be without the lines that have some
+/// numbers. Only lines whose notes don't hold any more are run again. Doubles count once.
+///
+/// # Errors
+///
+/// `NoSuchLine` with the least of the numbers that no line has.
+pub fn repair_alone(
+    alloc: Global,
+    recording: &Recording,
+    cancel: &[u32],
+) -> Result<Repair, RepairFault>
+    ensures repair { IfOk result (λ repair. IsRecordingOf (script_in recording.now) recording.now
+        → IsRepair (is_among cancel.now) recording.now repair) }
+    ensures tally { IfOk result (λ repair. repair.tally ≡ no_guesses) }
+    ensures known { OnOk result (AreLines cancel.now recording.now) }
+    ensures refused { IfErr result (λ fault. Refuses cancel.now recording.now fault) }
+{
+    repair_watched(alloc, recording, cancel, &Quiet)
+}
+
+/// Repairs a recording on one thread, as [`repair_alone`] does, and calls an observer around each
+/// execution of a line.
+pub fn repair_watched<G: Gate>(
+    alloc: Global,
+    recording: &Recording,
+    cancel: &[u32],
+    gate: &G,
+) -> Result<Repair, RepairFault>
+    ensures repair { IfOk result (λ repair. IsRecordingOf (script_in recording.now) recording.now
+        → IsRepair (is_among cancel.now) recording.now repair) }
+    ensures tally { IfOk result (λ repair. repair.tally ≡ no_guesses) }
+    ensures known { OnOk result (AreLines cancel.now recording.now) }
+    ensures refused { IfErr result (λ fault. Refuses cancel.now recording.now fault) }
+{
+    let history = History::of(alloc, recording)?;
+    let mut repairer = Repairer::new(alloc, recording, &history, cancel)?;
+    while let Some(number) = repairer.next() {
+        repairer.settle(alloc, number, gate)?;
+    }
+    repairer.finish(alloc, Tally::none())
+}
