@@ -1,7 +1,7 @@
 //! Runs of utilities, with the notes that they leave, as text.
 //!
 //! What exists before a run is written as words, as in `states`. A place is the session's number,
-//! with an `s` in a subshell; after it stands what standard input is: nothing, ` =TEXT`, or ` ` and
+//! with an `s` in a subshell, followed by what standard input is: nothing, ` =TEXT`, or ` ` and
 //! the path of a file. A result is the status, the output and the diagnostics, and then the notes
 //! as JSON.
 use crate::json::note_json;
