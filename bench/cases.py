@@ -1,4 +1,5 @@
-"""Generated scripts for the benchmarks: each is a tree, the sessions, and lines of a session and a text."""
+"""Generated scripts for the benchmarks: each is a tree, the sessions, and lines of a session and a
+text."""
 
 
 def growing(size):
@@ -53,6 +54,18 @@ def moving(size):
             f"rm -r moved{tree}",
         )[at % 5]))
     return [], range(1, 11), lines
+
+
+def lonely(size):
+    """One line that no other line meets, and lines that append to many files."""
+    tree, sessions, lines = spread(size - 1)
+    return tree, sessions, [(1, "x=1")] + lines
+
+
+def chain(size):
+    """Each line copies what the line before it wrote."""
+    lines = [(1, f"cat f{at % 10} > f{(at + 1) % 10}") for at in range(size - 1)]
+    return [], [1], [(1, "echo a > f0")] + lines
 
 
 CASES = {"growing": growing, "spread": spread, "tree": tree_of, "mix": mix, "moving": moving}

@@ -2,6 +2,7 @@
 import json
 import os
 import re
+import shutil
 import subprocess
 import sys
 import tempfile
@@ -26,8 +27,40 @@ def build():
     subprocess.run([f"{TOP}/retro", "replay"], input=empty, stdout=subprocess.DEVNULL, check=True)
 
 
-# Runs a program below a small process of its own, since a child's peak memory includes its parent's.
-# So no peak below that of the small parent, some 10 MB, can be measured.
+EMPTY_LOG = b'{"lines":[],"log":1,"sessions":[],"tree":[]}'
+
+
+def copy_to(room):
+    """Copies the repository and what its checks kept."""
+    listed = ["git", "ls-files", "-z", "--cached", "--others", "--exclude-standard"]
+    names = subprocess.run(listed, cwd=TOP, check=True, capture_output=True).stdout.decode()
+    for name in filter(None, names.split("\0")):
+        if os.path.exists(f"{TOP}/{name}"):
+            os.makedirs(os.path.dirname(f"{room}/{name}"), exist_ok=True)
+            shutil.copy2(f"{TOP}/{name}", f"{room}/{name}")
+    for crate in os.listdir(f"{TOP}/crates"):
+        if os.path.isdir(f"{TOP}/crates/{crate}/out"):
+            subprocess.run(["cp", "-a", f"{TOP}/crates/{crate}/out", f"{room}/crates/{crate}/"],
+                           check=True)
+
+
+def built_aside(room, name, crates, words):
+    """Builds the program `NAME.rt.txt` over some crates in a copy of the repository, and runs it
+    once on an empty log. Returns its file."""
+    copy_to(room)
+    with open(f"{room}/crates.txt", "a") as file:
+        file.write(f"{name}: {crates}\n")
+    crate = f"{room}/crates/{name}"
+    os.makedirs(f"{crate}/src")
+    shutil.copy(f"{TOP}/bench/{name}.rt.txt", f"{crate}/src/main.rt")
+    run = subprocess.run(["rt", "run", "--", *words], cwd=crate, input=EMPTY_LOG, capture_output=True)
+    if run.returncode != 0:
+        sys.exit(run.stdout.decode() + run.stderr.decode())
+    return f"{crate}/out/{name}"
+
+
+# Runs a program below a small process of its own, since a child's peak memory includes its
+# parent's. So no peak below that of the small parent, some 10 MB, can be measured.
 MEASURE = """
 import os, subprocess, sys, time
 given = open(sys.argv[1], "rb")
@@ -50,10 +83,15 @@ def measured(words, given, room, wanted):
 
 
 def instructions(document, command="replay"):
-    """The millions of instructions of a run, as callgrind counts them."""
+    """The millions of instructions of a run of the program, as callgrind counts them."""
+    return counted([PROGRAM, command], document.encode())
+
+
+def counted(words, given):
+    """The millions of instructions of a run of some words, as callgrind counts them."""
     with tempfile.TemporaryDirectory() as room:
-        words = ["valgrind", "--tool=callgrind", f"--callgrind-out-file={room}/out", PROGRAM, command]
-        run = subprocess.run(words, input=document.encode(), stdout=subprocess.DEVNULL,
+        tool = ["valgrind", "--tool=callgrind", f"--callgrind-out-file={room}/out"]
+        run = subprocess.run(tool + words, input=given, stdout=subprocess.DEVNULL,
                              stderr=subprocess.PIPE)
     return int(re.search(rb"Collected\s*:\s*(\d+)", run.stderr)[1]) / 1e6
 

@@ -1,7 +1,7 @@
 """Random lines of the whole grammar, for `compare_with_dash`.
 
-In a text here STATUS and STATUS_IN_BRACES stand for the parameters `$?` and `${?}`, and COMPOUND for
-nothing, after an `if` or a `for`: `for_profile` and `for_dash` say what each shell gets.
+In a text here STATUS and STATUS_IN_BRACES stand for the parameters `$?` and `${?}`, and COMPOUND
+for nothing, after an `if` or a `for`: `for_profile` and `for_dash` say what each shell gets.
 
 Variables: those of ANY have any value, f has paths or is unset, h has the directory where a script
 begins. Directories: d and d/z always stay, and only they are entered, since a session is in a path
@@ -16,28 +16,36 @@ STATUS_OF_DASH = "$(($?==2?1:$?==3?2:$?))"
 FILES = ["f", "g", "h", "d/x", "d/y", "./f", "d//x", "d/./y", "d/z/w"]
 # Paths that commands create, move and remove.
 MOVING = ["e", "e/a", "e/b", "e/a/c", "k", "k/e", "f", "g"]
-# Paths that are never directories: dash opens a directory for reading, where the profile has a fault.
+# Paths that are never directories: dash opens a directory for reading, where the profile has a
+# fault.
 READABLE = ["d/x", "d/y", "h", "none", "d/none", "d/x/none", "/dev/null"]
 TARGETS = [*FILES, "e", "k", "d", "none/x", "d/x/none", "/dev/null"]
 DIRECTORIES = ["d", "d/z", "z", "~", "~/d", "~/d/z", "~/d/..", "$h", "none", "d/x", "."]
 
-PLAIN = ["a", "b", "hello", "...", "*x", "?", "[a]", "1", "07", "a,b", "%d", "if", "done", "-n", "--",
+PLAIN = ["a", "b", "hello", "...", "*x", "?", "[a]", "1", "07", "a,b", "%d", "if", "done", "-n",
+         "--",
          "{", "}", "!", "a#b", "=", "a=b", "a~b", "^", "@", "x", "]", "é"]
 SINGLE = ["a  b", "", "$x", '"', "\\", "#", ";|&", "`", "~", "a\nb", "\\n", "<", "$?", " "]
-DOUBLE = ["a  b", "", "$x", "${x}$y", "<$i>", "\\$x", "\\a", '\\"', "\\\\", "'", "\\`", "a$", "$", "~",
+DOUBLE = ["a  b", "", "$x", "${x}$y", "<$i>", "\\$x", "\\a", '\\"', "\\\\", "'", "\\`", "a$", "$",
+          "~",
           "#", ";", STATUS, STATUS_IN_BRACES, " ", "$ ", "$y "]
-ESCAPED = ["a", " ", "$", "\\", "'", '"', "#", "~", ";", "&", "|", "<", ">", "{", "!", "*", "`", "="]
+ESCAPED = ["a", " ", "$", "\\", "'", '"', "#", "~", ";", "&", "|", "<", ">", "{", "!", "*", "`",
+           "="]
 PARAMETERS = ["$x", "${x}", "$y", "${y}", "$i", "$if", "${in}", "$f", STATUS, STATUS_IN_BRACES]
-TILDES = ["~", "~/a", '~/"a"', "~root", "~root/a", "~nosuch", "~nosuch/a", "~$x", '~""', '~"a"', "\\~",
+TILDES = ["~", "~/a", '~/"a"', "~root", "~root/a", "~nosuch", "~nosuch/a", "~$x", '~""', '~"a"',
+          "\\~",
           "~/$x", "~:a", "~root:a", "~\\root", "~/~"]
 DOLLARS = ["$", "a$", "$.", "$/", "$,a", '$"a"', "$'$x'", "$%", "$=", "${x}$"]
 
 COMMENTS = ["#", "# a", "# it's", '# "', "# `a` $(", "#a; echo b", "##", "# a \\"]
 # Texts outside the grammar that are syntax errors for dash too.
 OUTSIDE = [
-    "fi", "then", "else", "do", "echo a | | cat", "; echo a", "echo a ;; echo b", "| cat", "echo a &&",
-    "&& echo a", "echo a && || echo b", "echo a | ! cat", "echo a >", "echo a > ; echo b", "(echo a",
-    "echo a )", "echo a; }", 'echo "a', "echo 'a", "echo ${x", "if true; then fi", "if; then echo a; fi",
+    "fi", "then", "else", "do", "echo a | | cat", "; echo a", "echo a ;; echo b", "| cat",
+    "echo a &&",
+    "&& echo a", "echo a && || echo b", "echo a | ! cat", "echo a >", "echo a > ; echo b",
+    "(echo a",
+    "echo a )", "echo a; }", 'echo "a', "echo 'a", "echo ${x", "if true; then fi",
+    "if; then echo a; fi",
     "if true; echo a; fi", "if true; then echo a; else fi", "if true; then echo a; fi echo b",
     "if true then echo a; fi", "for i in a; do done", "for i in a; do", "for i in a; echo $i; done",
     "for i a; do echo b; done", "for 1 in a; do echo b; done", "for i in a do echo b; done",
@@ -75,7 +83,7 @@ class Words:
         return [self.one_of(letters)] if self.happens(0.4) else []
 
     def spelled(self, text):
-        """A word that expands to a text of plain characters and newlines, in one of its spellings."""
+        """A word that expands to a text of plain characters and newlines, in one spelling."""
         if text and "\n" not in text and self.happens(0.7):
             return text
         cut = self.choose.randint(0, len(text))
@@ -89,7 +97,8 @@ class Words:
 
     def piece(self):
         return self.one_of([
-            self.one_of(PLAIN), self.one_of(PLAIN), self.one_of(PARAMETERS), quoted(self.one_of(SINGLE)),
+            self.one_of(PLAIN), self.one_of(PLAIN), self.one_of(PARAMETERS),
+            quoted(self.one_of(SINGLE)),
             '"' + self.one_of(DOUBLE) + '"', "\\" + self.one_of(ESCAPED),
         ])
 
@@ -132,7 +141,8 @@ class Commands(Words):
         one = self.path(MOVING)
         # A quoted `$f` isn't among what is removed: `rm -f ''` is a fault of the profile alone.
         removed = [*paths[:self.choose.randint(0, 2)], *self.options("$f")]
-        # Sources have different last names: GNU's `cp` and `mv` never overwrite what they just made.
+        # Sources have different last names: GNU's `cp` and `mv` never overwrite what they just
+        # made.
         sources = self.choose.sample(["f", "g", "h"], 2)
         return self.one_of([
             ["mkdir", *self.options("-p", "-pp", "--", "-k"), *paths[:self.choose.randint(0, 2)]],
@@ -179,7 +189,8 @@ class Commands(Words):
         return self.one_of([
             [self.spelled("nosuch"), *self.some(self.word, 0, 2)], ["$nope"], ['"$nope"', "a"],
             ["[", '"$x"', self.one_of(["=", "!="]), self.one_of(["a", '"$y"']), "]"],
-            ["[", "-f", self.spelled(self.one_of(FILES)), "]"], ["[", self.word_of_one_field(), "]"],
+            ["[", "-f", self.spelled(self.one_of(FILES)), "]"],
+            ["[", self.word_of_one_field(), "]"],
         ])
 
     def word_of_one_field(self):
@@ -234,7 +245,8 @@ class Lines(Commands):
         if self.happens(0.05):
             return "cat p q"
         if self.happens(0.05):
-            return self.one_of(["x='echo -n'; $x a b", 'x=cat; "$x" f', "x='test -d'; $x d", "x=pwd; $x"])
+            return self.one_of(["x='echo -n'; $x a b", 'x=cat; "$x" f', "x='test -d'; $x d",
+                                "x=pwd; $x"])
         return self.simple()
 
     def later(self, at):

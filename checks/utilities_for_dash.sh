@@ -1,8 +1,8 @@
-# What dash runs before the lines of `compare_with_dash`. Each utility becomes a function that runs it
-# as the profile says: whole, on its whole input, with its diagnostics after its output.
+# What dash runs before the lines of `compare_with_dash`. Each utility becomes a function that runs
+# it as the profile says: whole, on its whole input, with its diagnostics after its output.
 #
-# Statuses: dash has 2 after a failed redirection, where the profile has 1. So a utility's own status 2
-# becomes 3 here, and `compare_with_dash` reads 2 as 1 and 3 as 2.
+# Statuses: dash has 2 after a failed redirection, where the profile has 1. So a utility's own
+# status 2 becomes 3 here, and `compare_with_dash` reads 2 as 1 and 3 as 2.
 
 # Reads what the stage before writes, so that this stage begins when that one has ended.
 await() {

@@ -1,3 +1,4 @@
+pub mod Lending
 pub mod SameCells
 pub mod TwoParts
 pub mod Decisions

@@ -20,7 +20,7 @@ pub trait Cells {
 impl Cells for State {
     ghost state = { λ s. s };
 
-    #[tactic(auto, using(retro_tree::proofs::Lookups::var_of_none), unfolding(retro_tree::specs::Cell::value, retro_tree::specs::Tree::node_in, retro_tree::specs::Session::default_session))]
+    #[tactic(auto, using(crate::proofs::Lending::lending))]
     fn get(&self, cell: &Cell) -> ValueRef<'_> {
         match cell {
             Cell::At(path) => match self.tree().get(path) {
