@@ -4,5 +4,6 @@ pub mod Edit
 pub mod Runs
 pub mod Recording
 pub mod RecordingCode
+pub mod RecordingFault
 pub mod Parts
 pub mod Recorder

@@ -1,6 +1,6 @@
 -- Scripts: a first state, and the lines that are run from it.
 use Rattle.std.specs.Prelude.{ℕ, Bool, true, not, ◌&&◌, List, [], ◌∷◌, map, Option, Some, None, Result, Ok, Err, IsTrue}
-use Rattle.std.specs.Prelude.{nat_lt, if◌then◌else◌}
+use Rattle.std.specs.Prelude.{nat_lt, if◌then◌else◌, ⊤}
 use Rattle.std.specs.List.{list_all}
 use Rattle.std.specs.FinMap as map
 use Rattle.retro_tree.specs.Limits.{within_limits}
@@ -33,6 +33,13 @@ rises_from n (number ∷ numbers) = nat_lt n number && rises_from number numbers
 -- each session exists
 abbrev pub have_sessions : State → List ℕ → Bool
 have_sessions state sids = list_all (map.contains_key state.sessions) sids
+
+-- whether lines with these numbers and sessions fit a first state, or the first refusal
+abbrev pub lines_tested : State → List ℕ → List ℕ → Result ⊤ LinesFault
+lines_tested first numbers sids =
+    if not (rises_from 0 numbers) then Err lines_faults.NumbersNotRising
+    else if not (have_sessions first sids) then Err lines_faults.UnknownSession
+    else Ok tt
 
 -- the script of a lawful state and lines, or the first refusal
 unfoldable pub script_of_lines : State → List ScriptLine → Result ScriptValue LinesFault

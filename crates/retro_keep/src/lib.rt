@@ -6,15 +6,18 @@
 //!
 //! A [`Recording`] has for each line a [`Noted`]: the notes of what the line read and changed, and
 //! what it printed. [`keep`] and [`keep_alone`] run the lines of a script in order and record them.
-//! [`Recording::new`] makes a recording of parts, or refuses them.
+//! [`Recording::new`] makes a recording of parts, or refuses them. [`Recording::of_lawful`] also
+//! says why.
 //!
 //! If allocation fails, calls return `NoMem` and leave their arguments unchanged.
 #![tactic(auto)]
 
 mod laws;
 mod noted;
+mod numbered;
 mod recorder;
 mod recording;
+mod recording_fault;
 mod requirements;
 mod script;
 
@@ -22,4 +25,5 @@ pub use laws::recordings_run_their_scripts;
 pub use noted::Noted;
 pub use recorder::{keep, keep_alone};
 pub use recording::Recording;
+pub use recording_fault::RecordingFault;
 pub use script::{EditFault, LinesFault, Script, ScriptFault, ScriptLine};

@@ -1,9 +1,16 @@
 //! Recordings.
-ghost use Rattle.std.specs.Prelude.{◌≡◌, ◌↔◌, IfOk, IfSome, IsTrue, is_some};
+ghost use Rattle.std.specs.Prelude.{◌≡◌, ◌↔◌, IfErr, IfOk, IfSome, IsTrue, OnOk, is_some};
+ghost use Rattle.std.specs.List.{list_all};
 ghost use Rattle.std.specs.Option.{option_copied};
-ghost use Rattle.retro_keep.specs.Recording.{IsWellFormed, last_state, noted_at};
+ghost use Rattle.retro_tree.specs.Lawful.{IsLawful};
+ghost use Rattle.retro_keep.specs.Parts.{are_parts};
+ghost use Rattle.retro_keep.specs.Recording.{AllLinesAllowed, IsWellFormed, is_line_of_kind};
+ghost use Rattle.retro_keep.specs.Recording.{is_own_line, last_state, noted_at};
+ghost use Rattle.retro_keep.specs.RecordingFault.{IsFaultOf};
 
 use crate::noted::Noted;
+use crate::numbered::test_lines;
+use crate::recording_fault::RecordingFault;
 use crate::requirements::{are_parts, make_changes};
 use retro_tree::{NoMem, State};
 use std::alloc::Global;
@@ -53,6 +60,46 @@ impl Recording {
         if !first.validate(alloc)? || !are_parts(&first, &lines) {
             return Ok(None);
         }
+        Recording::of_fitting(alloc, first, lines)
+    }
+
+    /// Returns the recording of a lawful state and of lines whose notes name their session alone,
+    /// with answers of their queries' kinds. Or the first refusal in the order line numbers,
+    /// sessions, changes.
+    pub fn of_lawful(
+        alloc: Global,
+        first: State,
+        lines: Vec<(u32, Noted)>,
+    ) -> Result<Recording, RecordingFault>
+        requires lawful { IsLawful first }
+        requires own { IsTrue (list_all is_own_line lines.items) }
+        requires of_kind { IsTrue (list_all is_line_of_kind lines.items) }
+        ensures value { IfOk result (λ r. r ≡ record { first = first; lines = lines.items }) }
+        ensures well_formed { OnOk result
+            (IsWellFormed (record { first = first; lines = lines.items })) }
+        ensures fault { IfErr result (IsFaultOf first lines.items) }
+    {
+        test_lines(&first, lines.as_slice())?;
+        match Recording::of_fitting(alloc, first, lines)? {
+            Some(recording) => Ok(recording),
+            None => Err(RecordingFault::LawlessChange),
+        }
+    }
+
+    /// Returns the recording of a lawful state and of lines that fit it, or `None` if a change
+    /// isn't lawful where it is made.
+    fn of_fitting(
+        alloc: Global,
+        first: State,
+        lines: Vec<(u32, Noted)>,
+    ) -> Result<Option<Recording>, NoMem>
+        requires lawful { IsLawful first }
+        requires parts { IsTrue (are_parts first lines.items) }
+        ensures value { IfOk result (λ found. IfSome found (λ r.
+            r ≡ record { first = first; lines = lines.items })) }
+        ensures exact { IfOk result (λ found. IsTrue (is_some found)
+            ↔ AllLinesAllowed lines.items first) }
+    {
         let mut last = first.copy()?;
         if !make_changes(alloc, &lines, &mut last)? {
             return Ok(None);

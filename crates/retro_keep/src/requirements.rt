@@ -2,13 +2,12 @@
 ghost use Rattle.std.specs.Prelude.{◌≡◌, ◌↔◌, ◌∷◌, [], IfOk, IsTrue, map};
 ghost use Rattle.std.specs.List.{list_all};
 ghost use Rattle.retro_tree.specs.Notes.{after, AllAllowed};
-ghost use Rattle.retro_keep.specs.Script.{have_sessions, rises_from};
 ghost use Rattle.retro_keep.specs.Recording.{AllLinesAllowed, answers_are_of_kind, are_own};
 ghost use Rattle.retro_keep.specs.Recording.{is_line_of_kind, is_of_kind, is_own_line, last_state};
-ghost use Rattle.retro_keep.specs.Recording.{number_in, sid_in};
 ghost use Rattle.retro_keep.specs.Parts.{are_parts};
 
 use crate::noted::Noted;
+use crate::numbered::test_lines;
 use retro_tree::{Answer, Ask, Change, NoMem, Note, Notes, State};
 use std::alloc::Global;
 
@@ -16,33 +15,7 @@ use std::alloc::Global;
 pub(crate) fn are_parts(first: &State, lines: &[(u32, Noted)]) -> bool
     ensures { result ≡ are_parts first.now lines.now }
 {
-    are_rising(lines) && have_sessions(first, lines) && are_own(lines) && are_of_kind(lines)
-}
-
-/// Returns whether line numbers are at least 1 and rise.
-fn are_rising(lines: &[(u32, Noted)]) -> bool
-    ensures { result ≡ rises_from 0 (map number_in lines.now) }
-{
-    let mut last = 0;
-    for line in lines {
-        if line.0 <= last {
-            return false;
-        }
-        last = line.0;
-    }
-    true
-}
-
-/// Returns whether each line's session exists in a state.
-fn have_sessions(state: &State, lines: &[(u32, Noted)]) -> bool
-    ensures { result ≡ have_sessions state.now (map sid_in lines.now) }
-{
-    for line in lines {
-        if !state.has_session(line.1.sid) {
-            return false;
-        }
-    }
-    true
+    test_lines(first, lines).is_ok() && are_own(lines) && are_of_kind(lines)
 }
 
 /// Returns whether each line's notes name no session but the line's.

@@ -4,11 +4,12 @@ ghost use Rattle.std.specs.Ordering.{nat_cmp};
 ghost use Rattle.std.specs.BTreeSet.{contains};
 ghost use Rattle.retro_tree.specs.Lawful.{IsLawful};
 ghost use Rattle.retro_keep.specs.Edit.{Edits, first_unknown, is_among, without};
-ghost use Rattle.retro_keep.specs.Script.{IsScript, Makes, number_of, have_sessions, rises_from};
-ghost use Rattle.retro_keep.specs.Script.{script_fault, script_of, script_of_lines, sid_of};
+ghost use Rattle.retro_keep.specs.Script.{IsScript, Makes, number_of};
+ghost use Rattle.retro_keep.specs.Script.{script_fault, script_of, script_of_lines};
 ghost use Rattle.retro_keep.specs.declared.script.EditFault.TheVariants as edits;
 ghost use Rattle.retro_keep.specs.declared.script.ScriptFault.TheVariants as faults;
 
+use crate::numbered::test_lines;
 use retro_tree::{State, Text};
 use std::alloc::{AllocError, Global};
 use std::collections::BTreeSet;
@@ -134,12 +135,7 @@ impl Script {
         requires { IsLawful first }
         ensures { result ≡ script_of_lines first lines.items }
     {
-        if !are_rising(0, lines.as_slice()) {
-            return Err(LinesFault::NumbersNotRising);
-        }
-        if !have_sessions(&first, lines.as_slice()) {
-            return Err(LinesFault::UnknownSession);
-        }
+        test_lines(&first, lines.as_slice())?;
         Ok(Script { first, lines })
     }
 
@@ -184,32 +180,6 @@ impl Script {
         remove_lines(&mut lines, &removed);
         Ok(Script { first, lines })
     }
-}
-
-/// Whether line numbers rise, the first above a number.
-fn are_rising(above: u32, lines: &[ScriptLine]) -> bool
-    ensures { result ≡ rises_from above (map number_of lines.now) }
-{
-    let mut last = above;
-    for line in lines {
-        if line.number <= last {
-            return false;
-        }
-        last = line.number;
-    }
-    true
-}
-
-/// Whether each line's session is in a state.
-fn have_sessions(state: &State, lines: &[ScriptLine]) -> bool
-    ensures { result ≡ have_sessions state.now (map sid_of lines.now) }
-{
-    for line in lines {
-        if !state.has_session(line.sid) {
-            return false;
-        }
-    }
-    true
 }
 
 /// The numbers of a list as a set.

@@ -1,0 +1,43 @@
+//! Why parts make no recording.
+ghost use Rattle.std.specs.Prelude.{◌≡◌};
+ghost use Rattle.retro_keep.specs.RecordingFault.{recording_fault};
+ghost use Rattle.retro_keep.specs.declared.recording_fault.RecordingFault.TheVariants as faults;
+
+use crate::script::LinesFault;
+use std::alloc::AllocError;
+use thiserror::Error;
+
+/// Why a state and lines make no recording.
+#[derive(Clone, Copy, Debug, Drop, PartialEq, Eq, Error)]
+pub enum RecordingFault {
+    /// Line numbers don't rise, or the first is 0.
+    #[error("line numbers don't rise")]
+    NumbersNotRising,
+    /// A line's session is missing in the first state.
+    #[error("a line's session is missing")]
+    UnknownSession,
+    /// A change isn't lawful in the state that it meets.
+    #[error("a change isn't lawful")]
+    LawlessChange,
+    #[error("out of memory")]
+    NoMem,
+}
+
+impl From<AllocError> for RecordingFault {
+    ghost from_gives = { λ _ fault. fault ≡ faults.NoMem };
+
+    fn from(_error: AllocError) -> RecordingFault {
+        RecordingFault::NoMem
+    }
+}
+
+impl From<LinesFault> for RecordingFault {
+    ghost from_gives = { λ lines fault. fault ≡ recording_fault lines };
+
+    fn from(fault: LinesFault) -> RecordingFault {
+        match fault {
+            LinesFault::NumbersNotRising => RecordingFault::NumbersNotRising,
+            LinesFault::UnknownSession => RecordingFault::UnknownSession,
+        }
+    }
+}
