@@ -13,10 +13,15 @@ use Rattle.retro_tree.proofs.WholeLaw.{state_from_test, test_from_state}
 use Rattle.retro_keep.specs.Recording.{AllLinesAllowed, IsWellFormed, RecordingValue, is_line_of_kind, is_own_line}
 use Rattle.retro_keep.specs.Recording.{number_in, sid_in}
 use Rattle.retro_keep.specs.Script.{have_sessions, rises_from}
+use Rattle.retro_keep.specs.RecordingFault.{IsFaultOf}
 use Rattle.retro_keep.specs.declared.noted.Noted.{Noted}
+use Rattle.retro_keep.specs.declared.recording_fault.RecordingFault.{RecordingFault}
+use Rattle.retro_keep.specs.declared.recording_fault.RecordingFault.TheVariants as recording
 use Rattle.retro_log.specs.declared.fault.Refusal.TheVariants.{LawlessTree}
 use Rattle.retro_log.specs.Allowed.{are_allowed, are_lines_allowed, is_lawful_change}
 use Rattle.retro_log.specs.Document.{recording_of}
+use Rattle.retro_log.specs.ReadsAs.{FailsAs}
+use Rattle.retro_log.specs.RecordingFaults.{recording_fault}
 
 off : (b : Bool) → not b ≡ true → b ≡ false
 off true h = absurd (false≢true h)
@@ -76,7 +81,7 @@ unfolding recording_of
 recorded first lines r rising known formed is =
     rw (rising, known, test_from_lines lines first formed.allowed, is) refl
 
-pub unrecorded : (first : State) (lines : List (ℕ × Noted))
+unrecorded : (first : State) (lines : List (ℕ × Noted))
     → rises_from 0 (map number_in lines) ≡ true → have_sessions first (map sid_in lines) ≡ true → IsLawful first
     → list_all is_own_line lines ≡ true → list_all is_line_of_kind lines ≡ true
     → (IsWellFormed (parts first lines) → false ≡ true) → recording_of first lines ≡ Err LawlessTree
@@ -97,3 +102,14 @@ unrecorded first lines rising known lawful own of_kind none =
     at_test : (b : Bool) → are_lines_allowed lines first ≡ b → recording_of first lines ≡ Err LawlessTree
     at_test true h = absurd (false≢true (none (formed h)))
     at_test false h = rw (rising, known, h) refl
+
+-- a fault of the lines is the refusal that reading gives
+pub fault_read : (first : State) (lines : List (ℕ × Noted)) (fault : RecordingFault) → IsLawful first
+    → list_all is_own_line lines ≡ true → list_all is_line_of_kind lines ≡ true → IsFaultOf first lines fault
+    → FailsAs (recording_fault fault) (recording_of first lines)
+unfolding recording_of
+fault_read first lines recording.NumbersNotRising lawful own of_kind h = rw h refl
+fault_read first lines recording.UnknownSession lawful own of_kind h = rw (h.0, h.1) refl
+fault_read first lines recording.LawlessChange lawful own of_kind h =
+    unrecorded first lines h.0 h.1 lawful own of_kind (λ formed. h.2 formed.allowed)
+fault_read first lines recording.NoMem lawful own of_kind h = tt

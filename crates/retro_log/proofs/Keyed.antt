@@ -1,14 +1,15 @@
 -- A map that a loop makes of entries, one by one.
-use Rattle.std.proofs.Common.{◌≡◌, Bool, true, false, not, ◌&&◌, ◌||◌, List, [], ◌∷◌, ◌++◌, Option, Some, None, refl}
-use Rattle.std.proofs.Common.{sym, ap, ◌∙◌, append_assoc, append-nil}
+use Rattle.std.proofs.Common.{◌≡◌, ℕ, Bool, true, false, not, ◌&&◌, ◌||◌, List, [], ◌∷◌, ◌++◌, Option, Some, None, refl}
+use Rattle.std.proofs.Common.{sym, ap, ap₂, ◌∙◌, append_assoc, append-nil, cond}
 use Rattle.std.specs.Prelude.{is_some}
 use Rattle.std.specs.List.{list_any}
 use Rattle.std.proofs.lemmas.Bool.{and_parts, false≢true}
 use Rattle.std.proofs.lemmas.List.Folds.{list_any-append}
 use Rattle.std.proofs.lemmas.List.{map-append}
 use Rattle.std.specs.declared.cmp.Ordering.{Ordering}
-use Rattle.std.specs.Ordering.{eq_by_cmp}
-use Rattle.std.specs.Cmp.{IsTotalOrder, eq_by_cmp_equiv}
+use Rattle.std.specs.BTreeSet.{BTreeSet, contains}
+use Rattle.std.specs.Ordering.{eq_by_cmp, is_eq, nat_cmp}
+use Rattle.std.specs.Cmp.{IsTotalOrder, eq_by_cmp_equiv, nat_cmp_total}
 use Rattle.std.specs.FinMap.{FinMap, IsAntisymmetric, find, contains_key, insert, from_entries, get-from_entries}
 use Rattle.std.specs.FinMap.{from_entries_push}
 use Rattle.std.specs.FinMap.Entries.{is_some-find}
@@ -21,12 +22,12 @@ off false h = refl
 or_off : (a b : Bool) → a ≡ false → b ≡ false → a || b ≡ false
 or_off a b h g = rw (h, g) refl
 
-none_of : {X : Type 0} (o : Option X) → is_some o ≡ false → o ≡ None
+pub none_of : {X : Type 0} (o : Option X) → is_some o ≡ false → o ≡ None
 none_of None h = refl
 none_of (Some x) h = absurd (false≢true (sym h))
 
 module _ {K : Type 0} {R : K → K → Ordering} (o : IsTotalOrder R) where
-  differ_push : (ks : List K) (k : K) → are_distinct R ks ≡ true → list_any (eq_by_cmp R k) ks ≡ false
+  pub differ_push : (ks : List K) (k : K) → are_distinct R ks ≡ true → list_any (eq_by_cmp R k) ks ≡ false
       → are_distinct R (ks ++ k ∷ []) ≡ true
   differ_push [] k h new = refl
   differ_push (x ∷ ks) k h new =
@@ -41,7 +42,7 @@ module _ {K : Type 0} {R : K → K → Ordering} (o : IsTotalOrder R) where
       split true b h = absurd (false≢true (sym h))
       split false b h = (refl, h)
 
-  differ_twice : (ks : List K) (k : K) (rest : List K) → list_any (eq_by_cmp R k) ks ≡ true
+  pub differ_twice : (ks : List K) (k : K) (rest : List K) → list_any (eq_by_cmp R k) ks ≡ true
       → are_distinct R (ks ++ k ∷ rest) ≡ false
   differ_twice [] k rest h = absurd (false≢true h)
   differ_twice (x ∷ ks) k rest h = at_first (eq_by_cmp R k x) refl (differ_twice ks k rest)
@@ -110,3 +111,55 @@ module _ {K X : Type 0} {R : K → K → Ordering} (o : IsTotalOrder R) (same : 
       let differ : are_distinct R (keys_of all) ≡ true = ap (λ es. are_distinct R (keys_of es)) (sym whole)
       ∙ made.differ in
       rw (differ, made.is, whole) refl
+
+-- ---- a set that a loop makes of numbers, one by one
+
+-- the numbers so far differ, and the set has them
+pub record IsGathered (all rest : List ℕ) (set : BTreeSet ℕ) : Type 0 where
+  pub done : List ℕ
+  pub parts : done ++ rest ≡ all
+  pub has : (n : ℕ) → contains nat_cmp set n ≡ list_any (eq_by_cmp nat_cmp n) done
+  pub differ : are_distinct nat_cmp done ≡ true
+
+pub gathering_starts : (all : List ℕ) (set : BTreeSet ℕ) → set.keys ≡ [] → IsGathered all all set
+gathering_starts all set none = record {
+  done = [];
+  parts = refl;
+  has = λ n. ap (list_any (λ k. is_eq (nat_cmp n k))) none;
+  differ = refl;
+}
+
+or_last : (a b : Bool) → cond a true b ≡ b || (a || false)
+or_last true true = refl
+or_last true false = refl
+or_last false true = refl
+or_last false false = refl
+
+pub gathering_goes_on : (all rest later : List ℕ) (set new : BTreeSet ℕ) (n : ℕ) → rest ≡ n ∷ later
+    → contains nat_cmp set n ≡ false
+    → ((q : ℕ) → contains nat_cmp new q ≡ cond (is_eq (nat_cmp n q)) true (contains nat_cmp set q))
+    → IsGathered all rest set → IsGathered all later new
+gathering_goes_on all rest later set new n is absent added so_far =
+    let apart : list_any (eq_by_cmp nat_cmp n) so_far.done ≡ false = sym (so_far.has n) ∙ absent in
+    record {
+      done = so_far.done ++ n ∷ [];
+      parts = append_assoc so_far.done (n ∷ []) later ∙ ap (λ ns. so_far.done ++ ns) (sym is) ∙ so_far.parts;
+      has = λ q.
+          added q ∙ ap₂ (λ a b. cond a true b) ((eq_by_cmp_equiv nat_cmp_total).symm n q) (so_far.has q)
+          ∙ or_last (eq_by_cmp nat_cmp q n) (list_any (eq_by_cmp nat_cmp q) so_far.done)
+          ∙ sym (list_any-append (eq_by_cmp nat_cmp q) so_far.done (n ∷ []));
+      differ = differ_push nat_cmp_total so_far.done n so_far.differ apart;
+    }
+
+pub gathered_twice : (all rest later : List ℕ) (set : BTreeSet ℕ) (n : ℕ) → rest ≡ n ∷ later
+    → contains nat_cmp set n ≡ true → IsGathered all rest set → false ≡ are_distinct nat_cmp all
+gathered_twice all rest later set n is there so_far =
+    sym (ap (are_distinct nat_cmp) (sym so_far.parts ∙ ap (λ ns. so_far.done ++ ns) is)
+    ∙ differ_twice nat_cmp_total so_far.done n later (sym (so_far.has n) ∙ there))
+
+pub gathered_all : (all rest : List ℕ) (set : BTreeSet ℕ) → rest ≡ [] → IsGathered all rest set
+    → true ≡ are_distinct nat_cmp all
+gathered_all all rest set is so_far =
+    let whole : so_far.done ≡ all =
+    sym (append-nil so_far.done) ∙ ap (λ ns. so_far.done ++ ns) (sym is) ∙ so_far.parts in
+    sym so_far.differ ∙ ap (are_distinct nat_cmp) whole

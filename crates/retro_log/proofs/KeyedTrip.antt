@@ -18,15 +18,16 @@ module _ {K X : Type 0} (R : K → K → Ordering) where
       let first = less (R k e.0) (both_fst _ _ h) in
       rw first (apart k es (both_snd _ _ h))
 
-  distinct : (es : List (K × X)) → T (is_sorted R es) → are_distinct R (keys_of es) ≡ true
+  pub distinct : (es : List (K × X)) → T (is_sorted R es) → are_distinct R (keys_of es) ≡ true
   distinct [] h = refl
   distinct (e ∷ es) h = rw (apart e.0 es (both_fst _ _ h)) (distinct es (both_snd _ _ h))
 
 module _ {K X : Type 0} {R : K → K → Ordering} (o : IsTotalOrder R) (same : IsAntisymmetric R) where
+  pub entries_again : (m : FinMap R X) → from_entries {R = R} (entries m) ≡ m
+  entries_again m =
+      same_map o same (from_entries (entries m)) m
+      (λ q. get-from_entries o (entries m) q ∙ sym (get-entries m q))
+
   pub map_again : (m : FinMap R X) → map_of R (entries m) ≡ Some m
   unfolding map_of
-  map_again m =
-      let whole : from_entries {R = R} (entries m) ≡ m =
-      same_map o same (from_entries (entries m)) m
-      (λ q. get-from_entries o (entries m) q ∙ sym (get-entries m q)) in
-      rw (distinct R (entries m) (entries_sorted m), whole) refl
+  map_again m = rw (distinct R (entries m) (entries_sorted m), entries_again m) refl

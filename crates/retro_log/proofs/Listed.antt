@@ -3,17 +3,17 @@ use Rattle.std.proofs.Common.{◌≡◌, List, [], ◌∷◌, map, Bool, true, �
 use Rattle.std.specs.List.{list_all}
 use Rattle.std.proofs.lemmas.Bool.{and_parts, and_from}
 use Rattle.retro_log.specs.declared.fault.Refusal.{Refusal}
-use Rattle.retro_log.specs.Steps.{each}
+use Rattle.retro_log.specs.Worst.{every}
 
 -- each item that passes a test is read again from what it was written as
-pub each_again : {X A B : Type 0} (f : A → Result B Refusal) (g : X → A) (h : X → B) (test : X → Bool)
+pub every_again : {X A B : Type 0} (f : A → Result B Refusal) (g : X → A) (h : X → B) (test : X → Bool)
     → ((x : X) → test x ≡ true → f (g x) ≡ Ok (h x)) → (xs : List X) → list_all test xs ≡ true
-    → each f (map g xs) ≡ Ok (map h xs)
-unfolding each
-each_again f g h test one [] all = refl
-each_again f g h test one (x ∷ xs) all =
+    → every f (map g xs) ≡ Ok (map h xs)
+unfolding every
+every_again f g h test one [] all = refl
+every_again f g h test one (x ∷ xs) all =
     let both = and_parts (test x) (list_all test xs) all in
-    rw (one x both.0, each_again f g h test one xs both.1) refl
+    rw (one x both.0, every_again f g h test one xs both.1) refl
 
 pub all_both : {X : Type 0} (p q : X → Bool) (xs : List X) → list_all p xs ≡ true → list_all q xs ≡ true
     → list_all (λ x. p x && q x) xs ≡ true
@@ -22,20 +22,6 @@ all_both p q (x ∷ xs) a b =
     let c = and_parts (p x) (list_all p xs) a in
     let d = and_parts (q x) (list_all q xs) b in
     and_from (p x && q x) _ (and_from (p x) (q x) c.0 d.0) (all_both p q xs c.1 d.1)
-
--- what items that pass a test are turned into passes another
-pub all_made : {X Y : Type 0} (p : Y → Bool) (h : X → Y) (test : X → Bool)
-    → ((x : X) → test x ≡ true → p (h x) ≡ true) → (xs : List X) → list_all test xs ≡ true
-    → list_all p (map h xs) ≡ true
-all_made p h test one [] all = refl
-all_made p h test one (x ∷ xs) all =
-    let both = and_parts (test x) (list_all test xs) all in
-    and_from (p (h x)) _ (one x both.0) (all_made p h test one xs both.1)
-
-pub map_back : {X Y : Type 0} (f : Y → X) (h : X → Y) → ((x : X) → f (h x) ≡ x) → (xs : List X)
-    → map f (map h xs) ≡ xs
-map_back f h one [] = refl
-map_back f h one (x ∷ xs) = λ i. one x i ∷ map_back f h one xs i
 
 pub map_unchanged : {X : Type 0} (xs : List X) → map (λ x. x) xs ≡ xs
 map_unchanged [] = refl

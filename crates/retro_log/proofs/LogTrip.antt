@@ -26,10 +26,10 @@ use Rattle.retro_log.specs.NoNul.{tree_without_nul, sessions_without_nul, line_w
 use Rattle.retro_log.specs.NoteLimits.{line_fits, notes_fit}
 use Rattle.retro_log.specs.Typed.{is_u32, note_typed, tree_typed, sessions_typed, line_typed, recording_typed}
 use Rattle.retro_log.proofs.Json.{item_list-items_of}
-use Rattle.retro_log.proofs.Listed.{all_both, map_unchanged}
+use Rattle.retro_log.proofs.Listed.{all_both, every_again, map_unchanged}
 use Rattle.retro_log.proofs.TreeTrip.{tree_again}
 use Rattle.retro_log.proofs.SessionsTrip.{sessions_again}
-use Rattle.retro_log.proofs.NotesTrip.{every_again, hex_field_again, notes_again}
+use Rattle.retro_log.proofs.NotesTrip.{hex_field_again, notes_again}
 
 -- ---- lines
 

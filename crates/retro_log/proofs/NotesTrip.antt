@@ -42,23 +42,15 @@ use Rattle.retro_log.specs.NoNul.{has_no_nul, have_no_nul, ask_without_nul, list
 use Rattle.retro_log.specs.NoNul.{change_without_nul, note_without_nul}
 use Rattle.retro_log.specs.NoteLimits.{node_fits, value_fits, found_fits, answer_fits, change_fits, note_fits}
 use Rattle.retro_log.proofs.Json.{item_list-items_of}
-use Rattle.retro_log.proofs.Listed.{all_both, map_unchanged}
-use Rattle.retro_log.proofs.PathTrip.{written, short, path_again}
+use Rattle.retro_log.proofs.Listed.{all_both, every_again, map_unchanged}
+use Rattle.retro_log.proofs.Names.{written, short}
+use Rattle.retro_log.proofs.PathTrip.{path_again}
 use Rattle.retro_log.proofs.TreeTrip.{hex_again}
-
-pub every_again : {X A B : Type 0} (f : A → Result B Refusal) (g : X → A) (h : X → B) (test : X → Bool)
-    → ((x : X) → test x ≡ true → f (g x) ≡ Ok (h x)) → (xs : List X) → list_all test xs ≡ true
-    → every f (map g xs) ≡ Ok (map h xs)
-unfolding every
-every_again f g h test one [] all = refl
-every_again f g h test one (x ∷ xs) all =
-    let parts = and_parts (test x) (list_all test xs) all in
-    rw (one x parts.0, every_again f g h test one xs parts.1) refl
 
 -- ---- what notes are made of
 
 path_field_again : (p : PathValue) → are_names p ≡ true → have_no_nul p ≡ true → path_field (path_data p) ≡ Ok p
-path_field_again p names plain = rw (path_again Lines p names plain) refl
+path_field_again p names plain = path_again Lines p names plain
 
 pub hex_field_again : (bytes : List ℕ) → are_bytes bytes ≡ true → hex_field (hex_data bytes) ≡ Ok bytes
 hex_field_again bytes typed = rw (hex_again bytes typed) refl

@@ -1,7 +1,7 @@
 -- What a lawful tree is written as is read again as that tree.
 use Rattle.std.proofs.Common.{◌≡◌, ◌∙◌, ℕ, ◌<◌, List, [], ◌∷◌, map, filter, Bool, true, false, ◌&&◌, Option, Some}
 use Rattle.std.proofs.Common.{None, Ok}
-use Rattle.std.proofs.Common.{nat_lt, refl, sym, ap, T, arith}
+use Rattle.std.proofs.Common.{length, nat_le, nat_lt, refl, sym, ap, T, arith}
 use Rattle.std.specs.Prelude.{slice_index, suc, zero}
 use Rattle.std.specs.Ordering.{is_lt, eq_by_cmp}
 use Rattle.std.specs.List.{list_all}
@@ -14,7 +14,7 @@ use Rattle.hex.specs.Hex.{encode_lower, IsBytes}
 use Rattle.hex.proofs.HexLemmas.{decode_of-encode_lower}
 use Rattle.retro_tree.specs.Order.{path_cmp, path_total, path_exact}
 use Rattle.retro_tree.specs.Path.{PathValue, is_root, parent_of, may_exist}
-use Rattle.retro_tree.specs.Node.{node_of, is_dir}
+use Rattle.retro_tree.specs.Node.{node_of, is_dir, file_limit}
 use Rattle.retro_tree.specs.Tree.{Tree as TreeValue, node_in}
 use Rattle.retro_tree.specs.Lawful.{law_at, entry_passes, is_lawful_tree}
 use Rattle.retro_tree.specs.declared.entry.Entry.{Entry}
@@ -23,14 +23,13 @@ use Rattle.retro_tree.specs.declared.node.Node.{Node}
 use Rattle.retro_tree.proofs.Small.{both_fst, both_snd, none_some, some_same, first_true, both_true}
 use Rattle.retro_log.specs.declared.fault.Part.TheVariants.{Tree}
 use Rattle.retro_log.specs.Keyed.{map_of}
-use Rattle.retro_log.specs.TreePart.{Row, bytes_in, row_of, has_entry, is_within_limits, entry_fits, path_entry}
-use Rattle.retro_log.specs.TreePart.{root_entry, tree_of}
+use Rattle.retro_log.specs.TreePart.{bytes_in, row_of, root_entry, tree_of}
 use Rattle.retro_log.specs.Values.{row_data, is_listed, tree_data}
 use Rattle.retro_log.specs.NoNul.{have_no_nul, entry_without_nul, tree_without_nul}
 use Rattle.retro_log.specs.Typed.{are_bytes, are_names, file_typed, entry_typed, tree_typed}
 use Rattle.retro_log.proofs.Json.{item_list-items_of}
 use Rattle.retro_log.proofs.KeyedTrip.{map_again}
-use Rattle.retro_log.proofs.Listed.{each_again, all_both, all_made, map_back}
+use Rattle.retro_log.proofs.Listed.{every_again, all_both, map_unchanged}
 use Rattle.retro_log.proofs.PathTrip.{path_again}
 
 -- ---- bytes
@@ -103,8 +102,9 @@ root_first t lawful =
 
 -- ---- rows
 
-whole_row : PathValue × Entry → Row
-whole_row e = (Some e.0, Some e.1)
+entry_fits : Entry → Bool
+entry_fits Dir = true
+entry_fits (File bytes) = nat_le (length bytes) file_limit
 
 names_by_law : (p : PathValue) (entry : Entry) (above : Node) → law_at p (node_of (Some entry)) above ≡ true
     → are_names p ≡ true
@@ -116,31 +116,30 @@ names_by_law (name ∷ p) (File bytes) above h =
 
 fits_by_law : (p : PathValue) (entry : Entry) (above : Node) → law_at p (node_of (Some entry)) above ≡ true
     → entry_fits entry ≡ true
+unfolding entry_fits
 fits_by_law p Dir above h = refl
 fits_by_law [] (File bytes) above h = absurd (false≢true h)
 fits_by_law (name ∷ p) (File bytes) above h =
     both_true (may_exist (name ∷ p)) _ (both_true (is_dir above) _ h)
 
 written_row : (p : PathValue) (entry : Entry) → are_names p ≡ true → have_no_nul p ≡ true
-    → file_typed entry ≡ true → row_of (row_data (p, entry)) ≡ Ok (Some p, Some entry)
-unfolding row_of row_data
-written_row p Dir names plain typed = rw (path_again Tree p names plain) refl
-written_row p (File bytes) names plain typed = rw (path_again Tree p names plain, hex_again bytes typed) refl
+    → file_typed entry ≡ true → entry_fits entry ≡ true → row_of (row_data (p, entry)) ≡ Ok (p, entry)
+unfolding row_of row_data entry_fits
+written_row p Dir names plain typed fits = rw (path_again Tree p names plain) refl
+written_row p (File bytes) names plain typed fits =
+    rw (path_again Tree p names plain, hex_again bytes typed, fits) refl
 
 -- what is known of each row
 passes : TreeValue → PathValue × Entry → Bool
 passes t e = entry_passes t e && (entry_typed e && entry_without_nul e)
 
-row_again : (t : TreeValue) (e : PathValue × Entry) → passes t e ≡ true → row_of (row_data e) ≡ Ok (whole_row e)
-unfolding passes whole_row entry_passes
+row_again : (t : TreeValue) (e : PathValue × Entry) → passes t e ≡ true → row_of (row_data e) ≡ Ok e
+unfolding passes entry_passes
 row_again t e h =
     let a = and_parts (entry_passes t e) _ h in
     let b = and_parts (entry_typed e) _ a.1 in
-    written_row e.0 e.1 (names_by_law e.0 e.1 (node_in (parent_of e.0) t) a.0) b.1 b.0
-
-row_fits : (t : TreeValue) (e : PathValue × Entry) → passes t e ≡ true → is_within_limits (whole_row e) ≡ true
-unfolding passes whole_row entry_passes
-row_fits t e h = fits_by_law e.0 e.1 (node_in (parent_of e.0) t) (and_parts (entry_passes t e) _ h).0
+    let above = node_in (parent_of e.0) t in
+    written_row e.0 e.1 (names_by_law e.0 e.1 above a.0) b.1 b.0 (fits_by_law e.0 e.1 above a.0)
 
 all_pass : (t : TreeValue) → is_lawful_tree t ≡ true → list_all (entry_passes t) (map.entries t) ≡ true
 unfolding is_lawful_tree
@@ -154,17 +153,14 @@ of_listed t test lawful h =
 
 pub tree_again : (t : TreeValue) → is_lawful_tree t ≡ true → tree_typed t ≡ true → tree_without_nul t ≡ true
     → tree_of (tree_data t) ≡ Ok t
-unfolding tree_of tree_data tree_typed tree_without_nul passes whole_row
+unfolding tree_of tree_data tree_typed tree_without_nul passes
 tree_again t lawful typed plain =
     let es = filter is_listed (map.entries t) in
     let good : list_all (passes t) es ≡ true =
     all_both (entry_passes t) (λ e. entry_typed e && entry_without_nul e) es
     (of_listed t (entry_passes t) lawful (all_pass t lawful))
     (all_both entry_typed entry_without_nul es typed (of_listed t entry_without_nul lawful plain)) in
-    let rows = each_again row_of row_data whole_row (passes t) (row_again t) es good in
-    let decoded = all_made has_entry whole_row (passes t) (λ e h. refl) es good in
-    let within = all_made is_within_limits whole_row (passes t) (row_fits t) es good in
-    let made : map_of path_cmp (root_entry ∷ map path_entry (map whole_row es)) ≡ Some t =
-    ap (λ rest. map_of path_cmp (root_entry ∷ rest)) (map_back path_entry whole_row (λ e. refl) es)
-    ∙ ap (map_of path_cmp) (sym (root_first t lawful)) ∙ map_again path_total path_exact t in
-    rw (item_list-items_of (map row_data es), rows, decoded, within, made, lawful) refl
+    let rows = every_again row_of row_data (λ e. e) (passes t) (row_again t) es good in
+    let made : map_of path_cmp (root_entry ∷ es) ≡ Some t =
+    ap (map_of path_cmp) (sym (root_first t lawful)) ∙ map_again path_total path_exact t in
+    rw (item_list-items_of (map row_data es), rows, map_unchanged es, made, lawful) refl

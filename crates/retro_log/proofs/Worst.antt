@@ -1,7 +1,7 @@
 -- A list that is judged item by item, as a loop goes over it.
 use Rattle.std.proofs.Common.{◌≡◌, ℕ, ◌+◌, ◌<◌, ◌≤◌, length, map, drop, get_or, List, [], ◌∷◌, ◌++◌, Result, Ok, Err}
 use Rattle.std.proofs.Common.{refl, sym, ap, ◌∙◌, append_assoc}
-use Rattle.std.proofs.lemmas.List.{append-nil}
+use Rattle.std.proofs.lemmas.List.{append-nil, map_push}
 use Rattle.std.proofs.Math.ListN.{drop_of_length-le}
 use Rattle.retro_log.specs.declared.fault.Refusal.{Refusal}
 use Rattle.retro_log.specs.declared.fault.Refusal.TheVariants.{WrongShape, BadHex}
@@ -26,6 +26,24 @@ both_seen f (Ok x) (Ok y) = refl
 both_seen f (Ok x) (Err e) = refl
 both_seen f (Err e) (Ok y) = refl
 both_seen f (Err e) (Err g) = refl
+
+-- the last of three things seen by `f`
+last_seen : {X Y A B : Type 0} (f : X → Y) (one : Result A Refusal) (two : Result B Refusal) (last : Result X Refusal)
+    → both one (both two (seen f last)) ≡ seen (λ p. (p.0, (p.1.0, f p.1.1))) (both one (both two last))
+last_seen f (Ok x) (Ok y) (Ok z) = refl
+last_seen f (Ok x) (Ok y) (Err e) = refl
+last_seen f (Ok x) (Err e) (Ok z) = refl
+last_seen f (Ok x) (Err e) (Err g) = refl
+last_seen f (Err e) (Ok y) (Ok z) = refl
+last_seen f (Err e) (Ok y) (Err g) = refl
+last_seen f (Err e) (Err g) (Ok z) = refl
+last_seen f (Err e) (Err g) (Err h) = refl
+
+pub last_refused : {X Y A B : Type 0} (f : X → Y) (one : Result A Refusal) (two : Result B Refusal)
+    (last : Result X Refusal) (rest : Result (B × X) Refusal) (e : Refusal)
+    → Err e ≡ both one rest → rest ≡ both two last → both one (both two (seen f last)) ≡ Err e
+last_refused f one two last rest e is pair =
+    last_seen f one two last ∙ ap (seen (λ p. (p.0, (p.1.0, f p.1.1)))) (sym (is ∙ ap (both one) pair))
 
 pub item_added : {X A : Type 0} (f : X → List A) (items : Result X Refusal) (item : Result A Refusal) (v new : X)
     (x : A) → Ok (v, x) ≡ both items item → f new ≡ f v ++ x ∷ [] → Ok (f new) ≡ with_item (seen f items) item
@@ -73,6 +91,50 @@ join_start (Err e) = refl
 join_end : {B : Type 0} (front : Result (List B) Refusal) → join front (Ok []) ≡ front
 join_end {B = B} (Ok xs) = ap (λ (zs : List B). Ok zs) (append-nil xs)
 join_end (Err e) = refl
+
+-- all items and one more
+
+before_nil : {B : Type 0} (item : Result B Refusal) → before item (Ok []) ≡ with_item (Ok []) item
+before_nil (Ok y) = refl
+before_nil (Err e) = refl
+
+before_with : {B : Type 0} (item : Result B Refusal) (items : Result (List B) Refusal) (last : Result B Refusal)
+    → before item (with_item items last) ≡ with_item (before item items) last
+before_with (Ok y) (Ok ys) (Ok z) = refl
+before_with (Ok y) (Ok ys) (Err e) = refl
+before_with (Ok y) (Err e) (Ok z) = refl
+before_with (Ok y) (Err e) (Err f) = refl
+before_with (Err e) (Ok ys) (Ok z) = refl
+before_with (Err e) (Ok ys) (Err f) = refl
+before_with (Err e) (Err f) (Ok z) = refl
+before_with (Err e) (Err f) (Err g) = ap Err (sym (worse_assoc e f g))
+
+pub every_push : {A B : Type 0} (f : A → Result B Refusal) (xs : List A) (x : A)
+    → every f (xs ++ x ∷ []) ≡ with_item (every f xs) (f x)
+unfolding every
+every_push f [] x = before_nil (f x)
+every_push f (y ∷ ys) x = ap (before (f y)) (every_push f ys x) ∙ before_with (f y) (every f ys) (f x)
+
+-- ---- items that are seen by a function
+
+seen_map : {V A B : Type 0} (items : V → List A) (f : A → B) (read : Result V Refusal)
+    → seen (λ v. map f (items v)) read ≡ seen (map f) (seen items read)
+seen_map items f (Ok v) = refl
+seen_map items f (Err e) = refl
+
+map_with : {A B : Type 0} (f : A → B) (items : Result (List A) Refusal) (item : Result A Refusal)
+    → seen (map f) (with_item items item) ≡ with_item (seen (map f) items) (seen f item)
+map_with {B = B} f (Ok xs) (Ok x) = ap (λ (zs : List B). Ok zs) (map_push f xs x)
+map_with f (Ok xs) (Err e) = refl
+map_with f (Err e) (Ok x) = refl
+map_with f (Err e) (Err g) = refl
+
+pub seen_item : {V A B : Type 0} (items : V → List A) (f : A → B) (was new : Result V Refusal) (item : Result A Refusal)
+    → seen items new ≡ with_item (seen items was) item
+    → seen (λ v. map f (items v)) new ≡ with_item (seen (λ v. map f (items v)) was) (seen f item)
+seen_item items f was new item is =
+    seen_map items f new ∙ ap (seen (map f)) is ∙ map_with f (seen items was) item
+    ∙ ap (λ r. with_item r (seen f item)) (sym (seen_map items f was))
 
 -- ---- a loop over a slice, whose items are seen by `va`: `out` is what was read before an index
 

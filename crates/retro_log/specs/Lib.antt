@@ -13,6 +13,7 @@ pub mod NotesPart
 pub mod LogLinesPart
 pub mod Allowed
 pub mod Document
+pub mod RecordingFaults
 pub mod Views
 pub mod Values
 pub mod NoteValues

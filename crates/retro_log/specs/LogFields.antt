@@ -41,9 +41,7 @@ hex_field d = do
   ok_or (bytes_in hex) BadHex
 
 abbrev pub path_field : Data → Result PathValue Refusal
-path_field d = do
-  path ← path_in Lines d
-  ok_or path OverLimit
+path_field d = path_in Lines d
 
 -- ---- listings
 

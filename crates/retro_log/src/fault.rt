@@ -2,9 +2,10 @@
 ghost use Rattle.std.specs.Prelude.{◌≡◌};
 ghost use Rattle.retro_log.specs.Numbers.{refusal_number};
 ghost use Rattle.retro_log.specs.Document.{lines_refusal};
+ghost use Rattle.retro_log.specs.RecordingFaults.{recording_fault};
 ghost use Rattle.retro_log.specs.declared.fault.LogFault.TheVariants as faults;
 
-use retro_keep::LinesFault;
+use retro_keep::{LinesFault, RecordingFault};
 use std::alloc::{AllocError, AllocFailed};
 use thiserror::Error;
 
@@ -107,6 +108,19 @@ impl From<LinesFault> for LogFault {
         match fault {
             LinesFault::NumbersNotRising => LogFault::Refused(Refusal::NumbersNotRising),
             LinesFault::UnknownSession => LogFault::Refused(Refusal::UnknownSession),
+        }
+    }
+}
+
+impl From<RecordingFault> for LogFault {
+    ghost from_gives = { λ recording fault. fault ≡ recording_fault recording };
+
+    fn from(fault: RecordingFault) -> LogFault {
+        match fault {
+            RecordingFault::NumbersNotRising => LogFault::Refused(Refusal::NumbersNotRising),
+            RecordingFault::UnknownSession => LogFault::Refused(Refusal::UnknownSession),
+            RecordingFault::LawlessChange => LogFault::Refused(Refusal::LawlessTree),
+            RecordingFault::NoMem => LogFault::NoMem,
         }
     }
 }

@@ -2,7 +2,7 @@
 //!
 //! [`read_script`] returns the script that bytes are, or their first refusal: what `script_in` of
 //! `specs/Document.antt` says of the bytes. Each part of a document is tested as a whole before the
-//! next part, and its whole list is tested for one refusal before the next refusal.
+//! next part, and of the refusals of a part the worst counts.
 //!
 //! [`write_log`] returns the log of a recording, as `specs/LogText.antt` defines it.
 //! [`tree_value`], [`sessions_value`] and [`hex_value`] return the JSON values that

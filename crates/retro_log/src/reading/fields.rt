@@ -58,10 +58,7 @@ pub fn hex_field(alloc: Global, value: &Value) -> Result<Judged<Bytes>, NoMem>
 pub fn path_field(alloc: Global, value: &Value) -> Result<Judged<Path>, NoMem>
     ensures { IfOk result (λ path. path ≡ path_field (view value.now)) }
 {
-    match path_in(alloc, Part::Lines, value)? {
-        Ok(path) => Ok(path.ok_or(Refusal::OverLimit)),
-        Err(refusal) => Ok(Err(refusal)),
-    }
+    path_in(alloc, Part::Lines, value)
 }
 
 /// A text that may be written as a name in a path.

@@ -1,14 +1,13 @@
 //! Reading a log's document.
-ghost use Rattle.std.specs.Prelude.{◌≡◌, IfOk, IsTrue, map, Ok};
+ghost use Rattle.std.specs.Prelude.{◌≡◌, IfOk, IsTrue, Ok};
 ghost use Rattle.std.specs.List.{list_all};
 ghost use Rattle.serde_json.specs.View.{view};
 ghost use Rattle.retro_tree.specs.Lawful.{IsLawful};
-ghost use Rattle.retro_keep.specs.Recording.{is_line_of_kind, is_own_line, number_in, sid_in};
-ghost use Rattle.retro_keep.specs.Script.{have_sessions, rises_from};
+ghost use Rattle.retro_keep.specs.Recording.{is_line_of_kind, is_own_line};
 ghost use Rattle.retro_log.specs.ReadsAs.{ReadsAs};
 ghost use Rattle.retro_log.specs.Document.{log_in, log_of, log_parts_of, recording_of};
 
-use crate::fault::{LogFault, Refusal};
+use crate::fault::LogFault;
 use crate::reading::document::{has_form, json, read_first, take_member};
 use crate::reading::log_lines::read_log_lines;
 use retro_keep::{Noted, Recording};
@@ -22,35 +21,8 @@ const LOG_KEYS: [&str; 4] = ["log", "tree", "sessions", "lines"];
 /// The version of a log's document.
 const LOG_VERSION: u64 = 1;
 
-/// Whether line numbers rise, the first above 0.
-fn are_rising(lines: &[(u32, Noted)]) -> bool
-    ensures { result ≡ rises_from 0 (map number_in lines.now) }
-{
-    let mut last = 0;
-    for line in lines {
-        if line.0 <= last {
-            return false;
-        }
-        last = line.0;
-    }
-    true
-}
-
-/// Whether each line's session is in a state.
-fn have_sessions(state: &State, lines: &[(u32, Noted)]) -> bool
-    ensures { result ≡ have_sessions state.now (map sid_in lines.now) }
-{
-    for line in lines {
-        if !state.has_session(line.1.sid) {
-            return false;
-        }
-    }
-    true
-}
-
 /// The recording of a lawful state and of lines whose notes are their session's, with answers of
 /// their queries' kinds.
-#[tactic(auto, unfolding(crate::specs::Document::recording_of))]
 fn recording_of(
     alloc: Global,
     first: State,
@@ -61,16 +33,7 @@ fn recording_of(
     requires of_kind { IsTrue (list_all is_line_of_kind lines.items) }
     ensures { ReadsAs (λ r. r) result (recording_of first lines.items) }
 {
-    if !are_rising(lines.as_slice()) {
-        return Err(LogFault::Refused(Refusal::NumbersNotRising));
-    }
-    if !have_sessions(&first, lines.as_slice()) {
-        return Err(LogFault::Refused(Refusal::UnknownSession));
-    }
-    match Recording::new(alloc, first, lines)? {
-        Some(recording) => Ok(recording),
-        None => Err(LogFault::Refused(Refusal::LawlessTree)),
-    }
+    Ok(Recording::of_lawful(alloc, first, lines)?)
 }
 
 /// The first state, which is lawful, and the lines of a log.

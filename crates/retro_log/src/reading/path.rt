@@ -1,15 +1,15 @@
 //! Paths as documents write them.
-ghost use Rattle.std.specs.Prelude.{◌≡◌, ◌==◌, true, [], map, IfOk, IfSome, option_map};
-ghost use Rattle.std.specs.Option.{unwrap_or};
+ghost use Rattle.std.specs.Prelude.{◌≡◌, ◌==◌, map, IfOk, option_map, if◌then◌else◌};
 ghost use Rattle.std.specs.List.{list_all, slice_split};
 ghost use Rattle.serde_json.specs.View.{view};
-ghost use Rattle.retro_log.specs.PathText.{is_written_name, is_short_name, names_of_parts, path_of};
-ghost use Rattle.retro_log.specs.PathText.{path_in};
+ghost use Rattle.retro_log.specs.PathText.{is_written_name, names_of_parts, path_in, path_of};
+ghost use Rattle.retro_log.specs.NoNul.{have_no_nul};
+ghost use Rattle.retro_log.specs.declared.fault.Refusal.TheVariants.{OverLimit, WrongShape};
 
 use crate::fault::{Part, Refusal};
 use crate::reading::shape::text;
 use crate::reading::worst::Judged;
-use retro_tree::{NAME_LIMIT, NoMem, Path};
+use retro_tree::{Name, NoMem, Path};
 use serde_json::Value;
 use std::alloc::Global;
 
@@ -49,58 +49,68 @@ fn split_path(alloc: Global, text: &str) -> Result<Vec<&str>, NoMem>
     text.split('/').collect(alloc)
 }
 
-/// The names in the parts of a path's text.
+/// What stands for names in the parts of a path's text.
 fn names_of_parts<'p, 't>(parts: &'p [&'t str]) -> Option<&'p [&'t str]>
-    ensures value { option_map (λ names. map (λ name. name.now) names.now) result
+    ensures { option_map (λ names. map (λ name. name.now) names.now) result
         ≡ names_of_parts (map (λ part. part.now) parts.now) }
-    ensures written { IfSome result (λ names.
-        list_all is_written_name (map (λ name. name.now) names.now) ≡ true) }
 {
     match parts {
         [front, names @ ..] if front.is_empty() => match names {
             [] => None,
             [name] if name.is_empty() => Some(&names[1..]),
-            _ => {
-                if are_written(names) {
-                    Some(names)
-                } else {
-                    None
-                }
-            }
+            _ => Some(names),
         },
         _ => None,
     }
 }
 
-fn are_short(names: &[&str]) -> bool
-    ensures { result ≡ list_all is_short_name (map (λ name. name.now) names.now) }
+/// Whether no name has a NUL.
+fn have_no_nul(names: &[Name]) -> bool
+    ensures { result ≡ have_no_nul names.now }
 {
     for name in names {
-        if name.len() > NAME_LIMIT {
+        if name.as_str().as_bytes().contains(&NUL) {
             return false;
         }
     }
     true
 }
 
-/// The path of these names, or `None` if one is too long.
-fn path_of(alloc: Global, names: &[&str]) -> Result<Option<Path>, NoMem>
-    requires { list_all is_written_name (map (λ name. name.now) names.now) ≡ true }
-    ensures { IfOk result (λ path. path ≡ path_of (map (λ name. name.now) names.now)) }
+/// Why names that make no path are refused: one isn't written as a name, or else one is too long.
+fn names_fault(part: Part, names: &[&str]) -> Refusal
+    ensures { result ≡ (if list_all is_written_name (map (λ name. name.now) names.now)
+        then OverLimit else WrongShape part) }
 {
-    if !are_short(names) {
-        return Ok(None);
+    if are_written(names) {
+        Refusal::OverLimit
+    } else {
+        Refusal::WrongShape(part)
     }
+}
+
+/// The path of these names. `Path` tests them: only if they make none is it asked why.
+fn path_of(alloc: Global, part: Part, names: &[&str]) -> Result<Judged<Path>, NoMem>
+    ensures { IfOk result (λ path. path ≡ path_of part (map (λ name. name.now) names.now)) }
+{
     let mut texts = Vec::with_capacity(alloc, names.len())?;
     for name in names {
         texts.push(String::from_str(alloc, name)?)?;
     }
-    Path::of(alloc, texts)
+    match Path::of(alloc, texts)? {
+        Some(path) => {
+            if have_no_nul(path.names()) {
+                Ok(Ok(path))
+            } else {
+                Ok(Err(Refusal::WrongShape(part)))
+            }
+        }
+        None => Ok(Err(names_fault(part, names))),
+    }
 }
 
-/// The path that a text names, or `None` if a name is too long.
+/// The path that a text names.
 #[tactic(auto, unfolding(crate::specs::PathText::path_in, crate::specs::PathText::names_in))]
-pub fn path_in(alloc: Global, part: Part, value: &Value) -> Result<Judged<Option<Path>>, NoMem>
+pub fn path_in(alloc: Global, part: Part, value: &Value) -> Result<Judged<Path>, NoMem>
     ensures { IfOk result (λ path. path ≡ path_in part (view value.now)) }
 {
     let text = match text(part, value) {
@@ -109,17 +119,7 @@ pub fn path_in(alloc: Global, part: Part, value: &Value) -> Result<Judged<Option
     };
     let parts = split_path(alloc, text)?;
     match names_of_parts(parts.as_slice()) {
-        Some(names) => Ok(Ok(path_of(alloc, names)?)),
+        Some(names) => path_of(alloc, part, names),
         None => Ok(Err(Refusal::WrongShape(part))),
-    }
-}
-
-/// The path, or the root in place of none.
-pub fn path_or_root(alloc: Global, path: Option<Path>) -> Path
-    ensures { result ≡ unwrap_or path [] }
-{
-    match path {
-        Some(path) => path,
-        None => Path::root(alloc),
     }
 }

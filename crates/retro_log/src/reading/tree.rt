@@ -1,125 +1,76 @@
 //! Reading the tree.
 ghost use Rattle.std.specs.Prelude.{◌≡◌, ◌∷◌, Some, map, IfOk, option_map, true};
-ghost use Rattle.std.specs.List.{list_all};
 ghost use Rattle.std.specs.FinMap as map;
-ghost use Rattle.std.specs.Option.{unwrap_or};
-ghost use Rattle.retro_tree.specs.Lawful.{IsLawful, is_lawful_tree};
+ghost use Rattle.retro_tree.specs.Lawful.{is_lawful_tree};
 ghost use Rattle.retro_tree.specs.Node.{node_of};
 ghost use Rattle.retro_tree.specs.Order.{path_cmp};
-ghost use Rattle.retro_tree.specs.declared.entry.Entry.TheVariants as entries;
 ghost use Rattle.serde_json.specs.View.{view};
 ghost use Rattle.retro_log.specs.Keyed.{map_of};
-ghost use Rattle.retro_log.specs.ReadsAs.{ReadsAs};
-ghost use Rattle.retro_log.specs.Steps.{each};
-ghost use Rattle.retro_log.specs.TreePart.{file_in, entry_fits, has_entry};
-ghost use Rattle.retro_log.specs.TreePart.{is_within_limits, path_entry, root_entry, row_of};
-ghost use Rattle.retro_log.specs.TreePart.{tree_of};
-ghost use Rattle.retro_log.specs.Views.{row_view};
+ghost use Rattle.retro_log.specs.ReadsAs.{ReadsAs, seen};
+ghost use Rattle.retro_log.specs.TreePart.{file_in, root_entry, row_cells, row_of, tree_of};
+ghost use Rattle.retro_log.specs.Worst.{every};
 
 use crate::fault::{LogFault, Part, Refusal};
 use crate::reading::hex_text::bytes_in;
-use crate::reading::path::{path_in, path_or_root};
+use crate::reading::path::path_in;
 use crate::reading::shape::{cells, text};
+use crate::reading::worst::{Judged, both, with_item};
 use retro_tree::{Entry, FILE_LIMIT, NoMem, Node, Path, State};
 use serde_json::Value;
 use std::alloc::Global;
 
-/// A row: its path, or `None` if a name of it is too long, and its directory or file, or `None` if
-/// its hex is bad.
-#[derive(Drop)]
-pub struct Row {
-    pub path: Option<Path>,
-    pub entry: Option<Entry>,
+/// The file whose bytes a text of hex digits encodes.
+fn file_in(alloc: Global, value: &Value) -> Result<Judged<Entry>, NoMem>
+    ensures { IfOk result (λ entry. entry ≡ file_in (view value.now)) }
+{
+    let hex = match text(Part::Tree, value) {
+        Ok(hex) => hex,
+        Err(refusal) => return Ok(Err(refusal)),
+    };
+    match bytes_in(alloc, hex)? {
+        Some(bytes) => {
+            if bytes.len() as u64 > FILE_LIMIT {
+                return Ok(Err(Refusal::OverLimit));
+            }
+            Ok(Ok(Entry::File(bytes)))
+        }
+        None => Ok(Err(Refusal::BadHex)),
+    }
 }
 
-/// The file whose bytes hex digits encode, or `None` if they are bad.
-fn file_in(alloc: Global, hex: &str) -> Result<Option<Entry>, NoMem>
-    ensures { IfOk result (λ entry. entry ≡ file_in hex.now) }
+fn row_of_cells(alloc: Global, cells: &[Value]) -> Result<Judged<(Path, Entry)>, NoMem>
+    ensures { IfOk result (λ row. row ≡ row_cells (map view cells.now)) }
 {
-    match bytes_in(alloc, hex)? {
-        Some(bytes) => Ok(Some(Entry::File(bytes))),
-        None => Ok(None),
+    match cells {
+        [path] => match path_in(alloc, Part::Tree, path)? {
+            Ok(path) => Ok(Ok((path, Entry::Dir))),
+            Err(refusal) => Ok(Err(refusal)),
+        },
+        [path, hex] => Ok(both(path_in(alloc, Part::Tree, path)?, file_in(alloc, hex)?)),
+        _ => Ok(Err(Refusal::WrongShape(Part::Tree))),
     }
 }
 
 #[tactic(auto, unfolding(crate::specs::TreePart::row_of))]
-fn read_row(alloc: Global, value: &Value) -> Result<Row, LogFault>
-    ensures { ReadsAs row_view result (row_of (view value.now)) }
+fn read_row(alloc: Global, value: &Value) -> Result<Judged<(Path, Entry)>, NoMem>
+    ensures { IfOk result (λ row. row ≡ row_of (view value.now)) }
 {
-    match cells(Part::Tree, value)? {
-        [path] => Ok(Row {
-            path: path_in(alloc, Part::Tree, path)??,
-            entry: Some(Entry::Dir),
-        }),
-        [path, hex] => {
-            let path = path_in(alloc, Part::Tree, path)??;
-            let entry = file_in(alloc, text(Part::Tree, hex)?)?;
-            Ok(Row { path, entry })
-        }
-        _ => Err(LogFault::Refused(Refusal::WrongShape(Part::Tree))),
+    match cells(Part::Tree, value) {
+        Ok(cells) => row_of_cells(alloc, cells),
+        Err(refusal) => Ok(Err(refusal)),
     }
 }
 
-fn read_rows(alloc: Global, items: &[Value]) -> Result<Vec<Row>, LogFault>
-    ensures { ReadsAs (λ rows. map row_view rows.items) result (each row_of (map view items.now)) }
+#[tactic(auto, using(crate::proofs::Worst::judging_starts))]
+fn read_rows(alloc: Global, items: &[Value]) -> Result<Judged<Vec<(Path, Entry)>>, NoMem>
+    ensures { IfOk result (λ rows. seen (λ v. v.items) rows ≡ every row_of (map view items.now)) }
 {
-    let mut rows = Vec::new(alloc);
+    let mut rows = Ok(Vec::new(alloc));
     for item in items {
-        rows.push(read_row(alloc, item)?)?;
+        let row = read_row(alloc, item)?;
+        rows = with_item(rows, row)?;
     }
     Ok(rows)
-}
-
-/// Whether the hex of each row is good.
-fn have_entries(rows: &[Row]) -> bool
-    ensures { result ≡ list_all has_entry (map row_view rows.now) }
-{
-    for row in rows {
-        if row.entry.is_none() {
-            return false;
-        }
-    }
-    true
-}
-
-fn entry_fits(entry: &Entry) -> bool
-    ensures { result ≡ entry_fits entry.now }
-{
-    match entry {
-        Entry::Dir => true,
-        Entry::File(bytes) => bytes.len() as u64 <= FILE_LIMIT,
-    }
-}
-
-fn is_within_limits(row: &Row) -> bool
-    ensures { result ≡ is_within_limits (row_view row.now) }
-{
-    match (&row.path, &row.entry) {
-        (None, _) => false,
-        (Some(_), None) => true,
-        (Some(_), Some(entry)) => entry_fits(entry),
-    }
-}
-
-/// Whether the names and the file of each row are within their limits.
-fn are_within_limits(rows: &[Row]) -> bool
-    ensures { result ≡ list_all is_within_limits (map row_view rows.now) }
-{
-    for row in rows {
-        if !is_within_limits(row) {
-            return false;
-        }
-    }
-    true
-}
-
-fn entry_or_dir(entry: Option<Entry>) -> Entry
-    ensures { result ≡ unwrap_or entry entries.Dir }
-{
-    match entry {
-        Some(entry) => entry,
-        None => Entry::Dir,
-    }
 }
 
 fn node_of(entry: Entry) -> Node
@@ -132,15 +83,14 @@ fn node_of(entry: Entry) -> Node
 }
 
 /// The state of these rows and the root, or `None` if a path is listed twice or is the root's.
-fn state_with_rows(alloc: Global, rows: Vec<Row>) -> Result<Option<State>, NoMem>
+fn state_with_rows(alloc: Global, rows: Vec<(Path, Entry)>) -> Result<Option<State>, NoMem>
     ensures { IfOk result (λ found. found ≡
         option_map (λ tree. record { tree = tree; sessions = map.empty })
-        (map_of path_cmp (root_entry ∷ map path_entry (map row_view rows.items)))) }
+        (map_of path_cmp (root_entry ∷ rows.items))) }
 {
     let mut state = State::empty(alloc)?;
     for row in rows {
-        let path = path_or_root(alloc, row.path);
-        let entry = entry_or_dir(row.entry);
+        let (path, entry) = row;
         if state.tree().get(&path).is_some() {
             return Ok(None);
         }
@@ -165,14 +115,7 @@ pub fn read_tree(alloc: Global, value: &Value) -> Result<State, LogFault>
     ensures sessions { IfOk result (λ s. s.sessions ≡ map.empty) }
     ensures lawful { IfOk result (λ s. is_lawful_tree s.tree ≡ true) }
 {
-    let items = cells(Part::Tree, value)?;
-    let rows = read_rows(alloc, items)?;
-    if !have_entries(rows.as_slice()) {
-        return Err(LogFault::Refused(Refusal::BadHex));
-    }
-    if !are_within_limits(rows.as_slice()) {
-        return Err(LogFault::Refused(Refusal::OverLimit));
-    }
+    let rows = read_rows(alloc, cells(Part::Tree, value)?)??;
     let Some(mut state) = state_with_rows(alloc, rows)? else {
         return Err(LogFault::Refused(Refusal::LawlessTree));
     };

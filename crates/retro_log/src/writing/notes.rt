@@ -6,11 +6,11 @@ ghost use Rattle.retro_log.specs.NoteValues.{user_data};
 ghost use Rattle.retro_log.specs.NoteValues.{answer_data, asked_data, change_data, note_data};
 ghost use Rattle.retro_log.specs.NoteValues.{notes_data};
 ghost use Rattle.retro_log.specs.Typed.{are_names, node_typed, user_typed, answer_typed, ask_typed};
-ghost use Rattle.retro_log.specs.Typed.{change_typed, note_typed};
+ghost use Rattle.retro_log.specs.Typed.{change_typed, listing_typed, note_typed};
 ghost use Rattle.std.specs.List.{list_all};
 
 use crate::writing::fields::{hex_value, number_value, path_value, status_value, text_value};
-use retro_tree::{Answer, Ask, Change, Kind, Name, NoMem, Node, Note, Permit, User};
+use retro_tree::{Answer, Ask, Change, Kind, Listing, Name, NoMem, Node, Note, Permit, User};
 use serde_json::{Value, json};
 use std::alloc::Global;
 
@@ -54,7 +54,7 @@ fn node_value(alloc: Global, node: &Node) -> Result<Value, NoMem>
 
 /// The names of a directory's children, in their order.
 #[tactic(auto, unfolding(crate::specs::NoteValues::listing_data))]
-fn listing_value(alloc: Global, names: &[Name]) -> Result<Value, NoMem>
+fn names_value(alloc: Global, names: &[Name]) -> Result<Value, NoMem>
     ensures value { IfOk result (λ v. view v ≡ listing_data (Some names.now)) }
     ensures typed { OnOk result (are_names names.now ≡ true) }
 {
@@ -65,18 +65,35 @@ fn listing_value(alloc: Global, names: &[Name]) -> Result<Value, NoMem>
     Ok(Value::Array(items))
 }
 
-/// The entry of a login name: `[number,home]`.
-#[tactic(auto, unfolding(crate::specs::NoteValues::user_data))]
-fn user_value(alloc: Global, user: &User) -> Result<Value, NoMem>
-    ensures value { IfOk result (λ v. view v ≡ user_data (Some user.now)) }
-    ensures typed { OnOk result (user_typed (Some user.now) ≡ true) }
+/// The names in a directory, or `null`.
+#[tactic(auto, unfolding(crate::specs::NoteValues::listing_data))]
+fn listing_value(alloc: Global, listing: &Option<Listing>) -> Result<Value, NoMem>
+    ensures value { IfOk result (λ v. view v ≡ listing_data listing.now) }
+    ensures typed { OnOk result (listing_typed listing.now ≡ true) }
 {
-    let number = number_value(user.number);
-    json!(in alloc; [number, user.home.as_str()])
+    match listing {
+        Some(listing) => names_value(alloc, listing.names()),
+        None => Ok(Value::Null),
+    }
+}
+
+/// The entry of a login name: `[number,home]`, or `null`.
+#[tactic(auto, unfolding(crate::specs::NoteValues::user_data))]
+fn user_value(alloc: Global, user: &Option<User>) -> Result<Value, NoMem>
+    ensures value { IfOk result (λ v. view v ≡ user_data user.now) }
+    ensures typed { OnOk result (user_typed user.now ≡ true) }
+{
+    match user {
+        Some(user) => {
+            let number = number_value(user.number);
+            json!(in alloc; [number, user.home.as_str()])
+        }
+        None => Ok(Value::Null),
+    }
 }
 
 /// An answer. `null` says that there is none.
-#[tactic(auto, unfolding(crate::specs::NoteValues::answer_data, crate::specs::NoteValues::listing_data, crate::specs::NoteValues::user_data))]
+#[tactic(auto, unfolding(crate::specs::NoteValues::answer_data))]
 fn answer_value(alloc: Global, answer: &Answer) -> Result<Value, NoMem>
     ensures value { IfOk result (λ v. view v ≡ answer_data answer.now) }
     ensures typed { OnOk result (answer_typed answer.now ≡ true) }
@@ -84,11 +101,11 @@ fn answer_value(alloc: Global, answer: &Answer) -> Result<Value, NoMem>
     match answer {
         Answer::Kind(kind) => text_value(alloc, kind_text(*kind)),
         Answer::Bytes(node) => node_value(alloc, node),
-        Answer::Names(Some(listing)) => listing_value(alloc, listing.names()),
+        Answer::Names(listing) => listing_value(alloc, listing),
         Answer::CanWrite(permit) => text_value(alloc, permit_text(*permit)),
-        Answer::User(Some(user)) => user_value(alloc, user),
+        Answer::User(user) => user_value(alloc, user),
         Answer::Var(Some(value)) => text_value(alloc, value.as_str()),
-        Answer::Names(None) | Answer::User(None) | Answer::Var(None) => Ok(Value::Null),
+        Answer::Var(None) => Ok(Value::Null),
         Answer::Cwd(path) => path_value(alloc, path),
         Answer::Status(status) => Ok(status_value(*status)),
     }

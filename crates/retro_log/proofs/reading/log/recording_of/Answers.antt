@@ -1,28 +1,16 @@
-use Rattle.std.proofs.Common.{◌≡◌, ◌∙◌, true, map, refl, sym, ap}
-use Rattle.retro_keep.specs.Recording.{number_in, sid_in}
-use Rattle.retro_keep.specs.Script.{have_sessions, rises_from}
-use Rattle.retro_log.proofs.Changes.{recorded, unrecorded}
+use Rattle.std.proofs.lemmas.Result.{err_from_is_err_and}
+use Rattle.retro_log.proofs.Changes.{fault_read, recorded}
 use Rattle.retro_log.proofs.reading.log.recording_of.Goals as goal
 
-pub returns-in-Some : goal.returns-in-Some
-returns-in-Some c =
-    let rising : rises_from 0 (map number_in c.args.lines.items) ≡ true =
-    ap (λ lines. rises_from 0 (map number_in lines)) (sym c.as_slice.ensures.value) ∙ sym c.are_rising.ensures
-    ∙ c.if-not-are_rising.false in
-    let known : have_sessions c.args.first (map sid_in c.args.lines.items) ≡ true =
-    ap (λ lines. have_sessions c.args.first (map sid_in lines)) (sym c.as_slice-2.ensures.value)
-    ∙ sym c.have_sessions.ensures ∙ c.if-not-have_sessions.false in
-    let formed = rw c.in-Some.is at c.in_ok-recording.ensures.exact in
-    let value = rw c.in-Some.is at c.in_ok-recording.ensures.value in
-    recorded c.args.first c.args.lines.items c.in-Some.recording rising known (formed.0 refl) value
+pub returns-in_err-of_lawful : goal.returns-in_err-of_lawful
+returns-in_err-of_lawful c =
+    let p = err_from_is_err_and c.from_residual.result c.from_residual.ensures.1 in
+    rw (p.1, p.2)
+    (fault_read c.args.first c.args.lines.items c.in_err-of_lawful.field-0.0 c.requires.lawful c.requires.own
+    c.requires.of_kind c.in_err-of_lawful.ensures.fault)
 
-pub returns-in-None : goal.returns-in-None
-returns-in-None c =
-    let rising : rises_from 0 (map number_in c.args.lines.items) ≡ true =
-    ap (λ lines. rises_from 0 (map number_in lines)) (sym c.as_slice.ensures.value) ∙ sym c.are_rising.ensures
-    ∙ c.if-not-are_rising.false in
-    let known : have_sessions c.args.first (map sid_in c.args.lines.items) ≡ true =
-    ap (λ lines. have_sessions c.args.first (map sid_in lines)) (sym c.as_slice-2.ensures.value)
-    ∙ sym c.have_sessions.ensures ∙ c.if-not-have_sessions.false in
-    let formed = rw c.in-None.is at c.in_ok-recording.ensures.exact in
-    unrecorded c.args.first c.args.lines.items rising known c.requires.lawful c.requires.own c.requires.of_kind formed.1
+pub returns : goal.returns
+returns c =
+    let formed = c.in_ok-of_lawful.ensures.well_formed in
+    recorded c.args.first c.args.lines.items c.in_ok-of_lawful.field-0 formed.rising formed.known formed
+    c.in_ok-of_lawful.ensures.value

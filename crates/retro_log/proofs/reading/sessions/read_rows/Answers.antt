@@ -1,25 +1,22 @@
-use Rattle.std.proofs.lemmas.Result.{err_from_is_err_and}
+use Rattle.std.proofs.Common.{map}
 use Rattle.serde_json.specs.View.{view}
-use Rattle.retro_log.specs.SessionsPart.{session_of}
-use Rattle.retro_log.specs.Views.{session_view}
-use Rattle.retro_log.proofs.Each.{loop_goes_on, loop_ends, loop_done}
+use Rattle.retro_log.specs.ReadsAs.{seen}
+use Rattle.retro_log.specs.SessionsPart.{row_of}
+use Rattle.retro_log.specs.Views.{row_view}
+use Rattle.retro_log.proofs.Worst.{judging_goes_on, judging_done, seen_item}
 use Rattle.retro_log.proofs.reading.sessions.read_rows.Goals as goal
-
-pub returns-in_err-read_row : goal.returns-in_err-read_row
-returns-in_err-read_row c =
-    let p = err_from_is_err_and c.from_residual.result c.from_residual.ensures.1 in
-    rw (p.1, p.2)
-    (loop_ends session_of view session_view c.in_err-read_row.field-0.0 c.loop-item.rows.items c.args.items.now
-    c.loop-item.item-index _ c.item-item.result
-    c.loop-item-test.true c.item-item.is c.in_err-read_row.ensures c.loop-item.invariant)
 
 pub loop-item-preserved : goal.loop-item-preserved
 loop-item-preserved c =
-    loop_goes_on session_of view session_view c.loop-item.rows.items c.push.new.self.items c.args.items.now
-    c.loop-item.item-index _ c.item-item.result c.in_ok-read_row.field-0
-    c.loop-item-test.true c.item-item.is c.in_ok-push.ensures.items c.in_ok-read_row.ensures c.loop-item.invariant
+    let rows = seen (λ v. map row_view v.items) c.loop-item.rows in
+    let more = seen (λ v. map row_view v.items) c.in_ok-rows.rows in
+    let added =
+    seen_item (λ v. v.items) row_view c.loop-item.rows c.in_ok-rows.rows c.in_ok-row.row c.in_ok-rows.ensures in
+    judging_goes_on row_of view rows more c.args.items.now c.loop-item.item-index _ c.item-item.result
+    (seen row_view c.in_ok-row.row) c.loop-item-test.true c.item-item.is c.in_ok-row.ensures added
+    c.loop-item.invariant
 
 pub returns : goal.returns
 returns c =
-    loop_done session_of view session_view c.loop-item.rows.items c.args.items.now c.loop-item.item-index
+    judging_done row_of view (seen (λ v. map row_view v.items) c.loop-item.rows) c.args.items.now c.loop-item.item-index
     c.loop-item-test.false c.loop-item.invariant

@@ -1,8 +1,10 @@
+use Rattle.std.proofs.Common.{map}
 use Rattle.serde_json.specs.View.{view}
-use Rattle.retro_log.specs.SessionsPart.{session_of}
-use Rattle.retro_log.specs.Views.{session_view}
-use Rattle.retro_log.proofs.Each.{IsReadTo}
+use Rattle.retro_log.specs.ReadsAs.{seen}
+use Rattle.retro_log.specs.SessionsPart.{row_of}
+use Rattle.retro_log.specs.Views.{row_view}
+use Rattle.retro_log.proofs.Worst.{IsJudgedTo}
 use Rattle.retro_log.proofs.reading.sessions.read_rows.Given as goal
 
 abbrev pub invariant-loop-item : goal.invariant-loop-item
-invariant-loop-item l = IsReadTo session_of view session_view l.rows.items l.items l.item-index
+invariant-loop-item l = IsJudgedTo row_of view (seen (λ v. map row_view v.items) l.rows) l.items l.item-index

@@ -1,25 +1,17 @@
-use Rattle.std.proofs.lemmas.Result.{err_from_is_err_and}
 use Rattle.serde_json.specs.View.{view}
+use Rattle.retro_log.specs.ReadsAs.{seen}
 use Rattle.retro_log.specs.SessionsPart.{var_of}
-use Rattle.retro_log.specs.Views.{var_view}
-use Rattle.retro_log.proofs.Each.{loop_goes_on, loop_ends, loop_done}
+use Rattle.retro_log.proofs.Worst.{judging_goes_on, judging_done}
 use Rattle.retro_log.proofs.reading.sessions.read_vars.Goals as goal
-
-pub returns-in_err-read_var : goal.returns-in_err-read_var
-returns-in_err-read_var c =
-    let p = err_from_is_err_and c.from_residual.result c.from_residual.ensures.1 in
-    rw (p.1, p.2)
-    (loop_ends var_of view var_view c.in_err-read_var.field-0.0 c.loop-item.vars.items c.args.items.now
-    c.loop-item.item-index _ c.item-item.result
-    c.loop-item-test.true c.item-item.is c.in_err-read_var.ensures c.loop-item.invariant)
 
 pub loop-item-preserved : goal.loop-item-preserved
 loop-item-preserved c =
-    loop_goes_on var_of view var_view c.loop-item.vars.items c.push.new.self.items c.args.items.now
-    c.loop-item.item-index _ c.item-item.result c.in_ok-read_var.field-0
-    c.loop-item-test.true c.item-item.is c.in_ok-push.ensures.items c.in_ok-read_var.ensures c.loop-item.invariant
+    judging_goes_on var_of view (seen (λ v. v.items) c.loop-item.vars) (seen (λ v. v.items) c.in_ok-vars.vars)
+    c.args.items.now c.loop-item.item-index _ c.item-item.result c.in_ok-var.var c.loop-item-test.true c.item-item.is
+    c.in_ok-var.ensures c.in_ok-vars.ensures
+    c.loop-item.invariant
 
 pub returns : goal.returns
 returns c =
-    loop_done var_of view var_view c.loop-item.vars.items c.args.items.now c.loop-item.item-index c.loop-item-test.false
-    c.loop-item.invariant
+    judging_done var_of view (seen (λ v. v.items) c.loop-item.vars) c.args.items.now c.loop-item.item-index
+    c.loop-item-test.false c.loop-item.invariant

@@ -3,7 +3,7 @@ use Rattle.std.specs.List.{list_all}
 use Rattle.serde_json.specs.Data.{string}
 use Rattle.serde_json.specs.View.{view}
 use Rattle.retro_tree.specs.Name.{is_name}
-use Rattle.retro_log.proofs.writing.notes.listing_value.Given as goal
+use Rattle.retro_log.proofs.writing.notes.names_value.Given as goal
 
 abbrev pub invariant-loop-name : goal.invariant-loop-name
 invariant-loop-name l =
