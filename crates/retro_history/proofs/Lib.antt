@@ -2,6 +2,7 @@ pub mod Numbers
 pub mod Unions
 pub mod Lines
 pub mod Gathering
+pub mod LineCells
 pub mod Readers
 pub mod Meetings
 pub mod Buffers

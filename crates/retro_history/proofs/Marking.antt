@@ -1,4 +1,4 @@
--- The names of the children of a path, by the tracks of their cells.
+-- The names of the children of a path, by the histories of their cells.
 use Rattle.std.proofs.Common.{◌≡◌, ℕ, Bool, true, false, cond, List, [], ◌∷◌, Option, Some, None, refl}
 use Rattle.std.proofs.Common.{sym, ap, ◌∙◌, subst, T}
 use Rattle.std.specs.Option.{is_some}
@@ -23,11 +23,13 @@ use Rattle.retro_tree.specs.declared.overlay_entry.OverlayEntry.TheVariants as e
 use Rattle.retro_tree.proofs.Small.{tied, less, both_fst, both_snd}
 use Rattle.retro_tree.proofs.Together.{path_after, apart_from}
 use Rattle.retro_tree.proofs.Fitting.{fits_none, fits_set}
-use Rattle.retro_history.specs.Tracks.{TrackMap, TrackValue, VersionValue, version_below}
-use Rattle.retro_history.specs.TrackMarks.{tracks_from, mark_of_value, mark_version, is_child_cell, mark_tracks}
+use Rattle.retro_history.specs.CellHistory.{HistoryMap}
+use Rattle.retro_history.specs.Tracks.{VersionValue, version_below}
+use Rattle.retro_history.specs.declared.cell_history.CellHistory.{CellHistory}
+use Rattle.retro_history.specs.TrackMarks.{histories_from, mark_of_value, mark_version, is_child_cell, mark_tracks}
 
 abbrev Entries : Type 0
-Entries = List (Cell × TrackValue)
+Entries = List (Cell × CellHistory)
 
 -- ---- the cells below a path are consecutive and follow the path's own cell
 abbrev with_prefix : PathValue → Entries → Entries
@@ -81,8 +83,8 @@ entries_together p (e ∷ es) s =
 abbrev no_marks : OverlayMap
 no_marks = finmap.empty
 
-abbrev mark_one : PathValue → ℕ → Cell × TrackValue → OverlayMap → OverlayMap
-mark_one p n e marks = if is_child_cell p e.0 then mark_version e.0 (version_below n e.1) marks else marks
+abbrev mark_one : PathValue → ℕ → Cell × CellHistory → OverlayMap → OverlayMap
+mark_one p n e marks = if is_child_cell p e.0 then mark_version e.0 (version_below n e.1.track) marks else marks
 
 abbrev marks_all : PathValue → ℕ → Entries → OverlayMap → OverlayMap
 marks_all p n [] marks = marks
@@ -103,9 +105,9 @@ abbrev pub entry_by : Option VersionValue → Option OverlayEntry → Option Ove
 entry_by None o = o
 entry_by (Some v) o = Some (entries.Value (values.Node (mark_of_value v.value)))
 
-abbrev pub entry_of : ℕ → Option TrackValue → Option OverlayEntry → Option OverlayEntry
+abbrev pub entry_of : ℕ → Option CellHistory → Option OverlayEntry → Option OverlayEntry
 entry_of n None o = o
-entry_of n (Some t) o = entry_by (version_below n t) o
+entry_of n (Some h) o = entry_by (version_below n h.track) o
 
 pub no_entry : (c : Cell) (es : Entries) → T (below_all cell_cmp c es) → find cell_cmp c es ≡ None
 no_entry c [] h = refl
@@ -127,20 +129,20 @@ set_apart c d (Some v) marks e =
     get-insert cell_total marks d (entries.Value (values.Node (mark_of_value v.value))) c
     ∙ ap (λ b. cond b (Some (entries.Value (values.Node (mark_of_value v.value)))) (finmap.get marks c)) e
 
-one_apart : (p : PathValue) (n : ℕ) (c : Cell) (e : Cell × TrackValue) (marks : OverlayMap)
+one_apart : (p : PathValue) (n : ℕ) (c : Cell) (e : Cell × CellHistory) (marks : OverlayMap)
     → eq_by_cmp cell_cmp c e.0 ≡ false → finmap.get (mark_one p n e marks) c ≡ finmap.get marks c
 one_apart p n c e marks h = go (is_child_cell p e.0)
   where
-    go : (b : Bool) → finmap.get (if b then mark_version e.0 (version_below n e.1) marks else marks) c
+    go : (b : Bool) → finmap.get (if b then mark_version e.0 (version_below n e.1.track) marks else marks) c
         ≡ finmap.get marks c
-    go true = set_apart c e.0 (version_below n e.1) marks h
+    go true = set_apart c e.0 (version_below n e.1.track) marks h
     go false = refl
 
-one_here : (p : PathValue) (n : ℕ) (c : Cell) (t : TrackValue) (marks : OverlayMap) → is_child_cell p c ≡ true
-    → finmap.get (mark_one p n (c, t) marks) c ≡ entry_of n (Some t) (finmap.get marks c)
-one_here p n c t marks child =
-    ap (λ b. finmap.get (if b then mark_version c (version_below n t) marks else marks) c) child
-    ∙ set_here c (version_below n t) marks
+one_here : (p : PathValue) (n : ℕ) (c : Cell) (h : CellHistory) (marks : OverlayMap) → is_child_cell p c ≡ true
+    → finmap.get (mark_one p n (c, h) marks) c ≡ entry_of n (Some h) (finmap.get marks c)
+one_here p n c h marks child =
+    ap (λ b. finmap.get (if b then mark_version c (version_below n h.track) marks else marks) c) child
+    ∙ set_here c (version_below n h.track) marks
 
 marked : (p : PathValue) (n : ℕ) (c : Cell) → is_child_cell p c ≡ true → (es : Entries)
     → T (is_sorted cell_cmp es) → (marks : OverlayMap)
@@ -163,21 +165,21 @@ child_is_below : (o : Option PathValue) → is_some (only_name o) ≡ true → i
 child_is_below None h = h
 child_is_below (Some rest) h = refl
 
--- the entry of a child in the marks of all tracks
-pub child_marked : (p q : PathValue) (n : ℕ) (tracks : TrackMap) → is_child p q ≡ true
-    → finmap.get (mark_tracks p n (tracks_from (cells.At p) tracks) finmap.empty) (cells.At q)
-    ≡ entry_of n (finmap.get tracks (cells.At q)) None
-child_marked p q n tracks child =
-    ap (λ m. finmap.get m (cells.At q)) (marks_prefixed p n (tracks_from (cells.At p) tracks) finmap.empty
-    ∙ ap (λ es. marks_all p n es finmap.empty) (entries_together p (finmap.entries tracks) (entries_sorted tracks)))
-    ∙ marked p n (cells.At q) child (where_key cell_cmp (cell_below p) (finmap.entries tracks))
-    (is_sorted-where_key cell_cmp (cell_below p) (finmap.entries tracks) (entries_sorted tracks)) finmap.empty
+-- the entry of a child in the marks of all histories
+pub child_marked : (p q : PathValue) (n : ℕ) (m : HistoryMap) → is_child p q ≡ true
+    → finmap.get (mark_tracks p n (histories_from (cells.At p) m) finmap.empty) (cells.At q)
+    ≡ entry_of n (finmap.get m (cells.At q)) None
+child_marked p q n m child =
+    ap (λ marks. finmap.get marks (cells.At q)) (marks_prefixed p n (histories_from (cells.At p) m) finmap.empty
+    ∙ ap (λ es. marks_all p n es finmap.empty) (entries_together p (finmap.entries m) (entries_sorted m)))
+    ∙ marked p n (cells.At q) child (where_key cell_cmp (cell_below p) (finmap.entries m))
+    (is_sorted-where_key cell_cmp (cell_below p) (finmap.entries m) (entries_sorted m)) finmap.empty
     ∙ ap (λ x. entry_of n x (finmap.get no_marks (cells.At q)))
     (find-where_key cell_cmp (cell_below p) (cells.At q)
-    (λ c e. ap (cell_below p) (sym (cell_exact (cells.At q) c e))) (finmap.entries tracks)
-    ∙ ap (λ b. cond b (find cell_cmp (cells.At q) (finmap.entries tracks)) None) (child_is_below (below p q) child)
-    ∙ sym (get-entries tracks (cells.At q)))
-    ∙ ap (entry_of n (finmap.get tracks (cells.At q))) (get-empty cell_cmp (cells.At q))
+    (λ c e. ap (cell_below p) (sym (cell_exact (cells.At q) c e))) (finmap.entries m)
+    ∙ ap (λ b. cond b (find cell_cmp (cells.At q) (finmap.entries m)) None) (child_is_below (below p q) child)
+    ∙ sym (get-entries m (cells.At q)))
+    ∙ ap (entry_of n (finmap.get m (cells.At q))) (get-empty cell_cmp (cells.At q))
 
 -- ---- marks fit their cells
 fits_marked : (q : PathValue) (o : Option VersionValue) (marks : OverlayMap) → Fits marks
@@ -186,16 +188,16 @@ fits_marked q None marks fit = fit
 fits_marked q (Some v) marks fit =
     fits_set marks (cells.At q) (entries.Value (values.Node (mark_of_value v.value))) refl fit
 
-fits_one : (p : PathValue) (n : ℕ) (e : Cell × TrackValue) (marks : OverlayMap) → Fits marks
+fits_one : (p : PathValue) (n : ℕ) (e : Cell × CellHistory) (marks : OverlayMap) → Fits marks
     → Fits (mark_one p n e marks)
-fits_one p n (cells.At q, t) marks fit = go (is_child p q)
+fits_one p n (cells.At q, h) marks fit = go (is_child p q)
   where
-    go : (b : Bool) → Fits (if b then mark_version (cells.At q) (version_below n t) marks else marks)
-    go true = fits_marked q (version_below n t) marks fit
+    go : (b : Bool) → Fits (if b then mark_version (cells.At q) (version_below n h.track) marks else marks)
+    go true = fits_marked q (version_below n h.track) marks fit
     go false = fit
-fits_one p n (cells.Cwd sid, t) marks fit = fit
-fits_one p n (cells.Var sid name, t) marks fit = fit
-fits_one p n (cells.Status sid, t) marks fit = fit
+fits_one p n (cells.Cwd sid, h) marks fit = fit
+fits_one p n (cells.Var sid name, h) marks fit = fit
+fits_one p n (cells.Status sid, h) marks fit = fit
 
 fits_all : (p : PathValue) (n : ℕ) (es : Entries) (marks : OverlayMap) → Fits marks → Fits (mark_tracks p n es marks)
 fits_all p n [] marks fit = fit
@@ -205,6 +207,6 @@ fits_all p n (e ∷ es) marks fit =
       | false ↦ fit
     ]
 
-pub marks_fit : (p : PathValue) (n : ℕ) (tracks : TrackMap)
-    → Fits (mark_tracks p n (tracks_from (cells.At p) tracks) finmap.empty)
-marks_fit p n tracks = fits_all p n (tracks_from (cells.At p) tracks) finmap.empty fits_none
+pub marks_fit : (p : PathValue) (n : ℕ) (m : HistoryMap)
+    → Fits (mark_tracks p n (histories_from (cells.At p) m) finmap.empty)
+marks_fit p n m = fits_all p n (histories_from (cells.At p) m) finmap.empty fits_none

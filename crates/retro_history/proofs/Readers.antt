@@ -19,9 +19,10 @@ use Rattle.retro_tree.specs.declared.note.Note.TheVariants.{Asked, Made}
 use Rattle.retro_tree.proofs.LawLemmas.{child_of_parent, parent_of_child}
 use Rattle.retro_tree.proofs.Small.{tied}
 use Rattle.retro_history.specs.Index.{Line, is_listing_of, lists, numbers_of, read_at, reads}
-use Rattle.retro_history.specs.IndexSteps.{Indexes, depends, next_touch, parent_listings, reads_directly}
+use Rattle.retro_history.specs.IndexSteps.{Indexes, next_touch, parent_listings}
+use Rattle.retro_history.specs.LineUse.{depends, reads_directly}
 use Rattle.retro_history.specs.Numbers.{earliest, first_above, union}
-use Rattle.retro_history.specs.Uses.{uses_at}
+use Rattle.retro_history.specs.CellHistory.{uses_at}
 use Rattle.retro_history.specs.declared.index.Index.{Index}
 use Rattle.retro_history.proofs.Lines.{earliest_assoc, earliest_none, first_of_tests, same_tests, union_of_tests}
 use Rattle.retro_history.proofs.Unions.{none_union}
@@ -173,7 +174,7 @@ touches_are (Made change ∷ notes) c =
 -- ---- the lines of an index
 
 readers_of_session : (x : Index) (c : Cell) (lines : List Line) → IsOfSession c → Indexes x lines
-    → (uses_at x.uses c).read ≡ read_at c lines
+    → (uses_at x.cells c).read ≡ read_at c lines
 readers_of_session x c lines is h =
     h.read c
     ∙ same_tests (λ l. reads_directly l.1.notes c) (λ l. reads l.1.notes c) lines
@@ -187,24 +188,25 @@ readers_of_path p lines = same_tests
     (λ l. reads l.1.notes (cells.At p)) lines (λ l. reads_path l.1.notes p)
 
 pub readers_found : (x : Index) (c : Cell) (lines : List Line) → Indexes x lines
-    → union (uses_at x.uses c).read (parent_listings c x.listed) ≡ read_at c lines
+    → union (uses_at x.cells c).read (parent_listings c x.listed) ≡ read_at c lines
 readers_found x (cells.At p) lines h =
     (λ i. union (h.read (cells.At p) i) (h.listed (parent_of p) i))
     ∙ union_of_tests 0 (λ l. reads_directly l.1.notes (cells.At p)) (λ l. lists l.1.notes (parent_of p)) lines
     h.numbered
     ∙ readers_of_path p lines
 readers_found x (cells.Cwd sid) lines h =
-    none_union (uses_at x.uses (cells.Cwd sid)).read ∙ readers_of_session x (cells.Cwd sid) lines (cwd_of_session sid) h
+    none_union (uses_at x.cells (cells.Cwd sid)).read
+    ∙ readers_of_session x (cells.Cwd sid) lines (cwd_of_session sid) h
 readers_found x (cells.Var sid name) lines h =
-    none_union (uses_at x.uses (cells.Var sid name)).read
+    none_union (uses_at x.cells (cells.Var sid name)).read
     ∙ readers_of_session x (cells.Var sid name) lines (var_of_session sid name) h
 readers_found x (cells.Status sid) lines h =
-    none_union (uses_at x.uses (cells.Status sid)).read
+    none_union (uses_at x.cells (cells.Status sid)).read
     ∙ readers_of_session x (cells.Status sid) lines (status_of_session sid) h
 
 -- the first line above a number that reads a cell
 next_reader : (after : ℕ) (x : Index) (c : Cell) (lines : List Line) → Indexes x lines
-    → earliest (first_above after (uses_at x.uses c).read) (first_above after (parent_listings c x.listed))
+    → earliest (first_above after (uses_at x.cells c).read) (first_above after (parent_listings c x.listed))
     ≡ first_above after (read_at c lines)
 next_reader after x (cells.At p) lines h =
     (λ i. earliest (first_above after (h.read (cells.At p) i)) (first_above after (h.listed (parent_of p) i)))
@@ -212,22 +214,22 @@ next_reader after x (cells.At p) lines h =
     h.numbered
     ∙ ap (first_above after) (readers_of_path p lines)
 next_reader after x (cells.Cwd sid) lines h =
-    earliest_none (first_above after (uses_at x.uses (cells.Cwd sid)).read)
+    earliest_none (first_above after (uses_at x.cells (cells.Cwd sid)).read)
     ∙ ap (first_above after) (readers_of_session x (cells.Cwd sid) lines (cwd_of_session sid) h)
 next_reader after x (cells.Var sid name) lines h =
-    earliest_none (first_above after (uses_at x.uses (cells.Var sid name)).read)
+    earliest_none (first_above after (uses_at x.cells (cells.Var sid name)).read)
     ∙ ap (first_above after) (readers_of_session x (cells.Var sid name) lines (var_of_session sid name) h)
 next_reader after x (cells.Status sid) lines h =
-    earliest_none (first_above after (uses_at x.uses (cells.Status sid)).read)
+    earliest_none (first_above after (uses_at x.cells (cells.Status sid)).read)
     ∙ ap (first_above after) (readers_of_session x (cells.Status sid) lines (status_of_session sid) h)
 
 -- the first line above a number that reads or writes a cell
 pub next_touch_found : (after : ℕ) (x : Index) (c : Cell) (lines : List Line) → Indexes x lines
-    → earliest (earliest (first_above after (uses_at x.uses c).written) (first_above after (uses_at x.uses c).read))
+    → earliest (earliest (first_above after (uses_at x.cells c).written) (first_above after (uses_at x.cells c).read))
     (first_above after (parent_listings c x.listed))
     ≡ next_touch after c lines
 next_touch_found after x c lines h =
-    earliest_assoc (first_above after (uses_at x.uses c).written) (first_above after (uses_at x.uses c).read)
+    earliest_assoc (first_above after (uses_at x.cells c).written) (first_above after (uses_at x.cells c).read)
     (first_above after (parent_listings c x.listed))
     ∙ (λ i. earliest (first_above after (h.written c i)) (next_reader after x c lines h i))
     ∙ first_of_tests 0 after (λ l. changes l.1.notes c) (λ l. reads l.1.notes c) lines h.numbered

@@ -1,4 +1,4 @@
--- What the tracks of a recording tell of the state before a line.
+-- What the histories of a recording's cells tell of the state before a line.
 use Rattle.std.proofs.Common.{◌≡◌, ℕ, List, [], ◌∷◌, ◌++◌, Option, Some, None, refl, sym, ap, ◌∙◌, subst, arith, nat_lt}
 use Rattle.std.proofs.Common.{Bool, true, false, cond, T}
 use Rattle.std.specs.Bool.{if◌then◌else◌}
@@ -31,50 +31,53 @@ use Rattle.retro_keep.specs.Recording.{RecordingValue}
 use Rattle.retro_history.specs.Recorded.{recorded_before}
 use Rattle.retro_history.specs.Versions.{checkpoints}
 use Rattle.retro_history.specs.History.{parts_before, version_parts}
-use Rattle.retro_history.specs.Tracks.{TrackMap, TrackValue, VersionValue, whole_version, new_track, track_in}
-use Rattle.retro_history.specs.Tracks.{IsTracked, all_versions, version_chain, version_below, last_below, RiseFrom}
-use Rattle.retro_history.specs.Tracks.{AllRise, checkpoint_numbers}
-use Rattle.retro_history.specs.TrackMarks.{tracks_from, mark_of_value, mark_tracks}
+use Rattle.retro_history.specs.CellHistory.{AllRise, HistoryMap, new_history, track_in}
+use Rattle.retro_history.specs.IsHistory.{IsTracked}
+use Rattle.retro_history.specs.Tracks.{VersionValue, whole_version, new_track}
+use Rattle.retro_history.specs.Tracks.{all_versions, version_chain, version_below, last_below, RiseFrom}
+use Rattle.retro_history.specs.Tracks.{checkpoint_numbers}
+use Rattle.retro_history.specs.declared.cell_history.CellHistory.{CellHistory}
+use Rattle.retro_history.specs.TrackMarks.{histories_from, mark_of_value, mark_tracks}
 use Rattle.retro_history.proofs.Chains.{Rise, chained, chain_rises, looked_up}
 use Rattle.retro_history.proofs.RecordedVersions.{version_at, recorded_value, recorded_checkpoints}
 use Rattle.retro_history.proofs.Marking.{entry_by, entry_of, child_marked, marks_fit, no_entry}
 
-module _ (r : RecordingValue) (tracks : TrackMap) (kept : IsTracked r tracks) (rise : Rise 0 r.lines) where
+module _ (r : RecordingValue) (m : HistoryMap) (kept : IsTracked r m) (rise : Rise 0 r.lines) where
   -- all versions of a cell are its chain
-  pub chain_of : (c : Cell) → all_versions (track_in c r.first tracks)
+  pub chain_of : (c : Cell) → all_versions (track_in c r.first m)
       ≡ version_chain c r.lines (whole_version 0 (value c r.first))
   unfolding IsTracked
   chain_of c = ap all_versions (kept c) ∙ chained c 0 r.lines (new_track (value c r.first)) (omega arith) rise
 
   -- their numbers rise
-  pub track_rises : (c : Cell) → RiseFrom 0 (all_versions (track_in c r.first tracks))
+  pub track_rises : (c : Cell) → RiseFrom 0 (all_versions (track_in c r.first m))
   track_rises c = subst (RiseFrom 0) (sym (chain_of c))
       (chain_rises c 0 0 r.lines (whole_version 0 (value c r.first)) (omega arith) (omega arith) rise)
 
   -- the version of a cell before line n
   pub version_is : (c : Cell) (n : ℕ)
-      → unwrap_or (version_below n (track_in c r.first tracks)) (whole_version 0 (value c r.first)) ≡ version_at c n r
+      → unwrap_or (version_below n (track_in c r.first m)) (whole_version 0 (value c r.first)) ≡ version_at c n r
   version_is c n =
       ap (λ vs. unwrap_or (last_below n None vs) (whole_version 0 (value c r.first)))
       (chain_of c)
       ∙ looked_up c n r.lines (whole_version 0 (value c r.first)) refl rise
 
   -- what a look-up in a track gives
-  pub parts_in_track : (c : Cell) (n : ℕ) (t : TrackValue) → finmap.get tracks c ≡ Some t
-      → version_parts (unwrap_or (version_below n t) (whole_version 0 (value c r.first))) ≡ parts_before c n r
-  parts_in_track c n t here =
-      ap (λ (o : Option TrackValue).
-      version_parts (unwrap_or (version_below n (unwrap_or o (new_track (value c r.first))))
+  pub parts_in_track : (c : Cell) (n : ℕ) (h : CellHistory) → finmap.get m c ≡ Some h
+      → version_parts (unwrap_or (version_below n h.track) (whole_version 0 (value c r.first))) ≡ parts_before c n r
+  parts_in_track c n h here =
+      ap (λ (o : Option CellHistory).
+      version_parts (unwrap_or (version_below n (unwrap_or o (new_history (value c r.first))).track)
       (whole_version 0 (value c r.first)))) (sym here)
       ∙ ap version_parts (version_is c n)
 
   -- if it finds one
-  pub parts_found : (c : Cell) (n : ℕ) (t : TrackValue) (parts : ℕ × Value) → finmap.get tracks c ≡ Some t
-      → Some parts ≡ option_map version_parts (version_below n t) → parts ≡ parts_before c n r
-  parts_found c n t parts here is =
+  pub parts_found : (c : Cell) (n : ℕ) (h : CellHistory) (parts : ℕ × Value) → finmap.get m c ≡ Some h
+      → Some parts ≡ option_map version_parts (version_below n h.track) → parts ≡ parts_before c n r
+  parts_found c n h parts here is =
       ap (λ (o : Option (ℕ × Value)). unwrap_or o parts) is
-      ∙ go (version_below n t) is
-      ∙ parts_in_track c n t here
+      ∙ go (version_below n h.track) is
+      ∙ parts_in_track c n h here
     where
       go : (o : Option VersionValue) → Some parts ≡ option_map version_parts o
           → unwrap_or (option_map version_parts o) parts
@@ -83,9 +86,9 @@ module _ (r : RecordingValue) (tracks : TrackMap) (kept : IsTracked r tracks) (r
       go (Some v) e = refl
 
   -- if it finds none
-  pub parts_missing : (c : Cell) (n : ℕ) (t : TrackValue) → finmap.get tracks c ≡ Some t
-      → None ≡ option_map version_parts (version_below n t) → (0, value c r.first) ≡ parts_before c n r
-  parts_missing c n t here is = go (version_below n t) is ∙ parts_in_track c n t here
+  pub parts_missing : (c : Cell) (n : ℕ) (h : CellHistory) → finmap.get m c ≡ Some h
+      → None ≡ option_map version_parts (version_below n h.track) → (0, value c r.first) ≡ parts_before c n r
+  parts_missing c n h here is = go (version_below n h.track) is ∙ parts_in_track c n h here
     where
       go : (o : Option VersionValue) → None ≡ option_map version_parts o
           → (0, value c r.first) ≡ version_parts (unwrap_or o (whole_version 0 (value c r.first)))
@@ -100,16 +103,16 @@ module _ (r : RecordingValue) (tracks : TrackMap) (kept : IsTracked r tracks) (r
       go true = refl
       go false = refl
 
-  pub parts_without_track : (c : Cell) (n : ℕ) → finmap.get tracks c ≡ None
+  pub parts_without_track : (c : Cell) (n : ℕ) → finmap.get m c ≡ None
       → (0, value c r.first) ≡ parts_before c n r
   parts_without_track c n none =
       ap version_parts (sym (first_alone (value c r.first) n)
-      ∙ ap (λ (o : Option TrackValue). unwrap_or (version_below n (unwrap_or o (new_track (value c r.first))))
+      ∙ ap (λ (o : Option CellHistory). unwrap_or (version_below n (unwrap_or o (new_history (value c r.first))).track)
       (whole_version 0 (value c r.first))) (sym none)
       ∙ version_is c n)
 
   -- the checkpoints
-  pub checkpoints_are : (c : Cell) → checkpoint_numbers (all_versions (track_in c r.first tracks)) ≡ checkpoints c r
+  pub checkpoints_are : (c : Cell) → checkpoint_numbers (all_versions (track_in c r.first m)) ≡ checkpoints c r
   checkpoints_are c = ap checkpoint_numbers (chain_of c) ∙ recorded_checkpoints c r
 
   -- ---- children
@@ -130,11 +133,11 @@ module _ (r : RecordingValue) (tracks : TrackMap) (kept : IsTracked r tracks) (r
   mark_present (values.Text t) = refl
   mark_present (values.Status n) = refl
 
-  child_present : (n : ℕ) (v : Value) (o : Option TrackValue)
+  child_present : (n : ℕ) (v : Value) (o : Option CellHistory)
       → present (combined_value (entry_of n o None) v)
-      ≡ present (unwrap_or (version_below n (unwrap_or o (new_track v))) (whole_version 0 v)).value
+      ≡ present (unwrap_or (version_below n (unwrap_or o (new_history v)).track) (whole_version 0 v)).value
   child_present n v None = ap (λ (w : VersionValue). present w.value) (sym (first_alone v n))
-  child_present n v (Some t) = go (version_below n t)
+  child_present n v (Some h) = go (version_below n h.track)
     where
       go : (o : Option VersionValue)
           → present (combined_value (entry_by o None) v)
@@ -143,17 +146,17 @@ module _ (r : RecordingValue) (tracks : TrackMap) (kept : IsTracked r tracks) (r
       go (Some w) = mark_present w.value
 
   abbrev pub marks_at : PathValue → ℕ → OverlayMap
-  marks_at p n = mark_tracks p n (tracks_from (cells.At p) tracks) finmap.empty
+  marks_at p n = mark_tracks p n (histories_from (cells.At p) m) finmap.empty
 
   same_presence : (p : PathValue) (n : ℕ) (name : List ℕ)
       → present (value (cells.At (p ++ name ∷ [])) (committed (marks_at p n) r.first))
       ≡ present (value (cells.At (p ++ name ∷ [])) (recorded_before n r))
   same_presence p n name =
       let c = cells.At (p ++ name ∷ []) in
-      ap present (fits_overlays (marks_at p n) r.first (marks_fit p n tracks) c)
+      ap present (fits_overlays (marks_at p n) r.first (marks_fit p n m) c)
       ∙ ap (λ (o : Option OverlayEntry). present (combined_value o (value c r.first)))
-      (child_marked p (p ++ name ∷ []) n tracks (ap is_some (child_name_of p name)))
-      ∙ child_present n (value c r.first) (finmap.get tracks c)
+      (child_marked p (p ++ name ∷ []) n m (ap is_some (child_name_of p name)))
+      ∙ child_present n (value c r.first) (finmap.get m c)
       ∙ ap (λ (w : VersionValue). present w.value) (version_is c n)
       ∙ ap present (recorded_value c n r)
 
@@ -170,18 +173,18 @@ module _ (r : RecordingValue) (tracks : TrackMap) (kept : IsTracked r tracks) (r
 
   -- the marks give the committed state
   pub marks_overlay : (p : PathValue) (n : ℕ) → Overlays (marks_at p n) r.first (committed (marks_at p n) r.first)
-  marks_overlay p n = fits_overlays (marks_at p n) r.first (marks_fit p n tracks)
+  marks_overlay p n = fits_overlays (marks_at p n) r.first (marks_fit p n m)
 
   -- ---- the numbers rise in each track
-  in_each : (es : List (Cell × TrackValue)) → T (is_sorted cell_cmp es)
-      → ((c : Cell) (t : TrackValue) → find cell_cmp c es ≡ Some t → RiseFrom 0 (all_versions t)) → AllRise es
+  in_each : (es : List (Cell × CellHistory)) → T (is_sorted cell_cmp es)
+      → ((c : Cell) (t : CellHistory) → find cell_cmp c es ≡ Some t → RiseFrom 0 (all_versions t.track)) → AllRise es
   in_each [] h all = tt
   in_each (e ∷ es) h all = (
     all e.0 e.1 (ap (λ o. cond (is_eq o) (Some e.1) (find cell_cmp e.0 es)) (tied_itself cell_total e.0)),
     in_each es (both_snd _ _ h) (λ c t is. all c t (later c t is)),
   )
     where
-      later : (c : Cell) (t : TrackValue) → find cell_cmp c es ≡ Some t → find cell_cmp c (e ∷ es) ≡ Some t
+      later : (c : Cell) (t : CellHistory) → find cell_cmp c es ≡ Some t → find cell_cmp c (e ∷ es) ≡ Some t
       later c t is = go (eq_by_cmp cell_cmp c e.0) refl
         where
           go : (b : Bool) → eq_by_cmp cell_cmp c e.0 ≡ b → cond b (Some e.1) (find cell_cmp c es) ≡ Some t
@@ -190,7 +193,7 @@ module _ (r : RecordingValue) (tracks : TrackMap) (kept : IsTracked r tracks) (r
               (both_fst _ _ h))) ∙ is))
           go false s = is
 
-  pub all_rise : AllRise (finmap.entries tracks)
-  all_rise = in_each (finmap.entries tracks) (entries_sorted tracks) (λ c t is.
-      subst (λ (o : Option TrackValue). RiseFrom 0 (all_versions (unwrap_or o (new_track (value c r.first)))))
-      (get-entries tracks c ∙ is) (track_rises c))
+  pub all_rise : AllRise (finmap.entries m)
+  all_rise = in_each (finmap.entries m) (entries_sorted m) (λ c t is.
+      subst (λ (o : Option CellHistory). RiseFrom 0 (all_versions (unwrap_or o (new_history (value c r.first))).track))
+      (get-entries m c ∙ is) (track_rises c))

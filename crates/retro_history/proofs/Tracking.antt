@@ -1,87 +1,101 @@
--- A change of a cell's track is a change of the versions of this cell, and of no other.
+-- The histories of all cells after all lines.
 use Rattle.std.proofs.Common.{◌≡◌, ◌≤◌, ℕ, Bool, true, false, cond, Option, Some, None, refl, sym, ap, ◌∙◌, List, []}
-use Rattle.std.proofs.Common.{◌∷◌}
-use Rattle.std.proofs.Common.{drop, drop_of_length-le, length, Result, Ok, Err}
+use Rattle.std.proofs.Common.{◌∷◌, drop, drop_of_length-le, length, Result, Ok, Err}
 use Rattle.std.specs.Prelude.{IfOk}
 use Rattle.std.specs.List.{filter}
 use Rattle.std.specs.Ordering.{is_le}
-use Rattle.std.specs.FinMap.{get-empty}
-use Rattle.std.specs.Bool.{if◌then◌else◌}
-use Rattle.std.specs.Option.{is_some, unwrap_or}
 use Rattle.std.specs.FinMap as map
-use Rattle.std.proofs.lemmas.Bool.{false≢true, true≢false}
-use Rattle.retro_tree.specs.CellOrder.{cell_cmp, cell_total, cell_exact}
+use Rattle.std.specs.Option.{option_map, unwrap_or}
+use Rattle.retro_tree.specs.CellOrder.{cell_cmp}
 use Rattle.retro_tree.specs.Cell.{value}
-use Rattle.retro_tree.specs.Change.{cell_of}
-use Rattle.retro_tree.specs.Notes.{cell_eq}
+use Rattle.retro_tree.specs.Notes.{changes}
 use Rattle.retro_tree.specs.declared.cell.Cell.{Cell}
-use Rattle.retro_tree.specs.declared.change.Change.{Change}
 use Rattle.retro_tree.specs.declared.state.State.{State}
-use Rattle.retro_tree.proofs.Lookups.{get_inserted, get_inserted_apart}
-use Rattle.retro_tree.proofs.NoteLaws.{same_cells, cells_apart}
 use Rattle.retro_keep.specs.Recording.{RecordingValue}
-use Rattle.retro_keep.specs.declared.noted.Noted.{Noted}
-use Rattle.retro_history.specs.Tracks.{TrackMap, TrackValue, new_track, track_in, track_changed, track_after}
-use Rattle.retro_history.specs.Tracks.{changed_at}
-use Rattle.retro_history.specs.Tracks.{AllRise, IsTracked, tracked}
+use Rattle.retro_history.specs.Index.{AreNumbered, Line, numbers_of, written_at}
+use Rattle.retro_history.specs.CellHistory.{AllRise, HistoryMap, history_in, history_noted, new_history, uses_at}
+use Rattle.retro_history.specs.IndexSteps.{Indexes, listed_by}
+use Rattle.retro_history.specs.IsHistory.{IsTracked}
+use Rattle.retro_history.specs.LineUse.{reads_directly}
+use Rattle.retro_history.specs.Tracks.{new_track, tracked}
+use Rattle.retro_history.specs.Uses.{no_uses}
+use Rattle.retro_history.specs.declared.cell_history.CellHistory.{CellHistory}
+use Rattle.retro_history.specs.declared.index.Index.{Index}
+use Rattle.retro_history.specs.declared.uses.Uses.{Uses}
+use Rattle.retro_history.proofs.Gathering.{from_nothing, gathered, listed_lines}
 
-module _ (c : Cell) (first : State) (n : ℕ) (change : Change) (tracks : TrackMap) where
-  -- the changed track set
-  pub track_set : (t : TrackValue) → t ≡ track_changed n change (track_in (cell_of change) first tracks)
-      → track_in c first (map.insert tracks (cell_of change) t) ≡ track_after c n change (track_in c first tracks)
-  track_set t is = go (cell_eq (cell_of change) c) refl
-    where
-      go : (b : Bool) → cell_eq (cell_of change) c ≡ b
-          → track_in c first (map.insert tracks (cell_of change) t)
-          ≡ (if b then track_changed n change (track_in c first tracks) else track_in c first tracks)
-      go true e =
-          let same : cell_of change ≡ c = same_cells (cell_of change) c e in
-          ap (λ d. track_in d first (map.insert tracks (cell_of change) t)) (sym same)
-          ∙ ap (λ o. unwrap_or o (new_track (value (cell_of change) first)))
-          (get_inserted cell_total tracks (cell_of change) t)
-          ∙ is ∙ ap (λ d. track_changed n change (track_in d first tracks)) same
-      go false e =
-          ap (λ o. unwrap_or o (new_track (value c first)))
-          (get_inserted_apart cell_total cell_exact tracks (cell_of change) t c (cells_apart (cell_of change) c e))
+-- the history of a cell after lines
+abbrev pub history_after : Cell → List Line → CellHistory → CellHistory
+history_after c [] h = h
+history_after c (l ∷ lines) h = history_after c lines (history_noted c l.0 l.1.notes h)
 
-  -- a track that was there changed
-  pub track_changed_at : (o : Option TrackValue) → map.get tracks (cell_of change) ≡ o → is_some o ≡ true
-      → track_in c first (changed_at (cell_of change) n change o tracks)
-      ≡ track_after c n change (track_in c first tracks)
-  track_changed_at None e h = absurd (false≢true h)
-  track_changed_at (Some t) e h =
-      track_set (track_changed n change t)
-      (ap (λ o. track_changed n change (unwrap_or o (new_track (value (cell_of change) first)))) (sym e))
+track_after_lines : (c : Cell) (lines : List Line) (h : CellHistory)
+    → (history_after c lines h).track ≡ tracked c lines h.track
+track_after_lines c [] h = refl
+track_after_lines c (l ∷ lines) h = track_after_lines c lines (history_noted c l.0 l.1.notes h)
 
-  -- a cell that had no track
-  pub track_made : map.get tracks (cell_of change) ≡ None
-      → new_track (value (cell_of change) first) ≡ track_in (cell_of change) first tracks
-  track_made e = ap (λ o. unwrap_or o (new_track (value (cell_of change) first))) (sym e)
+written_after_lines : (c : Cell) (lines : List Line) (h : CellHistory)
+    → (history_after c lines h).uses.written ≡ gathered (λ l. changes l.1.notes c) lines h.uses.written
+written_after_lines c [] h = refl
+written_after_lines c (l ∷ lines) h = written_after_lines c lines (history_noted c l.0 l.1.notes h)
 
-none_of : {A : Type 0} (o : Option A) → is_some o ≡ false → o ≡ None
-none_of None e = refl
-none_of (Some x) e = absurd (true≢false e)
-
-pub absent : (c : Cell) (tracks : TrackMap) → is_some (map.get tracks c) ≡ false → map.get tracks c ≡ None
-absent c tracks e = none_of (map.get tracks c) e
+read_after_lines : (c : Cell) (lines : List Line) (h : CellHistory)
+    → (history_after c lines h).uses.read ≡ gathered (λ l. reads_directly l.1.notes c) lines h.uses.read
+read_after_lines c [] h = refl
+read_after_lines c (l ∷ lines) h = read_after_lines c lines (history_noted c l.0 l.1.notes h)
 
 -- ---- all lines
-pub no_tracks : (c : Cell) (first : State) → track_in c first map.empty ≡ new_track (value c first)
-no_tracks c first = ap (λ o. unwrap_or o (new_track (value c first))) (get-empty cell_cmp c)
+pub no_histories : (c : Cell) (first : State) → history_in c first map.empty ≡ new_history (value c first)
+no_histories c first = ap (λ o. unwrap_or o (new_history (value c first))) (map.get-empty cell_cmp c)
 
-pub all_tracked : (r : RecordingValue) (tracks : TrackMap) (lines : List (ℕ × Noted)) (first : State) (i : ℕ)
-    → lines ≡ r.lines → first ≡ r.first → length lines ≤ i
-    → ((c : Cell) → tracked c (drop i lines) (track_in c first tracks) ≡ tracked c lines (new_track (value c first)))
-    → IsTracked r tracks
+-- what a loop over the lines knows of each cell, at its end
+abbrev pub AreAfter : List Line → State → ℕ → HistoryMap → Type 0
+AreAfter lines first i m =
+    (c : Cell) → history_after c (drop i lines) (history_in c first m)
+    ≡ history_after c lines (new_history (value c first))
+
+all_after : (lines : List Line) (first : State) (i : ℕ) (m : HistoryMap) → length lines ≤ i
+    → AreAfter lines first i m → (c : Cell)
+    → history_in c first m ≡ history_after c lines (new_history (value c first))
+all_after lines first i m end h c =
+    ap (λ ls. history_after c ls (history_in c first m)) (sym (drop_of_length-le lines end)) ∙ h c
+
+pub all_tracked : (r : RecordingValue) (m : HistoryMap) (lines : List Line) (first : State) (i : ℕ)
+    → lines ≡ r.lines → first ≡ r.first → length lines ≤ i → AreAfter lines first i m → IsTracked r m
 unfolding IsTracked
-all_tracked r tracks lines first i same start end h = λ c.
-    ap (λ s. track_in c s tracks) (sym start)
-    ∙ ap (λ ls. tracked c ls (track_in c first tracks)) (sym (drop_of_length-le lines end))
-    ∙ h c
+all_tracked r m lines first i same start end h = λ c.
+    ap (λ s. (history_in c s m).track) (sym start)
+    ∙ ap (λ (x : CellHistory). x.track) (all_after lines first i m end h c)
+    ∙ track_after_lines c lines (new_history (value c first))
     ∙ (λ j. tracked c (same j) (new_track (value c (start j))))
 
--- ---- the tracks after a cell
-pub later_rise : (c : Cell) (es : List (Cell × TrackValue)) → AllRise es
+uses_are : (c : Cell) (first : State) (m : HistoryMap) → uses_at m c ≡ (history_in c first m).uses
+uses_are c first m = go (map.get m c)
+  where
+    go : (o : Option CellHistory)
+        → unwrap_or (option_map (λ h. h.uses) o) no_uses ≡ (unwrap_or o (new_history (value c first))).uses
+    go None = refl
+    go (Some h) = refl
+
+pub all_indexed : (lines : List Line) (first : State) (i : ℕ) (index : Index) → AreNumbered lines → length lines ≤ i
+    → AreAfter lines first i index.cells → listed_by (drop i lines) index.listed ≡ listed_by lines map.empty
+    → Indexes index lines
+all_indexed lines first i index rising end h listed = record {
+  numbered = rising;
+  written = λ c. ap (λ (u : Uses). u.written) (uses_are c first index.cells
+      ∙ ap (λ (x : CellHistory). x.uses) (all_after lines first i index.cells end h c))
+      ∙ written_after_lines c lines (new_history (value c first))
+      ∙ from_nothing (λ l. changes l.1.notes c) lines [] rising refl;
+  read = λ c. ap (λ (u : Uses). u.read) (uses_are c first index.cells
+      ∙ ap (λ (x : CellHistory). x.uses) (all_after lines first i index.cells end h c))
+      ∙ read_after_lines c lines (new_history (value c first))
+      ∙ from_nothing (λ l. reads_directly l.1.notes c) lines [] rising refl;
+  listed = listed_lines lines index.listed rising
+      (ap (λ ls. listed_by ls index.listed) (sym (drop_of_length-le lines end)) ∙ listed);
+}
+
+-- ---- the histories after a cell
+pub later_rise : (c : Cell) (es : List (Cell × CellHistory)) → AllRise es
     → AllRise (filter (λ e. is_le (cell_cmp c e.0)) es)
 later_rise c [] h = tt
 later_rise c (e ∷ es) h = go (is_le (cell_cmp c e.0)) (later_rise c es h.1)

@@ -1,5 +1,5 @@
 -- Only for proofs: lists of line numbers that rise.
-use Rattle.std.specs.Prelude.{ℕ, Bool, true, List, [], ◌∷◌, ◌++◌, Option, Some, None, nat_lt, min, filter}
+use Rattle.std.specs.Prelude.{ℕ, Bool, true, false, List, [], ◌∷◌, ◌++◌, Option, Some, None, nat_lt, min, filter}
 use Rattle.std.specs.Prelude.{if◌then◌else◌}
 use Rattle.std.specs.List.{find, list_all}
 use Rattle.retro_keep.specs.Script.{rises_from}
@@ -16,6 +16,11 @@ are_below n numbers = list_all (λ m. nat_lt m n) numbers
 -- a list with a number appended, if all others are below it
 abbrev pub with_number : ℕ → List ℕ → List ℕ
 with_number n numbers = if are_below n numbers then numbers ++ n ∷ [] else numbers
+
+-- likewise, if a line has something to note
+abbrev pub noted : Bool → ℕ → List ℕ → List ℕ
+noted true n numbers = with_number n numbers
+noted false n numbers = numbers
 
 -- the first number above another
 abbrev pub first_above : ℕ → List ℕ → Option ℕ

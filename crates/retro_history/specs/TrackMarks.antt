@@ -1,4 +1,4 @@
--- The children of a path that have tracks, as the code marks them in an overlay. Only private
+-- The children of a path that have versions, as the code marks them in an overlay. Only private
 -- contracts and proofs cite this file.
 use Rattle.std.specs.Prelude.{ℕ, Bool, false, if◌then◌else◌, List, [], ◌∷◌, Option, Some, None}
 use Rattle.std.specs.List.{filter}
@@ -15,11 +15,13 @@ use Rattle.retro_tree.specs.declared.value.Value.TheVariants as values
 use Rattle.retro_tree.specs.declared.node.Node.{Node}
 use Rattle.retro_tree.specs.declared.node.Node.TheVariants as nodes
 use Rattle.retro_tree.specs.declared.overlay_entry.OverlayEntry.TheVariants as entries
-use Rattle.retro_history.specs.Tracks.{TrackMap, TrackValue, VersionValue, version_below}
+use Rattle.retro_history.specs.CellHistory.{HistoryMap}
+use Rattle.retro_history.specs.Tracks.{VersionValue, version_below}
+use Rattle.retro_history.specs.declared.cell_history.CellHistory.{CellHistory}
 
--- the tracks of a cell and of the cells after it, in order
-abbrev pub tracks_from : Cell → TrackMap → List (Cell × TrackValue)
-tracks_from c tracks = filter (λ e. is_le (cell_cmp c e.0)) (finmap.entries tracks)
+-- the histories of a cell and of the cells after it, in order
+abbrev pub histories_from : Cell → HistoryMap → List (Cell × CellHistory)
+histories_from c m = filter (λ e. is_le (cell_cmp c e.0)) (finmap.entries m)
 
 -- a directory for each value that isn't Missing
 abbrev pub mark_of_value : Value → Node
@@ -40,9 +42,9 @@ is_child_cell p (cells.At q) = is_child p q
 is_child_cell p _ = false
 
 -- an overlay with the marks of all children up to the first cell that isn't below the path
-abbrev pub mark_tracks : PathValue → ℕ → List (Cell × TrackValue) → OverlayMap → OverlayMap
+abbrev pub mark_tracks : PathValue → ℕ → List (Cell × CellHistory) → OverlayMap → OverlayMap
 mark_tracks p number [] marks = marks
 mark_tracks p number (e ∷ es) marks =
     if cell_below p e.0 then mark_tracks p number es
-    (if is_child_cell p e.0 then mark_version e.0 (version_below number e.1) marks else marks)
+    (if is_child_cell p e.0 then mark_version e.0 (version_below number e.1.track) marks else marks)
     else marks

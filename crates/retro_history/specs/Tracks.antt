@@ -2,12 +2,8 @@
 -- the checkpoint that it can be rolled back to. Only private contracts, invariants and proofs cite
 -- this file.
 use Rattle.std.specs.Prelude.{◌≡◌, ℕ, ◌+◌, ◌≤◌, ◌==◌, nat_lt, Bool, if◌then◌else◌, List, [], ◌∷◌, ◌++◌, Option, Some}
-use Rattle.std.specs.Prelude.{None, unwrap_or}
-use Rattle.std.specs.Prelude.{map}
+use Rattle.std.specs.Prelude.{None, map}
 use Rattle.std.specs.List.{filter}
-use Rattle.std.specs.FinMap as finmap
-use Rattle.retro_tree.specs.CellOrder.{cell_cmp}
-use Rattle.retro_tree.specs.Cell.{value}
 use Rattle.retro_tree.specs.Change.{cell_of, value_grown, written}
 use Rattle.retro_tree.specs.Notes.{cell_eq, changes, effects}
 use Rattle.retro_tree.specs.declared.cell.Cell.{Cell}
@@ -16,12 +12,8 @@ use Rattle.retro_tree.specs.declared.change.Change.{Change}
 use Rattle.retro_tree.specs.declared.change.Change.TheVariants.{Put, Grow, SetVar, SetCwd, SetStatus}
 use Rattle.retro_tree.specs.declared.note.Note.{Note}
 use Rattle.retro_tree.specs.declared.note.Note.TheVariants.{Asked, Made}
-use Rattle.retro_tree.specs.declared.state.State.{State}
-use Rattle.retro_keep.specs.Recording.{IsWellFormed, RecordingValue}
 use Rattle.retro_keep.specs.declared.noted.Noted.{Noted}
-use Rattle.retro_history.specs.IndexSteps.{Indexes}
 use Rattle.retro_history.specs.Versions.{growth_limit, is_growth}
-use Rattle.retro_history.specs.declared.index.Index.{Index}
 
 -- a version: its number, the number of its checkpoint, how many growths follow the checkpoint up to
 -- this version, and the value
@@ -35,9 +27,6 @@ pub record VersionValue : Type 0 where
 pub record TrackValue : Type 0 where
   pub earlier : List VersionValue
   pub last : VersionValue
-
-abbrev pub TrackMap : Type 0
-TrackMap = finmap.FinMap cell_cmp TrackValue
 
 -- ---- how versions are made
 
@@ -78,6 +67,11 @@ before_line n t = if t.last.number == n then t.earlier else t.earlier ++ t.last 
 abbrev pub track_changed : ℕ → Change → TrackValue → TrackValue
 track_changed n change t = record { earlier = before_line n t; last = version_changed n change t.last }
 
+-- the versions after changes by line n
+abbrev pub track_by : ℕ → List Change → TrackValue → TrackValue
+track_by n [] t = t
+track_by n (change ∷ changes) t = track_by n changes (track_changed n change t)
+
 -- ---- the versions of one cell
 
 -- the versions of a cell after a change by line n, which may write another cell
@@ -98,21 +92,6 @@ tracked c (l ∷ lines) t = tracked c lines (track_noted c l.0 l.1.notes t)
 -- the first version alone
 abbrev pub new_track : Value → TrackValue
 new_track v = record { earlier = []; last = whole_version 0 v }
-
--- the versions of a cell by its track, or the first one if it has none
-abbrev pub track_in : Cell → State → TrackMap → TrackValue
-track_in c first tracks = unwrap_or (finmap.get tracks c) (new_track (value c first))
-
--- each cell has the versions that the lines of a recording make
-unfoldable pub IsTracked : RecordingValue → TrackMap → Type 0
-IsTracked r tracks =
-    (c : Cell) → track_in c r.first tracks ≡ tracked c r.lines (new_track (value c r.first))
-
--- what a history keeps of a recording, of the tracks of its cells and of the index of its lines
-pub record IsHistory (r : RecordingValue) (tracks : TrackMap) (index : Index) : Type 0 where
-  pub well_formed : IsWellFormed r
-  pub tracked : IsTracked r tracks
-  pub indexed : Indexes index r.lines
 
 -- ---- the version after lines, by what each line does as a whole
 
@@ -162,19 +141,9 @@ abbrev pub RiseFrom : ℕ → List VersionValue → Type 0
 RiseFrom n [] = Unit {0}
 RiseFrom n (v ∷ vs) = (n ≤ v.number) × RiseFrom v.number vs
 
--- likewise in each track
-abbrev pub AllRise : List (Cell × TrackValue) → Type 0
-AllRise [] = Unit {0}
-AllRise (e ∷ es) = RiseFrom 0 (all_versions e.1) × AllRise es
-
 abbrev pub is_whole_version : VersionValue → Bool
 is_whole_version v = v.growths == 0
 
 -- the numbers of the checkpoints
 abbrev pub checkpoint_numbers : List VersionValue → List ℕ
 checkpoint_numbers vs = map (λ v. v.number) (filter is_whole_version vs)
-
--- tracks after a change of a cell by line n, if the cell has a track
-abbrev pub changed_at : Cell → ℕ → Change → Option TrackValue → TrackMap → TrackMap
-changed_at c n change None tracks = tracks
-changed_at c n change (Some t) tracks = finmap.insert tracks c (track_changed n change t)

@@ -15,7 +15,6 @@ ghost use Rattle.retro_history.specs.Versions.{checkpoints, greatest_below, roll
 use crate::at::At;
 use crate::index::Index;
 use crate::rolled::Rolled;
-use crate::tracks::Tracks;
 use crate::version_ref::VersionRef;
 use retro_effects::{Cells, ValueRef};
 use retro_keep::Recording;
@@ -26,18 +25,17 @@ use std::marker::Model;
 
 /// What was in each cell of the machine before each line of a recording.
 ///
-/// A history borrows its recording. Making it takes two passes over the notes; no state is copied.
+/// A history borrows its recording. Making it takes one pass over the notes; no state is copied.
 #[derive(Drop)]
 pub struct History<'a> {
     recording: &'a Recording,
-    tracks: Tracks<'a>,
-    index: Index,
+    index: Index<'a>,
 }
 
 impl<'a> Model for History<'a> {
     ghost use Rattle.retro_keep.specs.Recording.{RecordingValue};
     ghost use Rattle.retro_keep.specs.RecordingCode.{coded_recording};
-    ghost use Rattle.retro_history.specs.Tracks.{IsHistory};
+    ghost use Rattle.retro_history.specs.IsHistory.{IsHistory};
 
     ghost Value = { RecordingValue };
 
@@ -45,7 +43,7 @@ impl<'a> Model for History<'a> {
 
     ghost view = { λ a. a.recording.now };
 
-    ghost invariant = { λ a. IsHistory a.recording.now a.tracks a.index };
+    ghost invariant = { λ a. IsHistory a.recording.now a.index };
 }
 
 impl<'a> History<'a> {
@@ -54,16 +52,11 @@ impl<'a> History<'a> {
         ensures { IfOk result (λ history. history ≡ recording.now) }
     {
         let first = recording.first();
-        let mut tracks = Tracks::new(alloc);
+        let mut index = Index::new(alloc);
         for line in recording.lines() {
-            tracks.apply_notes(alloc, first, line.0, &line.1.notes)?;
+            index.add_line(alloc, first, line.0, &line.1.notes)?;
         }
-        let index = Index::of(alloc, recording.lines())?;
-        Ok(History {
-            recording,
-            tracks,
-            index,
-        })
+        Ok(History { recording, index })
     }
 
     /// Returns the recording.
@@ -93,8 +86,8 @@ impl<'a> History<'a> {
     pub fn checkpoints(&self, alloc: Global, cell: &Cell) -> Result<Vec<u32>, NoMem>
         ensures { IfOk result (λ numbers. numbers.items ≡ checkpoints cell.now self.now) }
     {
-        match self.tracks.get(cell) {
-            Some(track) => track.checkpoints(alloc),
+        match self.index.cells.get(cell) {
+            Some(history) => history.track.checkpoints(alloc),
             None => Vec::from_slice(alloc, &[0]),
         }
     }
@@ -205,7 +198,7 @@ impl<'a> History<'a> {
         ensures { IfOk result (λ names.
             names ≡ names_in path.now (recorded_before number self.now).tree) }
     {
-        let marks = self.tracks.marks_below(alloc, path, number)?;
+        let marks = self.index.cells.marks_below(alloc, path, number)?;
         marks.children(alloc, self.recording.first(), path)
     }
 
@@ -221,8 +214,8 @@ impl<'a> History<'a> {
         ensures value { version_ref_parts result ≡ parts_before cell.now number self.now }
         ensures well_formed { IsWellFormed self.now }
     {
-        if let Some(track) = self.tracks.get(cell) {
-            if let Some(version) = track.version_below(number) {
+        if let Some(history) = self.index.cells.get(cell) {
+            if let Some(version) = history.track.version_below(number) {
                 return version;
             }
         }

@@ -1,82 +1,61 @@
 //! The index of a recording's lines.
 ghost use Rattle.std.specs.Prelude.{◌≡◌, List, IfOk, IsTrue, OnOk};
 ghost use Rattle.std.specs.FinMap as map;
-ghost use Rattle.retro_history.specs.Index.{AreNumbered, IsNextMeeting, Line};
+ghost use Rattle.retro_tree.specs.declared.cell.Cell.{Cell as CellValue};
+ghost use Rattle.retro_history.specs.CellHistory.{history_in, history_noted, uses_at};
+ghost use Rattle.retro_history.specs.Index.{IsNextMeeting, Line};
 ghost use Rattle.retro_history.specs.Index.{listed_at, read_at, written_at};
 ghost use Rattle.retro_history.specs.Numbers.{rise};
-ghost use Rattle.retro_history.specs.IndexSteps.{Indexes, next_touch, parent_listings};
-ghost use Rattle.retro_history.specs.IndexSteps.{with_notes, with_query};
-ghost use Rattle.retro_history.specs.Uses.{uses_at};
+ghost use Rattle.retro_history.specs.IndexSteps.{Indexes, listed_noted, next_touch, no_lines};
+ghost use Rattle.retro_history.specs.IndexSteps.{parent_listings};
 
-use crate::access::Access;
-use crate::cell_uses::CellUses;
-use crate::note_cells::{changed_cell, queried_cell};
+use crate::cell_histories::CellHistories;
 use crate::path_lines::PathLines;
 use crate::rising::{earliest, first_above, merge};
-use retro_keep::Noted;
-use retro_tree::{Ask, Cell, NoMem, Note, Notes, Overlay, Path};
+use retro_tree::{Cell, NoMem, Notes, Overlay, Path, State};
 use std::alloc::Global;
 use std::collections::BTreeSet;
 
-/// For each cell the lines that write it and the lines that read it, and for each directory the
-/// lines that list it. Its calls take a few look-ups, and never a pass over the lines.
+/// For each cell its versions, the lines that write it and the lines that read it, and for each
+/// directory the lines that list it. A look-up never passes over the lines.
 ///
 /// A line writes a cell if its notes have a change of it, and reads it if the answer to one of its
 /// queries can depend on it. So a listing of a directory reads the cells of the directory and of
 /// each child path, existing or not: those readers are found by the listings of a path's parent.
 #[derive(Drop)]
-pub(crate) struct Index {
-    uses: CellUses,
+pub(crate) struct Index<'a> {
+    pub(crate) cells: CellHistories<'a>,
     listed: PathLines,
 }
 
-impl Index {
-    /// Returns the index of lines, whose numbers are at least 1 and rise. Takes time and memory in
-    /// proportion to their notes, times the logarithm of the number of cells.
-    pub(crate) fn of(alloc: Global, lines: &[(u32, Noted)]) -> Result<Index, NoMem>
-        requires { AreNumbered lines.now }
-        ensures { IfOk result (λ index. Indexes index lines.now) }
+impl<'a> Index<'a> {
+    /// Returns the index of no lines. Takes no memory.
+    pub(crate) fn new(alloc: Global) -> Index<'a>
+        ensures { result ≡ no_lines }
     {
-        let mut index = Index {
-            uses: CellUses::new(alloc),
+        Index {
+            cells: CellHistories::new(alloc),
             listed: PathLines::new(alloc),
-        };
-        for line in lines {
-            index.add_notes(alloc, line.0, &line.1.notes)?;
         }
-        Ok(index)
     }
 
-    /// Adds the notes of a line.
-    fn add_notes(&mut self, alloc: Global, number: u32, notes: &Notes) -> Result<(), NoMem>
-        ensures { OnOk result (self.new ≡ with_notes number notes.now self.old) }
+    /// Adds a line, whose number is above those of all lines before. `first` is the state before
+    /// the first line. Takes time and memory in proportion to the notes, times the logarithm of the
+    /// number of cells.
+    pub(crate) fn add_line(
+        &mut self,
+        alloc: Global,
+        first: &'a State,
+        number: u32,
+        notes: &'a Notes,
+    ) -> Result<(), NoMem>
+        ensures cells { OnOk result ((c : CellValue) → history_in c first.now self.new.cells
+            ≡ history_noted c number notes.now (history_in c first.now self.old.cells)) }
+        ensures listed { OnOk result
+            (self.new.listed ≡ listed_noted number notes.now self.old.listed) }
     {
-        for note in notes.as_slice() {
-            match note {
-                Note::Asked(ask, _) => self.add_query(alloc, number, ask)?,
-                Note::Made(change) => {
-                    let cell = changed_cell(change)?;
-                    self.uses.add(alloc, cell, number, Access::Write)?
-                }
-            }
-        }
-        Ok(())
-    }
-
-    /// Adds a query of a line.
-    fn add_query(&mut self, alloc: Global, number: u32, ask: &Ask) -> Result<(), NoMem>
-        ensures { OnOk result (self.new ≡ with_query number ask.now self.old) }
-    {
-        let cell = queried_cell(alloc, ask)?;
-        self.uses.add(alloc, cell, number, Access::Read)?;
-        match ask {
-            Ask::Names(path) => self.listed.add(alloc, path.copy()?, number),
-            Ask::CanWrite(path, _) => {
-                let parent = Cell::At(path.parent(alloc)?);
-                self.uses.add(alloc, parent, number, Access::Read)
-            }
-            _ => Ok(()),
-        }
+        self.cells.add_notes(alloc, first, number, notes)?;
+        self.listed.add_notes(alloc, number, notes)
     }
 
     /// Returns the numbers of the lines that write a cell. They rise.
@@ -102,8 +81,8 @@ impl Index {
         ensures { (lines : List Line)
             → Indexes self.now lines → result.now ≡ written_at cell.now lines }
     {
-        match self.uses.get(cell) {
-            Some(uses) => uses.written.as_slice(),
+        match self.cells.get(cell) {
+            Some(history) => history.uses.written.as_slice(),
             None => &[],
         }
     }
@@ -159,8 +138,8 @@ impl Index {
             → Indexes self.now lines → next ≡ next_touch after cell.now lines) }
     {
         let listed = first_above(self.parent_listings(alloc, cell)?, after);
-        match self.uses.get(cell) {
-            Some(uses) => Ok(earliest(uses.next(after), listed)),
+        match self.cells.get(cell) {
+            Some(history) => Ok(earliest(history.uses.next(after), listed)),
             None => Ok(listed),
         }
     }
@@ -168,11 +147,11 @@ impl Index {
     /// Returns the numbers of the lines that read a cell otherwise than by a listing of the parent
     /// of its path. They rise.
     fn read_directly(&self, cell: &Cell) -> &[u32]
-        ensures value { result.now ≡ (uses_at self.now.uses cell.now).read }
+        ensures value { result.now ≡ (uses_at self.now.cells cell.now).read }
         ensures rise { IsTrue (rise result.now) }
     {
-        match self.uses.get(cell) {
-            Some(uses) => uses.read.as_slice(),
+        match self.cells.get(cell) {
+            Some(history) => history.uses.read.as_slice(),
             None => &[],
         }
     }

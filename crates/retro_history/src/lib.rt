@@ -18,20 +18,22 @@
 //! If allocation fails, calls return `NoMem` and leave their arguments unchanged.
 #![tactic(auto)]
 
-mod access;
 mod at;
-mod cell_uses;
+mod boxed_history;
+mod cell_histories;
+mod cell_history;
 mod history;
 mod index;
 mod laws;
+mod line_cells;
 mod line_numbers;
+mod line_use;
 mod note_cells;
 mod path_lines;
 mod place;
 mod rising;
 mod rolled;
 mod track;
-mod tracks;
 mod uses;
 mod version;
 mod version_ref;

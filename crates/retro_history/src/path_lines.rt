@@ -2,10 +2,10 @@
 ghost use Rattle.std.specs.Prelude.{◌≡◌, OnOk, OnErr, IsTrue};
 ghost use Rattle.std.specs.FinMap as map;
 ghost use Rattle.retro_history.specs.Numbers.{rise};
-ghost use Rattle.retro_history.specs.IndexSteps.{numbers_at, with_line};
+ghost use Rattle.retro_history.specs.IndexSteps.{listed_noted, numbers_at, with_line};
 
 use crate::line_numbers::LineNumbers;
-use retro_tree::{NoMem, Path};
+use retro_tree::{Ask, NoMem, Note, Notes, Path};
 use std::alloc::Global;
 use std::collections::BTreeMap;
 use std::marker::Model;
@@ -50,8 +50,25 @@ impl PathLines {
         }
     }
 
+    /// Adds the notes of a line.
+    pub(crate) fn add_notes(
+        &mut self,
+        alloc: Global,
+        number: u32,
+        notes: &Notes,
+    ) -> Result<(), NoMem>
+        ensures { OnOk result (self.new ≡ listed_noted number notes.now self.old) }
+    {
+        for note in notes.as_slice() {
+            if let Note::Asked(Ask::Names(path), _) = note {
+                self.add(alloc, path.copy()?, number)?;
+            }
+        }
+        Ok(())
+    }
+
     /// Appends a line at a path, if all others there are below it.
-    pub(crate) fn add(&mut self, alloc: Global, path: Path, number: u32) -> Result<(), NoMem>
+    fn add(&mut self, alloc: Global, path: Path, number: u32) -> Result<(), NoMem>
         ensures ok { OnOk result (self.new ≡ with_line path number self.old) }
         ensures err { OnErr result (self.new ≡ self.old) }
     {

@@ -1,9 +1,10 @@
 //! The versions of one cell.
-ghost use Rattle.std.specs.Prelude.{◌≡◌, IfOk, OnOk, nat_lt, option_map};
+ghost use Rattle.std.specs.Prelude.{◌≡◌, ◌++◌, ◌∷◌, [], IfOk, OnOk, OnErr, map, nat_lt};
+ghost use Rattle.std.specs.Prelude.{option_map};
 ghost use Rattle.retro_effects.specs.ValueRef.{ref_value};
 ghost use Rattle.retro_history.specs.Tracks.{RiseFrom, all_versions, checkpoint_numbers, new_track};
 ghost use Rattle.retro_history.specs.Tracks.{track_changed, version_below, before_line};
-ghost use Rattle.retro_history.specs.Tracks.{whole_version};
+ghost use Rattle.retro_history.specs.Tracks.{track_by, whole_version};
 ghost use Rattle.retro_history.specs.Tracks.{version_grown, version_of_line};
 ghost use Rattle.retro_tree.specs.declared.value.Value.TheVariants.{Node as NodeValue};
 ghost use Rattle.retro_history.specs.History.{version_parts, version_ref_parts};
@@ -63,8 +64,20 @@ impl<'a> Track<'a> {
         }
     }
 
+    /// Makes changes of the cell by a line, in order. The number is that of the last version or
+    /// above.
+    pub(crate) fn apply_all(&mut self, number: u32, changes: &[&'a Change]) -> Result<(), NoMem>
+        ensures { OnOk result (self.new
+            ≡ track_by number (map (λ change. change.now) changes.now) self.old) }
+    {
+        for change in changes {
+            self.apply(number, change)?;
+        }
+        Ok(())
+    }
+
     /// Makes a change of the cell by a line. The number is that of the last version or above.
-    pub(crate) fn apply(&mut self, number: u32, change: &'a Change) -> Result<(), NoMem>
+    fn apply(&mut self, number: u32, change: &'a Change) -> Result<(), NoMem>
         ensures { OnOk result (self.new ≡ track_changed number change.now self.old) }
     {
         match change {
@@ -84,7 +97,7 @@ impl<'a> Track<'a> {
         }) }
     {
         if self.last.number != number {
-            self.earlier.push(self.last)?;
+            push(&mut self.earlier, self.last)?;
         }
         self.last = Version {
             number,
@@ -115,7 +128,7 @@ impl<'a> Track<'a> {
         }) }
     {
         if self.last.number != number {
-            self.earlier.push(self.last)?;
+            push(&mut self.earlier, self.last)?;
             self.last = self.last.next(number);
         }
         Ok(())
@@ -168,6 +181,18 @@ impl<'a> Track<'a> {
         }
         Ok(numbers)
     }
+}
+
+/// Appends a version. Most cells have few versions, so a list of one has no room to spare.
+fn push<'a>(versions: &mut Vec<Version<'a>>, version: Version<'a>) -> Result<(), NoMem>
+    ensures ok { OnOk result (versions.new.items ≡ versions.old.items ++ version.entry ∷ []) }
+    ensures err { OnErr result (versions.new.items ≡ versions.old.items) }
+{
+    if versions.is_empty() {
+        versions.reserve_exact(1)?;
+    }
+    versions.push(version)?;
+    Ok(())
 }
 
 /// Borrows a node.

@@ -1,10 +1,10 @@
 //! The lines that write or read a cell.
-ghost use Rattle.std.specs.Prelude.{◌≡◌, OnOk, OnErr};
+ghost use Rattle.std.specs.Prelude.{◌≡◌, OnOk};
 ghost use Rattle.retro_history.specs.Numbers.{earliest, first_above};
-ghost use Rattle.retro_history.specs.Uses.{no_uses, with_use};
+ghost use Rattle.retro_history.specs.Uses.{no_uses, uses_with};
 
-use crate::access::Access;
 use crate::line_numbers::LineNumbers;
+use crate::line_use::LineUse;
 use crate::rising::{earliest, first_above};
 use retro_tree::NoMem;
 use std::alloc::Global;
@@ -27,16 +27,18 @@ impl Uses {
         }
     }
 
-    /// Appends a line to those that write the cell, or to those that read it, if all others there
-    /// are below it.
-    pub(crate) fn add(&mut self, number: u32, access: Access) -> Result<(), NoMem>
-        ensures ok { OnOk result (self.new ≡ with_use access number self.old) }
-        ensures err { OnErr result (self.new ≡ self.old) }
+    /// Appends a line to those that write the cell and to those that read it, as it does, if all
+    /// others there are below it.
+    pub(crate) fn add(&mut self, used: &LineUse<'_>) -> Result<(), NoMem>
+        ensures { OnOk result (self.new ≡ uses_with used.now self.old) }
     {
-        match access {
-            Access::Write => self.written.add(number),
-            Access::Read => self.read.add(number),
+        if !used.changes.is_empty() {
+            self.written.add(used.number)?;
         }
+        if used.reads {
+            self.read.add(used.number)?;
+        }
+        Ok(())
     }
 
     /// Returns the first line above a number that writes or reads the cell.

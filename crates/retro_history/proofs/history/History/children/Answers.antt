@@ -10,13 +10,13 @@ use Rattle.retro_history.proofs.history.History.children.Goals as goal
 
 pub marks_below-requires : goal.marks_below-requires
 marks_below-requires c =
-    all_rise c.self.inside.recording.now c.self.inside.tracks c.self.invariant.tracked
+    all_rise c.self.inside.recording.now c.self.inside.index.cells c.self.invariant.tracked
     c.self.invariant.well_formed.rising
 
 pub returns : goal.returns
 returns c =
     let r = c.self.inside.recording.now in
-    let tracks = c.self.inside.tracks in
+    let tracks = c.self.inside.index.cells in
     let kept = c.self.invariant.tracked in
     let rise = c.self.invariant.well_formed.rising in
     let p = c.args.path.now in

@@ -1,10 +1,11 @@
 use Rattle.std.proofs.Common.{◌≡◌, drop}
-use Rattle.retro_tree.specs.Cell.{value}
-use Rattle.retro_tree.specs.declared.cell.Cell.{Cell}
-use Rattle.retro_history.specs.Tracks.{new_track, track_in, tracked}
+use Rattle.std.specs.FinMap as map
+use Rattle.retro_history.specs.IndexSteps.{listed_by}
+use Rattle.retro_history.proofs.Tracking.{AreAfter}
 use Rattle.retro_history.proofs.history.History.of.Given as goal
 
 abbrev pub invariant-loop-line : goal.invariant-loop-line
-invariant-loop-line l =
-    (c : Cell) → tracked c (drop l.line-index l.line-items) (track_in c l.first l.tracks)
-    ≡ tracked c l.line-items (new_track (value c l.first))
+invariant-loop-line l = record {
+  cells : AreAfter l.line-items l.first l.line-index l.index.cells;
+  listed : listed_by (drop l.line-index l.line-items) l.index.listed ≡ listed_by l.line-items map.empty;
+}

@@ -11,9 +11,9 @@ invariant_of-self-2 c =
       | then-self-number+in_ok-push w ↦
           subst (λ (a : Inside). RangesFit a.earlier.items (whole_of c.args.number c.args.value) a.buffer.items)
           (sym w.self-inside-is)
-          (pushed_fits c.self.inside.earlier.items w.push.new.self.items c.self.inside.last
+          (pushed_fits c.self.inside.earlier.items w.push.new.versions.items c.self.inside.last
           (whole_of c.args.number c.args.value) c.self.inside.buffer.items c.self.invariant
-          w.in_ok-push.ensures.items tt)
+          w.in_ok-push.ensures.ok tt)
       | else-self-number w ↦
           subst (λ (a : Inside). RangesFit a.earlier.items (whole_of c.args.number c.args.value) a.buffer.items)
           (sym w.self-inside-is)

@@ -1,0 +1,98 @@
+//! The cells that a line uses.
+ghost use Rattle.std.specs.Prelude.{◌≡◌, IfOk, OnOk};
+ghost use Rattle.std.specs.FinMap as map;
+ghost use Rattle.retro_history.specs.LineUse.{cells_noted, with_change, with_query, with_read};
+
+use crate::line_use::LineUse;
+use crate::note_cells::{changed_cell, queried_cell};
+use retro_tree::{Ask, Cell, Change, NoMem, Note, Notes};
+use std::alloc::Global;
+use std::collections::BTreeMap;
+use std::collections::btree_map::Iter;
+use std::marker::Model;
+
+/// How a line uses each cell that it uses.
+///
+/// The notes of a line often name a cell many times. Gathered here, they take one look-up of it
+/// among the cells of all lines.
+#[derive(Drop)]
+pub(crate) struct LineCells<'a> {
+    uses: BTreeMap<Cell, LineUse<'a>>,
+}
+
+impl<'a> Model for LineCells<'a> {
+    ghost use Rattle.std.specs.FinMap as map;
+    ghost use Rattle.retro_tree.specs.CellOrder.{cell_cmp, coded_cell};
+    ghost use Rattle.retro_history.specs.LineUse.{UseValue, coded_use};
+
+    ghost Value = { map.FinMap cell_cmp UseValue };
+
+    ghost coded = { map.code coded_cell coded_use };
+
+    ghost view = { λ a. map.from_entries a.uses.entries };
+}
+
+impl<'a> LineCells<'a> {
+    /// Returns the cells that the notes of a line use.
+    pub(crate) fn of(alloc: Global, number: u32, notes: &'a Notes) -> Result<LineCells<'a>, NoMem>
+        ensures { IfOk result (λ cells. cells ≡ cells_noted number notes.now map.empty) }
+    {
+        let mut cells = LineCells {
+            uses: BTreeMap::new(alloc),
+        };
+        for note in notes.as_slice() {
+            match note {
+                Note::Asked(ask, _) => cells.add_query(alloc, number, ask)?,
+                Note::Made(change) => cells.add_change(alloc, number, change)?,
+            }
+        }
+        Ok(cells)
+    }
+
+    /// Returns the cells in order, each with its use.
+    pub(crate) fn iter(&self) -> Iter<'_, Cell, LineUse<'a>>
+        ensures { result ≡ map.entries self.now }
+    {
+        self.uses.iter()
+    }
+
+    /// Adds a query.
+    fn add_query(&mut self, alloc: Global, number: u32, ask: &Ask) -> Result<(), NoMem>
+        ensures { OnOk result (self.new ≡ with_query number ask.now self.old) }
+    {
+        let cell = queried_cell(alloc, ask)?;
+        self.add_read(alloc, number, cell)?;
+        match ask {
+            Ask::CanWrite(path, _) => self.add_read(alloc, number, Cell::At(path.parent(alloc)?)),
+            _ => Ok(()),
+        }
+    }
+
+    /// Adds a read of a cell.
+    fn add_read(&mut self, alloc: Global, number: u32, cell: Cell) -> Result<(), NoMem>
+        ensures { OnOk result (self.new ≡ with_read number cell self.old) }
+    {
+        if let Some(used) = self.uses.get_mut(&cell) {
+            used.add_read();
+            return Ok(());
+        }
+        let mut used = LineUse::new(alloc, number);
+        used.add_read();
+        self.uses.insert(cell, used)?;
+        Ok(())
+    }
+
+    /// Adds a change.
+    fn add_change(&mut self, alloc: Global, number: u32, change: &'a Change) -> Result<(), NoMem>
+        ensures { OnOk result (self.new ≡ with_change number change.now self.old) }
+    {
+        let cell = changed_cell(change)?;
+        if let Some(used) = self.uses.get_mut(&cell) {
+            return used.add_change(change);
+        }
+        let mut used = LineUse::new(alloc, number);
+        used.add_change(change)?;
+        self.uses.insert(cell, used)?;
+        Ok(())
+    }
+}
