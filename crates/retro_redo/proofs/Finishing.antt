@@ -23,9 +23,11 @@ use Rattle.retro_redo.specs.Keeping.{Keeps}
 use Rattle.retro_redo.specs.Moments.{AreVerdicts, IsMet, Picks, others}
 use Rattle.retro_redo.specs.Progress.{ProgressValue, cancelled_in, lines_chosen, next_line, repaired_now}
 use Rattle.retro_redo.specs.Progress.{repaired_recording}
-use Rattle.retro_redo.specs.Repair.{IsRepair, moments_of, script_of_others}
-use Rattle.retro_redo.specs.Progress.{compensations_chosen, verdicts_chosen}
+use Rattle.retro_redo.specs.Repair.{IsRepair, IsRunAgain, moments_of, script_of_others}
+use Rattle.retro_redo.specs.Settled.{AreSettled, IsSettled}
+use Rattle.retro_redo.specs.Progress.{compensations_chosen, settled, verdicts_chosen}
 use Rattle.retro_redo.specs.declared.repair.Repair.{Repair}
+use Rattle.retro_redo.specs.declared.step.Step.{Step}
 use Rattle.retro_redo.proofs.Choices.{last_chosen}
 use Rattle.retro_redo.proofs.Final.{settles_final}
 use Rattle.retro_redo.proofs.Positions.{Line, all_settled}
@@ -201,10 +203,42 @@ module _ (p q : ProgressValue) (overlay : OverlayMap) (met : List ℕ) (e : q �
       false≢true (sym (ap is_some none)
       ∙ exact.1 (subst IsWellFormed (sym made) (chosen_well_formed q overlay met keeps w ended_in (is_in is))))
 
-  -- a recording that is made is well formed
-  pub found_some : (r : RecordingValue) → found ≡ Some r → IsWellFormed (repaired_recording p)
-  found_some r some =
-      subst (λ x. IsWellFormed (repaired_recording x)) e (subst IsWellFormed made (exact.0 (ap is_some some)))
+  -- each line has its choice, and the lines as chosen make no recording
+  pub settled_again : found ≡ None → (repair : Repair) → IsRunAgain (cancelled_in q) q.recording repair
+      → IsSettled (cancelled_in p) p.recording p.choices repair
+  settled_again none repair again =
+      subst (λ (x : ProgressValue). IsSettled (cancelled_in x) x.recording x.choices repair) e (record {
+        settles = keeps.settles;
+        all = all_chosen p q overlay met e keeps ended;
+        chosen = λ well. absurd (false≢true (sym (ap is_some none) ∙ exact.1 (subst IsWellFormed (sym made) well)));
+        again = λ not_well. again;
+      })
+
+  -- each line has its choice, and the lines as chosen make a recording
+  pub settled_found : (repair : Repair) (r : RecordingValue) → found ≡ Some r
+      → repair.recording ≡ record { first = first; lines = lines }
+      → repair.state ≡ last_state repair.recording.lines repair.recording.first
+      → repair.outputs.items ≡ map output_in repair.recording.lines
+      → repair.verdicts.items ≡ verdicts_chosen q.recording.lines q.choices
+      → repair.compensations.items ≡ compensations_chosen q.recording.lines q.choices
+      → repair.met.items ≡ met → IsSettled (cancelled_in p) p.recording p.choices repair
+  settled_found repair r some recording state outputs verdicts compensated met_are =
+      let same = recording ∙ made in
+      subst (λ (x : ProgressValue). IsSettled (cancelled_in x) x.recording x.choices repair) e (record {
+        settles = keeps.settles;
+        all = all_chosen p q overlay met e keeps ended;
+        chosen = λ well. record {
+          recording_is = same;
+          state_is = state ∙ ap (λ (x : RecordingValue). last_state x.lines x.first) same
+              ∙ last_chosen q.recording.lines q.choices q.recording.first;
+          outputs_are = outputs ∙ ap (λ (x : RecordingValue). map output_in x.lines) same;
+          compensated = compensated;
+          verdicts_are = verdicts;
+          met_are = subst (λ ns. Picks (IsMet (cancelled_in q))
+              (settled q.recording.lines q.choices q.recording.first q.recording.first) ns) (sym met_are) keeps.are_met;
+        };
+        again = λ not_well. absurd (not_well (subst IsWellFormed made (exact.0 (ap is_some some))));
+      })
 
   pub repair_found : (repair : Repair) → IsRecordingOf (script_in p.recording) p.recording
       → repair.recording ≡ record { first = first; lines = lines }
@@ -227,3 +261,12 @@ repair_same a b r q repair same e h is =
     subst (λ (x : ℕ → Bool). IsRepair x q repair) (λ i n. same n i)
     (subst (λ (x : RecordingValue). IsRepair (is_among a) x repair) e
     (h (subst (λ (x : RecordingValue). IsRecordingOf (script_in x) x) (sym e) is)))
+
+pub settled_same : (a b : List ℕ) (r q : RecordingValue) (steps : List Step) (repair : Repair)
+    → ((n : ℕ) → is_among a n ≡ is_among b n) → r ≡ q → IsSettled (is_among a) r steps repair
+    → AreSettled (is_among b) q repair
+settled_same a b r q steps repair same e h = (
+  steps,
+  subst (λ (x : ℕ → Bool). IsSettled x q steps repair) (λ i n. same n i)
+      (subst (λ (x : RecordingValue). IsSettled (is_among a) x steps repair) e h),
+)

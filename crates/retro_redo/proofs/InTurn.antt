@@ -1,6 +1,12 @@
 -- Lines left out in turn.
 use Rattle.std.proofs.Common.{◌≡◌, ◌∙◌, ◌==◌, ◌||◌, ℕ, Bool, true, false, not, List, [], ◌∷◌, ◌++◌, cond, refl, sym, ap}
+use Rattle.std.proofs.Common.{ap₂, map}
 use Rattle.retro_keep.specs.Edit.{is_among, lines_without}
+use Rattle.retro_keep.specs.Recording.{RecordingValue, script_line}
+use Rattle.retro_keep.specs.Runs.{outcome}
+use Rattle.retro_redo.specs.Moments.{others}
+use Rattle.retro_redo.specs.Repair.{IsRepair, IsRepairOf}
+use Rattle.retro_redo.specs.declared.repair.Repair.{Repair}
 use Rattle.retro_keep.specs.declared.script.ScriptLine.{ScriptLine}
 
 or_assoc : (a b c : Bool) → (a || (b || c)) ≡ ((a || b) || c)
@@ -28,3 +34,19 @@ left_out_in_turn c d (l ∷ lines) =
     (left_out_in_turn c d lines)
     ∙ ap (λ b. cond (not b) (l ∷ lines_without (c ++ d) lines) (lines_without (c ++ d) lines))
     (sym (among_both c d l.number))
+
+-- a repair of a repaired recording
+pub repaired_in_turn : (c d : List ℕ) (r : RecordingValue) (one two : Repair) → IsRepair (is_among c) r one
+    → IsRepair (is_among d) one.recording two → IsRepairOf (is_among (c ++ d)) r two
+repaired_in_turn c d r one two h k = record {
+  outcome_is = k.outcome_is ∙ ap₂ outcome both h.recording_is.first;
+  recording_is = record {
+    first = k.recording_is.first ∙ h.recording_is.first;
+    lines = k.recording_is.lines ∙ both;
+    recorded = k.recording_is.recorded;
+  };
+}
+  where
+    both : others (is_among d) (map script_line one.recording.lines)
+        ≡ others (is_among (c ++ d)) (map script_line r.lines)
+    both = ap (others (is_among d)) h.recording_is.lines ∙ left_out_in_turn c d (map script_line r.lines)

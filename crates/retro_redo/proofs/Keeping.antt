@@ -17,6 +17,7 @@ use Rattle.retro_effects.specs.Meeting.{Met}
 use Rattle.retro_keep.specs.Edit.{is_among}
 use Rattle.retro_keep.specs.Recording.{IsWellFormed, RecordingValue, are_own, is_own_line}
 use Rattle.retro_keep.specs.declared.noted.Noted.{Noted}
+use Rattle.retro_redo.specs.Cancelling.{AreLines}
 use Rattle.retro_redo.specs.Keeping.{Keeps}
 use Rattle.retro_redo.specs.Moments.{IsMet, Picks}
 use Rattle.retro_redo.specs.Progress.{IsRunTaken, MayStep, ProgressValue, cancelled_in, chosen, is_cancel, next_line}
@@ -30,9 +31,9 @@ use Rattle.retro_redo.proofs.Sessions.{all_get, own_notes_keep_sessions, session
 
 -- ---- no line settled
 
-pub keeps_new : (r : RecordingValue) (cancel : List ℕ) (overlay : OverlayMap) → overlay ≡ finmap.empty
-    → Keeps (record { recording = r; cancel = cancel; choices = [] }) overlay []
-keeps_new r cancel overlay e = record {
+pub keeps_new : (r : RecordingValue) (cancel : List ℕ) (overlay : OverlayMap) → AreLines cancel r
+    → overlay ≡ finmap.empty → Keeps (record { recording = r; cancel = cancel; choices = [] }) overlay []
+keeps_new r cancel overlay known e = record {
   settles = settles_none (is_among cancel) r.lines r.first r.first;
   exact = λ c.
       subst (λ (o : Option OverlayEntry). IsDifference o (value c (recorded_after r.lines [] r.first))
@@ -42,6 +43,7 @@ keeps_new r cancel overlay e = record {
   are_met = subst (λ ms. Picks (IsMet (is_among cancel)) ms []) (sym (settled_none r.lines r.first r.first)) refl;
   recorded_sessions = λ k. ap (λ (s : State). finmap.contains_key s.sessions k) (recorded_none r.lines r.first);
   repaired_sessions = λ k. ap (λ (s : State). finmap.contains_key s.sessions k) (repaired_none r.lines r.first);
+  known = known;
 }
 
 -- ---- one line more
@@ -98,6 +100,7 @@ keeps_more p overlay new met new_met l step keeps well next may run exact is_met
       repaired_sessions = λ k. ap (λ (s : State). finmap.contains_key s.sessions k) repaired
           ∙ chosen_own p l step (recorded_now p) (repaired_now p) own may run (keeps.repaired_sessions l.1.sid ∙ has) k
           ∙ keeps.repaired_sessions k;
+      known = keeps.known;
     }
 
 -- the recorded and the repaired state have the same sessions

@@ -7,3 +7,7 @@ pub mod Finishing
 pub mod Numbers
 pub mod Before
 pub mod InTurn
+pub mod Stops
+pub mod NextStop
+pub mod KeptLines
+pub mod Unmet

@@ -6,3 +6,8 @@ pub mod Final
 pub mod RepairFault
 pub mod Repair
 pub mod Cancelling
+pub mod Settled
+pub mod Ground
+pub mod GroundCode
+pub mod Skipping
+pub mod Stops

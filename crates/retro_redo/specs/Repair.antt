@@ -30,6 +30,12 @@ pub record IsRepair (cancelled : ℕ → Bool) (r : RecordingValue) (repair : Re
   pub met_are : Picks (IsMet cancelled) (moments_of cancelled r) repair.met.items
   pub recording_is : IsRecordingOf (script_of_others cancelled r) repair.recording
 
+-- The part that doesn't compare with what was recorded: the state and the outputs are those of running
+-- the other lines, and the recording is one of these lines.
+pub record IsRepairOf (cancelled : ℕ → Bool) (r : RecordingValue) (repair : Repair) : Type 0 where
+  pub outcome_is : (repair.state, repair.outputs.items) ≡ outcome (others cancelled (map script_line r.lines)) r.first
+  pub recording_is : IsRecordingOf (script_of_others cancelled r) repair.recording
+
 -- the counts of a repair on one thread
 abbrev pub no_guesses : Tally
 no_guesses = record { jobs = 0; taken_up = 0; unused = 0; wrong = 0; given_up = 0 }

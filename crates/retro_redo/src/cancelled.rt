@@ -5,11 +5,13 @@ ghost use Rattle.std.specs.BTreeSet.{contains};
 ghost use Rattle.std.specs.List.Sorted.{IsStrictlySortedBy};
 ghost use Rattle.std.specs.Ordering.{nat_cmp};
 ghost use Rattle.retro_keep.specs.Edit.{first_unknown, is_among};
+ghost use Rattle.retro_redo.specs.Stops.{IsNextAmong};
 
 use retro_keep::Recording;
 use retro_tree::NoMem;
 use std::alloc::Global;
 use std::collections::BTreeSet;
+use std::ops::Bound;
 
 /// Returns numbers as a set.
 pub(crate) fn number_set(alloc: Global, numbers: &[u32]) -> Result<BTreeSet<u32>, NoMem>
@@ -36,4 +38,12 @@ pub(crate) fn first_missing(recording: &Recording, numbers: &BTreeSet<u32>) -> O
         }
     }
     None
+}
+
+/// Returns the least of the numbers above another, or `None` if there is none.
+pub(crate) fn number_above(numbers: &BTreeSet<u32>, after: u32) -> Option<u32>
+    ensures { IsNextAmong numbers.now.keys after result }
+{
+    let above = (Bound::Excluded(after), Bound::Unbounded);
+    numbers.range(above).next().copied()
 }

@@ -2,26 +2,33 @@
 ghost use Rattle.std.specs.Prelude.{◌≡◌, ◌↔◌, ◌∷◌, ◌++◌, [], IfOk, IfSome, None, IsSome};
 ghost use Rattle.std.specs.Prelude.{IsTrue, MatchBool, OnErr, OnOk, Some, ◌⊎◌, true, false, ℕ};
 ghost use Rattle.std.specs.Option.{option_copied};
+ghost use Rattle.retro_tree.specs.Commit.{committed};
 ghost use Rattle.retro_tree.specs.Exact.{IsExact, IsTight};
 ghost use Rattle.retro_tree.specs.Notes.{AgreeOn, Holds, after};
 ghost use Rattle.retro_tree.specs.declared.state.State.{State};
 ghost use Rattle.retro_effects.specs.Meeting.{Met};
 ghost use Rattle.retro_keep.specs.Recording.{IsRecordingOf, IsWellFormed, script_in};
 ghost use Rattle.retro_keep.specs.declared.noted.Noted.{Noted as NotedValue};
+ghost use Rattle.retro_redo.specs.Cancelling.{AreLines};
 ghost use Rattle.retro_redo.specs.Progress.{IsRunTaken, MayStep, ProgressValue};
 ghost use Rattle.retro_redo.specs.Progress.{cancelled_in, chosen, is_cancel};
 ghost use Rattle.retro_redo.specs.Progress.{next_line, next_number};
-ghost use Rattle.retro_redo.specs.Progress.{recorded_now, repaired_now, repaired_recording};
-ghost use Rattle.retro_redo.specs.Repair.{IsRepair, IsRunAgain};
+ghost use Rattle.retro_redo.specs.Progress.{recorded_now, repaired_now};
+ghost use Rattle.retro_redo.specs.Repair.{IsRepair};
+ghost use Rattle.retro_redo.specs.Settled.{IsSettled};
+ghost use Rattle.retro_redo.specs.Skipping.{IsSkip};
 
 use crate::cancelled::has_number;
 use crate::gate::{Gate, Turn};
+use crate::ground::Ground;
 use crate::others::run_others;
 use crate::outcome::{chosen_lines, compensations, outputs, verdicts};
 use crate::repair::Repair;
+use crate::skipping::{push_kept, unmet_lines};
 use crate::step::Step;
 use crate::tally::Tally;
 use retro_effects::{Cells, Combined, advance, equiv, is_met};
+use retro_history::History;
 use retro_keep::{Noted, Recording};
 use retro_shell::{Run, run_line};
 use retro_tree::{NoMem, Notes, Overlay, View};
@@ -73,6 +80,7 @@ impl<'a> Progress<'a> {
         recording: &'a Recording,
         cancelled: BTreeSet<u32>,
     ) -> Progress<'a>
+        requires { AreLines cancelled.keys recording.now }
         ensures { result
             ≡ record { recording = recording.now; cancel = cancelled.keys; choices = [] } }
     {
@@ -114,9 +122,12 @@ impl<'a> Progress<'a> {
     /// Returns whether the next line reads or writes a cell in which the states differ.
     pub(crate) fn is_met(&self) -> bool
         requires { IsSome (next_line self.now) }
-        ensures { (l : ℕ × NotedValue) → next_line self.now ≡ Some l
+        ensures met { (l : ℕ × NotedValue) → next_line self.now ≡ Some l
             → MatchBool result (Met l.1.notes (recorded_now self.now) (repaired_now self.now))
             (AgreeOn l.1.notes (recorded_now self.now) (repaired_now self.now)) }
+        ensures holds { IsRecordingOf (script_in self.now.recording) self.now.recording
+            → (l : ℕ × NotedValue) → next_line self.now ≡ Some l → result ≡ false
+            → Holds l.1.notes (repaired_now self.now) }
     {
         let line = self.line().unwrap();
         is_met(&line.1.notes, &self.overlay)
@@ -185,6 +196,30 @@ impl<'a> Progress<'a> {
         Ok(())
     }
 
+    /// Keeps the next lines, up to one that is cancelled or met. `history` is the recording's.
+    pub(crate) fn skip_unmet(&mut self, alloc: Global, history: &History<'_>) -> Result<(), NoMem>
+        requires { history.now ≡ self.old.recording }
+        ensures ok { OnOk result (IsSkip self.old self.new) }
+        ensures err { OnErr result (self.new ≡ self.old) }
+    {
+        let _ = self.line();
+        let settled = self.choices.len();
+        let count = unmet_lines(alloc, settled, &self.cancelled, &self.overlay, history)?;
+        push_kept(&mut self.choices, count)?;
+        Ok(())
+    }
+
+    /// Lends what guesses are made on. `history` is the recording's.
+    pub(crate) fn ground<'g>(&'g self, history: &'g History<'a>) -> Ground<'g, 'a>
+        requires { history.now ≡ self.now.recording }
+        ensures recording { result.recording ≡ self.now.recording }
+        ensures cancel { result.cancel ≡ self.now.cancel }
+        ensures exact { IsExact result.overlay (recorded_now self.now) (repaired_now self.now) }
+        ensures shows { committed result.overlay (recorded_now self.now) ≡ repaired_now self.now }
+    {
+        Ground::new(self.recording, &self.cancelled, history, &self.overlay)
+    }
+
     /// Returns whether the line with a number is cancelled.
     pub(crate) fn is_cancelled(&self, number: u32) -> bool
         ensures { result ≡ cancelled_in self.now number }
@@ -199,8 +234,8 @@ impl<'a> Progress<'a> {
         ensures repair { IfOk result (λ repair.
             IsRecordingOf (script_in self.entry.recording) self.entry.recording
             → IsRepair (cancelled_in self.entry) self.entry.recording repair) }
-        ensures again { IfOk result (λ repair. ¬ (IsWellFormed (repaired_recording self.entry))
-            → IsRunAgain (cancelled_in self.entry) self.entry.recording repair) }
+        ensures settled { IfOk result (λ repair. IsSettled (cancelled_in self.entry)
+            self.entry.recording self.entry.choices repair) }
     {
         let Progress {
             recording,

@@ -1,20 +1,24 @@
 //! Repairs line by line.
 ghost use Rattle.std.specs.Prelude.{◌≡◌, ◌↔◌, ◌∷◌, ◌++◌, ◌+◌, length, [], IfErr};
-ghost use Rattle.std.specs.Prelude.{IfOk, IsTrue, MatchBool, None, OnErr, OnOk, Some, ℕ};
+ghost use Rattle.std.specs.Prelude.{IfOk, IsTrue, MatchBool, None, OnErr, OnOk, Some, false, ℕ};
 ghost use Rattle.retro_tree.specs.Exact.{IsExact};
 ghost use Rattle.retro_tree.specs.Notes.{AgreeOn, Holds};
 ghost use Rattle.retro_effects.specs.Meeting.{Met};
 ghost use Rattle.retro_keep.specs.Edit.{is_among};
-ghost use Rattle.retro_keep.specs.Recording.{IsRecordingOf, IsWellFormed, script_in};
+ghost use Rattle.retro_keep.specs.Recording.{IsRecordingOf, script_in};
 ghost use Rattle.retro_keep.specs.declared.noted.Noted.{Noted as NotedValue};
 ghost use Rattle.retro_redo.specs.Cancelling.{AreLines, Refuses};
+ghost use Rattle.retro_redo.specs.Ground.{shown_at};
 ghost use Rattle.retro_redo.specs.Progress.{MayStep, cancelled_in, next_line, next_number};
-ghost use Rattle.retro_redo.specs.Progress.{recorded_now, repaired_now, repaired_recording};
-ghost use Rattle.retro_redo.specs.Repair.{IsRepair, IsRunAgain};
+ghost use Rattle.retro_redo.specs.Progress.{recorded_now, repaired_now};
+ghost use Rattle.retro_redo.specs.Repair.{IsRepair};
+ghost use Rattle.retro_redo.specs.Settled.{IsSettled};
+ghost use Rattle.retro_redo.specs.Skipping.{IsSkip};
 ghost use Rattle.retro_redo.specs.declared.repair_fault.RepairFault.TheVariants as faults;
 
 use crate::cancelled::{first_missing, number_set};
 use crate::gate::Gate;
+use crate::ground::Ground;
 use crate::progress::Progress;
 use crate::repair::Repair;
 use crate::repair_fault::RepairFault;
@@ -114,12 +118,16 @@ impl<'h, 'a> Repairer<'h, 'a> {
     }
 
     /// Returns whether the next line is met: whether it reads or writes a cell in which the states
-    /// differ.
+    /// differ. If the recording is one of its lines, an unmet line's notes hold in the repaired
+    /// state.
     pub fn is_met(&self, number: u32) -> bool
         requires { next_number self.now ≡ Some number }
-        ensures { (l : ℕ × NotedValue) → next_line self.now ≡ Some l
+        ensures met { (l : ℕ × NotedValue) → next_line self.now ≡ Some l
             → MatchBool result (Met l.1.notes (recorded_now self.now) (repaired_now self.now))
             (AgreeOn l.1.notes (recorded_now self.now) (repaired_now self.now)) }
+        ensures holds { IsRecordingOf (script_in self.now.recording) self.now.recording
+            → (l : ℕ × NotedValue) → next_line self.now ≡ Some l → result ≡ false
+            → Holds l.1.notes (repaired_now self.now) }
     {
         self.progress.is_met()
     }
@@ -188,19 +196,44 @@ impl<'h, 'a> Repairer<'h, 'a> {
         self.step(alloc, number, Step::Take(run))
     }
 
+    /// Keeps the next lines that are neither cancelled nor met, without looking at them, and
+    /// returns the number of the next line to settle, or `None` if all lines are settled. That line
+    /// is cancelled or met. Takes a few look-ups for each cell in which the states differ.
+    pub fn skip_unmet(&mut self, alloc: Global) -> Result<Option<u32>, NoMem>
+        ensures next { IfOk result (λ number. number ≡ next_number self.new) }
+        ensures ok { OnOk result (IsSkip self.old self.new) }
+        ensures err { OnErr result (self.new ≡ self.old) }
+    {
+        self.progress.skip_unmet(alloc, self.history)?;
+        Ok(self.next())
+    }
+
+    /// Lends the recording, the cancelled numbers, the history and the overlay, for guesses of
+    /// later lines. Its view of the next line is the repaired state.
+    pub fn ground(&self) -> Ground<'_, 'a>
+        ensures recording { result.recording ≡ self.now.recording }
+        ensures cancel { result.cancel ≡ self.now.cancel }
+        ensures exact { IsExact result.overlay (recorded_now self.now) (repaired_now self.now) }
+        ensures shows { (number : ℕ) → next_number self.now ≡ Some number
+            → shown_at number result ≡ repaired_now self.now }
+    {
+        let _ = self.progress.line();
+        self.progress.ground(self.history)
+    }
+
     /// Returns the repair, once all lines are settled.
     ///
     /// If the recording is one of its lines, state and outputs are those of running the other
-    /// lines. If the lines as chosen make no recording, which happens only to logs whose notes
-    /// aren't those of their lines, all other lines are run again.
+    /// lines. For any other recording the answer is what the choices come to. If the lines as
+    /// chosen make no recording, which happens only there, all other lines are run again.
     pub fn finish(self, alloc: Global, tally: Tally) -> Result<Repair, RepairFault>
         requires { next_line self ≡ None }
         ensures tally { IfOk result (λ repair. repair.tally ≡ tally) }
         ensures repair { IfOk result (λ repair.
             IsRecordingOf (script_in self.entry.recording) self.entry.recording
             → IsRepair (cancelled_in self.entry) self.entry.recording repair) }
-        ensures again { IfOk result (λ repair. ¬ (IsWellFormed (repaired_recording self.entry))
-            → IsRunAgain (cancelled_in self.entry) self.entry.recording repair) }
+        ensures settled { IfOk result (λ repair. IsSettled (cancelled_in self.entry)
+            self.entry.recording self.entry.choices repair) }
         ensures fault { IfErr result (λ fault. fault ≡ faults.OutOfMemory) }
     {
         let Repairer {

@@ -4,6 +4,7 @@ ghost use Rattle.retro_keep.specs.Edit.{is_among};
 ghost use Rattle.retro_keep.specs.Recording.{IsRecordingOf, script_in};
 ghost use Rattle.retro_redo.specs.Cancelling.{AreLines, Refuses};
 ghost use Rattle.retro_redo.specs.Repair.{IsRepair, no_guesses};
+ghost use Rattle.retro_redo.specs.Settled.{AreSettled};
 
 use crate::gate::{Gate, Quiet};
 use crate::repair::Repair;
@@ -17,6 +18,10 @@ use std::alloc::Global;
 /// Repairs a recording on one thread: returns what it would be without the lines that have some
 /// numbers. Only lines whose notes don't hold any more are run again. Doubles count once.
 ///
+/// If the recording is one of its lines, state and outputs are those of running the other lines.
+/// For any other recording the answer is what some choices for its lines come to, each one that its
+/// line allows. If the lines as chosen make no recording, all other lines are run again.
+///
 /// # Errors
 ///
 /// `NoSuchLine` with the least of the numbers that no line has.
@@ -27,6 +32,8 @@ pub fn repair_alone(
 ) -> Result<Repair, RepairFault>
     ensures repair { IfOk result (λ repair. IsRecordingOf (script_in recording.now) recording.now
         → IsRepair (is_among cancel.now) recording.now repair) }
+    ensures settled { IfOk result (λ repair.
+        AreSettled (is_among cancel.now) recording.now repair) }
     ensures tally { IfOk result (λ repair. repair.tally ≡ no_guesses) }
     ensures known { OnOk result (AreLines cancel.now recording.now) }
     ensures refused { IfErr result (λ fault. Refuses cancel.now recording.now fault) }
@@ -44,13 +51,15 @@ pub fn repair_watched<G: Gate>(
 ) -> Result<Repair, RepairFault>
     ensures repair { IfOk result (λ repair. IsRecordingOf (script_in recording.now) recording.now
         → IsRepair (is_among cancel.now) recording.now repair) }
+    ensures settled { IfOk result (λ repair.
+        AreSettled (is_among cancel.now) recording.now repair) }
     ensures tally { IfOk result (λ repair. repair.tally ≡ no_guesses) }
     ensures known { OnOk result (AreLines cancel.now recording.now) }
     ensures refused { IfErr result (λ fault. Refuses cancel.now recording.now fault) }
 {
     let history = History::of(alloc, recording)?;
     let mut repairer = Repairer::new(alloc, recording, &history, cancel)?;
-    while let Some(number) = repairer.next() {
+    while let Some(number) = repairer.skip_unmet(alloc)? {
         repairer.settle(alloc, number, gate)?;
     }
     repairer.finish(alloc, Tally::none())

@@ -1,8 +1,8 @@
 use Rattle.std.proofs.Common.{◌≡◌, ◌∙◌, IfSome, Option, ap, length, map, refl, subst, sym}
 use Rattle.retro_keep.specs.Recording.{RecordingValue, output_in}
-use Rattle.retro_redo.specs.Progress.{ProgressValue, cancelled_in, compensations_chosen, lines_chosen, verdicts_chosen}
-use Rattle.retro_redo.specs.Repair.{IsRunAgain}
-use Rattle.retro_redo.proofs.Finishing.{all_chosen, found_none, found_some, if_ok_all, if_ok_map, none_is, repair_found}
+use Rattle.retro_redo.specs.Progress.{compensations_chosen, lines_chosen, verdicts_chosen}
+use Rattle.retro_redo.proofs.Finishing.{all_chosen, found_none, if_ok_all, if_ok_map, none_is, repair_found}
+use Rattle.retro_redo.proofs.Finishing.{settled_again, settled_found}
 use Rattle.retro_redo.proofs.progress.Progress.finish.Goals as goal
 
 pub verdicts-requires : goal.verdicts-requires
@@ -33,10 +33,15 @@ returns-in_default-clause-repair c =
     c.in_ok-repaired.field-0 c.in_ok-repaired.ensures.exact
     (none_is c.in_ok-repaired.field-0 c.in_default.not-Some) is))
 
-pub returns-in_default-clause-again : goal.returns-in_default-clause-again
-returns-in_default-clause-again c =
-    if_ok_map c.run_others.result c.run_others.ensures.again (λ repair again _. subst (λ (x : ProgressValue).
-    IsRunAgain (cancelled_in x) x.recording repair) c.self.view_is again)
+pub returns-in_default-clause-settled : goal.returns-in_default-clause-settled
+returns-in_default-clause-settled c =
+    if_ok_map c.run_others.result c.run_others.ensures.again (λ repair again.
+    settled_again c.args.self _ c.self.inside.overlay c.self.inside.met.items c.self.view_is c.self.invariant
+    c.lines-lines.ensures.well_formed c.requires c.in_ok-first.first c.in_ok-chosen.chosen.items
+    (c.in_ok-first.ensures ∙ c.first.ensures.value)
+    (c.in_ok-chosen.ensures ∙ (λ i. lines_chosen (c.lines-lines.ensures.value i) (c.as_slice-3.ensures.value i)))
+    c.in_ok-repaired.field-0 c.in_ok-repaired.ensures.exact
+    (none_is c.in_ok-repaired.field-0 c.in_default.not-Some) repair again)
 
 pub returns-clause-repair : goal.returns-clause-repair
 returns-clause-repair c =
@@ -66,10 +71,29 @@ returns-clause-repair c =
     ∙ (λ i. compensations_chosen (c.lines-lines.ensures.value i) (c.as_slice-2.ensures.value i)))
     refl
 
-pub returns-clause-again : goal.returns-clause-again
-returns-clause-again c = λ none. absurd (none
-    (found_some c.args.self _ c.self.inside.overlay c.self.inside.met.items c.self.view_is c.self.invariant
+pub returns-clause-settled : goal.returns-clause-settled
+returns-clause-settled c =
+    settled_found c.args.self _ c.self.inside.overlay c.self.inside.met.items c.self.view_is c.self.invariant
     c.lines-lines.ensures.well_formed c.requires c.in_ok-first.first c.in_ok-chosen.chosen.items
     (c.in_ok-first.ensures ∙ c.first.ensures.value)
     (c.in_ok-chosen.ensures ∙ (λ i. lines_chosen (c.lines-lines.ensures.value i) (c.as_slice-3.ensures.value i)))
-    c.in_ok-repaired.field-0 c.in_ok-repaired.ensures.exact c.in-Some.repaired c.in-Some.is))
+    c.in_ok-repaired.field-0 c.in_ok-repaired.ensures.exact (record {
+      state = c.in_ok-state.state;
+      outputs = c.in_ok-outputs.outputs;
+      verdicts = c.in_ok-verdicts.verdicts;
+      met = c.self.inside.met;
+      compensations = c.in_ok-compensations.compensations;
+      tally = c.args.tally;
+      recording = c.in-Some.repaired;
+    }) c.in-Some.repaired c.in-Some.is
+    (subst (λ (found : Option RecordingValue). IfSome found (λ r. r ≡ record {
+      first = c.in_ok-first.first;
+      lines = c.in_ok-chosen.chosen.items;
+    })) c.in-Some.is c.in_ok-repaired.ensures.value)
+    (c.in_ok-state.ensures ∙ c.last.ensures.value)
+    (c.in_ok-outputs.ensures ∙ ap (map output_in) c.lines.ensures.value)
+    (c.in_ok-verdicts.ensures
+    ∙ (λ i. verdicts_chosen (c.lines-lines.ensures.value i) (c.as_slice.ensures.value i)))
+    (c.in_ok-compensations.ensures
+    ∙ (λ i. compensations_chosen (c.lines-lines.ensures.value i) (c.as_slice-2.ensures.value i)))
+    refl

@@ -16,4 +16,4 @@ invariant_of-result c =
       cancel = c.args.cancelled.keys;
       choices = [];
     }) c.new-2.result met) (sym c.new-3.ensures.items)
-    (keeps_new c.args.recording.now c.args.cancelled.keys c.new-2.result c.new-2.ensures.value))
+    (keeps_new c.args.recording.now c.args.cancelled.keys c.new-2.result c.requires c.new-2.ensures.value))

@@ -21,3 +21,9 @@ returns-clause-known c =
     all_known (is_line c.args.recording.now) set.keys
     (sym c.first_missing.ensures.value ∙ none_is c.first_missing.result c.in_default.not-Some) n
     (sym (contains_among set n) ∙ c.in_ok-cancelled.ensures n ∙ among)
+
+pub new-requires : goal.new-requires
+new-requires c =
+    λ n among.
+    all_known (is_line c.args.recording.now) c.in_ok-cancelled.cancelled.keys
+    (sym c.first_missing.ensures.value ∙ none_is c.first_missing.result c.in_default.not-Some) n among

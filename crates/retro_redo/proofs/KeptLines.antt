@@ -1,0 +1,155 @@
+-- Lines kept without being looked at: what a repair keeps.
+use Rattle.std.proofs.Common.{◌≡◌, ◌∙◌, inl, inr, ℕ, zero, suc, false, List, [], ◌∷◌, ◌++◌, drop, length, Some}
+use Rattle.std.proofs.Common.{replicate, refl, sym, ap, subst, arith, ◌≤◌, ◌<◌, ◌-◌, ◌+◌}
+use Rattle.retro_tree.specs.Exact.{IsExact}
+use Rattle.retro_tree.specs.Notes.{after, AgreeOn}
+use Rattle.retro_tree.specs.Overlay.{OverlayMap}
+use Rattle.retro_tree.specs.declared.state.State.{State}
+use Rattle.retro_tree.proofs.ExactOverlays.{unmet_step}
+use Rattle.retro_keep.specs.Edit.{is_among}
+use Rattle.retro_keep.specs.Recording.{IsWellFormed, RecordingValue}
+use Rattle.retro_redo.specs.Keeping.{Keeps}
+use Rattle.retro_redo.specs.Progress.{ProgressValue, cancelled_in, next_line, next_number, recorded_now, repaired_now}
+use Rattle.retro_redo.specs.Skipping.{AreUnmet, IsSkip}
+use Rattle.retro_redo.specs.declared.step.Step.{Step}
+use Rattle.retro_redo.specs.declared.step.Step.TheVariants.{Keep}
+use Rattle.retro_redo.proofs.Before.{next_below, one_less}
+use Rattle.retro_redo.proofs.Keeping.{keeps_more, more}
+use Rattle.retro_redo.proofs.Positions.{Line, recorded_more, repaired_more}
+use Rattle.retro_redo.proofs.Stops.{line_at, rest_at}
+
+length_more : (steps : List Step) (step : Step) → length (steps ++ step ∷ []) ≡ suc (length steps)
+length_more [] step = refl
+length_more (x ∷ steps) step = ap suc (length_more steps step)
+
+one_more : (steps rest : List Step) (step : Step) → (steps ++ step ∷ []) ++ rest ≡ steps ++ step ∷ rest
+one_more [] rest step = refl
+one_more (x ∷ steps) rest step = ap (λ cs. x ∷ cs) (one_more steps rest step)
+
+none_more : (steps : List Step) → steps ++ [] ≡ steps
+none_more [] = refl
+none_more (x ∷ steps) = ap (λ cs. x ∷ cs) (none_more steps)
+
+with_choices : (p : ProgressValue) (a b : List Step) → a ≡ b
+    → ◌≡◌ {A = ProgressValue} (record { recording = p.recording; cancel = p.cancel; choices = a })
+    (record { recording = p.recording; cancel = p.cancel; choices = b })
+with_choices p a b e = λ i. record { recording = p.recording; cancel = p.cancel; choices = e i }
+
+-- the progress with more lines kept
+abbrev with_kept : ProgressValue → ℕ → ProgressValue
+with_kept p n =
+    record { recording = p.recording; cancel = p.cancel; choices = p.choices ++ replicate n Keep }
+
+-- the next lines are unmet, up to one that is cancelled or met
+abbrev pub AreNextUnmet : ℕ → ProgressValue → Type 0
+AreNextUnmet n p =
+    AreUnmet (cancelled_in p) n (drop (length p.choices) p.recording.lines) (recorded_now p) (repaired_now p)
+
+-- what one unmet line keeps, some of them keep
+along : (P : ProgressValue → Type 0)
+    → ((q : ProgressValue) (l : Line) → next_line q ≡ Some l → cancelled_in q l.0 ≡ false
+    → AgreeOn l.1.notes (recorded_now q) (repaired_now q) → P q → P (more q Keep))
+    → (n : ℕ) (p : ProgressValue) → AreNextUnmet n p → P p → P (with_kept p n)
+along P step zero p h at = subst P (with_choices p p.choices (p.choices ++ []) (sym (none_more p.choices))) at
+along P step (suc n) p h at =
+    by_rest (drop (length p.choices) p.recording.lines) refl h (along P step n (more p Keep))
+  where
+    by_rest : (rest : List Line) → drop (length p.choices) p.recording.lines ≡ rest
+        → AreUnmet (cancelled_in p) (suc n) rest (recorded_now p) (repaired_now p)
+        → (AreNextUnmet n (more p Keep) → P (more p Keep) → P (with_kept (more p Keep) n)) → P (with_kept p (suc n))
+    by_rest [] e unmet later = absurd unmet
+    by_rest (l ∷ rest) e unmet later =
+        let next = line_at p.recording.lines (length p.choices) l rest e in
+        let rest_is : drop (length (p.choices ++ Keep ∷ [])) p.recording.lines ≡ rest =
+        ap (λ k. drop k p.recording.lines) (length_more p.choices Keep)
+        ∙ rest_at p.recording.lines (length p.choices) l rest e in
+        let recorded = recorded_more p.recording.lines p.choices l Keep p.recording.first next in
+        let repaired = repaired_more p.recording.lines p.choices l Keep p.recording.first next in
+        let unmet_rest = subst (λ ls. AreUnmet (cancelled_in p) n ls (recorded_now (more p Keep))
+        (repaired_now (more p Keep))) (sym rest_is)
+        (subst (λ s. AreUnmet (cancelled_in p) n rest s (repaired_now (more p Keep))) (sym recorded)
+        (subst (λ t. AreUnmet (cancelled_in p) n rest (after l.1.notes (recorded_now p)) t) (sym repaired) unmet.2)) in
+        subst P (with_choices p ((p.choices ++ Keep ∷ []) ++ replicate n Keep) (p.choices ++ Keep ∷ replicate n Keep)
+        (one_more p.choices (replicate n Keep) Keep))
+        (later unmet_rest (step p l next unmet.0 unmet.1 at))
+
+-- the states after one more kept line
+exact_more : (overlay : OverlayMap) (q : ProgressValue) (l : Line) → next_line q ≡ Some l
+    → AgreeOn l.1.notes (recorded_now q) (repaired_now q) → IsExact overlay (recorded_now q) (repaired_now q)
+    → IsExact overlay (recorded_now (more q Keep)) (repaired_now (more q Keep))
+exact_more overlay q l next agreed exact =
+    subst (λ s. IsExact overlay s (repaired_now (more q Keep)))
+    (sym (recorded_more q.recording.lines q.choices l Keep q.recording.first next))
+    (subst (λ t. IsExact overlay (after l.1.notes (recorded_now q)) t)
+    (sym (repaired_more q.recording.lines q.choices l Keep q.recording.first next))
+    (unmet_step overlay (recorded_now q) (repaired_now q) l.1.notes exact agreed))
+
+exact_kept : (overlay : OverlayMap) (n : ℕ) (p : ProgressValue) → AreNextUnmet n p
+    → IsExact overlay (recorded_now p) (repaired_now p)
+    → IsExact overlay (recorded_now (with_kept p n)) (repaired_now (with_kept p n))
+exact_kept overlay =
+    along (λ q. IsExact overlay (recorded_now q) (repaired_now q))
+    (λ q l next other agreed exact. exact_more overlay q l next agreed exact)
+
+keeps_kept : (overlay : OverlayMap) (met : List ℕ) (n : ℕ) (p : ProgressValue) → AreNextUnmet n p
+    → Keeps p overlay met × IsWellFormed p.recording
+    → Keeps (with_kept p n) overlay met × IsWellFormed p.recording
+keeps_kept overlay met =
+    along (λ q. Keeps q overlay met × IsWellFormed q.recording)
+    (λ q l next other agreed at. (
+      keeps_more q overlay overlay met met l Keep at.0 at.1 next (other, inl agreed) tt
+          (unmet_step overlay (recorded_now q) (repaired_now q) l.1.notes at.0.exact agreed)
+          (inr ((λ m. m.1.2 (agreed m.1.0 m.1.1)), refl)),
+      at.1,
+    ))
+
+-- ---- goals of the code, where q is the progress as its fields are, and p as contracts see it
+
+module _ (p q : ProgressValue) (overlay : OverlayMap) (met : List ℕ) (r : RecordingValue) (place n : ℕ)
+    (steps : List Step) (e : q ≡ p) (keeps : Keeps q overlay met) (w : IsWellFormed p.recording)
+    (same : r ≡ p.recording) (at : place ≡ length q.choices)
+    (unmet : (s t : State) → IsExact overlay s t → AreUnmet (is_among q.cancel) n (drop place r.lines) s t)
+    (pushed : steps ≡ q.choices ++ replicate n Keep) where
+  unmet_now : AreNextUnmet n q
+  unmet_now =
+      subst (λ k. AreUnmet (is_among q.cancel) n (drop k q.recording.lines) (recorded_now q) (repaired_now q)) at
+      (subst (λ (x : RecordingValue). AreUnmet (is_among q.cancel) n (drop place x.lines) (recorded_now q)
+      (repaired_now q)) (same ∙ sym (ap (λ (x : ProgressValue). x.recording) e))
+      (unmet (recorded_now q) (repaired_now q) keeps.exact))
+
+  pub keeps_skipped : Keeps (record { recording = q.recording; cancel = q.cancel; choices = steps }) overlay met
+  keeps_skipped =
+      subst (λ cs. Keeps (record { recording = q.recording; cancel = q.cancel; choices = cs }) overlay met) (sym pushed)
+      (keeps_kept overlay met n q unmet_now
+      (keeps, subst (λ (x : ProgressValue). IsWellFormed x.recording) (sym e) w)).0
+
+  pub skips : IsSkip p (record { recording = q.recording; cancel = q.cancel; choices = steps })
+  skips =
+      subst (λ x. IsSkip x (record { recording = q.recording; cancel = q.cancel; choices = steps })) e
+      (subst (λ cs. IsSkip q (record { recording = q.recording; cancel = q.cancel; choices = cs })) (sym pushed)
+      (record {
+        count = n;
+        recording = refl;
+        cancel = refl;
+        choices = refl;
+        unmet = unmet_now;
+        exact = λ o exact. exact_kept o n q unmet_now exact;
+      }))
+
+-- ---- the loop of the repair
+
+-- lines that are kept are settled
+at_least : (steps rest : List Step) → length steps ≤ length (steps ++ rest)
+at_least [] rest = omega arith
+at_least (x ∷ steps) rest = let more_rest = at_least steps rest in omega (arith, more_rest)
+
+-- a turn of the loop, which settles one more line after the kept ones, leaves fewer
+pub fewer_left : (p m q : ProgressValue) (number : ℕ) → IsSkip p m → q.recording ≡ m.recording
+    → length q.choices ≡ length m.choices + 1 → next_number m ≡ Some number
+    → length q.recording.lines - length q.choices < length p.recording.lines - length p.choices
+fewer_left p m q number skip same one next =
+    let less = one_less m q same one (next_below m number next) in
+    let lines : length m.recording.lines ≡ length p.recording.lines =
+    ap (λ (r : RecordingValue). length r.lines) skip.recording in
+    let kept = subst (λ (cs : List Step). length p.choices ≤ length cs) (sym skip.choices)
+    (at_least p.choices (replicate skip.count Keep)) in omega (arith, less, lines, kept)
