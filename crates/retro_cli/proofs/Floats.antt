@@ -3,9 +3,28 @@ use Rattle.std.proofs.Common.{◌≡◌, ℕ, List, false, refl}
 use Rattle.serde_json.specs.Written.{has_float}
 use Rattle.retro_tree.specs.declared.state.State.{State}
 use Rattle.retro_log.proofs.Floats.{array_float, tree_float, sessions_float}
+use Rattle.retro_redo.specs.declared.repair.Repair.{Repair}
+use Rattle.retro_redo.specs.declared.verdict.Verdict.TheVariants.{Cancelled, Redone}
+use Rattle.retro_log.specs.Values.{number_data}
 use Rattle.retro_cli.specs.Report.{output_data, replay_data}
+use Rattle.retro_cli.specs.RepairReport.{compensation_data, numbers_with, repair_data}
 
 pub replay_float : (outputs : List (ℕ × List ℕ)) (state : State) → has_float (replay_data outputs state) ≡ false
 unfolding replay_data
 replay_float outputs state =
     rw (array_float output_data (λ o. refl) outputs, sessions_float state.sessions, tree_float state.tree) refl
+
+pub repair_float : (repair : Repair) → has_float (repair_data repair) ≡ false
+unfolding repair_data
+repair_float repair =
+    rw (
+      array_float number_data (λ n. refl) (numbers_with Cancelled repair.verdicts.items),
+      array_float
+          compensation_data (λ c. refl) repair.compensations.items,
+      array_float number_data (λ n. refl) repair.met.items,
+      array_float output_data (λ o. refl) repair.outputs.items,
+      array_float number_data (λ n. refl) (numbers_with Redone
+          repair.verdicts.items),
+      sessions_float repair.state.sessions,
+      tree_float repair.state.tree,
+    ) refl

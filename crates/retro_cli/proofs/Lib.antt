@@ -2,3 +2,4 @@ pub mod Floats
 pub mod CallLemmas
 pub mod NumberLemmas
 pub mod ReplayLemmas
+pub mod RefusalLemmas

@@ -3,6 +3,7 @@ pub mod Input
 pub mod Numbers
 pub mod Output
 pub mod Program
+pub mod RepairReport
 pub mod Report
 pub mod Stop
 pub mod Words

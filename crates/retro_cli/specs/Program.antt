@@ -5,17 +5,21 @@ use Rattle.std.specs.Result.{result_err}
 use Rattle.std.specs.Io.KnownBytes.{Appends}
 use Rattle.retro_tree.specs.declared.state.State.{State}
 use Rattle.retro_keep.specs.Script.{ScriptValue}
-use Rattle.retro_keep.specs.Edit.{without}
+use Rattle.retro_keep.specs.Edit.{first_unknown, is_among, without}
 use Rattle.retro_keep.specs.Runs.{Output, outcome}
 use Rattle.retro_keep.specs.Recording.{RecordingValue, IsRecordingOf}
 use Rattle.retro_keep.specs.Recording as recordings
+use Rattle.retro_redo.specs.Cancelling.{AreLines, is_line}
+use Rattle.retro_redo.specs.Repair.{IsRepair, script_of_others}
+use Rattle.retro_redo.specs.declared.repair.Repair.{Repair}
 use Rattle.retro_log.specs.Document.{script_in, log_in}
 use Rattle.retro_log.specs.LogText.{log_text}
 use Rattle.retro_log.specs.Numbers.{refusal_number}
 use Rattle.retro_log.specs.declared.fault.Refusal.{Refusal}
 use Rattle.retro_cli.specs.Output.{AppendsPart}
 use Rattle.retro_cli.specs.Report.{replay_text}
-use Rattle.retro_cli.specs.Words.{Request, replay, record_script, check_log, request_in}
+use Rattle.retro_cli.specs.RepairReport.{repair_text}
+use Rattle.retro_cli.specs.Words.{Request, replay, record_script, check_log, repair, relog, request_in}
 use Rattle.retro_cli.specs.declared.stop.TheConstants.{BAD_WORDS, UNKNOWN_LINE}
 use Rattle.retro_cli.specs.declared.exit.Exit.{Exit}
 use Rattle.retro_cli.specs.declared.exit.Exit.TheVariants as exits
@@ -66,16 +70,48 @@ IsVerdict input exits.OutOfMemory text = ⊥
 IsVerdict input exits.ReadFailed text = ⊥
 IsVerdict input exits.WriteFailed text = ⊥
 
+-- ---- the report of a repair of a log, and the log of the repaired recording
+
+-- The text is the report of a repair of the log that the input is. If the log is a recording of its lines,
+-- the repair is exact: it is what running all other lines one by one gives.
+pub record IsRepairReport (cancelled : List ℕ) (input text : Text) : Type 0 where
+  pub recording : RecordingValue
+  pub is_log : log_in input ≡ Ok recording
+  pub known : AreLines cancelled recording
+  pub repair : Repair
+  pub is_report : text ≡ repair_text repair
+  pub is_repair : IsRecordingOf (recordings.script_in recording) recording
+      → IsRepair (is_among cancelled) recording repair
+
+-- The text is a log. If the log that the input is, is a recording of its lines, the text is the log of a
+-- recording of the other lines.
+pub record IsRepairedLog (cancelled : List ℕ) (input text : Text) : Type 0 where
+  pub recording : RecordingValue
+  pub is_log : log_in input ≡ Ok recording
+  pub known : AreLines cancelled recording
+  pub repaired : RecordingValue
+  pub is_text : text ≡ log_text repaired
+  pub is_recording : IsRecordingOf (recordings.script_in recording) recording
+      → IsRecordingOf (script_of_others (is_among cancelled) recording) repaired
+
 -- ---- refusals
 
 abbrev pub document_refusal : {Y : Type 0} → Result Y Refusal → Option ℕ
 document_refusal document = option_map refusal_number (result_err document)
+
+-- the number of the first refusal of a repair: of the log, then of the cancelled numbers
+abbrev pub repair_refusal : List ℕ → Result RecordingValue Refusal → Option ℕ
+repair_refusal cancelled (Ok recording) =
+    option_map (λ number. UNKNOWN_LINE) (first_unknown (is_line recording) cancelled)
+repair_refusal cancelled (Err refusal) = Some (refusal_number refusal)
 
 -- the number of the first refusal of a request about an input
 abbrev pub request_refusal : Request → Text → Option ℕ
 request_refusal (replay cancelled) input = result_err (replay_answer cancelled input)
 request_refusal record_script input = document_refusal (script_in input)
 request_refusal check_log input = document_refusal (log_in input)
+request_refusal (repair cancelled) input = repair_refusal cancelled (log_in input)
+request_refusal (relog cancelled) input = repair_refusal cancelled (log_in input)
 
 abbrev pub refusal_in : Option Request → Text → Option ℕ
 refusal_in None input = Some BAD_WORDS
@@ -92,6 +128,8 @@ abbrev pub Answered : Request → Text → Exit → Text → Type 0
 Answered (replay cancelled) input exit text = (exit ≡ exits.Done) × (replay_answer cancelled input ≡ Ok text)
 Answered record_script input exit text = (exit ≡ exits.Done) × IsLogOf input text
 Answered check_log input exit text = IsVerdict input exit text
+Answered (repair cancelled) input exit text = (exit ≡ exits.Done) × IsRepairReport cancelled input text
+Answered (relog cancelled) input exit text = (exit ≡ exits.Done) × IsRepairedLog cancelled input text
 
 -- the answer to words about an input
 pub record Answers (words : List Text) (input : Text) (exit : Exit) (text : Text) : Type 0 where

@@ -6,6 +6,9 @@ use Rattle.retro_keep.specs.declared.script.EditFault.TheVariants as edits
 use Rattle.retro_log.specs.Numbers.{refusal_number}
 use Rattle.retro_log.specs.declared.fault.LogFault.{LogFault}
 use Rattle.retro_log.specs.declared.fault.LogFault.TheVariants as documents
+use Rattle.retro_redo.specs.RepairFault.{fault_number}
+use Rattle.retro_redo.specs.declared.repair_fault.RepairFault.{RepairFault}
+use Rattle.retro_redo.specs.declared.repair_fault.RepairFault.TheVariants as repairs
 use Rattle.retro_cli.specs.declared.stop.TheConstants.{BAD_WORDS, UNKNOWN_LINE}
 use Rattle.retro_cli.specs.declared.stop.Stop.{Stop}
 use Rattle.retro_cli.specs.declared.stop.Stop.TheVariants as stops
@@ -23,6 +26,12 @@ stop_of_document (documents.Refused refusal) = stops.Refused (refusal_number ref
 abbrev pub stop_of_edit : EditFault → Stop
 stop_of_edit edits.NoMem = stops.NoMem
 stop_of_edit (edits.UnknownLine number) = stops.Refused UNKNOWN_LINE
+
+abbrev pub stop_of_repair : RepairFault → Stop
+stop_of_repair (repairs.NoSuchLine number) = stops.Refused (fault_number (repairs.NoSuchLine number))
+stop_of_repair repairs.NoCut = stops.Refused (fault_number repairs.NoCut)
+stop_of_repair repairs.TooManyWorkers = stops.Refused (fault_number repairs.TooManyWorkers)
+stop_of_repair repairs.OutOfMemory = stops.NoMem
 
 -- a stop says that a request is refused by a number, unless memory ran out
 abbrev pub Refuses : Stop → Option ℕ → Type 0

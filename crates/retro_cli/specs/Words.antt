@@ -36,12 +36,20 @@ bare = record {
   subs = [];
 }
 
--- the commands `replay`, `record` and `check`
+-- a program with one more command
+abbrev pub with_command : App → Text → List Rule → App
+with_command app name rules = with_subcommand app (command name rules)
+
+-- the commands that start from a script
+abbrev pub script_program : App
+script_program = with_command (with_command bare (codes "replay") (cancel ∷ [])) (codes "record") []
+
+-- and those that start from a log
 abbrev pub program : App
 program =
-    with_subcommand
-    (with_subcommand (with_subcommand bare (command (codes "replay") (cancel ∷ []))) (command (codes "record") []))
-    (command (codes "check") [])
+    with_command
+    (with_command (with_command script_program (codes "check") []) (codes "repair") (cancel ∷ [])) (codes "relog")
+    (cancel ∷ [])
 
 -- ---- the command in words, as `clap` reads them
 
@@ -63,18 +71,23 @@ call_in words = unless_fault (fault_of program words) (option_map call_of (subco
 
 -- ---- what the words ask for
 
--- to run a script's lines without those that have these numbers, to record the lines of a script, or to
--- check whether a log is a recording
+-- to run a script's lines without those that have these numbers, to record the lines of a script, to check
+-- whether a log is a recording, or to repair a log without the lines that have these numbers, and answer the
+-- report of the repair or the log of the repaired recording
 pub data Request : Type 0 where
   replay : List ℕ → Request
   record_script : Request
   check_log : Request
+  repair : List ℕ → Request
+  relog : List ℕ → Request
 
 abbrev pub request_of : Call → Option Request
 request_of g =
     if pointwise nat_eq g.name (codes "replay") then option_map replay (option_and_then list_in g.cancel)
     else if pointwise nat_eq g.name (codes "record") then Some record_script
-    else if pointwise nat_eq g.name (codes "check") then Some check_log else None
+    else if pointwise nat_eq g.name (codes "check") then Some check_log
+    else if pointwise nat_eq g.name (codes "repair") then option_map repair (option_and_then list_in g.cancel)
+    else if pointwise nat_eq g.name (codes "relog") then option_map relog (option_and_then list_in g.cancel) else None
 
 -- what the words ask for, or none if they are bad
 unfoldable pub request_in : List Text → Option Request
@@ -89,6 +102,8 @@ abbrev pub request_view : RequestValue → Request
 request_view (requests.Replay numbers) = replay numbers.items
 request_view requests.Record = record_script
 request_view requests.Check = check_log
+request_view (requests.Repair numbers) = repair numbers.items
+request_view (requests.Relog numbers) = relog numbers.items
 
 -- a fault as the definitions say it: none if memory ran out
 abbrev pub not_found : {Y : Type 0} → WordsFault → Option (Option Y)

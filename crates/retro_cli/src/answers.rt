@@ -1,19 +1,22 @@
 //! The answers to requests about an input.
 ghost use Rattle.std.specs.Prelude.{◌≡◌, Ok, IfOk, IfErr};
 ghost use Rattle.retro_cli.specs.Exit.{exit_of};
-ghost use Rattle.retro_cli.specs.Program.{Answered, IsLogOf, IsVerdict, document_refusal};
+ghost use Rattle.retro_cli.specs.Program.{Answered, IsLogOf, IsRepairReport, IsRepairedLog};
+ghost use Rattle.retro_cli.specs.Program.{IsVerdict, document_refusal, repair_refusal};
 ghost use Rattle.retro_cli.specs.Program.{replay_answer, request_refusal};
 ghost use Rattle.retro_cli.specs.Stop.{Refuses, ReturnsAs};
 ghost use Rattle.retro_cli.specs.Words.{request_view};
 ghost use Rattle.retro_log.specs.Document.{log_in, script_in};
 
 use crate::ending::Ending;
+use crate::repair_report::repair_report;
 use crate::replay::replay;
 use crate::report::replay_report;
 use crate::stop::Stop;
 use crate::words::Request;
 use retro_keep::keep;
 use retro_log::{check, read_log, read_script, write_log};
+use retro_redo::repair_alone;
 use std::alloc::{AllocGlobal, Global};
 use std::thread::Threads;
 
@@ -54,6 +57,34 @@ fn check_input(alloc: Global, input: Vec<u8>) -> Result<(Vec<u8>, Ending), Stop>
     }
 }
 
+/// The report of a repair, without the cancelled lines, of the log that the input is.
+#[tactic(auto, using(crate::proofs::RefusalLemmas::fault_refuses))]
+fn repair_input(alloc: Global, cancel: &[u32], input: Vec<u8>) -> Result<Vec<u8>, Stop>
+    ensures ok { IfOk result (λ text. IsRepairReport cancel.now input.items text.items) }
+    ensures err { IfErr result (λ stop.
+        Refuses stop (repair_refusal cancel.now (log_in input.items))) }
+{
+    let recording = read_log(alloc, &input)?;
+    drop(input);
+    let repair = repair_alone(alloc, &recording, cancel)?;
+    drop(recording);
+    Ok(repair_report(alloc, &repair)?)
+}
+
+/// The log of the lines that aren't cancelled, recorded again, of the log that the input is.
+#[tactic(auto, using(crate::proofs::RefusalLemmas::fault_refuses))]
+fn relog_input(alloc: Global, cancel: &[u32], input: Vec<u8>) -> Result<Vec<u8>, Stop>
+    ensures ok { IfOk result (λ text. IsRepairedLog cancel.now input.items text.items) }
+    ensures err { IfErr result (λ stop.
+        Refuses stop (repair_refusal cancel.now (log_in input.items))) }
+{
+    let recording = read_log(alloc, &input)?;
+    drop(input);
+    let repair = repair_alone(alloc, &recording, cancel)?;
+    drop(recording);
+    Ok(write_log(alloc, &repair.recording)?)
+}
+
 /// The text that answers a request about an input, and how the program ends once it is written.
 pub(crate) fn answer<T: Threads + Sync + AllocGlobal>(
     rt: &T,
@@ -69,5 +100,7 @@ pub(crate) fn answer<T: Threads + Sync + AllocGlobal>(
         Request::Replay { cancel } => Ok((replay_input(rt.alloc(), cancel, input)?, Ending::Done)),
         Request::Record => Ok((record_input(rt, input)?, Ending::Done)),
         Request::Check => Ok(check_input(rt.alloc(), input)?),
+        Request::Repair { cancel } => Ok((repair_input(rt.alloc(), cancel, input)?, Ending::Done)),
+        Request::Relog { cancel } => Ok((relog_input(rt.alloc(), cancel, input)?, Ending::Done)),
     }
 }

@@ -13,6 +13,7 @@ mod input;
 mod numbers;
 mod output;
 mod program;
+mod repair_report;
 mod replay;
 mod report;
 mod stop;

@@ -15,7 +15,8 @@ fn output_value(alloc: Global, number: u32, output: &Bytes) -> Result<Value, NoM
     json!(in alloc; [number, output])
 }
 
-fn output_values(alloc: Global, outputs: &[(u32, Bytes)]) -> Result<Vec<Value>, NoMem>
+/// The numbers of lines, each with what it printed.
+pub(crate) fn output_values(alloc: Global, outputs: &[(u32, Bytes)]) -> Result<Vec<Value>, NoMem>
     ensures { IfOk result (λ vs. map view vs.items ≡ map output_data outputs.now) }
 {
     let mut values = Vec::new(alloc);

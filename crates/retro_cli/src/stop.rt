@@ -2,10 +2,12 @@
 ghost use Rattle.std.specs.Prelude.{◌≡◌};
 ghost use Rattle.retro_cli.specs.declared.stop.Stop.TheVariants as stops;
 ghost use Rattle.retro_cli.specs.Stop.{stop_of_words, stop_of_document, stop_of_edit};
+ghost use Rattle.retro_cli.specs.Stop.{stop_of_repair};
 
 use crate::words::WordsFault;
 use retro_keep::EditFault;
 use retro_log::LogFault;
+use retro_redo::RepairFault;
 use retro_tree::NoMem;
 
 /// The number of the refusal of bad words.
@@ -61,6 +63,17 @@ impl From<EditFault> for Stop {
         match fault {
             EditFault::NoMem => Stop::NoMem,
             EditFault::UnknownLine(_) => Stop::Refused(UNKNOWN_LINE),
+        }
+    }
+}
+
+impl From<RepairFault> for Stop {
+    ghost from_gives = { λ fault stop. stop ≡ stop_of_repair fault };
+
+    fn from(fault: RepairFault) -> Stop {
+        match fault {
+            RepairFault::OutOfMemory => Stop::NoMem,
+            _ => Stop::Refused(fault.number()),
         }
     }
 }

@@ -1,7 +1,9 @@
 //! What the words of the command line ask for, as `clap` reads them.
-ghost use Rattle.std.specs.Prelude.{◌≡◌, ◌∷◌, [], false, map, IfOk, codes, string_bytes};
+ghost use Rattle.std.specs.Prelude.{◌≡◌, ◌∷◌, [], false, map, option_and_then, IfOk, codes};
+ghost use Rattle.std.specs.Prelude.{string_bytes};
 ghost use Rattle.clap.specs.Words.{app_of, rule_of};
 ghost use Rattle.clap.specs.declared.builder.command.Command.TheViews.{out-Command as fields_of};
+ghost use Rattle.retro_cli.specs.Numbers.{list_in};
 ghost use Rattle.retro_cli.specs.Words.{option, cancel, command, bare, program, call_in, call_view};
 ghost use Rattle.retro_cli.specs.Words.{request_of, request_view, request_in, Means};
 ghost use Rattle.retro_cli.specs.declared.words.WordsFault.TheVariants.{NoMem};
@@ -20,6 +22,10 @@ pub(crate) enum Request {
     Record,
     /// To check whether a log is a recording.
     Check,
+    /// To repair a log without the lines that have these numbers.
+    Repair { cancel: Vec<u32> },
+    /// To write the log of what `Repair` answers.
+    Relog { cancel: Vec<u32> },
 }
 
 /// Why words ask for nothing.
@@ -63,12 +69,13 @@ fn cancel_option<'a>(alloc: Global) -> Arg<'a>
         .default_value("")
 }
 
-fn replay_command<'a>(alloc: Global) -> Result<Command<'a>, AllocError>
+/// A command with the option `--cancel`.
+fn cancelling_command<'a>(alloc: Global, name: &'a str) -> Result<Command<'a>, AllocError>
     ensures shape { IfOk result (λ c.
-        app_of c ≡ record { top = command (codes "replay") (cancel ∷ []); subs = [] }) }
+        app_of c ≡ record { top = command name.entry.now (cancel ∷ []); subs = [] }) }
     ensures local { IfOk result (λ c. (fields_of c).has_globals ≡ false) }
 {
-    Command::new(alloc, "replay").arg(cancel_option(alloc))
+    Command::new(alloc, name).arg(cancel_option(alloc))
 }
 
 /// A command without options.
@@ -92,9 +99,11 @@ fn program_command<'a>(alloc: Global) -> Result<Command<'a>, AllocError>
     ensures { IfOk result (λ c. app_of c ≡ program) }
 {
     bare_command(alloc)
-        .subcommand(replay_command(alloc)?)?
+        .subcommand(cancelling_command(alloc, "replay")?)?
         .subcommand(plain_command(alloc, "record"))?
-        .subcommand(plain_command(alloc, "check"))
+        .subcommand(plain_command(alloc, "check"))?
+        .subcommand(cancelling_command(alloc, "repair")?)?
+        .subcommand(cancelling_command(alloc, "relog")?)
 }
 
 fn read_call<'a>(alloc: Global, words: &'a [String]) -> Result<CommandCall<'a>, WordsFault>
@@ -116,6 +125,16 @@ fn read_call<'a>(alloc: Global, words: &'a [String]) -> Result<CommandCall<'a>, 
     }
 }
 
+/// The numbers of the lines to cancel.
+fn cancelled_in(alloc: Global, call: &CommandCall<'_>) -> Result<Vec<u32>, WordsFault>
+    ensures { Means (λ v. v.items) result (option_and_then list_in (call_view call.now).cancel) }
+{
+    match call.cancel {
+        Some(text) => list_of(alloc, text),
+        None => Err(WordsFault::BadWords),
+    }
+}
+
 /// What the words ask for; the first is the program's name.
 ///
 /// Words are bad if `clap` refuses them, as it does a request for help, or if a list isn't numbers
@@ -126,14 +145,17 @@ pub(crate) fn read_words(alloc: Global, words: &[String]) -> Result<Request, Wor
 {
     let call = read_call(alloc, words)?;
     match call.name {
-        "replay" => match call.cancel {
-            Some(text) => Ok(Request::Replay {
-                cancel: list_of(alloc, text)?,
-            }),
-            None => Err(WordsFault::BadWords),
-        },
+        "replay" => Ok(Request::Replay {
+            cancel: cancelled_in(alloc, &call)?,
+        }),
         "record" => Ok(Request::Record),
         "check" => Ok(Request::Check),
+        "repair" => Ok(Request::Repair {
+            cancel: cancelled_in(alloc, &call)?,
+        }),
+        "relog" => Ok(Request::Relog {
+            cancel: cancelled_in(alloc, &call)?,
+        }),
         _ => Err(WordsFault::BadWords),
     }
 }

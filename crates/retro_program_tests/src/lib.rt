@@ -16,6 +16,8 @@ mod logs;
 #[cfg(test)]
 mod programs;
 #[cfg(test)]
+mod repair_tables;
+#[cfg(test)]
 mod rows;
 #[cfg(test)]
 mod tables;

@@ -45,6 +45,22 @@ fn output<T: Threads + Sync + AllocGlobal>(
     Ok((exit, out))
 }
 
+/// Runs the program with some words after the other, each on what the one before it wrote, and with
+/// the last words: what `run` returns then.
+pub fn run_in_turn<T: Threads + Sync + AllocGlobal>(
+    rt: &T,
+    words: &[String],
+    last: &str,
+    input: &str,
+) -> Result<String, Fail> {
+    let mut document = String::from_str(rt.alloc(), input_named(input))?;
+    for given in words {
+        let (_, out) = output(rt, given, document.as_str())?;
+        document = String::from_utf8(out).map_err(|_| "not UTF-8")?;
+    }
+    run(rt, last, document.as_str())
+}
+
 /// The exit status of the program on words and an input, its line for standard error, and what it
 /// writes.
 pub fn run<T: Threads + Sync + AllocGlobal>(

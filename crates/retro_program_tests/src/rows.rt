@@ -1,7 +1,8 @@
 //! The call that each row names, and the test that makes these calls.
 use crate::documents::{log, log_fronts, logged, note, script, script_part, without, written};
 use crate::log_tables::{LOG_LINES, LOGS, NOTES};
-use crate::programs::{run, shell};
+use crate::programs::{run, run_in_turn, shell};
+use crate::repair_tables::REPAIRS;
 use crate::tables::{DOCUMENTS, PROGRAMS, SHELL};
 use retro_rows::rows;
 use std::alloc::AllocGlobal;
@@ -25,6 +26,7 @@ fn called<T: Threads + Sync + AllocGlobal>(
         ("written", [document]) => written(alloc, document),
         ("shell", [entries, lines @ ..]) => shell(rt, entries, lines),
         ("run", [words, input]) => run(rt, words, input),
+        ("in turn", [words @ .., last, input]) => run_in_turn(rt, words, last, input),
         (part, [value]) => script_part(alloc, part, value),
         _ => Err("no such call")?,
     }
@@ -50,6 +52,12 @@ fn rows_hold(rt: HostRuntime) -> Result<(), Fail> {
         first_wrong(&rt, &[SHELL, DOCUMENTS, PROGRAMS])?.as_str(),
         ""
     );
+    Ok(())
+}
+
+#[test]
+fn rows_of_repairs_hold(rt: HostRuntime) -> Result<(), Fail> {
+    assert_eq!(rt; first_wrong(&rt, &[REPAIRS])?.as_str(), "");
     Ok(())
 }
 

@@ -273,6 +273,13 @@ pub fn input_named(name: &str) -> &str {
             r#"{"script":1,"tree":[],"sessions":[[1,"/",0,[]]],"#,
             r#""lines":[[1,1,"echo a > f"],[2,1,"cat f"]]}"#
         ),
+        // Two sessions append to one file.
+        "SHARED" => concat!(
+            r#"{"script":1,"tree":[["/tmp"]],"sessions":[[1,"/",0,[]],[2,"/tmp",0,[]]],"lines":["#,
+            r#"[1,1,"echo one >> /tmp/log"],[2,2,"echo two >> /tmp/log"],"#,
+            r#"[3,1,"echo three >> /tmp/log"],[4,1,"cat /tmp/log"],"#,
+            r#"[5,2,"echo four >> /tmp/log"],[6,1,"cat /tmp/log"]]}"#
+        ),
         "EMPTY_LOG" => r#"{"log":1,"tree":[],"sessions":[],"lines":[]}"#,
         "LOG" => concat!(
             r#"{"lines":[[1,1,"echo a > f",[["cwd","/"],["canwrite","/f",0,"yes"],"#,

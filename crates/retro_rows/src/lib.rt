@@ -8,6 +8,8 @@
 
 mod row;
 mod row_error;
+mod script;
 
 pub use row::{Row, rows};
 pub use row_error::RowError;
+pub use script::script_of;

@@ -1,0 +1,102 @@
+//! The report of a repair, as a JSON text.
+ghost use Rattle.std.specs.Prelude.{◌≡◌, IfOk, map};
+ghost use Rattle.serde_json.specs.View.{view};
+ghost use Rattle.retro_log.specs.Values.{number_data};
+ghost use Rattle.retro_cli.specs.RepairReport.{compensation_data, numbers_with};
+ghost use Rattle.retro_cli.specs.RepairReport.{repair_data, repair_text};
+
+use crate::report::output_values;
+use retro_log::{hex_value, sessions_value, tree_value};
+use retro_redo::{Compensation, Repair, Verdict};
+use retro_tree::NoMem;
+use serde_json::{Value, json};
+use std::alloc::Global;
+
+/// Numbers, as they are.
+fn number_values(alloc: Global, numbers: &[u32]) -> Result<Vec<Value>, NoMem>
+    ensures { IfOk result (λ vs. map view vs.items ≡ map number_data numbers.now) }
+{
+    let mut values = Vec::new(alloc);
+    for number in numbers {
+        values.push(Value::from(*number))?;
+    }
+    Ok(values)
+}
+
+/// The numbers of the lines with a verdict.
+fn lines_with(
+    alloc: Global,
+    verdicts: &[(u32, Verdict)],
+    wanted: Verdict,
+) -> Result<Vec<u32>, NoMem>
+    ensures { IfOk result (λ numbers. numbers.items ≡ numbers_with wanted verdicts.now) }
+{
+    let mut numbers = Vec::new(alloc);
+    for (number, verdict) in verdicts {
+        if *verdict == wanted {
+            numbers.push(*number)?;
+        }
+    }
+    Ok(numbers)
+}
+
+/// The numbers of the lines with a verdict, as values.
+fn verdict_values(
+    alloc: Global,
+    verdicts: &[(u32, Verdict)],
+    wanted: Verdict,
+) -> Result<Vec<Value>, NoMem>
+    ensures { IfOk result (λ vs.
+        map view vs.items ≡ map number_data (numbers_with wanted verdicts.now)) }
+{
+    let numbers = lines_with(alloc, verdicts, wanted)?;
+    number_values(alloc, &numbers)
+}
+
+/// A line's number, what it printed, and what it prints in the repaired run.
+fn compensation_value(alloc: Global, compensation: &Compensation) -> Result<Value, NoMem>
+    ensures { IfOk result (λ v. view v ≡ compensation_data compensation.entry.now) }
+{
+    let before = hex_value(alloc, compensation.before.as_slice())?;
+    let now = hex_value(alloc, compensation.now.as_slice())?;
+    json!(in alloc; [compensation.number, before, now])
+}
+
+fn compensation_values(alloc: Global, compensations: &[Compensation]) -> Result<Vec<Value>, NoMem>
+    ensures { IfOk result (λ vs.
+        map view vs.items ≡ map compensation_data compensations.now) }
+{
+    let mut values = Vec::new(alloc);
+    for compensation in compensations {
+        values.push(compensation_value(alloc, compensation)?)?;
+    }
+    Ok(values)
+}
+
+#[tactic(auto, unfolding(crate::specs::RepairReport::repair_data))]
+fn repair_value(alloc: Global, repair: &Repair) -> Result<Value, NoMem>
+    ensures { IfOk result (λ v. view v ≡ repair_data repair.now) }
+{
+    json!(in alloc; {
+        "cancelled": verdict_values(alloc, &repair.verdicts, Verdict::Cancelled)?,
+        "compensations": compensation_values(alloc, &repair.compensations)?,
+        "met": number_values(alloc, &repair.met)?,
+        "outputs": output_values(alloc, &repair.outputs)?,
+        "redone": verdict_values(alloc, &repair.verdicts, Verdict::Redone)?,
+        "sessions": sessions_value(alloc, &repair.state)?,
+        "tree": tree_value(alloc, &repair.state)?
+    })
+}
+
+/// The report of a repair: the numbers of the cancelled lines; each line whose output differs, with
+/// what it printed and what it prints now; the numbers of the lines that were met; each remaining
+/// line's output; the numbers of the lines that were run again; the sessions, and the tree. It is
+/// compact JSON (RFC 8259) with keys in byte order, and a newline.
+pub(crate) fn repair_report(alloc: Global, repair: &Repair) -> Result<Vec<u8>, NoMem>
+    ensures { IfOk result (λ text. text.items ≡ repair_text repair.now) }
+{
+    let value = repair_value(alloc, repair)?;
+    let mut text = value.to_vec(alloc)?;
+    text.push(b'\n')?;
+    Ok(text)
+}
