@@ -7,8 +7,8 @@ use Rattle.std.proofs.lemmas.List.Elements.{All-cons, All-nil, All-weaker}
 use Rattle.retro_tree.specs.Notes.{touches}
 use Rattle.retro_tree.specs.declared.cell.Cell.{Cell}
 use Rattle.retro_tree.proofs.Small.{and_true, or_first, or_last}
-use Rattle.retro_history.specs.Index.{AreNumbered, IsNextMeeting, Line, meets, numbers_of}
-use Rattle.retro_history.specs.IndexSteps.{next_of, next_touch}
+use Rattle.retro_history.specs.Index.{AreNumbered, IsNextMeeting, Line, meets, next_use, numbers_of}
+use Rattle.retro_history.specs.IndexSteps.{next_of}
 use Rattle.retro_history.specs.Numbers.{earliest, first_above}
 use Rattle.retro_history.proofs.Lines.{RiseFrom, above, earliest_assoc, earliest_none, first_more, first_of_more}
 use Rattle.retro_history.proofs.Lines.{first_of_tests, later, numbers_of_more}
@@ -21,16 +21,16 @@ nothing_met (l ∷ lines) = nothing_met lines
 
 -- the next line for one more cell
 pub next_for_more : (after : ℕ) (c : Cell) (cells : List Cell) (lines : List Line) → AreNumbered lines
-    → earliest (next_touch after c lines) (next_of after cells lines) ≡ next_of after (c ∷ cells) lines
+    → earliest (next_use after c lines) (next_of after cells lines) ≡ next_of after (c ∷ cells) lines
 next_for_more after c cells lines rising =
     first_of_tests 0 after (λ l. touches l.1.notes c) (meets cells) lines rising
 
 -- a loop over cells: what was found so far, with what is still to be found, is what is to be found
 pub next_goes_on : (after : ℕ) (c : Cell) (cells : List Cell) (lines : List Line) (so_far total : Option ℕ)
     → AreNumbered lines → earliest so_far (next_of after (c ∷ cells) lines) ≡ total
-    → earliest (earliest so_far (next_touch after c lines)) (next_of after cells lines) ≡ total
+    → earliest (earliest so_far (next_use after c lines)) (next_of after cells lines) ≡ total
 next_goes_on after c cells lines so_far total rising is =
-    earliest_assoc so_far (next_touch after c lines) (next_of after cells lines)
+    earliest_assoc so_far (next_use after c lines) (next_of after cells lines)
     ∙ ap (earliest so_far) (next_for_more after c cells lines rising) ∙ is
 
 pub next_ends : (after : ℕ) (lines : List Line) (found total : Option ℕ)

@@ -18,8 +18,8 @@ use Rattle.retro_tree.specs.declared.note.Note.{Note}
 use Rattle.retro_tree.specs.declared.note.Note.TheVariants.{Asked, Made}
 use Rattle.retro_tree.proofs.LawLemmas.{child_of_parent, parent_of_child}
 use Rattle.retro_tree.proofs.Small.{tied}
-use Rattle.retro_history.specs.Index.{Line, is_listing_of, lists, numbers_of, read_at, reads}
-use Rattle.retro_history.specs.IndexSteps.{Indexes, next_touch, parent_listings}
+use Rattle.retro_history.specs.Index.{Line, is_listing_of, lists, next_use, numbers_of, read_at, reads}
+use Rattle.retro_history.specs.IndexSteps.{Indexes, parent_listings}
 use Rattle.retro_history.specs.LineUse.{depends, reads_directly}
 use Rattle.retro_history.specs.Numbers.{earliest, first_above, union}
 use Rattle.retro_history.specs.CellHistory.{uses_at}
@@ -224,11 +224,11 @@ next_reader after x (cells.Status sid) lines h =
     ∙ ap (first_above after) (readers_of_session x (cells.Status sid) lines (status_of_session sid) h)
 
 -- the first line above a number that reads or writes a cell
-pub next_touch_found : (after : ℕ) (x : Index) (c : Cell) (lines : List Line) → Indexes x lines
+pub next_use_found : (after : ℕ) (x : Index) (c : Cell) (lines : List Line) → Indexes x lines
     → earliest (earliest (first_above after (uses_at x.cells c).written) (first_above after (uses_at x.cells c).read))
     (first_above after (parent_listings c x.listed))
-    ≡ next_touch after c lines
-next_touch_found after x c lines h =
+    ≡ next_use after c lines
+next_use_found after x c lines h =
     earliest_assoc (first_above after (uses_at x.cells c).written) (first_above after (uses_at x.cells c).read)
     (first_above after (parent_listings c x.listed))
     ∙ (λ i. earliest (first_above after (h.written c i)) (next_reader after x c lines h i))

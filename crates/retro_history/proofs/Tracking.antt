@@ -12,7 +12,7 @@ use Rattle.retro_tree.specs.Notes.{changes}
 use Rattle.retro_tree.specs.declared.cell.Cell.{Cell}
 use Rattle.retro_tree.specs.declared.state.State.{State}
 use Rattle.retro_keep.specs.Recording.{RecordingValue}
-use Rattle.retro_history.specs.Index.{AreNumbered, Line, numbers_of, written_at}
+use Rattle.retro_history.specs.Index.{AreNumbered, Line}
 use Rattle.retro_history.specs.CellHistory.{AllRise, HistoryMap, history_in, history_noted, new_history, uses_at}
 use Rattle.retro_history.specs.IndexSteps.{Indexes, listed_by}
 use Rattle.retro_history.specs.IsHistory.{IsTracked}

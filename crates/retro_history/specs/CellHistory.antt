@@ -1,6 +1,6 @@
 -- What a history keeps of each cell: its versions, and the lines that use it. Only private
 -- contracts, invariants and proofs cite this file.
-use Rattle.std.specs.Prelude.{ℕ, ◌≡◌, List, [], ◌∷◌}
+use Rattle.std.specs.Prelude.{ℕ, List, [], ◌∷◌}
 use Rattle.std.specs.Option.{option_map, unwrap_or}
 use Rattle.std.specs.FinMap as map
 use Rattle.retro_tree.specs.Maps.{update}

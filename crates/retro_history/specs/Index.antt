@@ -1,8 +1,8 @@
--- Which lines of a recording write or read a cell or list a directory, and which line is the next to use one
--- of some cells.
-use Rattle.std.specs.Prelude.{◌≡◌, ℕ, ◌<◌, ◌==◌, Bool, false, ◌&&◌, ◌||◌, List, [], ◌∷◌, map, filter}
+-- Which lines of a recording write or read a cell or list a directory, and which line is the next to use a
+-- cell, or one of some cells.
+use Rattle.std.specs.Prelude.{◌≡◌, ℕ, ◌<◌, ◌==◌, nat_lt, Bool, false, ◌&&◌, ◌||◌, List, [], ◌∷◌, map, filter}
 use Rattle.std.specs.Prelude.{Option, Some, None, IsTrue}
-use Rattle.std.specs.List.{All, list_any}
+use Rattle.std.specs.List.{All, find, list_any}
 use Rattle.retro_tree.specs.Order.{path_eq}
 use Rattle.retro_tree.specs.Path.{PathValue}
 use Rattle.retro_tree.specs.Ask.{supports}
@@ -56,6 +56,14 @@ read_at c lines = numbers_of (λ l. reads l.1.notes c) lines
 -- the numbers of the lines that list a directory
 abbrev pub listed_at : PathValue → List Line → List ℕ
 listed_at p lines = numbers_of (λ l. lists l.1.notes p) lines
+
+-- the numbers of the lines that read or change a cell
+abbrev pub touched_at : Cell → List Line → List ℕ
+touched_at c lines = numbers_of (λ l. touches l.1.notes c) lines
+
+-- the first number above another of a line that reads or changes a cell, or None if there is no such line
+abbrev pub next_use : ℕ → Cell → List Line → Option ℕ
+next_use after c lines = find (λ n. nat_lt after n) (touched_at c lines)
 
 -- whether a line reads or changes one of some cells
 abbrev pub meets : List Cell → Line → Bool

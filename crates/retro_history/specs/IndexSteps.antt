@@ -5,7 +5,6 @@ use Rattle.std.specs.FinMap as map
 use Rattle.retro_tree.specs.Maps.{update}
 use Rattle.retro_tree.specs.Path.{PathValue, parent_of}
 use Rattle.retro_tree.specs.Order.{path_cmp}
-use Rattle.retro_tree.specs.Notes.{touches}
 use Rattle.retro_tree.specs.declared.ask.Ask.TheVariants as asks
 use Rattle.retro_tree.specs.declared.cell.Cell.{Cell}
 use Rattle.retro_tree.specs.declared.cell.Cell.TheVariants as cells
@@ -58,9 +57,6 @@ abbrev pub parent_listings : Cell → ListedMap → List ℕ
 parent_listings (cells.At p) listed = numbers_at listed (parent_of p)
 parent_listings _ listed = []
 
--- the first line above a number that reads or writes a cell, and the first that does so with one of some cells
-abbrev pub next_touch : ℕ → Cell → List Line → Option ℕ
-next_touch after c lines = first_above after (numbers_of (λ l. touches l.1.notes c) lines)
-
+-- the first line above a number that reads or writes one of some cells
 abbrev pub next_of : ℕ → List Cell → List Line → Option ℕ
 next_of after cells lines = first_above after (numbers_of (meets cells) lines)

@@ -1,7 +1,7 @@
 -- The versions of each cell as the history keeps them: with the whole value of each version, and with
 -- the checkpoint that it can be rolled back to. Only private contracts, invariants and proofs cite
 -- this file.
-use Rattle.std.specs.Prelude.{◌≡◌, ℕ, ◌+◌, ◌≤◌, ◌==◌, nat_lt, Bool, if◌then◌else◌, List, [], ◌∷◌, ◌++◌, Option, Some}
+use Rattle.std.specs.Prelude.{ℕ, ◌+◌, ◌≤◌, ◌==◌, nat_lt, Bool, if◌then◌else◌, List, [], ◌∷◌, ◌++◌, Option, Some}
 use Rattle.std.specs.Prelude.{None, map}
 use Rattle.std.specs.List.{filter}
 use Rattle.retro_tree.specs.Change.{cell_of, value_grown, written}

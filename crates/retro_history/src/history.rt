@@ -7,7 +7,8 @@ ghost use Rattle.retro_tree.specs.declared.answer.Answer.TheVariants as Answer;
 ghost use Rattle.retro_effects.specs.ValueRef.{ref_value};
 ghost use Rattle.std.specs.FinMap as map;
 ghost use Rattle.retro_history.specs.History.{parts_before, version_ref_parts};
-ghost use Rattle.retro_history.specs.Index.{IsNextMeeting, listed_at, read_at, written_at};
+ghost use Rattle.retro_history.specs.Index.{IsNextMeeting, listed_at, next_use, read_at};
+ghost use Rattle.retro_history.specs.Index.{written_at};
 ghost use Rattle.retro_keep.specs.Recording.{IsWellFormed};
 ghost use Rattle.retro_history.specs.Recorded.{recorded_before};
 ghost use Rattle.retro_history.specs.Versions.{checkpoints, greatest_below, rolled_back};
@@ -163,6 +164,15 @@ impl<'a> History<'a> {
         ensures { result.now ≡ listed_at path.now self.now.lines }
     {
         self.index.listed_by(path)
+    }
+
+    /// Returns the least number above `after` of a line that reads or writes a cell, or `None` if
+    /// there is no such line. A listing of a directory reads the cells of all its children. Takes a
+    /// few look-ups.
+    pub fn next_use(&self, alloc: Global, cell: &Cell, after: u32) -> Result<Option<u32>, NoMem>
+        ensures { IfOk result (λ next. next ≡ next_use after cell.now self.now.lines) }
+    {
+        self.index.next_use(alloc, cell, after)
     }
 
     /// Returns the least number above `after` of a line that reads or writes one of the cells, or

@@ -4,9 +4,9 @@ ghost use Rattle.std.specs.FinMap as map;
 ghost use Rattle.retro_tree.specs.declared.cell.Cell.{Cell as CellValue};
 ghost use Rattle.retro_history.specs.CellHistory.{history_in, history_noted, uses_at};
 ghost use Rattle.retro_history.specs.Index.{IsNextMeeting, Line};
-ghost use Rattle.retro_history.specs.Index.{listed_at, read_at, written_at};
+ghost use Rattle.retro_history.specs.Index.{listed_at, next_use, read_at, written_at};
 ghost use Rattle.retro_history.specs.Numbers.{rise};
-ghost use Rattle.retro_history.specs.IndexSteps.{Indexes, listed_noted, next_touch, no_lines};
+ghost use Rattle.retro_history.specs.IndexSteps.{Indexes, listed_noted, no_lines};
 ghost use Rattle.retro_history.specs.IndexSteps.{parent_listings};
 
 use crate::cell_histories::CellHistories;
@@ -109,7 +109,7 @@ impl<'a> Index<'a> {
     {
         let mut next = None;
         for cell in cells {
-            next = earliest(next, self.next_touch(alloc, cell, after)?);
+            next = earliest(next, self.next_use(alloc, cell, after)?);
         }
         Ok(next)
     }
@@ -127,15 +127,21 @@ impl<'a> Index<'a> {
     {
         let mut next = None;
         for (cell, _) in overlay.iter() {
-            next = earliest(next, self.next_touch(alloc, cell, after)?);
+            next = earliest(next, self.next_use(alloc, cell, after)?);
         }
         Ok(next)
     }
 
-    /// Returns the least number above `after` of a line that reads or writes a cell.
-    fn next_touch(&self, alloc: Global, cell: &Cell, after: u32) -> Result<Option<u32>, NoMem>
+    /// Returns the least number above `after` of a line that reads or writes a cell, or `None` if
+    /// there is no such line. Takes a few look-ups.
+    pub(crate) fn next_use(
+        &self,
+        alloc: Global,
+        cell: &Cell,
+        after: u32,
+    ) -> Result<Option<u32>, NoMem>
         ensures { IfOk result (λ next. (lines : List Line)
-            → Indexes self.now lines → next ≡ next_touch after cell.now lines) }
+            → Indexes self.now lines → next ≡ next_use after cell.now lines) }
     {
         let listed = first_above(self.parent_listings(alloc, cell)?, after);
         match self.cells.get(cell) {

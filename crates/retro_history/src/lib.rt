@@ -10,10 +10,10 @@
 //! Checkpoints aren't copied: values are borrowed from the recording, and all versions of a file
 //! that grows share one buffer.
 //!
-//! [`History::writers`] and [`History::readers`] give the lines that write or read a cell, and
-//! [`History::next_meeting`] the next line that reads or writes one of some cells, by look-ups in
-//! an index. A listing of a directory reads the cell of each child, also of children that never
-//! existed.
+//! [`History::writers`] and [`History::readers`] give the lines that write or read a cell,
+//! [`History::next_use`] the next line that reads or writes a cell, and [`History::next_meeting`]
+//! the next one that does so with one of some cells, by look-ups in an index. A listing of a
+//! directory reads the cell of each child, also of children that never existed.
 //!
 //! If allocation fails, calls return `NoMem` and leave their arguments unchanged.
 #![tactic(auto)]
@@ -43,4 +43,5 @@ pub use history::History;
 pub use laws::{
     checkpoints_rise, recorded_states_follow_the_lines, versions_give_the_recorded_values,
 };
+pub use note_cells::changed_cell;
 pub use rolled::Rolled;

@@ -6,8 +6,8 @@ ghost use Rattle.retro_history.specs.LineUse.{queried_cell};
 use retro_tree::{Ask, Cell, Change, NoMem, Path};
 use std::alloc::Global;
 
-/// Returns the cell that a change writes.
-pub(crate) fn changed_cell(change: &Change) -> Result<Cell, NoMem>
+/// Returns a copy of the cell that a change writes.
+pub fn changed_cell(change: &Change) -> Result<Cell, NoMem>
     ensures { IfOk result (λ cell. cell ≡ cell_of change.now) }
 {
     match change {

@@ -12,7 +12,7 @@ loop-cell-preserved c = λ lines indexed.
     let rest = c.next.new.self in
     let all = c.args.cells.now.keys in
     ap (λ o. earliest o (next_of after rest lines))
-    (c.earliest-next.ensures ∙ ap (earliest so_far) (c.in_ok-next_touch.ensures lines indexed))
+    (c.earliest-next.ensures ∙ ap (earliest so_far) (c.in_ok-next_use.ensures lines indexed))
     ∙ next_goes_on after c.in-Some.cell.now rest lines so_far (next_of after all lines) indexed.numbered
     (ap (λ (cells : List Cell). earliest so_far (next_of after cells lines)) (sym c.in-Some.ensures.steps)
     ∙ c.loop-cell.invariant lines indexed)

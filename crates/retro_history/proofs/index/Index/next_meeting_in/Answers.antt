@@ -14,7 +14,7 @@ loop-cell-preserved c = λ lines indexed.
     let rest = map (λ (e : Cell × OverlayEntry). e.0) c.next.new.self in
     let all = finmap.keys c.args.overlay.now in
     ap (λ o. earliest o (next_of after rest lines))
-    (c.earliest-next.ensures ∙ ap (earliest so_far) (c.in_ok-next_touch.ensures lines indexed))
+    (c.earliest-next.ensures ∙ ap (earliest so_far) (c.in_ok-next_use.ensures lines indexed))
     ∙ next_goes_on after c.in-Some.cell.now rest lines so_far (next_of after all lines) indexed.numbered
     (ap (λ (es : List (Cell × OverlayEntry)). earliest so_far (next_of after (map (λ e. e.0) es) lines))
     (sym c.in-Some.ensures.steps)
