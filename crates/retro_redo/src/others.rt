@@ -1,20 +1,20 @@
 //! Repairs that run all lines again that aren't cancelled.
-ghost use Rattle.std.specs.Prelude.{◌≡◌, ◌++◌, IfOk, OnOk, map};
+ghost use Rattle.std.specs.Prelude.{◌≡◌, IfOk, map};
 ghost use Rattle.std.specs.List.{flat_map};
 ghost use Rattle.retro_keep.specs.Edit.{is_among};
-ghost use Rattle.retro_keep.specs.Recording.{IsWellFormed, number_in, script_line};
+ghost use Rattle.retro_keep.specs.Recording.{IsWellFormed, noted_at, number_in, script_line};
 ghost use Rattle.retro_redo.specs.Moments.{others};
 ghost use Rattle.retro_redo.specs.Repair.{IsRunAgain, compensation_again, script_of_others};
-ghost use Rattle.retro_redo.specs.Repair.{verdict_again};
+ghost use Rattle.retro_redo.specs.Repair.{text_again, verdict_again};
 
 use crate::cancelled::has_number;
-use crate::compensation::Compensation;
+use crate::compensation::{Compensation, compensate};
 use crate::outcome::outputs;
 use crate::repair::Repair;
 use crate::tally::Tally;
 use crate::verdict::Verdict;
 use retro_keep::{Noted, Recording, Script, ScriptLine, keep_alone};
-use retro_tree::{Bytes, NoMem};
+use retro_tree::NoMem;
 use std::alloc::Global;
 use std::collections::BTreeSet;
 
@@ -99,33 +99,22 @@ fn compensations(
 {
     let mut compensations = Vec::new(alloc);
     for line in lines {
-        compensate(alloc, &mut compensations, line, again)?;
+        let (number, noted) = line;
+        let before = noted.output.as_slice();
+        let now = printed(again, *number);
+        compensate(alloc, &mut compensations, *number, before, now)?;
     }
     Ok(compensations)
 }
 
-/// Appends a line's compensation, if it prints something else than was recorded.
-fn compensate(
-    alloc: Global,
-    compensations: &mut Vec<Compensation>,
-    line: &(u32, Noted),
-    again: &Recording,
-) -> Result<(), NoMem>
-    ensures { OnOk result (compensations.new.items
-        ≡ compensations.old.items ++ compensation_again again.now line.now) }
+/// Returns what a line prints, if it was run again.
+fn printed(again: &Recording, number: u32) -> &[u8]
+    ensures { result.now ≡ text_again (noted_at number again.now.lines) }
 {
-    let now = match again.run_of(line.0) {
-        None => Bytes::new(alloc),
-        Some(noted) => noted.output.copy()?,
-    };
-    if now != line.1.output {
-        compensations.push(Compensation {
-            number: line.0,
-            before: line.1.output.copy()?,
-            now,
-        })?;
+    match again.run_of(number) {
+        None => &[],
+        Some(noted) => noted.output.as_slice(),
     }
-    Ok(())
 }
 
 /// Returns the numbers of lines with their verdicts: all others are redone.

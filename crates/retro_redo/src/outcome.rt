@@ -1,11 +1,11 @@
 //! What the choices of a repair come to.
 ghost use Rattle.std.specs.Prelude.{◌≡◌, ◌++◌, IfOk, OnOk, length, map};
 ghost use Rattle.retro_keep.specs.Recording.{output_in};
-ghost use Rattle.retro_redo.specs.Progress.{compensation_chosen, compensations_chosen, line_chosen};
+ghost use Rattle.retro_redo.specs.Progress.{compensations_chosen, line_chosen};
 ghost use Rattle.retro_redo.specs.Progress.{lines_chosen, noted_of, output_chosen};
 ghost use Rattle.retro_redo.specs.Progress.{verdict_of, verdicts_chosen};
 
-use crate::compensation::Compensation;
+use crate::compensation::{Compensation, compensate};
 use crate::step::Step;
 use crate::verdict::Verdict;
 use retro_keep::Noted;
@@ -120,39 +120,21 @@ pub(crate) fn compensations(
 {
     let mut compensations = Vec::new(alloc);
     for i in 0..lines.len() {
-        compensate(alloc, &mut compensations, &lines[i], &choices[i])?;
+        let (number, noted) = &lines[i];
+        let before = noted.output.as_slice();
+        let now = printed(noted, &choices[i]);
+        compensate(alloc, &mut compensations, *number, before, now)?;
     }
     Ok(compensations)
 }
 
-/// Appends a line's compensation, if it prints something else than was recorded.
-fn compensate(
-    alloc: Global,
-    compensations: &mut Vec<Compensation>,
-    line: &(u32, Noted),
-    step: &Step,
-) -> Result<(), NoMem>
-    ensures { OnOk result (compensations.new.items
-        ≡ compensations.old.items ++ compensation_chosen line.now step.now) }
-{
-    let now = output_chosen(alloc, &line.1, step)?;
-    if now != line.1.output {
-        compensations.push(Compensation {
-            number: line.0,
-            before: line.1.output.copy()?,
-            now,
-        })?;
-    }
-    Ok(())
-}
-
 /// Returns what a line prints by its choice.
-fn output_chosen(alloc: Global, noted: &Noted, step: &Step) -> Result<Bytes, NoMem>
-    ensures { IfOk result (λ output. output ≡ output_chosen noted.now step.now) }
+fn printed<'a>(noted: &'a Noted, step: &'a Step) -> &'a [u8]
+    ensures { result.now ≡ output_chosen noted.now step.now }
 {
     match step {
-        Step::Cancel => Ok(Bytes::new(alloc)),
-        Step::Keep => Ok(noted.output.copy()?),
-        Step::Take(run) => Ok(run.output().copy()?),
+        Step::Cancel => &[],
+        Step::Keep => noted.output.as_slice(),
+        Step::Take(run) => run.output().as_slice(),
     }
 }
