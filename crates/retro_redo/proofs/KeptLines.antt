@@ -16,9 +16,9 @@ use Rattle.retro_redo.specs.declared.step.Step.TheVariants.{Keep}
 use Rattle.retro_redo.proofs.Before.{next_below, one_less}
 use Rattle.retro_redo.proofs.Keeping.{keeps_more, more}
 use Rattle.retro_redo.proofs.Positions.{Line, recorded_more, repaired_more}
-use Rattle.retro_redo.proofs.Stops.{line_at, rest_at}
+use Rattle.retro_redo.proofs.UsedLines.{line_at, rest_at}
 
-length_more : (steps : List Step) (step : Step) → length (steps ++ step ∷ []) ≡ suc (length steps)
+pub length_more : (steps : List Step) (step : Step) → length (steps ++ step ∷ []) ≡ suc (length steps)
 length_more [] step = refl
 length_more (x ∷ steps) step = ap suc (length_more steps step)
 

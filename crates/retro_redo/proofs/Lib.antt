@@ -7,7 +7,11 @@ pub mod Finishing
 pub mod Numbers
 pub mod Before
 pub mod InTurn
-pub mod Stops
-pub mod NextStop
+pub mod Entries
+pub mod CellLoops
+pub mod UsedLines
+pub mod KeptUses
+pub mod Skipped
 pub mod KeptLines
+pub mod StepUses
 pub mod Unmet

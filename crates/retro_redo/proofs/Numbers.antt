@@ -1,6 +1,7 @@
 -- Sets of numbers.
 use Rattle.std.proofs.Common.{◌≡◌, ◌∙◌, ◌==◌, ◌≤◌, ◌||◌, ℕ, Bool, true, false, List, [], ◌∷◌, Option, Some, None, cond}
-use Rattle.std.proofs.Common.{refl, sym, ap, arith, subst, Less, ◌<◌, Bor, IfSome, IsTrue, MatchOption}
+use Rattle.std.proofs.Common.{refl, sym, ap, arith, subst, Less, Equal, ◌<◌, Bor, IfSome, IsTrue, MatchOption}
+use Rattle.std.proofs.Common.{◌⊎◌, inl, inr}
 use Rattle.std.specs.List.{AllByRecursion}
 use Rattle.std.specs.List.Sorted.{IsStrictlySortedBy}
 use Rattle.std.proofs.lemmas.Grind.{common_steps}
@@ -11,7 +12,7 @@ use Rattle.std.specs.Ordering.{is_gt, nat_cmp}
 use Rattle.std.specs.BTreeSet.{BTreeSet, contains}
 use Rattle.std.specs.Cmp.{nat_cmp_is, unsigned_ties}
 use Rattle.std.proofs.lemmas.Map.Keys.{le_from_not_gt}
-use Rattle.std.proofs.lemmas.Bool.{true≢false, eqb-true, eq-eqb}
+use Rattle.std.proofs.lemmas.Bool.{true≢false, cases_order, eqb-true, eq-eqb}
 use Rattle.retro_keep.specs.Edit.{first_unknown, is_among}
 use Rattle.retro_redo.specs.Stops.{IsNextAmong}
 
@@ -111,45 +112,47 @@ is_least p (k ∷ keys) n sorted h = by_test (p k) refl (is_least p keys n sorte
 
 -- ---- the next number of a set
 
--- a number above another, as a set has it
-abbrev IsAbove : ℕ → ℕ → Type 0
-IsAbove after n = (nat_cmp after n ≡ Less) × Unit {0}
+-- a number from another on, as a set has it
+abbrev IsFrom : ℕ → ℕ → Type 0
+IsFrom from n = (is_gt (nat_cmp from n) ≡ false) × Unit {0}
 
-is_above : (after n : ℕ) → after < n → IsAbove after n
-is_above after n lt = (sym (nat_cmp_is after n Less lt), tt)
-
-above_is : (after n : ℕ) → nat_cmp after n ≡ Less → after < n
-above_is after n h = grind (arith, common_steps, h)
+is_from : (from n : ℕ) → from ≤ n → IsFrom from n
+is_from from n le = (by_order (cases_order from n), tt)
+  where
+    by_order : (from ≡ n) ⊎ ((from < n) ⊎ (n < from)) → is_gt (nat_cmp from n) ≡ false
+    by_order (inl same) = ap is_gt (sym (nat_cmp_is from n Equal same))
+    by_order (inr (inl less)) = ap is_gt (sym (nat_cmp_is from n Less less))
+    by_order (inr (inr more)) = absurd (omega (arith, le, more))
 
 -- the first number of a range without end
-pub next_among : (set : BTreeSet ℕ) (after : ℕ) (range : List ℕ) (found : Option (Bor ℕ)) (rest : List ℕ)
+pub next_among : (set : BTreeSet ℕ) (from : ℕ) (range : List ℕ) (found : Option (Bor ℕ)) (rest : List ℕ)
     (copied : Option ℕ)
-    → IfSome (slice_get range 0) (λ k. IsAbove after k × IsTrue (contains nat_cmp set k))
-    → ((q : ℕ) → IsAbove after q → IsTrue (contains nat_cmp set q)
+    → IfSome (slice_get range 0) (λ k. IsFrom from k × IsTrue (contains nat_cmp set k))
+    → ((q : ℕ) → IsFrom from q → IsTrue (contains nat_cmp set q)
     → IfSome (slice_get range 0) (λ k. is_gt (nat_cmp k q) ≡ false))
-    → (range ≡ [] → (q : ℕ) → IsAbove after q → contains nat_cmp set q ≡ false)
+    → (range ≡ [] → (q : ℕ) → IsFrom from q → contains nat_cmp set q ≡ false)
     → MatchOption found ((range ≡ []) × (rest ≡ [])) (λ x. range ≡ x.now ∷ rest) → copied ≡ option_copied found
-    → IsNextAmong set.keys after copied
-next_among set after range found rest copied first least none steps same =
-    subst (IsNextAmong set.keys after) (sym same) (by_found found steps)
+    → IsNextAmong set.keys from copied
+next_among set from range found rest copied first least none steps same =
+    subst (IsNextAmong set.keys from) (sym same) (by_found found steps)
   where
     head : (x : Bor ℕ) → range ≡ x.now ∷ rest → slice_get range 0 ≡ Some x.now
     head x e = ap (λ r. slice_get r 0) e
 
-    least_of : (x : Bor ℕ) → range ≡ x.now ∷ rest → (m : ℕ) → after < m → m < x.now → (b : Bool)
+    least_of : (x : Bor ℕ) → range ≡ x.now ∷ rest → (m : ℕ) → from ≤ m → m < x.now → (b : Bool)
         → is_among set.keys m ≡ b → is_among set.keys m ≡ false
     least_of x e m low high false f = f
     least_of x e m low high true f =
         let le = le_from_not_gt x.now m
         (subst (λ o. IfSome o (λ k. is_gt (nat_cmp k m) ≡ false)) (head x e)
-        (least m (is_above after m low) (contains_among set m ∙ f))) in absurd (omega (arith, le, high))
+        (least m (is_from from m low) (contains_among set m ∙ f))) in absurd (omega (arith, le, high))
 
     by_found : (o : Option (Bor ℕ)) → MatchOption o ((range ≡ []) × (rest ≡ [])) (λ x. range ≡ x.now ∷ rest)
-        → IsNextAmong set.keys after (option_copied o)
-    by_found None e = λ n lt. sym (contains_among set n) ∙ none e.0 n (is_above after n lt)
+        → IsNextAmong set.keys from (option_copied o)
+    by_found None e = λ n le. sym (contains_among set n) ∙ none e.0 n (is_from from n le)
     by_found (Some x) e =
-        let at = subst (λ o. IfSome o (λ k. IsAbove after k × IsTrue (contains nat_cmp set k))) (head x e) first in (
-          above_is after x.now at.0.0,
+        let at = subst (λ o. IfSome o (λ k. IsFrom from k × IsTrue (contains nat_cmp set k))) (head x e) first in (
+          le_from_not_gt from x.now at.0.0,
           sym (contains_among set x.now) ∙ at.1,
           λ m low high. least_of x e m low high (is_among set.keys m) refl,
         )

@@ -22,6 +22,19 @@ recorded_holds (k ∷ lines) [] l s all next =
 recorded_holds (k ∷ lines) (step ∷ steps) l s all next = recorded_holds lines steps l (after k.1.notes s) all.1 next
 
 -- where p is the progress as contracts see it, and q as its fields are
+pub met_now : (p q : ProgressValue) (overlay : OverlayMap) (met : List ℕ) (b : Bool) (k : Line) → q ≡ p
+    → Keeps q overlay met → next_line p ≡ Some k
+    → ((s t : State) → IsExact overlay s t → MatchBool b (Met k.1.notes s t) (AgreeOn k.1.notes s t))
+    → (l : Line) → next_line p ≡ Some l
+    → MatchBool b (Met l.1.notes (recorded_now p) (repaired_now p))
+    (AgreeOn l.1.notes (recorded_now p) (repaired_now p))
+met_now p q overlay met b k e keeps next decided l next_is =
+    let both : ◌≡◌ {A = Option Line} (Some k) (Some l) = sym next ∙ next_is in
+    let same : k ≡ l = cc in
+    let exact = subst (λ x. IsExact overlay (recorded_now x) (repaired_now x)) e keeps.exact in
+    subst (λ (x : Line). MatchBool b (Met x.1.notes (recorded_now p) (repaired_now p))
+    (AgreeOn x.1.notes (recorded_now p) (repaired_now p))) same (decided (recorded_now p) (repaired_now p) exact)
+
 pub unmet_holds : (p q : ProgressValue) (overlay : OverlayMap) (met : List ℕ) (b : Bool) (k : Line) → q ≡ p
     → Keeps q overlay met → next_line p ≡ Some k
     → ((s t : State) → IsExact overlay s t → MatchBool b (Met k.1.notes s t) (AgreeOn k.1.notes s t))

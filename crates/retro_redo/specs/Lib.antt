@@ -1,6 +1,8 @@
 pub mod Moments
 pub mod Progress
 pub mod ProgressCode
+pub mod NextUses
+pub mod NextUsesCode
 pub mod Keeping
 pub mod Final
 pub mod RepairFault

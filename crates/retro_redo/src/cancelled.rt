@@ -11,7 +11,6 @@ use retro_keep::Recording;
 use retro_tree::NoMem;
 use std::alloc::Global;
 use std::collections::BTreeSet;
-use std::ops::Bound;
 
 /// Returns numbers as a set.
 pub(crate) fn number_set(alloc: Global, numbers: &[u32]) -> Result<BTreeSet<u32>, NoMem>
@@ -40,10 +39,9 @@ pub(crate) fn first_missing(recording: &Recording, numbers: &BTreeSet<u32>) -> O
     None
 }
 
-/// Returns the least of the numbers above another, or `None` if there is none.
-pub(crate) fn number_above(numbers: &BTreeSet<u32>, after: u32) -> Option<u32>
-    ensures { IsNextAmong numbers.now.keys after result }
+/// Returns the least of the numbers from another on, or `None` if there is none.
+pub(crate) fn number_from(numbers: &BTreeSet<u32>, from: u32) -> Option<u32>
+    ensures { IsNextAmong numbers.now.keys from result }
 {
-    let above = (Bound::Excluded(after), Bound::Unbounded);
-    numbers.range(above).next().copied()
+    numbers.range(from..).next().copied()
 }

@@ -6,9 +6,11 @@
 //! whose notes don't hold in the repaired state is run again; every other line is kept as recorded.
 //!
 //! Lines that aren't met are kept without being looked at: [`Repairer::skip_unmet`] goes to the
-//! next line that is cancelled or met, by the index of the history. [`Repairer::ground`] lends what
-//! a guess needs, a run of a line ahead of its turn: its views show recorded states with the
-//! overlay laid over them.
+//! next line that is cancelled or met. A repair keeps the number of the next line that uses each
+//! cell in which the states differ, so it finds that line by its number.
+//!
+//! [`Repairer::ground`] lends what a guess needs, a run of a line ahead of its turn: its views show
+//! recorded states with the overlay laid over them.
 //!
 //! [`repair_alone`] repairs a recording on one thread. State and outputs of the [`Repair`] are
 //! those of running all other lines one by one. Where an output differs from the recorded one, it
@@ -22,6 +24,7 @@ mod compensation;
 mod gate;
 mod ground;
 mod laws;
+mod next_uses;
 mod others;
 mod outcome;
 mod progress;

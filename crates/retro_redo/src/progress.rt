@@ -1,6 +1,6 @@
 //! The progress of a repair.
 ghost use Rattle.std.specs.Prelude.{◌≡◌, ◌↔◌, ◌∷◌, ◌++◌, [], IfOk, IfSome, None, IsSome};
-ghost use Rattle.std.specs.Prelude.{IsTrue, MatchBool, OnErr, OnOk, Some, ◌⊎◌, true, false, ℕ};
+ghost use Rattle.std.specs.Prelude.{IsTrue, MatchBool, OnErr, OnOk, Some, ◌&&◌, not, false, ℕ};
 ghost use Rattle.std.specs.Option.{option_copied};
 ghost use Rattle.retro_tree.specs.Commit.{committed};
 ghost use Rattle.retro_tree.specs.Exact.{IsExact, IsTight};
@@ -11,6 +11,7 @@ ghost use Rattle.retro_keep.specs.Recording.{IsRecordingOf, IsWellFormed, script
 ghost use Rattle.retro_keep.specs.declared.noted.Noted.{Noted as NotedValue};
 ghost use Rattle.retro_redo.specs.Cancelling.{AreLines};
 ghost use Rattle.retro_redo.specs.Progress.{IsRunTaken, MayStep, ProgressValue};
+ghost use Rattle.retro_redo.specs.NextUses.{starts_at};
 ghost use Rattle.retro_redo.specs.Progress.{cancelled_in, chosen, is_cancel};
 ghost use Rattle.retro_redo.specs.Progress.{next_line, next_number};
 ghost use Rattle.retro_redo.specs.Progress.{recorded_now, repaired_now};
@@ -21,13 +22,14 @@ ghost use Rattle.retro_redo.specs.Skipping.{IsSkip};
 use crate::cancelled::has_number;
 use crate::gate::{Gate, Turn};
 use crate::ground::Ground;
+use crate::next_uses::NextUses;
 use crate::others::run_others;
 use crate::outcome::{chosen_lines, compensations, outputs, verdicts};
 use crate::repair::Repair;
 use crate::skipping::{push_kept, unmet_lines};
 use crate::step::Step;
 use crate::tally::Tally;
-use retro_effects::{Cells, Combined, advance, equiv, is_met};
+use retro_effects::{Cells, Combined, advance, equiv};
 use retro_history::History;
 use retro_keep::{Noted, Recording};
 use retro_shell::{Run, run_line};
@@ -37,24 +39,26 @@ use std::collections::BTreeSet;
 use std::marker::Model;
 
 /// The lines of a recording that a repair has settled, in order, and what their choices come to:
-/// the cells in which the repaired state differs from the recorded one, and the lines that were
-/// met.
+/// the cells in which the repaired state differs from the recorded one, the next lines that use
+/// these cells, and the lines that were met.
 ///
-/// It doesn't know the recorded states. Calls that need the one before the next line are given it,
-/// as a view or as the values of its cells.
+/// It knows neither the recorded states nor the history. Calls that need the state before the next
+/// line are given it, as a view or as the values of its cells.
 #[derive(Drop)]
 pub(crate) struct Progress<'a> {
     recording: &'a Recording,
     cancelled: BTreeSet<u32>,
     choices: Vec<Step>,
     overlay: Overlay,
+    uses: NextUses,
     met: Vec<u32>,
 }
 
 impl<'a> Model for Progress<'a> {
     ghost use Rattle.retro_redo.specs.Progress.{ProgressValue};
     ghost use Rattle.retro_redo.specs.ProgressCode.{coded_progress};
-    ghost use Rattle.retro_redo.specs.Keeping.{Keeps};
+    ghost use Rattle.std.specs.Prelude.{drop, length};
+    ghost use Rattle.retro_redo.specs.Keeping.{Keeps, KeepsUses};
 
     ghost Value = { ProgressValue };
 
@@ -70,7 +74,8 @@ impl<'a> Model for Progress<'a> {
       recording = a.recording.now;
       cancel = a.cancelled.keys;
       choices = a.choices.items;
-    }) a.overlay a.met.items };
+    }) a.overlay a.met.items
+        × KeepsUses a.overlay (drop (length a.choices.items) a.recording.now.lines) a.uses };
 }
 
 impl<'a> Progress<'a> {
@@ -89,6 +94,7 @@ impl<'a> Progress<'a> {
             cancelled,
             choices: Vec::new(alloc),
             overlay: Overlay::new(alloc),
+            uses: NextUses::new(alloc),
             met: Vec::new(alloc),
         }
     }
@@ -130,7 +136,7 @@ impl<'a> Progress<'a> {
             → Holds l.1.notes (repaired_now self.now) }
     {
         let line = self.line().unwrap();
-        is_met(&line.1.notes, &self.overlay)
+        self.uses.has_use_at(line.0)
     }
 
     /// Returns whether the notes of the next line hold in the repaired state.
@@ -167,13 +173,16 @@ impl<'a> Progress<'a> {
         run
     }
 
-    /// Settles the next line. `recorded` is the recorded state before it.
+    /// Settles the next line. `history` is the recording's, and `recorded` the recorded state
+    /// before the line.
     pub(crate) fn step<C: Cells>(
         &mut self,
         alloc: Global,
+        history: &History<'_>,
         recorded: &C,
         step: Step,
     ) -> Result<(), NoMem>
+        requires history { history.now ≡ self.old.recording }
         requires next { IsSome (next_line self.old) }
         requires recorded { C.state recorded.now ≡ recorded_now self.old }
         requires may { (l : ℕ × NotedValue) → next_line self.old ≡ Some l
@@ -185,10 +194,19 @@ impl<'a> Progress<'a> {
     {
         check_run(&step);
         let line = self.line().unwrap();
-        let is_met = is_step_met(&step, &line.1, &self.overlay);
+        let is_met = is_step_met(&step, line.0, &self.uses);
         self.choices.reserve(1)?;
         self.met.reserve(1)?;
-        advance_by(alloc, &mut self.overlay, recorded, &line.1, &step)?;
+        // Uses that were added stay if memory runs out: each is of a line that uses its cell.
+        if let Err(error) = self.uses.add_line(alloc, history, line, &step) {
+            self.uses.prune(0, &self.overlay);
+            return Err(error);
+        }
+        if let Err(error) = advance_by(alloc, &mut self.overlay, recorded, &line.1, &step) {
+            self.uses.prune(0, &self.overlay);
+            return Err(error);
+        }
+        self.uses.prune(line.0, &self.overlay);
         self.choices.push_reserved(step);
         if is_met {
             self.met.push_reserved(line.0);
@@ -196,15 +214,14 @@ impl<'a> Progress<'a> {
         Ok(())
     }
 
-    /// Keeps the next lines, up to one that is cancelled or met. `history` is the recording's.
-    pub(crate) fn skip_unmet(&mut self, alloc: Global, history: &History<'_>) -> Result<(), NoMem>
-        requires { history.now ≡ self.old.recording }
+    /// Keeps the next lines, up to one that is cancelled or met.
+    pub(crate) fn skip_unmet(&mut self) -> Result<(), NoMem>
         ensures ok { OnOk result (IsSkip self.old self.new) }
         ensures err { OnErr result (self.new ≡ self.old) }
     {
         let _ = self.line();
         let settled = self.choices.len();
-        let count = unmet_lines(alloc, settled, &self.cancelled, &self.overlay, history)?;
+        let count = unmet_lines(self.recording, settled, &self.cancelled, &self.uses);
         push_kept(&mut self.choices, count)?;
         Ok(())
     }
@@ -242,6 +259,7 @@ impl<'a> Progress<'a> {
             cancelled,
             choices,
             overlay: _,
+            uses: _,
             met,
         } = self;
         let lines = recording.lines();
@@ -275,16 +293,12 @@ fn check_run(step: &Step)
     }
 }
 
-/// Returns whether a line is met for which a step was chosen. A cancelled line isn't met.
-fn is_step_met(step: &Step, noted: &Noted, overlay: &Overlay) -> bool
-    ensures { (s t : State) → IsExact overlay.now s t → MatchBool result
-        ((is_cancel step.now ≡ false) × Met noted.now.notes s t)
-        ((is_cancel step.now ≡ true) ⊎ AgreeOn noted.now.notes s t) }
+/// Returns whether the line with a number is met, for which a step was chosen. A cancelled line
+/// isn't met.
+fn is_step_met(step: &Step, number: u32, uses: &NextUses) -> bool
+    ensures { result ≡ (not (is_cancel step.now) && starts_at number uses.now) }
 {
-    if step.is_cancel() {
-        return false;
-    }
-    is_met(&noted.notes, overlay)
+    !step.is_cancel() && uses.has_use_at(number)
 }
 
 /// Advances an exact overlay by a line, for which a step was chosen.

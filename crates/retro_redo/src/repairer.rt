@@ -166,7 +166,7 @@ impl<'h, 'a> Repairer<'h, 'a> {
     {
         let _ = self.progress.line();
         let recorded = self.history.at(number);
-        self.progress.step(alloc, &recorded, step)
+        self.progress.step(alloc, self.history, &recorded, step)
     }
 
     /// Settles the next line: cancels it if it is cancelled, keeps it if it isn't met or its notes
@@ -198,13 +198,13 @@ impl<'h, 'a> Repairer<'h, 'a> {
 
     /// Keeps the next lines that are neither cancelled nor met, without looking at them, and
     /// returns the number of the next line to settle, or `None` if all lines are settled. That line
-    /// is cancelled or met. Takes a few look-ups for each cell in which the states differ.
-    pub fn skip_unmet(&mut self, alloc: Global) -> Result<Option<u32>, NoMem>
+    /// is cancelled or met, and is found by its number.
+    pub fn skip_unmet(&mut self) -> Result<Option<u32>, NoMem>
         ensures next { IfOk result (λ number. number ≡ next_number self.new) }
         ensures ok { OnOk result (IsSkip self.old self.new) }
         ensures err { OnErr result (self.new ≡ self.old) }
     {
-        self.progress.skip_unmet(alloc, self.history)?;
+        self.progress.skip_unmet()?;
         Ok(self.next())
     }
 

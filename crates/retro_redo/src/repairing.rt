@@ -59,7 +59,7 @@ pub fn repair_watched<G: Gate>(
 {
     let history = History::of(alloc, recording)?;
     let mut repairer = Repairer::new(alloc, recording, &history, cancel)?;
-    while let Some(number) = repairer.skip_unmet(alloc)? {
+    while let Some(number) = repairer.skip_unmet()? {
         repairer.settle(alloc, number, gate)?;
     }
     repairer.finish(alloc, Tally::none())

@@ -1,86 +1,67 @@
-use Rattle.std.proofs.Common.{◌≡◌, ◌∙◌, List, MatchBool, ap, drop, false, true}
-use Rattle.std.proofs.Common.{inl, inr, length, nat_lt, rules, subst, sym}
-use Rattle.std.specs.FinMap as map
+use Rattle.std.proofs.Common.{◌≡◌, ◌∙◌, List, None, Option, Some, ap, drop, length, nat_lt, rules, subst, sym, ℕ}
 use Rattle.std.specs.List.{slice_get}
-use Rattle.std.specs.List.Sorted.{IsNonDecreasingBy, IsPartitionPoint}
+use Rattle.std.specs.List.Sorted.{IsNonDecreasingBy}
 use Rattle.std.specs.Option.{option_copied}
 use Rattle.std.proofs.lemmas.List.Sorted.{IsPartitionedBy-ltb, IsPartitionPoint-from_clause}
-use Rattle.retro_tree.specs.Notes.{AgreeOn}
-use Rattle.retro_effects.specs.Meeting.{Met}
 use Rattle.retro_keep.specs.Edit.{is_among}
-use Rattle.retro_keep.specs.Recording.{IsWellFormed, RecordingValue}
+use Rattle.retro_redo.specs.NextUses.{first_number}
 use Rattle.retro_redo.specs.Skipping.{AreUnmet}
-use Rattle.retro_redo.specs.Stops.{IsNextOf, is_stop}
+use Rattle.retro_redo.specs.Stops.{sooner}
 use Rattle.retro_redo.proofs.Finishing.{none_is}
 use Rattle.retro_redo.proofs.Positions.{Line}
-use Rattle.retro_redo.proofs.Stops.{first_stops, no_lines, numbers_rise, up_to_number, up_to_the_end}
+use Rattle.retro_redo.proofs.Skipped.{AreUnder, all_under, skipped_from, some_under}
+use Rattle.retro_redo.proofs.UsedLines.{no_more, numbers_rise}
 use Rattle.retro_redo.proofs.skipping.unmet_lines.Goals as goal
 
 pub returns-in_default : goal.returns-in_default
 returns-in_default c =
-    let same = c.lines-lines.ensures.value ∙ ap (λ (r : RecordingValue). r.lines) c.recording.ensures in
-    λ s t exact.
-    no_lines (is_among c.args.cancelled.now.keys) c.args.history.now.lines c.args.from s t
-    (sym (ap (λ (ls : List Line). slice_get ls c.args.from) same) ∙ sym c.line_at.ensures.line
-    ∙ ap option_copied (none_is c.line_at.result c.in_default.not-Some))
-
-pub returns-then-has_number : goal.returns-then-has_number
-returns-then-has_number c =
-    let same = c.lines-lines.ensures.value ∙ ap (λ (r : RecordingValue). r.lines) c.recording.ensures in
-    λ s t exact.
-    first_stops (is_among c.args.cancelled.now.keys) c.args.history.now.lines c.args.from c.in-Some.line.now s t
-    (sym (ap (λ (ls : List Line). slice_get ls c.args.from) same) ∙ sym c.line_at.ensures.line
-    ∙ ap option_copied c.in-Some.is)
-    (inl (sym c.has_number.ensures ∙ c.if-has_number.true))
-
-pub returns-then-is_met : goal.returns-then-is_met
-returns-then-is_met c =
-    let same = c.lines-lines.ensures.value ∙ ap (λ (r : RecordingValue). r.lines) c.recording.ensures in
-    let notes = c.in-Some.line.now.1.notes in
-    λ s t exact.
-    first_stops (is_among c.args.cancelled.now.keys) c.args.history.now.lines c.args.from c.in-Some.line.now s t
-    (sym (ap (λ (ls : List Line). slice_get ls c.args.from) same) ∙ sym c.line_at.ensures.line
-    ∙ ap option_copied c.in-Some.is)
-    (inr (subst (λ b. MatchBool b (Met notes s t) (AgreeOn notes s t)) c.if-is_met.true (c.is_met.ensures s t exact)))
+    let lines = c.args.recording.now.lines in
+    let none = no_more lines c.args.from
+    (sym (ap (λ (ls : List Line). slice_get ls c.args.from) c.lines-lines.ensures.value) ∙ sym c.line_at.ensures.line
+    ∙ ap option_copied (none_is c.line_at.result c.in_default.not-Some)) in
+    λ overlay keeps. (
+      λ s t exact. subst (λ ls. AreUnmet (is_among c.args.cancelled.now.keys) 0 ls s t) (sym none) tt,
+      keeps,
+    )
 
 pub returns-in-None : goal.returns-in-None
 returns-in-None c =
-    let same = c.lines-lines.ensures.value ∙ ap (λ (r : RecordingValue). r.lines) c.recording.ensures in
-    let notes = c.in-Some.line.now.1.notes in
-    let numbers = c.args.cancelled.now.keys in
-    let lines = c.args.history.now.lines in
-    λ s t exact.
-    subst (λ n. AreUnmet (is_among numbers) n (drop c.args.from lines) s t)
-    (sym (ap length (c.lines_from-rest.ensures ∙ ap (drop c.args.from) same)))
-    (up_to_the_end numbers c.args.overlay.now lines c.args.from c.in-Some.line.now
-    (subst IsWellFormed c.recording.ensures c.lines-lines.ensures.well_formed).rising
-    (sym (ap (λ (ls : List Line). slice_get ls c.args.from) same) ∙ sym c.line_at.ensures.line
-    ∙ ap option_copied c.in-Some.is) (sym c.has_number.ensures ∙ c.if-has_number.false)
-    (λ u v e. subst (λ b. MatchBool b (Met notes u v) (AgreeOn notes u v)) c.if-is_met.false (c.is_met.ensures u v e))
-    (subst (IsNextOf (is_stop numbers (map.keys c.args.overlay.now)) c.in-Some.line.now.0 lines) c.in-None.is
-    c.in_ok-next_stop.ensures) s t exact)
+    let lines = c.args.recording.now.lines in
+    let from = c.args.from in
+    let one = c.number_from.result in
+    let rest_is = c.lines_from-rest.ensures ∙ ap (drop from) c.lines-lines.ensures.value in
+    let stop_is : sooner one (first_number c.args.uses.now) ≡ None =
+    ap (sooner one) (sym c.next.ensures) ∙ sym c.in-None.ensures in
+    λ overlay keeps.
+    skipped_from c.args.cancelled.now.keys overlay c.args.uses.now c.args.recording.now from c.in-Some.line.now one
+    (length c.lines_from-rest.result.now) c.lines-lines.ensures.well_formed.rising
+    (sym (ap (λ (ls : List Line). slice_get ls from) c.lines-lines.ensures.value) ∙ sym c.line_at.ensures.line
+    ∙ ap option_copied c.in-Some.is) c.requires c.number_from.ensures
+    (subst (λ (o : Option ℕ). AreUnder o (length c.lines_from-rest.result.now) (drop from lines)) (sym stop_is)
+    (subst (AreUnder None (length c.lines_from-rest.result.now)) rest_is (all_under c.lines_from-rest.result.now)))
+    keeps
 
-pub returns-in-Some-2 : goal.returns-in-Some-2
-returns-in-Some-2 c =
-    let same = c.lines-lines.ensures.value ∙ ap (λ (r : RecordingValue). r.lines) c.recording.ensures in
-    let notes = c.in-Some.line.now.1.notes in
-    let numbers = c.args.cancelled.now.keys in
-    let lines = c.args.history.now.lines in
-    let number = c.in-Some-2.number in
-    let rise = (subst IsWellFormed c.recording.ensures c.lines-lines.ensures.well_formed).rising in
-    let rest_is = c.lines_from-rest.ensures ∙ ap (drop c.args.from) same in
-    let parted = IsPartitionPoint-from_clause (λ (x : Line). nat_lt x.0 number) c.lines_from-rest.result.now
-    c.partition_point.result c.partition_point.ensures.partitioned
+pub returns-in-Some-sooner : goal.returns-in-Some-sooner
+returns-in-Some-sooner c =
+    let lines = c.args.recording.now.lines in
+    let from = c.args.from in
+    let one = c.number_from.result in
+    let number = c.in-Some-sooner.number in
+    let n = c.partition_point.result in
+    let rise = c.lines-lines.ensures.well_formed.rising in
+    let rest_is = c.lines_from-rest.ensures ∙ ap (drop from) c.lines-lines.ensures.value in
+    let stop_is : sooner one (first_number c.args.uses.now) ≡ Some number =
+    ap (sooner one) (sym c.next.ensures) ∙ sym c.in-Some-sooner.ensures in
+    let parted = IsPartitionPoint-from_clause (λ (x : Line). nat_lt x.0 number) c.lines_from-rest.result.now n
+    c.partition_point.ensures.partitioned
     (IsPartitionedBy-ltb (λ (x : Line). x.0) c.lines_from-rest.result.now number
-    (subst (IsNonDecreasingBy (λ (x : Line). x.0)) (sym rest_is) (numbers_rise 0 lines c.args.from rise)))
+    (subst (IsNonDecreasingBy (λ (x : Line). x.0)) (sym rest_is) (numbers_rise 0 lines from rise)))
     (λ a r g called. search rules) in
-    λ s t exact.
-    up_to_number numbers c.args.overlay.now lines c.args.from c.in-Some.line.now rise
-    (sym (ap (λ (ls : List Line). slice_get ls c.args.from) same) ∙ sym c.line_at.ensures.line
-    ∙ ap option_copied c.in-Some.is) (sym c.has_number.ensures ∙ c.if-has_number.false)
-    (λ u v e. subst (λ b. MatchBool b (Met notes u v) (AgreeOn notes u v)) c.if-is_met.false (c.is_met.ensures u v e))
-    number c.partition_point.result
-    (subst (IsNextOf (is_stop numbers (map.keys c.args.overlay.now)) c.in-Some.line.now.0 lines) c.in-Some-2.is
-    c.in_ok-next_stop.ensures)
-    (subst (λ (ls : List Line). IsPartitionPoint (λ (x : Line). nat_lt x.0 number ≡ true)
-    (λ (x : Line). nat_lt x.0 number ≡ false) ls c.partition_point.result) rest_is parted) s t exact
+    λ overlay keeps.
+    skipped_from c.args.cancelled.now.keys overlay c.args.uses.now c.args.recording.now from c.in-Some.line.now one n
+    rise
+    (sym (ap (λ (ls : List Line). slice_get ls from) c.lines-lines.ensures.value) ∙ sym c.line_at.ensures.line
+    ∙ ap option_copied c.in-Some.is) c.requires c.number_from.ensures
+    (subst (λ (o : Option ℕ). AreUnder o n (drop from lines)) (sym stop_is)
+    (subst (AreUnder (Some number) n) rest_is
+    (some_under number c.lines_from-rest.result.now n c.partition_point.ensures.bound parted))) keeps

@@ -8,25 +8,28 @@ use Rattle.retro_redo.proofs.progress.Progress.finish.Goals as goal
 pub verdicts-requires : goal.verdicts-requires
 verdicts-requires c =
     ap length c.as_slice.ensures.value
-    ∙ all_chosen c.args.self _ c.self.inside.overlay c.self.inside.met.items c.self.view_is c.self.invariant c.requires
+    ∙ all_chosen c.args.self _ c.self.inside.overlay c.self.inside.met.items c.self.view_is c.self.invariant.0
+    c.requires
     ∙ sym (ap length c.lines-lines.ensures.value)
 
 pub compensations-requires : goal.compensations-requires
 compensations-requires c =
     ap length c.as_slice-2.ensures.value
-    ∙ all_chosen c.args.self _ c.self.inside.overlay c.self.inside.met.items c.self.view_is c.self.invariant c.requires
+    ∙ all_chosen c.args.self _ c.self.inside.overlay c.self.inside.met.items c.self.view_is c.self.invariant.0
+    c.requires
     ∙ sym (ap length c.lines-lines.ensures.value)
 
 pub chosen_lines-requires : goal.chosen_lines-requires
 chosen_lines-requires c =
     ap length c.as_slice-3.ensures.value
-    ∙ all_chosen c.args.self _ c.self.inside.overlay c.self.inside.met.items c.self.view_is c.self.invariant c.requires
+    ∙ all_chosen c.args.self _ c.self.inside.overlay c.self.inside.met.items c.self.view_is c.self.invariant.0
+    c.requires
     ∙ sym (ap length c.lines-lines.ensures.value)
 
 pub returns-in_default-clause-repair : goal.returns-in_default-clause-repair
 returns-in_default-clause-repair c =
     if_ok_all c.run_others.result (λ repair is. absurd
-    (found_none c.args.self _ c.self.inside.overlay c.self.inside.met.items c.self.view_is c.self.invariant
+    (found_none c.args.self _ c.self.inside.overlay c.self.inside.met.items c.self.view_is c.self.invariant.0
     c.lines-lines.ensures.well_formed c.requires c.in_ok-first.first c.in_ok-chosen.chosen.items
     (c.in_ok-first.ensures ∙ c.first.ensures.value)
     (c.in_ok-chosen.ensures ∙ (λ i. lines_chosen (c.lines-lines.ensures.value i) (c.as_slice-3.ensures.value i)))
@@ -36,7 +39,7 @@ returns-in_default-clause-repair c =
 pub returns-in_default-clause-settled : goal.returns-in_default-clause-settled
 returns-in_default-clause-settled c =
     if_ok_map c.run_others.result c.run_others.ensures.again (λ repair again.
-    settled_again c.args.self _ c.self.inside.overlay c.self.inside.met.items c.self.view_is c.self.invariant
+    settled_again c.args.self _ c.self.inside.overlay c.self.inside.met.items c.self.view_is c.self.invariant.0
     c.lines-lines.ensures.well_formed c.requires c.in_ok-first.first c.in_ok-chosen.chosen.items
     (c.in_ok-first.ensures ∙ c.first.ensures.value)
     (c.in_ok-chosen.ensures ∙ (λ i. lines_chosen (c.lines-lines.ensures.value i) (c.as_slice-3.ensures.value i)))
@@ -46,7 +49,7 @@ returns-in_default-clause-settled c =
 pub returns-clause-repair : goal.returns-clause-repair
 returns-clause-repair c =
     λ is.
-    repair_found c.args.self _ c.self.inside.overlay c.self.inside.met.items c.self.view_is c.self.invariant
+    repair_found c.args.self _ c.self.inside.overlay c.self.inside.met.items c.self.view_is c.self.invariant.0
     c.lines-lines.ensures.well_formed c.requires c.in_ok-first.first c.in_ok-chosen.chosen.items
     (c.in_ok-first.ensures ∙ c.first.ensures.value)
     (c.in_ok-chosen.ensures ∙ (λ i. lines_chosen (c.lines-lines.ensures.value i) (c.as_slice-3.ensures.value i)))
@@ -73,7 +76,7 @@ returns-clause-repair c =
 
 pub returns-clause-settled : goal.returns-clause-settled
 returns-clause-settled c =
-    settled_found c.args.self _ c.self.inside.overlay c.self.inside.met.items c.self.view_is c.self.invariant
+    settled_found c.args.self _ c.self.inside.overlay c.self.inside.met.items c.self.view_is c.self.invariant.0
     c.lines-lines.ensures.well_formed c.requires c.in_ok-first.first c.in_ok-chosen.chosen.items
     (c.in_ok-first.ensures ∙ c.first.ensures.value)
     (c.in_ok-chosen.ensures ∙ (λ i. lines_chosen (c.lines-lines.ensures.value i) (c.as_slice-3.ensures.value i)))

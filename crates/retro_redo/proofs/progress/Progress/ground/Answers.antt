@@ -11,16 +11,16 @@ pub new-requires-clause-history : goal.new-requires-clause-history
 new-requires-clause-history c = c.requires ∙ sym (ap (λ (p : ProgressValue). p.recording) c.self.view_is)
 
 pub new-requires-clause-fits : goal.new-requires-clause-fits
-new-requires-clause-fits c = exact_fits c.self.inside.overlay _ _ c.self.invariant.exact
+new-requires-clause-fits c = exact_fits c.self.inside.overlay _ _ c.self.invariant.0.exact
 
 pub returns-clause-exact : goal.returns-clause-exact
 returns-clause-exact c =
     subst (λ (o : OverlayMap). IsExact o (recorded_now c.args.self.now) (repaired_now c.args.self.now))
     (sym c.new.ensures.overlay)
     (subst (λ (p : ProgressValue). IsExact c.self.inside.overlay (recorded_now p) (repaired_now p)) c.self.view_is
-    c.self.invariant.exact)
+    c.self.invariant.0.exact)
 
 pub returns-clause-shows : goal.returns-clause-shows
 returns-clause-shows c =
     ap (λ (o : OverlayMap). committed o (recorded_now c.args.self.now)) c.new.ensures.overlay
-    ∙ repaired_is c.args.self.now _ c.self.inside.overlay c.self.inside.met.items c.self.view_is c.self.invariant
+    ∙ repaired_is c.args.self.now _ c.self.inside.overlay c.self.inside.met.items c.self.view_is c.self.invariant.0

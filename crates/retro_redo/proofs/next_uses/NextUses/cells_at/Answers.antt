@@ -1,0 +1,20 @@
+use Rattle.std.proofs.Common.{subst}
+use Rattle.retro_redo.specs.NextUses.{AreSorted}
+use Rattle.retro_redo.proofs.CellLoops.{entries_done, entry_done}
+use Rattle.retro_redo.proofs.Entries.{sorted_tail}
+use Rattle.retro_redo.proofs.next_uses.NextUses.cells_at.Goals as goal
+
+pub returns-then-used-number : goal.returns-then-used-number
+returns-then-used-number c = λ d has.
+    entries_done c.args.number d c.in-Some.used.now c.loop-used.used-iterator c.next.new.self c.loop-used.cells.items
+    c.in-Some.ensures.steps c.loop-used.invariant.sorted c.if-used-number.true (c.loop-used.invariant.cells d has)
+
+pub loop-used-preserved : goal.loop-used-preserved
+loop-used-preserved c = record {
+  sorted = sorted_tail c.in-Some.used.now c.next.new.self
+      (subst AreSorted c.in-Some.ensures.steps c.loop-used.invariant.sorted);
+  cells = λ d has.
+      entry_done c.args.number d c.in-Some.used.now c.loop-used.used-iterator c.next.new.self
+      c.loop-used.cells.items c.push.new.self.items c.in_ok-copy.field-0 c.in-Some.ensures.steps c.in_ok-copy.ensures
+      c.in_ok-push.ensures.items (c.loop-used.invariant.cells d has);
+}
