@@ -68,4 +68,9 @@ def chain(size):
     return [], [1], [(1, "echo a > f0")] + lines
 
 
+def below(size):
+    """Each line writes a file below the directory that the first line makes."""
+    return [], [1], [(1, "mkdir d")] + [(1, f"echo a > d/f{at}") for at in range(size - 1)]
+
+
 CASES = {"growing": growing, "spread": spread, "tree": tree_of, "mix": mix, "moving": moving}

@@ -53,7 +53,8 @@ def built_aside(room, name, crates, words):
     crate = f"{room}/crates/{name}"
     os.makedirs(f"{crate}/src")
     shutil.copy(f"{TOP}/bench/{name}.rt.txt", f"{crate}/src/main.rt")
-    run = subprocess.run(["rt", "run", "--", *words], cwd=crate, input=EMPTY_LOG, capture_output=True)
+    run = subprocess.run(["rt", "run", "--", *words], cwd=crate, input=EMPTY_LOG,
+                         capture_output=True)
     if run.returncode != 0:
         sys.exit(run.stdout.decode() + run.stderr.decode())
     return f"{crate}/out/{name}"
