@@ -133,25 +133,29 @@ impl<'a, V: View> Local<'a, V> {
 
     /// Returns the notes in the order in which they were made. They hold in the view's state. In
     /// each lawful state in which they hold, the state after them is lawful, and if they name one
-    /// session alone, which exists, each change is lawful where it is made. Takes no memory.
+    /// session alone, which exists, each change is lawful where it is made.
     #[tactic(auto, using(crate::proofs::Order::both_orders))]
-    pub fn into_notes(self) -> Notes
-        ensures notes { reverse result ≡ self.entry.notes }
-        ensures state { (s : State) → after result s ≡ reached self.entry.notes s }
-        ensures holding { (s : State) → Holds result s ↔ AllHold self.entry.notes s }
-        ensures hold { Holds result self.entry.start }
-        ensures lawful { (s : State) → IsLawful s → Holds result s → IsLawful (after result s) }
-        ensures own { (sid : ℕ) → IsOwn sid self.entry.notes → IsOwn sid result }
-        ensures allowed { (sid : ℕ) → IsOwn sid self.entry.notes
+    pub fn into_notes(self, alloc: Global) -> Result<Notes, AllocError>
+        ensures notes { IfOk result (λ made. reverse made ≡ self.entry.notes) }
+        ensures state { IfOk result (λ made. (s : State)
+            → after made s ≡ reached self.entry.notes s) }
+        ensures holding { IfOk result (λ made. (s : State)
+            → Holds made s ↔ AllHold self.entry.notes s) }
+        ensures hold { IfOk result (λ made. Holds made self.entry.start) }
+        ensures lawful { IfOk result (λ made. (s : State)
+            → IsLawful s → Holds made s → IsLawful (after made s)) }
+        ensures own { IfOk result (λ made. (sid : ℕ)
+            → IsOwn sid self.entry.notes → IsOwn sid made) }
+        ensures allowed { IfOk result (λ made. (sid : ℕ) → IsOwn sid self.entry.notes
             → (s : State) → IsLawful s → map.contains_key s.sessions sid ≡ true
-            → Holds result s → AllAllowed result s }
+            → Holds made s → AllAllowed made s) }
     {
         let Local {
             view: _,
             overlay: _,
             notes,
         } = self;
-        Notes::of(notes)
+        Notes::of(alloc, notes)
     }
 }
 

@@ -53,7 +53,7 @@ fn copy_noted(alloc: Global, noted: &Noted) -> Result<Noted, NoMem>
     Ok(Noted {
         sid: noted.sid,
         text: noted.text.copy()?,
-        notes: noted.notes.copy(alloc)?,
+        notes: noted.notes.copy()?,
         output: noted.output.copy()?,
     })
 }
@@ -65,7 +65,7 @@ fn noted_of(alloc: Global, run: &Run) -> Result<Noted, NoMem>
     Ok(Noted {
         sid: run.sid(),
         text: Text::of(String::from_str(alloc, run.text())?),
-        notes: run.notes().copy(alloc)?,
+        notes: run.notes().copy()?,
         output: run.output().copy()?,
     })
 }

@@ -316,7 +316,7 @@ fn advance_by<C: Cells>(
     ensures err { OnErr result (overlay.new ≡ overlay.old) }
 {
     match step {
-        Step::Cancel => advance(alloc, overlay, recorded, &noted.notes, &Notes::new(alloc)),
+        Step::Cancel => advance(alloc, overlay, recorded, &noted.notes, &Notes::new(alloc)?),
         Step::Keep => advance(alloc, overlay, recorded, &noted.notes, &noted.notes),
         Step::Take(run) => advance(alloc, overlay, recorded, &noted.notes, run.notes()),
     }

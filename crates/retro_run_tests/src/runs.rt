@@ -45,7 +45,7 @@ fn over<V: View>(alloc: Global, view: &V, given: &str, fields: &[String]) -> Res
         Some(done) => done_text(alloc, done)?,
         None => text(alloc, "none")?,
     };
-    let notes = local.into_notes();
+    let notes = local.into_notes(alloc)?;
     if !holds(alloc, &notes, view)? {
         return Err("notes that don't hold")?;
     }

@@ -62,7 +62,8 @@ pub fn run_parsed<V: View>(alloc: Global, view: &V, sid: u32, parsed: &Parsed) -
 {
     let text = Text::of(String::from_str(alloc, parsed.text())?);
     let Execution { progress, local } = execute(alloc, view, sid, parsed.line())?;
-    Ok(Run::of(sid, text, local.into_notes(), progress.text))
+    let notes = local.into_notes(alloc)?;
+    Ok(Run::of(sid, text, notes, progress.text))
 }
 
 /// Runs a line of a session over a view: executes it, and notes what it reads and changes. The

@@ -8,10 +8,10 @@ use std::test::Fail;
 
 /// A question with its answer and a change, in this order.
 fn two_notes(alloc: Global, status: u8) -> Result<Notes, Fail> {
-    let mut notes = Notes::new(alloc);
+    let mut notes = Vec::new(alloc);
     notes.push(Note::Asked(Ask::StatusOf(7), Answer::Status(1)))?;
     notes.push(Note::Made(Change::SetStatus(7, status)))?;
-    Ok(notes)
+    Ok(Notes::of(alloc, notes)?)
 }
 
 #[test]
@@ -22,7 +22,7 @@ fn small_values_are_kept(rt: HostRuntime) -> Result<(), Fail> {
     assert_eq!(rt; bytes.into_vec().as_slice(), b"abc".as_slice());
     let text = Text::of(String::from_str(rt.alloc(), "é")?);
     assert_eq!(rt; text.copy()?.bytes(), [195, 169].as_slice());
-    let notes = two_notes(rt.alloc(), 2)?.copy(rt.alloc())?;
+    let notes = two_notes(rt.alloc(), 2)?.copy()?;
     let [Note::Asked(ask, answer), Note::Made(change)] = notes.as_slice() else {
         return Err("other notes")?;
     };

@@ -1,52 +1,45 @@
 //! Lists of notes.
-ghost use Rattle.std.specs.Prelude.{◌≡◌, ◌↔◌, ◌++◌, ◌∷◌, [], IfOk, IsTrue, OnOk, OnErr};
+ghost use Rattle.std.specs.Prelude.{◌≡◌, ◌↔◌, [], IfOk, IsTrue};
 
 use crate::note::Note;
 use std::alloc::{AllocError, Global};
 use std::marker::Model;
+use std::sync::Arc;
 
 /// A trace of reads and writes with their values, in the order in which they happened.
 ///
 /// Notes hold in a state if each query, asked after the changes noted before it, has the noted
-/// answer.
+/// answer. They never change, so copies share them.
 #[derive(Drop)]
 pub struct Notes {
-    notes: Vec<Note>,
+    notes: Arc<Vec<Note>>,
 }
 
 impl Model for Notes {
     ghost use Rattle.std.specs.Prelude.{List};
+    ghost use Rattle.std.specs.Arc.{arc_value};
     ghost use Rattle.retro_tree.specs.declared.note.Note.{Note};
 
     ghost Value = { List Note };
 
-    ghost view = { λ a. a.notes.items };
+    ghost view = { λ a. (arc_value a.notes).items };
 }
 
 impl Notes {
-    /// Returns an empty trace. Takes no memory.
-    pub fn new(alloc: Global) -> Notes
-        ensures { result ≡ [] }
+    /// Returns an empty trace.
+    pub fn new(alloc: Global) -> Result<Notes, AllocError>
+        ensures { IfOk result (λ notes. notes ≡ []) }
     {
-        Notes {
-            notes: Vec::new(alloc),
-        }
+        Notes::of(alloc, Vec::new(alloc))
     }
 
-    /// Makes notes of a vector. Takes no memory.
-    pub fn of(notes: Vec<Note>) -> Notes
-        ensures { result ≡ notes.items }
+    /// Makes notes of a vector, which isn't copied.
+    pub fn of(alloc: Global, notes: Vec<Note>) -> Result<Notes, AllocError>
+        ensures { IfOk result (λ made. made ≡ notes.items) }
     {
-        Notes { notes }
-    }
-
-    /// Appends a note.
-    pub fn push(&mut self, note: Note) -> Result<(), AllocError>
-        ensures ok { OnOk result (self.new ≡ self.old ++ note ∷ []) }
-        ensures err { OnErr result (self.new ≡ self.old) }
-    {
-        self.notes.push(note)?;
-        Ok(())
+        Ok(Notes {
+            notes: Arc::new(alloc, notes)?,
+        })
     }
 
     /// Returns the notes as a slice.
@@ -56,23 +49,13 @@ impl Notes {
         self.notes.as_slice()
     }
 
-    /// Returns the vector of the notes. Takes no memory.
-    pub fn into_vec(self) -> Vec<Note>
-        ensures { result.items ≡ self }
-    {
-        let Notes { notes } = self;
-        notes
-    }
-
-    /// Returns a copy.
-    pub fn copy(&self, alloc: Global) -> Result<Notes, AllocError>
+    /// Returns a copy, which shares the notes. Takes no memory.
+    pub fn copy(&self) -> Result<Notes, AllocError>
         ensures { IfOk result (λ copy. copy ≡ self.now) }
     {
-        let mut copy = Notes::new(alloc);
-        for note in self.as_slice() {
-            copy.push(note.copy()?)?;
-        }
-        Ok(copy)
+        Ok(Notes {
+            notes: Arc::try_clone(&self.notes)?,
+        })
     }
 
     /// Returns whether these are the same notes as others, in the same order.

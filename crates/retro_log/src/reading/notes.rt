@@ -84,7 +84,7 @@ pub fn notes_field(alloc: Global, sid: u32, value: &Value) -> Result<Judged<Note
         Err(refusal) => return Ok(Err(refusal)),
     };
     match read_items(alloc, sid, items)? {
-        Ok(notes) => Ok(Ok(Notes::of(notes))),
+        Ok(notes) => Ok(Ok(Notes::of(alloc, notes)?)),
         Err(refusal) => Ok(Err(refusal)),
     }
 }

@@ -8,5 +8,5 @@ pub of-requires : goal.of-requires
 of-requires g c =
     let text : c.of-text.result ≡ c.args.parsed.now = search rules in
     certified _ _ _ _ _ _ _ refl (ap parsed text ∙ sym c.line.ensures) c.in_ok-progress.ensures.means
-    c.in_ok-progress.ensures.extends c.into_notes.ensures.state c.into_notes.ensures.holding
-    c.into_notes.ensures.own c.into_notes.ensures.allowed
+    c.in_ok-progress.ensures.extends c.in_ok-notes.ensures.state c.in_ok-notes.ensures.holding
+    c.in_ok-notes.ensures.own c.in_ok-notes.ensures.allowed
