@@ -7,8 +7,10 @@ use Rattle.retro_tree.specs.Path.{PathValue, parent_of}
 use Rattle.retro_tree.specs.Node.{grown, kind_of, kind_grown, file_limit, permit_at, permit_under}
 use Rattle.retro_tree.specs.Tree.{node_in}
 use Rattle.retro_tree.specs.State.{permit_of}
+use Rattle.retro_tree.specs.Ask.{answer}
 use Rattle.retro_tree.specs.Cell.{value}
 use Rattle.retro_tree.specs.Overlay.{OverlayMap, Overlays, combined_value}
+use Rattle.retro_tree.specs.declared.ask.Ask.{Ask}
 use Rattle.retro_tree.specs.declared.node.Node.{Node}
 use Rattle.retro_tree.specs.declared.node.Node.TheVariants.{Missing, Dir, File}
 use Rattle.retro_tree.specs.declared.permit.Permit.TheVariants.{Yes, TooLarge}
@@ -17,6 +19,15 @@ use Rattle.retro_tree.specs.declared.value.Value.{Value}
 use Rattle.retro_tree.specs.declared.value.Value.TheVariants as values
 use Rattle.retro_tree.specs.declared.overlay_entry.OverlayEntry.TheVariants as entries
 use Rattle.retro_tree.specs.declared.state.State.{State}
+use Rattle.retro_tree.proofs.Agree.{agreeing}
+
+-- without entries, the combined state answers as the one below it
+pub answered_below : (ask : Ask) (overlay : OverlayMap) (below now : State) → map.len overlay ≡ 0
+    → Overlays overlay below now → answer ask below ≡ answer ask now
+answered_below ask overlay below now none h =
+    agreeing ask below now (λ c _. sym (h c
+    ∙ ap (λ x. combined_value x (value c below))
+    (ap (λ m. map.get m c) (map.empty_of_len overlay none) ∙ map.get-empty _ c)))
 
 pub kinds : (bytes : List ℕ) (node : Node) → kind_of (grown bytes node) ≡ kind_grown (kind_of node)
 kinds bytes Missing = refl

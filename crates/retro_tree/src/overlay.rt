@@ -280,10 +280,14 @@ impl Overlay {
     }
 
     /// Returns the combined state's answer to a query.
+    #[tactic(auto, using(crate::proofs::Answering::answered_below))]
     pub fn answer<V: View>(&self, alloc: Global, view: &V, ask: &Ask) -> Result<Answer, AllocError>
         ensures { IfOk result (λ a. (now : StateValue)
             → Overlays self.now (V.state view.now) now → a ≡ answer ask.now now) }
     {
+        if self.is_empty() {
+            return view.answer(alloc, ask);
+        }
         Combined::new(view, self).answer(alloc, ask)
     }
 
