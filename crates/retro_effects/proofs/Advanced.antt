@@ -9,18 +9,17 @@ use Rattle.std.specs.FinMap as map
 use Rattle.std.specs.FinMap.{get-entries, entries_sorted}
 use Rattle.std.specs.FinMap.Entries.{find, is_sorted, below_all}
 use Rattle.std.specs.Cmp.{eq_by_cmp_equiv}
-use Rattle.std.proofs.lemmas.Bool.{true≢false}
 use Rattle.retro_tree.specs.CellOrder.{cell_cmp, cell_total}
 use Rattle.retro_tree.specs.Cell.{value}
 use Rattle.retro_tree.specs.Notes.{cell_eq, after}
 use Rattle.retro_tree.specs.Overlay.{OverlayMap, Overlays, combined_value, overlay_entry_grown, grown_at}
-use Rattle.retro_tree.specs.Exact.{IsDifference, IsExact, IsTight}
+use Rattle.retro_tree.specs.Exact.{IsDifference, IsExact}
 use Rattle.retro_tree.specs.declared.cell.Cell.{Cell}
 use Rattle.retro_tree.specs.declared.note.Note.{Note}
 use Rattle.retro_tree.specs.declared.overlay_entry.OverlayEntry.{OverlayEntry}
 use Rattle.retro_tree.specs.declared.overlay_entry.OverlayEntry.TheVariants as entries
 use Rattle.retro_tree.specs.declared.state.State.{State}
-use Rattle.retro_tree.proofs.Small.{less, both_fst, both_snd, or_first, or_last}
+use Rattle.retro_tree.proofs.Small.{less, both_fst, both_snd}
 use Rattle.retro_tree.proofs.NoteLaws.{same_cells}
 use Rattle.retro_tree.proofs.OverlayChanges.{get_set, get_erased}
 use Rattle.retro_tree.proofs.ExactOverlays.{exact_overlays}
@@ -111,28 +110,14 @@ get_carried_out writes removals overlay c =
     ∙ ap (λ o. entry_written o (map.get overlay c)) (sym (get-entries writes c)))
 
 -- ---- the line
-absent : (o : Option OverlayEntry) → is_some o ≡ false → o ≡ None
-absent None h = refl
-absent (Some l) h = absurd (true≢false h)
-
--- a cell that isn't planned has no effect on it
-not_changed : (m : OverlayMap) (c : Cell) (planned : Bool) → planned ≡ false
-    → (map.contains_key m c ≡ true → planned ≡ true) → map.get m c ≡ None
-not_changed m c planned p k = absent (map.get m c) (by_test (map.contains_key m c) refl)
-  where
-    by_test : (b : Bool) → map.contains_key m c ≡ b → map.contains_key m c ≡ false
-    by_test true e = absurd (true≢false (sym (k e) ∙ p))
-    by_test false e = e
-
 difference_at : (overlay a b : OverlayMap) (s : State) (writes : WriteMap) (removals : List Cell) (c : Cell)
     → IsPlan overlay a b s writes removals
-    → (map.contains_key a c ≡ true → is_planned writes removals c ≡ true)
-    → (map.contains_key b c ≡ true → is_planned writes removals c ≡ true)
-    → IsDifference (map.get overlay c) (value c s) (combined_value (map.get overlay c) (value c s))
+    → (is_planned writes removals c ≡ false
+    → IsDifference (map.get overlay c) (recorded_value a s c) (repaired_value overlay b s c))
     → IsDifference
     (if list_any (cell_eq c) removals then None else entry_written (map.get writes c) (map.get overlay c))
     (recorded_value a s c) (repaired_value overlay b s c)
-difference_at overlay a b s writes removals c plan in_a in_b h =
+difference_at overlay a b s writes removals c plan others =
     go (list_any (cell_eq c) removals) refl (map.get writes c) refl
   where
     go : (t : Bool) → list_any (cell_eq c) removals ≡ t → (o : Option Write) → map.get writes c ≡ o
@@ -140,28 +125,17 @@ difference_at overlay a b s writes removals c plan in_a in_b h =
         (recorded_value a s c) (repaired_value overlay b s c)
     go true e o i = plan.removal c e
     go false e (Some w) i = plan.write c w i
-    go false e None i =
-        let not_planned : is_planned writes removals c ≡ false = (λ j. is_some (i j) || e j) in
-        subst (λ x. IsDifference (map.get overlay c) (combined_value x (value c s)) (repaired_value overlay b s c))
-        (sym (not_changed a c (is_planned writes removals c) not_planned in_a))
-        (subst
-        (λ x. IsDifference (map.get overlay c) (value c s)
-        (combined_value x (combined_value (map.get overlay c) (value c s))))
-        (sym (not_changed b c (is_planned writes removals c) not_planned in_b)) h)
+    go false e None i = others (λ j. is_some (i j) || e j)
 
 pub exact_after : (overlay a b : OverlayMap) (s t : State) (ns ms : List Note) (writes : WriteMap)
     (removals : List Cell)
-    → IsTight overlay s
     → ((r : State) → Overlays a r (after ns r))
     → ((r : State) → Overlays b r (after ms r))
     → IsPlan overlay a b s writes removals
-    → Covers a b writes removals [] []
+    → Covers overlay a b s writes removals [] []
     → IsExact overlay s t → IsExact (carried_out writes removals overlay) (after ns s) (after ms t)
-exact_after overlay a b s t ns ms writes removals tight recorded chosen plan covers exact c =
-    let planned = covered a b writes removals covers c in
-    let here = difference_at overlay a b s writes removals c plan
-    (λ k. planned (or_first (map.contains_key a c) (map.contains_key b c) k))
-    (λ k. planned (or_last (map.contains_key a c) (map.contains_key b c) k)) (tight c) in
+exact_after overlay a b s t ns ms writes removals recorded chosen plan covers exact c =
+    let here = difference_at overlay a b s writes removals c plan (covered overlay a b s writes removals covers c) in
     let entry = if list_any (cell_eq c) removals then None else entry_written (map.get writes c) (map.get overlay c) in
     subst (λ o. IsDifference o (value c (after ns s)) (value c (after ms t)))
     (sym (get_carried_out writes removals overlay c))

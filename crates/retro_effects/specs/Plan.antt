@@ -1,5 +1,5 @@
 -- Plans of how an overlay changes over a line. Only private contracts and proofs cite this file.
-use Rattle.std.specs.Prelude.{◌≡◌, Bool, true, ◌||◌, List, [], ◌∷◌, Some}
+use Rattle.std.specs.Prelude.{◌≡◌, Bool, true, false, ◌||◌, List, [], ◌∷◌, Some}
 use Rattle.std.specs.List.{list_any}
 use Rattle.std.specs.FinMap as map
 use Rattle.retro_tree.specs.Cell.{value}
@@ -43,13 +43,13 @@ is_planned writes removals c = map.contains_key writes c || list_any (cell_eq c)
 abbrev pub is_listed : Cell → List (Cell × OverlayEntry) → Bool
 is_listed c es = list_any (λ e. cell_eq e.0 c) es
 
--- each cell of both maps is in the plan, or among the entries that are left, of the one map or of the
--- other
-unfoldable pub Covers : OverlayMap → OverlayMap → WriteMap → List Cell → List (Cell × OverlayEntry)
-    → List (Cell × OverlayEntry) → Type 0
-Covers recorded chosen writes removals left later =
-    (c : Cell) → (map.contains_key recorded c || map.contains_key chosen c) ≡ true
-    → (is_planned writes removals c || (is_listed c left || is_listed c later)) ≡ true
+-- A cell that is neither in the plan nor among the entries that are left, of the one map or of the other,
+-- has the difference after the line as its entry before it.
+unfoldable pub Covers : OverlayMap → OverlayMap → OverlayMap → State → WriteMap → List Cell
+    → List (Cell × OverlayEntry) → List (Cell × OverlayEntry) → Type 0
+Covers overlay recorded chosen s writes removals left later =
+    (c : Cell) → (is_planned writes removals c || (is_listed c left || is_listed c later)) ≡ false
+    → IsDifference (map.get overlay c) (recorded_value recorded s c) (repaired_value overlay chosen s c)
 
 -- each of some entries is the map's for its cell
 abbrev pub AreEntries : OverlayMap → List (Cell × OverlayEntry) → Type 0

@@ -21,6 +21,12 @@ abbrev pub cut_at : Cell → ℕ → Option OverlayEntry → OverlayMap → Over
 cut_at c n None overlay = overlay
 cut_at c n (Some l) overlay = map.insert overlay c (cut n l)
 
+-- the cell of a write
+abbrev pub undone_cell : Undo → Cell
+undone_cell (Absent c) = c
+undone_cell (Entry c l) = c
+undone_cell (Length c n) = c
+
 -- an overlay with a write undone
 abbrev pub undone : Undo → OverlayMap → OverlayMap
 undone (Absent c) overlay = map.remove overlay c

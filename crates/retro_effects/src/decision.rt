@@ -1,18 +1,20 @@
 //! How a line changes one cell's entry of an exact overlay.
 ghost use Rattle.std.specs.Prelude.{◌≡◌, ◌≢◌, ◌↔◌, ◌++◌, ℕ, List, Some, IfOk, IsTrue};
 ghost use Rattle.std.specs.Option.{option_copied};
+ghost use Rattle.retro_tree.specs.Cell.{value as value_at};
 ghost use Rattle.retro_tree.specs.Overlay.{combined_value};
 ghost use Rattle.retro_tree.specs.Exact.{IsDifference};
 ghost use Rattle.retro_tree.specs.declared.overlay_entry.OverlayEntry.TheVariants as OverlayEntry;
 ghost use Rattle.retro_effects.specs.ValueRef.{ref_value};
 ghost use Rattle.retro_effects.specs.Write.{entry_after, decided_entry};
-ghost use Rattle.retro_effects.specs.Decision.{Appends};
+ghost use Rattle.retro_effects.specs.Decision.{Appends, differ_by_empty_file};
 
 use crate::bytes::{same_bytes, same_in_parts};
+use crate::cells::Cells;
 use crate::grown_ref::GrownRef;
 use crate::value_ref::ValueRef;
 use crate::write::Write;
-use retro_tree::{Node, OverlayEntry, Value};
+use retro_tree::{Cell, Node, OverlayEntry, Value};
 use std::alloc::{AllocError, Global};
 
 /// Returns the bytes that an effect appends to a file, or `None` if it sets a value.
@@ -143,4 +145,54 @@ pub(crate) fn decide(
         return Ok(None);
     }
     Ok(Some(write_of(alloc, value, entry, chosen)?))
+}
+
+/// Returns whether one of a cell's entry and its recorded value is missing, and the other is an
+/// empty file. The recorded value is looked up only if the entry is one of these.
+fn differ_by_empty_file<C: Cells>(cells: &C, cell: &Cell, entry: &OverlayEntry) -> bool
+    requires { let was = value_at cell.now (C.state cells.now) in
+        IsDifference (Some entry.now) was (combined_value (Some entry.now) was) }
+    ensures { let was = value_at cell.now (C.state cells.now) in
+        result ≡ differ_by_empty_file was (combined_value (Some entry.now) was) }
+{
+    match entry {
+        OverlayEntry::Value(Value::Node(Node::Missing)) => match cells.get(cell) {
+            ValueRef::File(bytes) => bytes.is_empty(),
+            _ => false,
+        },
+        OverlayEntry::Value(Value::Node(Node::File(bytes))) => {
+            bytes.is_empty() && matches!(cells.get(cell), ValueRef::Missing)
+        }
+        _ => false,
+    }
+}
+
+/// Returns what is done to a cell's entry of an exact overlay over a line that has the same effect
+/// on the cell in both states, so that the overlay is exact again: a write, or `None` to remove it.
+/// Takes no memory.
+///
+/// A value that is set is the same in both states. Files that differ still differ when the same
+/// bytes are appended to them, and only an empty file and a missing one become the same.
+#[tactic(auto, using(crate::proofs::Decisions::deciding_both))]
+pub(crate) fn decide_both<C: Cells>(
+    cells: &C,
+    cell: &Cell,
+    entry: &OverlayEntry,
+    effect: OverlayEntry,
+) -> Option<Write>
+    requires { let was = value_at cell.now (C.state cells.now) in
+        IsDifference (Some entry.now) was (combined_value (Some entry.now) was) }
+    ensures { let was = value_at cell.now (C.state cells.now) in
+        IsDifference (decided_entry result (Some entry.now)) (combined_value (Some effect) was)
+        (combined_value (Some effect) (combined_value (Some entry.now) was)) }
+{
+    match effect {
+        OverlayEntry::Value(_) => None,
+        OverlayEntry::Growth(bytes) => {
+            if differ_by_empty_file(cells, cell, entry) {
+                return None;
+            }
+            Some(Write::Grow(bytes))
+        }
+    }
 }

@@ -8,7 +8,8 @@
 //! A repair compares two states: the recorded state, as the lines were run, and the repaired one.
 //! An overlay is exact if it has entries for exactly the cells in which they differ, each with the
 //! repaired value. `advance` keeps it exact over a line, whatever notes the line has in the one
-//! state and in the other. `is_met` says whether notes read or write a cell that differs.
+//! state and in the other, and `advance_both` does so if the line has the same notes in both.
+//! `is_met` says whether notes read or write a cell that differs.
 //! `Combined` is a view of a view with an overlay, and `equiv` says whether notes hold in the
 //! repaired state.
 //!
@@ -32,7 +33,7 @@ mod write;
 mod write_map;
 mod writing;
 
-pub use advancing::advance;
+pub use advancing::{advance, advance_both};
 pub use cells::Cells;
 pub use combined::{Combined, equiv};
 pub use meeting::is_met;

@@ -1,9 +1,17 @@
 //! Plans of how an overlay changes.
-ghost use Rattle.std.specs.Prelude.{◌≡◌, OnOk, OnErr, []};
+ghost use Rattle.std.specs.Prelude.{◌≡◌, ◌||◌, OnOk, OnErr, []};
 ghost use Rattle.std.specs.FinMap as map;
-ghost use Rattle.retro_effects.specs.Plan.{carried_out};
+ghost use Rattle.retro_tree.specs.Notes.{cell_eq};
+ghost use Rattle.retro_tree.specs.Overlay.{OverlayMap};
+ghost use Rattle.retro_tree.specs.Exact.{IsDifference};
+ghost use Rattle.retro_tree.specs.declared.cell.Cell.{Cell as StateCell};
+ghost use Rattle.retro_tree.specs.declared.state.State.{State};
+ghost use Rattle.retro_effects.specs.Write.{decided_entry};
+ghost use Rattle.retro_effects.specs.Plan.{carried_out, IsPlan, is_planned};
+ghost use Rattle.retro_effects.specs.Plan.{recorded_value, repaired_value};
 
 use crate::undo::Undo;
+use crate::write::Write;
 use crate::write_map::WriteMap;
 use crate::writing::{remove_all, undo_all, write_all};
 use retro_tree::{Cell, Overlay};
@@ -28,6 +36,25 @@ impl Plan {
             writes: WriteMap::new(alloc),
             removals: Vec::new(alloc),
         }
+    }
+
+    /// Adds what is done to a cell's entry: a write, or `None` to remove it.
+    #[tactic(auto, using(crate::proofs::Plans::planning))]
+    pub(crate) fn add(&mut self, cell: Cell, write: Option<Write>) -> Result<(), AllocError>
+        ensures plan { OnOk result ((overlay a b : OverlayMap) (s : State)
+            → IsDifference (decided_entry write (map.get overlay cell)) (recorded_value a s cell)
+            (repaired_value overlay b s cell)
+            → IsPlan overlay a b s self.old.writes self.old.removals.items
+            → IsPlan overlay a b s self.new.writes self.new.removals.items) }
+        ensures covers { OnOk result ((c : StateCell)
+            → is_planned self.new.writes self.new.removals.items c
+            ≡ (cell_eq cell c || is_planned self.old.writes self.old.removals.items c)) }
+    {
+        match write {
+            Some(write) => self.writes.insert(cell, write)?,
+            None => self.removals.push(cell)?,
+        }
+        Ok(())
     }
 
     /// Changes an overlay as planned. If allocation fails, the overlay is unchanged: writes come

@@ -10,7 +10,7 @@ ghost use Rattle.retro_tree.specs.declared.state.State.{State};
 ghost use Rattle.retro_effects.specs.Plan.{carried_out, IsPlan, is_planned, Covers};
 
 use crate::cells::Cells;
-use crate::decision::decide;
+use crate::decision::{decide, decide_both};
 use crate::overlays::overlay_of;
 use crate::plan::Plan;
 use retro_tree::{Cell, Notes, Overlay, OverlayEntry};
@@ -38,7 +38,6 @@ impl<'a, C: Cells> Planner<'a, C> {
     }
 
     /// Plans one cell, with the effects on it in the recorded and in the repaired state.
-    #[tactic(auto, using(crate::proofs::Plans::planning))]
     fn plan_cell(
         &self,
         plan: &mut Plan,
@@ -59,11 +58,8 @@ impl<'a, C: Cells> Planner<'a, C> {
             ≡ (cell_eq cell c || is_planned plan.old.writes plan.old.removals.items c)) }
     {
         let value = self.cells.get(&cell);
-        match decide(self.alloc, value, self.overlay.get(&cell), recorded, chosen)? {
-            Some(write) => plan.writes.insert(cell, write)?,
-            None => plan.removals.push(cell)?,
-        }
-        Ok(())
+        let write = decide(self.alloc, value, self.overlay.get(&cell), recorded, chosen)?;
+        plan.add(cell, write)
     }
 
     /// Plans the cells on which only the recorded notes have an effect.
@@ -79,8 +75,9 @@ impl<'a, C: Cells> Planner<'a, C> {
         requires removals { plan.old.removals.items ≡ [] }
         ensures plan { OnOk result (IsPlan self.now.overlay.now recorded.now chosen.now
             (C.state self.now.cells.now) plan.new.writes plan.new.removals.items) }
-        ensures covers { OnOk result (Covers recorded.now chosen.now
-            plan.new.writes plan.new.removals.items [] (map.entries chosen.now)) }
+        ensures covers { OnOk result (Covers self.now.overlay.now recorded.now chosen.now
+            (C.state self.now.cells.now) plan.new.writes plan.new.removals.items
+            [] (map.entries chosen.now)) }
     {
         for (cell, effect) in recorded.iter() {
             if chosen.get(cell).is_none() {
@@ -101,16 +98,38 @@ impl<'a, C: Cells> Planner<'a, C> {
         requires tight { IsTight self.now.overlay.now (C.state self.now.cells.now) }
         requires plan { IsPlan self.now.overlay.now recorded.now chosen
             (C.state self.now.cells.now) plan.old.writes plan.old.removals.items }
-        requires covers { Covers recorded.now chosen
-            plan.old.writes plan.old.removals.items [] (map.entries chosen) }
+        requires covers { Covers self.now.overlay.now recorded.now chosen
+            (C.state self.now.cells.now) plan.old.writes plan.old.removals.items
+            [] (map.entries chosen) }
         ensures plan { OnOk result (IsPlan self.now.overlay.now recorded.now chosen
             (C.state self.now.cells.now) plan.new.writes plan.new.removals.items) }
-        ensures covers { OnOk result (Covers recorded.now chosen
-            plan.new.writes plan.new.removals.items [] []) }
+        ensures covers { OnOk result (Covers self.now.overlay.now recorded.now chosen
+            (C.state self.now.cells.now) plan.new.writes plan.new.removals.items [] []) }
     {
         for (cell, effect) in chosen.into_entries() {
             let recorded_effect = recorded.get(&cell);
             self.plan_cell(plan, cell, recorded_effect, Some(effect))?;
+        }
+        Ok(())
+    }
+
+    /// Plans the cells with an entry on which notes have an effect, the same in both states. A cell
+    /// without an entry has the same value in both states before the notes, and so after them.
+    #[tactic(auto, using(crate::proofs::Covering::covering))]
+    fn plan_entries(&self, plan: &mut Plan, effects: Overlay) -> Result<(), AllocError>
+        requires tight { IsTight self.now.overlay.now (C.state self.now.cells.now) }
+        requires writes { plan.old.writes ≡ map.empty }
+        requires removals { plan.old.removals.items ≡ [] }
+        ensures plan { OnOk result (IsPlan self.now.overlay.now effects effects
+            (C.state self.now.cells.now) plan.new.writes plan.new.removals.items) }
+        ensures covers { OnOk result (Covers self.now.overlay.now effects effects
+            (C.state self.now.cells.now) plan.new.writes plan.new.removals.items [] []) }
+    {
+        for (cell, effect) in effects.into_entries() {
+            if let Some(entry) = self.overlay.get(&cell) {
+                let write = decide_both(self.cells, &cell, entry, effect);
+                plan.add(cell, write)?;
+            }
         }
         Ok(())
     }
@@ -129,6 +148,21 @@ impl<'a, C: Cells> Planner<'a, C> {
         let mut plan = Plan::new(self.alloc);
         self.plan_recorded(&mut plan, &recorded, &chosen)?;
         self.plan_chosen(&mut plan, &recorded, chosen)?;
+        Ok(plan)
+    }
+
+    /// Plans a line with the same notes in both states.
+    #[tactic(auto, using(crate::proofs::Advanced::advancing))]
+    pub(crate) fn plan_both(&self, notes: &Notes) -> Result<Plan, AllocError>
+        requires { IsTight self.now.overlay.now (C.state self.now.cells.now) }
+        ensures { IfOk result (λ plan. (t : State)
+            → IsExact self.now.overlay.now (C.state self.now.cells.now) t
+            → IsExact (carried_out plan.writes plan.removals.items self.now.overlay.now)
+            (after notes.now (C.state self.now.cells.now)) (after notes.now t)) }
+    {
+        let effects = overlay_of(self.alloc, notes)?;
+        let mut plan = Plan::new(self.alloc);
+        self.plan_entries(&mut plan, effects)?;
         Ok(plan)
     }
 }

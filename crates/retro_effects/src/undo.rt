@@ -1,7 +1,7 @@
 //! Undoing of the writes of an overlay's entries.
 ghost use Rattle.std.specs.Prelude.{◌≡◌};
 ghost use Rattle.std.specs.FinMap as map;
-ghost use Rattle.retro_effects.specs.Undo.{undone, cut, cut_at};
+ghost use Rattle.retro_effects.specs.Undo.{undone, undone_cell, cut, cut_at};
 
 use retro_tree::{Cell, Node, Overlay, OverlayEntry, Value};
 
@@ -17,6 +17,15 @@ pub(crate) enum Undo {
 }
 
 impl Undo {
+    /// Returns the cell whose entry was written.
+    pub(crate) fn cell(&self) -> &Cell
+        ensures { result.now ≡ undone_cell self.now }
+    {
+        match self {
+            Undo::Absent(cell) | Undo::Entry(cell, _) | Undo::Length(cell, _) => cell,
+        }
+    }
+
     /// Undoes the write in an overlay. Takes no memory.
     pub(crate) fn apply(self, overlay: &mut Overlay)
         ensures { overlay.new ≡ undone self overlay.old }

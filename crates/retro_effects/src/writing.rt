@@ -4,7 +4,7 @@ ghost use Rattle.std.specs.FinMap as map;
 ghost use Rattle.retro_tree.specs.Overlay.{grown_at};
 ghost use Rattle.retro_tree.specs.declared.overlay_entry.OverlayEntry.TheVariants as OverlayEntry;
 ghost use Rattle.retro_effects.specs.Write.{wrote, wrote_all, without};
-ghost use Rattle.retro_effects.specs.Undo.{undone, undone_all, Undoes};
+ghost use Rattle.retro_effects.specs.Undo.{undone, undone_all, undone_cell, Undoes};
 
 use crate::undo::Undo;
 use crate::write::Write;
@@ -15,7 +15,8 @@ use std::alloc::AllocError;
 /// Returns how a growth of a cell's entry is undone.
 #[tactic(auto, using(crate::proofs::Undoing::growing))]
 fn undo_of_growth(overlay: &Overlay, cell: Cell, bytes: &Bytes) -> Result<Undo, AllocError>
-    ensures { IfOk result (λ undo. undone undo
+    ensures cell { IfOk result (λ undo. undone_cell undo ≡ cell) }
+    ensures undo { IfOk result (λ undo. undone undo
         (grown_at cell bytes.now (map.get overlay.now cell) overlay.now) ≡ overlay.now) }
 {
     match overlay.get(&cell) {
@@ -60,9 +61,8 @@ fn write_one(overlay: &mut Overlay, cell: Cell, write: Write) -> Result<Option<U
         Write::Keep => Ok(None),
         Write::Set(value) => Ok(Some(set(overlay, cell, value)?)),
         Write::Grow(bytes) => {
-            let key = cell.copy()?;
-            let undo = undo_of_growth(overlay, key, &bytes)?;
-            overlay.grow(&cell, &bytes)?;
+            let undo = undo_of_growth(overlay, cell, &bytes)?;
+            overlay.grow(undo.cell(), &bytes)?;
             Ok(Some(undo))
         }
     }

@@ -7,6 +7,7 @@ abbrev pub invariant-loop-cell : goal.invariant-loop-cell
 invariant-loop-cell g l = record {
   plan : IsPlan l.self.overlay.now l.recorded l.chosen (g.C.Cells.state l.self.cells.now)
       l.plan.writes l.plan.removals.items;
-  covers : Covers l.recorded l.chosen l.plan.writes l.plan.removals.items l.cell-iterator (map.entries l.chosen);
+  covers : Covers l.self.overlay.now l.recorded l.chosen (g.C.Cells.state l.self.cells.now)
+      l.plan.writes l.plan.removals.items l.cell-iterator (map.entries l.chosen);
   found : AreEntries l.recorded l.cell-iterator;
 }
