@@ -6,9 +6,10 @@ use Rattle.std.specs.List.{slice_get}
 use Rattle.std.specs.FinMap as finmap
 use Rattle.std.specs.Option.{is_some}
 use Rattle.std.proofs.lemmas.Bool.{true≢false, eqb-true, eq-eqb, ltb-true}
+use Rattle.std.proofs.Math.Bool.{or-false}
 use Rattle.retro_tree.specs.Cell.{value}
 use Rattle.retro_tree.specs.Exact.{IsDifference, IsExact}
-use Rattle.retro_tree.specs.Notes.{after, AgreeOn, changes, touches}
+use Rattle.retro_tree.specs.Notes.{after, AgreeOn, changes, effects, touches}
 use Rattle.retro_tree.specs.Overlay.{OverlayMap}
 use Rattle.retro_tree.specs.declared.cell.Cell.{Cell}
 use Rattle.retro_tree.specs.declared.note.Note.{Note}
@@ -16,14 +17,18 @@ use Rattle.retro_tree.specs.declared.overlay_entry.OverlayEntry.{OverlayEntry}
 use Rattle.retro_tree.specs.declared.overlay_entry.OverlayEntry.TheVariants as entries
 use Rattle.retro_tree.specs.declared.state.State.{State}
 use Rattle.retro_tree.specs.declared.value.Value.{Value}
-use Rattle.retro_tree.proofs.NoteLaws.{value_unchanged}
+use Rattle.retro_tree.proofs.NoteLaws.{value_after, value_unchanged}
 use Rattle.retro_tree.proofs.Small.{both_true, first_true}
 use Rattle.retro_effects.specs.Meeting.{Met}
 use Rattle.retro_history.specs.Index.{next_use}
 use Rattle.retro_history.proofs.Lines.{RiseFrom}
+use Rattle.retro_keep.specs.declared.noted.Noted.{Noted}
 use Rattle.retro_redo.specs.Keeping.{KeepsUses}
 use Rattle.retro_redo.specs.NextUses.{AddsUses, AreSorted, HasNext, IsFirstIn, Prunes, Use, first_use, has_use}
-use Rattle.retro_redo.specs.NextUses.{is_first_over, is_use, starts_at}
+use Rattle.retro_redo.specs.NextUses.{is_first_over, is_use, may_differ, starts_at}
+use Rattle.retro_redo.specs.Progress.{chosen}
+use Rattle.retro_redo.specs.declared.step.Step.{Step}
+use Rattle.retro_redo.specs.declared.step.Step.TheVariants.{Cancel, Keep, Take}
 use Rattle.retro_redo.proofs.Entries.{has_none, head_has, least}
 use Rattle.retro_redo.proofs.Positions.{Line}
 use Rattle.retro_redo.proofs.UsedLines.{apart, first_at_head, first_is_use, first_past, from_line, later_use}
@@ -48,21 +53,37 @@ module _ (overlay : OverlayMap) (s t : State) (exact : IsExact overlay s t) wher
   pub agree : (c : Cell) → finmap.contains_key overlay c ≡ false → value c s ≡ value c t
   agree c out = agrees (finmap.get overlay c) (value c s) (value c t) out (exact c)
 
--- a cell with an entry after a line has one before it, or the line changes it
-pub entry_from : (old new : OverlayMap) (s t : State) (recorded chosen : List Note) → IsExact old s t
-    → IsExact new (after recorded s) (after chosen t) → (c : Cell) → finmap.contains_key new c ≡ true
-    → (finmap.contains_key old c ≡ true) ⊎ ((changes recorded c || changes chosen c) ≡ true)
-entry_from old new s t recorded chosen was is c has =
-    by_test (changes recorded c) (changes chosen c) (finmap.contains_key old c) refl refl refl
+-- notes that make two states differ in a cell in which they agree change it
+changed : (recorded chosen : List Note) (s t : State) (c : Cell) → value c s ≡ value c t
+    → value c (after recorded s) ≢ value c (after chosen t) → (changes recorded c || changes chosen c) ≡ true
+changed recorded chosen s t c same apart = by_test (changes recorded c) (changes chosen c) refl refl
   where
-    by_test : (a b d : Bool) → changes recorded c ≡ a → changes chosen c ≡ b → finmap.contains_key old c ≡ d
-        → (finmap.contains_key old c ≡ true) ⊎ ((changes recorded c || changes chosen c) ≡ true)
-    by_test true b d e f g = inr (ap (λ x. x || changes chosen c) e)
-    by_test false true d e f g = inr (λ i. e i || f i)
-    by_test false false true e f g = inl g
-    by_test false false false e f g =
-        absurd (differ new (after recorded s) (after chosen t) is c has
-        (value_unchanged recorded c s e ∙ agree old s t was c g ∙ sym (value_unchanged chosen c t f)))
+    by_test : (a b : Bool) → changes recorded c ≡ a → changes chosen c ≡ b → (a || b) ≡ true
+    by_test true b e f = refl
+    by_test false true e f = refl
+    by_test false false e f =
+        absurd (apart (value_unchanged recorded c s e ∙ same ∙ sym (value_unchanged chosen c t f)))
+
+-- the line of a step may do so
+made_differ : (step : Step) (noted : Noted) (s t : State) (c : Cell) → value c s ≡ value c t
+    → value c (after noted.notes s) ≢ value c (after (chosen step noted) t) → may_differ step noted c ≡ true
+made_differ Cancel noted s t c same apart = sym (or-false _) ∙ changed noted.notes [] s t c same apart
+made_differ Keep noted s t c same apart =
+    absurd (apart (value_after noted.notes c s ∙ ap (effects noted.notes c) same ∙ sym (value_after noted.notes c t)))
+made_differ (Take run) noted s t c same apart = changed noted.notes run.notes s t c same apart
+
+-- a cell with an entry after a line has one before it, or is one in which the line may make the states differ
+pub entry_from : (old new : OverlayMap) (s t : State) (noted : Noted) (step : Step) → IsExact old s t
+    → IsExact new (after noted.notes s) (after (chosen step noted) t) → (c : Cell) → finmap.contains_key new c ≡ true
+    → (finmap.contains_key old c ≡ true) ⊎ (may_differ step noted c ≡ true)
+entry_from old new s t noted step was is c has = by_test (finmap.contains_key old c) refl
+  where
+    by_test : (b : Bool) → finmap.contains_key old c ≡ b
+        → (finmap.contains_key old c ≡ true) ⊎ (may_differ step noted c ≡ true)
+    by_test true e = inl e
+    by_test false e =
+        inr (made_differ step noted s t c (agree old s t was c e)
+        (differ new (after noted.notes s) (after (chosen step noted) t) is c has))
 
 -- ---- the next line
 
@@ -203,7 +224,7 @@ module _ (lines : List Line) (k : ℕ) (l : Line) (overlay : OverlayMap) (uses m
   pub keeps_settled : (after : OverlayMap) (changed : Cell → Bool)
       → ((c : Cell) → finmap.contains_key after c ≡ true
       → (finmap.contains_key overlay c ≡ true) ⊎ (changed c ≡ true))
-      → ((c : Cell) → has_use l.0 c uses ≡ true → HasNext l.0 lines c mid)
+      → ((c : Cell) → has_use l.0 c uses ≡ true → finmap.contains_key overlay c ≡ true → HasNext l.0 lines c mid)
       → ((c : Cell) → changed c ≡ true → HasNext l.0 lines c mid)
       → Prunes l.0 after mid new → KeepsUses after (drop (suc k) lines) new
   keeps_settled after changed entry used written pruned =
@@ -218,7 +239,7 @@ module _ (lines : List Line) (k : ℕ) (l : Line) (overlay : OverlayMap) (uses m
         where
           by_test : (b : Bool) → touches l.1.notes c ≡ b → has_use n c mid ≡ true
           by_test true e =
-              used c (keeps_here.complete c l.0 key (first_at_head l (drop (suc k) lines) c e)) n at
+              used c (keeps_here.complete c l.0 key (first_at_head l (drop (suc k) lines) c e)) key n at
           by_test false e =
               adds.kept n c (keeps_here.complete c n key (first_past l (drop (suc k) lines) c e ∙ first))
 

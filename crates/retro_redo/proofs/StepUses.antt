@@ -1,5 +1,5 @@
 -- The next uses of cells at a step of a repair, where q is the progress as its fields are, and p as contracts see it.
-use Rattle.std.proofs.Common.{◌≡◌, ◌∙◌, ℕ, suc, Bool, true, false, ◌&&◌, ◌||◌, not, List, [], ◌∷◌, ◌++◌, drop, length}
+use Rattle.std.proofs.Common.{◌≡◌, ◌∙◌, ℕ, suc, Bool, true, false, ◌&&◌, not, List, [], ◌∷◌, ◌++◌, drop, length}
 use Rattle.std.proofs.Common.{◌+◌, replicate, Some, MatchBool, inl, inr, refl, sym, ap, subst}
 use Rattle.std.specs.List.{slice_get}
 use Rattle.std.specs.FinMap as finmap
@@ -7,7 +7,7 @@ use Rattle.std.specs.Option.{is_some}
 use Rattle.std.proofs.lemmas.Bool.{true≢false}
 use Rattle.std.proofs.lemmas.List.{drop-drop, length-append, length-replicate}
 use Rattle.retro_tree.specs.Exact.{IsExact}
-use Rattle.retro_tree.specs.Notes.{AgreeOn, after, changes}
+use Rattle.retro_tree.specs.Notes.{AgreeOn, after}
 use Rattle.retro_tree.specs.Overlay.{OverlayMap}
 use Rattle.retro_tree.specs.declared.cell.Cell.{Cell}
 use Rattle.retro_tree.specs.declared.state.State.{State}
@@ -15,7 +15,7 @@ use Rattle.retro_effects.specs.Meeting.{Met}
 use Rattle.retro_history.proofs.Lines.{RiseFrom}
 use Rattle.retro_keep.specs.Recording.{IsWellFormed, RecordingValue}
 use Rattle.retro_redo.specs.Keeping.{Keeps, KeepsUses}
-use Rattle.retro_redo.specs.NextUses.{AddsUses, HasNext, Prunes, Use, has_use, starts_at}
+use Rattle.retro_redo.specs.NextUses.{AddsUses, HasNext, Prunes, Use, has_cell, has_use, may_differ, starts_at}
 use Rattle.retro_redo.specs.Progress.{ProgressValue, chosen, is_cancel, next_line, recorded_now, repaired_now}
 use Rattle.retro_redo.specs.declared.step.Step.{Step}
 use Rattle.retro_redo.specs.declared.step.Step.TheVariants.{Keep}
@@ -92,23 +92,25 @@ module _ (p q : ProgressValue) (overlay : OverlayMap) (uses : List Use) (l : Lin
         (subst (λ (o : OverlayMap). Prunes 0 o mid new) overlay_is pruned)))
 
     pub settled_uses : (met : List ℕ) (step : Step) (s : State) (next_overlay : OverlayMap) (steps : List Step)
-        (new : List Use) → Keeps q overlay met → s ≡ recorded_now p
+        (new : List Use) (cells : List Cell) → Keeps q overlay met → s ≡ recorded_now p
         → ((t : State) → IsExact overlay s t
         → IsExact next_overlay (after l.1.notes s) (after (chosen step l.1) t))
-        → ((c : Cell) → has_use l.0 c uses ≡ true → HasNext l.0 r.lines c mid)
-        → ((c : Cell) → (changes l.1.notes c || changes (chosen step l.1) c) ≡ true → HasNext l.0 r.lines c mid)
+        → ((c : Cell) → has_use l.0 c uses ≡ true → finmap.contains_key overlay c ≡ true → has_cell c cells ≡ true)
+        → ((c : Cell) → may_differ step l.1 c ≡ true → has_cell c cells ≡ true)
+        → ((c : Cell) → has_cell c cells ≡ true → HasNext l.0 r.lines c mid)
         → Prunes l.0 next_overlay mid new → steps ≡ q.choices ++ step ∷ []
         → KeepsUses next_overlay (drop (length steps) q.recording.lines) new
-    settled_uses met step s next_overlay steps new kept recorded exact used changed pruned pushed =
+    settled_uses met step s next_overlay steps new cells kept recorded exact used changed has_next pruned pushed =
         subst (λ k. KeepsUses next_overlay (drop k q.recording.lines) new)
         (sym (ap length pushed ∙ length_more q.choices step))
         (keeps_settled q.recording.lines (length q.choices) l overlay uses mid new rising next_here keeps adds_here
-        next_overlay (λ c. changes l.1.notes c || changes (chosen step l.1) c)
-        (entry_from overlay next_overlay s (repaired_now q) l.1.notes (chosen step l.1) here
-        (exact (repaired_now q) here))
-        (λ c has. subst (λ ls. HasNext l.0 ls c mid) lines_are (used c has))
-        (λ c has. subst (λ ls. HasNext l.0 ls c mid) lines_are (changed c has)) pruned)
+        next_overlay (may_differ step l.1)
+        (entry_from overlay next_overlay s (repaired_now q) l.1 step here (exact (repaired_now q) here))
+        (λ c has key. next_at c (used c has key)) (λ c may. next_at c (changed c may)) pruned)
       where
+        next_at : (c : Cell) → has_cell c cells ≡ true → HasNext l.0 q.recording.lines c mid
+        next_at c has = subst (λ ls. HasNext l.0 ls c mid) lines_are (has_next c has)
+
         here : IsExact overlay s (repaired_now q)
         here =
             subst (λ x. IsExact overlay x (repaired_now q)) (sym (recorded ∙ sym (ap recorded_now e))) kept.exact

@@ -1,6 +1,6 @@
 -- Which lines use which cells next, as a repair notes it. Only private contracts, invariants and proofs cite
 -- this file.
-use Rattle.std.specs.Prelude.{◌≡◌, ◌⊎◌, ℕ, ◌<◌, ◌==◌, nat_lt, Bool, true, false, ◌&&◌, if◌then◌else◌}
+use Rattle.std.specs.Prelude.{◌≡◌, ◌⊎◌, ℕ, ◌<◌, ◌==◌, nat_lt, Bool, true, false, ◌&&◌, ◌||◌, if◌then◌else◌}
 use Rattle.std.specs.Prelude.{List, [], ◌∷◌, Option, Some, None}
 use Rattle.std.specs.List.{list_any}
 use Rattle.std.specs.List.Sorted.{IsStrictlySortedBy}
@@ -9,10 +9,13 @@ use Rattle.std.specs.BTreeMap.{is_at}
 use Rattle.std.specs.FinMap as map
 use Rattle.std.specs.declared.cmp.Ordering.{Ordering}
 use Rattle.retro_tree.specs.CellOrder.{cell_cmp}
-use Rattle.retro_tree.specs.Notes.{cell_eq, touches}
+use Rattle.retro_tree.specs.Notes.{cell_eq, changes, touches}
 use Rattle.retro_tree.specs.Overlay.{OverlayMap}
 use Rattle.retro_tree.specs.declared.cell.Cell.{Cell}
 use Rattle.retro_history.specs.Index.{Line, next_use}
+use Rattle.retro_keep.specs.declared.noted.Noted.{Noted}
+use Rattle.retro_redo.specs.declared.step.Step.{Step}
+use Rattle.retro_redo.specs.declared.step.Step.TheVariants.{Cancel, Keep, Take}
 
 -- an entry: the number of a line, and a cell
 abbrev pub Use : Type 0
@@ -56,6 +59,12 @@ is_use n c lines = list_any (λ l. (l.0 == n) && touches l.1.notes c) lines
 -- a cell has an entry at the next line above a number that uses it, if there is such a line
 abbrev pub HasNext : ℕ → List Line → Cell → List Use → Type 0
 HasNext after lines c uses = (n : ℕ) → next_use after c lines ≡ Some n → has_use n c uses ≡ true
+
+-- whether two states that agree in a cell may differ in it after a line, for which a step was chosen
+abbrev pub may_differ : Step → Noted → Cell → Bool
+may_differ Cancel noted c = changes noted.notes c
+may_differ Keep noted c = false
+may_differ (Take run) noted c = changes noted.notes c || changes run.notes c
 
 -- entries were added, each at the next line above a number that uses its cell
 pub record AddsUses (after : ℕ) (lines : List Line) (old new : List Use) : Type 0 where

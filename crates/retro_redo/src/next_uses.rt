@@ -1,11 +1,11 @@
 //! The next uses of cells.
-ghost use Rattle.std.specs.Prelude.{◌≡◌, ◌⊎◌, ◌||◌, ℕ, [], IfOk, OnOk, true};
+ghost use Rattle.std.specs.Prelude.{◌≡◌, ◌⊎◌, ℕ, [], IfOk, OnOk, true};
+ghost use Rattle.std.specs.FinMap as map;
 ghost use Rattle.retro_tree.specs.Notes.{changes};
 ghost use Rattle.retro_tree.specs.declared.cell.Cell.{Cell as CellValue};
 ghost use Rattle.retro_redo.specs.NextUses.{AddsUses, AreSorted, HasNext, Prunes};
 ghost use Rattle.retro_redo.specs.NextUses.{first_number, has_cell, has_use, is_first_over};
-ghost use Rattle.retro_redo.specs.NextUses.{starts_at};
-ghost use Rattle.retro_redo.specs.Progress.{chosen};
+ghost use Rattle.retro_redo.specs.NextUses.{may_differ, starts_at};
 
 use crate::step::Step;
 use retro_history::{History, changed_cell};
@@ -18,7 +18,7 @@ use std::marker::Model;
 /// For each cell in which two states differ, the number of the next line that reads or writes it.
 ///
 /// There may also be entries of cells in which the states don't differ any more. They are removed
-/// when they are the first ones.
+/// when they are the first ones, and no new ones follow them.
 #[derive(Drop)]
 pub(crate) struct NextUses {
     uses: BTreeSet<(u32, Cell)>,
@@ -96,8 +96,9 @@ impl NextUses {
         Ok(())
     }
 
-    /// Adds the next uses above a number of some cells.
-    fn add_cells(
+    /// Adds the next uses above a number of some cells. If allocation fails, some of them may be
+    /// added.
+    pub(crate) fn add_cells(
         &mut self,
         alloc: Global,
         history: &History<'_>,
@@ -114,64 +115,48 @@ impl NextUses {
         Ok(())
     }
 
-    /// Adds the next uses above a number of the cells that notes change.
-    fn add_changed(
-        &mut self,
-        alloc: Global,
-        history: &History<'_>,
-        notes: &Notes,
-        after: u32,
-    ) -> Result<(), NoMem>
-        ensures adds { AddsUses after history.now.lines self.old self.new }
-        ensures next { OnOk result ((c : CellValue) → changes notes.now c ≡ true
-            → HasNext after history.now.lines c self.new) }
-    {
-        for note in notes.as_slice() {
-            if let Note::Made(change) = note {
-                self.add_next(alloc, history, changed_cell(change)?, after)?;
-            }
-        }
-        Ok(())
-    }
-
-    /// Returns the cells with an entry at a number. No entry may have a lesser number.
-    fn cells_at(&self, alloc: Global, number: u32) -> Result<Vec<Cell>, NoMem>
+    /// Returns the cells with an entry at a number and one in the overlay. No entry may have a
+    /// lesser number.
+    fn cells_at(&self, alloc: Global, overlay: &Overlay, number: u32) -> Result<Vec<Cell>, NoMem>
         ensures { IfOk result (λ cells. (c : CellValue)
-            → has_use number c self.now ≡ true → has_cell c cells.items ≡ true) }
+            → has_use number c self.now ≡ true → map.contains_key overlay.now c ≡ true
+            → has_cell c cells.items ≡ true) }
     {
         let mut cells = Vec::new(alloc);
         for used in self.uses.iter() {
             if used.0 > number {
                 return Ok(cells);
             }
-            cells.push(used.1.copy()?)?;
+            if overlay.get(&used.1).is_some() {
+                cells.push(used.1.copy()?)?;
+            }
         }
         Ok(cells)
     }
 
-    /// Adds the next uses after a line of the cells with an entry at it, and of the cells that it
-    /// changes, as recorded or as chosen. If allocation fails, some of them may be added.
-    pub(crate) fn add_line(
-        &mut self,
+    /// Returns cells among which are all that need an entry after a line, for which a step was
+    /// chosen, and that may not have it yet: those that the line uses and in which the states
+    /// differ before it, by the overlay, and, unless it is kept, those that it changes, as recorded
+    /// or as chosen. A kept line changes both states alike.
+    pub(crate) fn cells_to_renew(
+        &self,
         alloc: Global,
-        history: &History<'_>,
+        overlay: &Overlay,
         line: &(u32, Noted),
         step: &Step,
-    ) -> Result<(), NoMem>
-        ensures adds { AddsUses line.now.0 history.now.lines self.old self.new }
-        ensures used { OnOk result ((c : CellValue) → has_use line.now.0 c self.old ≡ true
-            → HasNext line.now.0 history.now.lines c self.new) }
-        ensures changed { OnOk result ((c : CellValue)
-            → (changes line.now.1.notes c || changes (chosen step.now line.now.1) c) ≡ true
-            → HasNext line.now.0 history.now.lines c self.new) }
+    ) -> Result<Vec<Cell>, NoMem>
+        ensures used { IfOk result (λ cells. (c : CellValue)
+            → has_use line.now.0 c self.now ≡ true → map.contains_key overlay.now c ≡ true
+            → has_cell c cells.items ≡ true) }
+        ensures changed { IfOk result (λ cells. (c : CellValue)
+            → may_differ step.now line.now.1 c ≡ true → has_cell c cells.items ≡ true) }
     {
-        let cells = self.cells_at(alloc, line.0)?;
-        self.add_cells(alloc, history, cells, line.0)?;
-        self.add_changed(alloc, history, &line.1.notes, line.0)?;
-        if let Step::Take(run) = step {
-            self.add_changed(alloc, history, run.notes(), line.0)?;
+        let cells = self.cells_at(alloc, overlay, line.0)?;
+        match step {
+            Step::Keep => Ok(cells),
+            Step::Cancel => with_changed(cells, &line.1.notes),
+            Step::Take(run) => with_changed(with_changed(cells, &line.1.notes)?, run.notes()),
         }
-        Ok(())
     }
 
     /// Removes the first entry until it is of a line after a number, and of a cell with an entry in
@@ -194,4 +179,20 @@ impl NextUses {
             None => true,
         }
     }
+}
+
+/// Returns cells with those that notes change.
+fn with_changed(cells: Vec<Cell>, notes: &Notes) -> Result<Vec<Cell>, NoMem>
+    ensures kept { IfOk result (λ all. (c : CellValue)
+        → has_cell c cells.items ≡ true → has_cell c all.items ≡ true) }
+    ensures changed { IfOk result (λ all. (c : CellValue)
+        → changes notes.now c ≡ true → has_cell c all.items ≡ true) }
+{
+    let mut all = cells;
+    for note in notes.as_slice() {
+        if let Note::Made(change) = note {
+            all.push(changed_cell(change)?)?;
+        }
+    }
+    Ok(all)
 }

@@ -29,7 +29,7 @@ use crate::repair::Repair;
 use crate::skipping::{push_kept, unmet_lines};
 use crate::step::Step;
 use crate::tally::Tally;
-use retro_effects::{Cells, Combined, advance, equiv};
+use retro_effects::{Cells, Combined, advance, advance_both, equiv};
 use retro_history::History;
 use retro_keep::{Noted, Recording};
 use retro_shell::{Run, run_line};
@@ -195,10 +195,11 @@ impl<'a> Progress<'a> {
         check_run(&step);
         let line = self.line().unwrap();
         let is_met = is_step_met(&step, line.0, &self.uses);
+        let cells = self.uses.cells_to_renew(alloc, &self.overlay, line, &step)?;
         self.choices.reserve(1)?;
         self.met.reserve(1)?;
         // Uses that were added stay if memory runs out: each is of a line that uses its cell.
-        if let Err(error) = self.uses.add_line(alloc, history, line, &step) {
+        if let Err(error) = self.uses.add_cells(alloc, history, cells, line.0) {
             self.uses.prune(0, &self.overlay);
             return Err(error);
         }
@@ -317,7 +318,7 @@ fn advance_by<C: Cells>(
 {
     match step {
         Step::Cancel => advance(alloc, overlay, recorded, &noted.notes, &Notes::new(alloc)?),
-        Step::Keep => advance(alloc, overlay, recorded, &noted.notes, &noted.notes),
+        Step::Keep => advance_both(alloc, overlay, recorded, &noted.notes),
         Step::Take(run) => advance(alloc, overlay, recorded, &noted.notes, run.notes()),
     }
 }

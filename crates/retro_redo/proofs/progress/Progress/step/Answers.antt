@@ -10,8 +10,8 @@ invariant_of-self-in-Err g c =
       keeps_same _ c.self.inside.overlay c.self.inside.overlay c.self.inside.met.items c.reserve-2.new.self.items
           c.reserve.new.self.items c.self.invariant.0 c.reserve.ensures.items c.reserve-2.ensures.items refl,
       unsettled_uses c.args.self.now _ c.self.inside.overlay c.self.inside.uses c.unwrap-line.result.now c.self.view_is
-          c.self.invariant.1 c.line.ensures.well_formed next c.args.history.now c.add_line.new.self
-          c.requires.history c.add_line.ensures.adds c.self.inside.overlay c.reserve.new.self.items c.prune.new.self
+          c.self.invariant.1 c.line.ensures.well_formed next c.args.history.now c.add_cells.new.self
+          c.requires.history c.add_cells.ensures.adds c.self.inside.overlay c.reserve.new.self.items c.prune.new.self
           c.reserve.ensures.items refl c.prune.ensures,
     )
 
@@ -22,8 +22,8 @@ invariant_of-self-in-Err-advance_by g c =
           c.reserve.new.self.items c.self.invariant.0 c.reserve.ensures.items
           c.reserve-2.ensures.items c.in-Err-advance_by.ensures.err,
       unsettled_uses c.args.self.now _ c.self.inside.overlay c.self.inside.uses c.unwrap-line.result.now c.self.view_is
-          c.self.invariant.1 c.line.ensures.well_formed next c.args.history.now c.add_line.new.self
-          c.requires.history c.add_line.ensures.adds c.advance_by.new.overlay
+          c.self.invariant.1 c.line.ensures.well_formed next c.args.history.now c.add_cells.new.self
+          c.requires.history c.add_cells.ensures.adds c.advance_by.new.overlay
           c.reserve.new.self.items c.prune-in-Err-advance_by.new.self
           c.reserve.ensures.items c.in-Err-advance_by.ensures.err c.prune-in-Err-advance_by.ensures,
     )
@@ -45,11 +45,11 @@ invariant_of-self-then-is_met g c =
           (c.push_reserved-then-is_met.ensures.items
           ∙ ap (λ (ns : List ℕ). ns ++ c.unwrap-line.result.now.0 ∷ []) c.reserve-2.ensures.items)),
       settled_uses c.args.self.now _ c.self.inside.overlay c.self.inside.uses c.unwrap-line.result.now c.self.view_is
-          c.self.invariant.1 c.line.ensures.well_formed next c.args.history.now c.add_line.new.self
-          c.requires.history c.add_line.ensures.adds c.self.inside.met.items c.args.step _ c.advance_by.new.overlay
-          c.push_reserved.new.self.items c.prune-2.new.self c.self.invariant.0 c.requires.recorded
-          c.in_default-advance_by.ensures.exact c.in_default.ensures.used c.in_default.ensures.changed
-          c.prune-2.ensures pushed,
+          c.self.invariant.1 c.line.ensures.well_formed next c.args.history.now c.add_cells.new.self
+          c.requires.history c.add_cells.ensures.adds c.self.inside.met.items c.args.step _ c.advance_by.new.overlay
+          c.push_reserved.new.self.items c.prune-2.new.self c.in_ok-cells.cells.items c.self.invariant.0
+          c.requires.recorded c.in_default-advance_by.ensures.exact c.in_ok-cells.ensures.used
+          c.in_ok-cells.ensures.changed c.in_default.ensures.next c.prune-2.ensures pushed,
     )
 
 pub invariant_of-self-else-is_met : goal.invariant_of-self-else-is_met
@@ -67,9 +67,9 @@ invariant_of-self-else-is_met g c =
           c.unwrap-line.result.now c.args.step c.self.view_is c.self.invariant.0 next c.requires.may decided
           c.if-is_met.false c.reserve-2.ensures.items),
       settled_uses c.args.self.now _ c.self.inside.overlay c.self.inside.uses c.unwrap-line.result.now c.self.view_is
-          c.self.invariant.1 c.line.ensures.well_formed next c.args.history.now c.add_line.new.self
-          c.requires.history c.add_line.ensures.adds c.self.inside.met.items c.args.step _ c.advance_by.new.overlay
-          c.push_reserved.new.self.items c.prune-2.new.self c.self.invariant.0 c.requires.recorded
-          c.in_default-advance_by.ensures.exact c.in_default.ensures.used c.in_default.ensures.changed
-          c.prune-2.ensures pushed,
+          c.self.invariant.1 c.line.ensures.well_formed next c.args.history.now c.add_cells.new.self
+          c.requires.history c.add_cells.ensures.adds c.self.inside.met.items c.args.step _ c.advance_by.new.overlay
+          c.push_reserved.new.self.items c.prune-2.new.self c.in_ok-cells.cells.items c.self.invariant.0
+          c.requires.recorded c.in_default-advance_by.ensures.exact c.in_ok-cells.ensures.used
+          c.in_ok-cells.ensures.changed c.in_default.ensures.next c.prune-2.ensures pushed,
     )
