@@ -42,7 +42,7 @@ answer_of_kind (asks.CwdOf sid) s = refl
 answer_of_kind (asks.StatusOf sid) s = refl
 
 -- notes that hold have answers of their queries' kinds
-held_of_kind : (notes : List Note) (s : State) → Holds notes s → answers_are_of_kind notes ≡ true
+pub held_of_kind : (notes : List Note) (s : State) → Holds notes s → answers_are_of_kind notes ≡ true
 held_of_kind [] s h = refl
 held_of_kind (Asked a r ∷ notes) s h =
     and_true _ _ (ap (is_of_kind a) (sym h.0) ∙ answer_of_kind a s) (held_of_kind notes s h.1)

@@ -96,7 +96,7 @@ impl Recorder {
     {
         let first = script.first().copy()?;
         let Recorder { lines, state } = self;
-        Ok(Recording::of(first, lines, state))
+        Ok(Recording::of_well_formed(first, lines, state))
     }
 }
 

@@ -107,8 +107,9 @@ impl Recording {
         Ok(Some(Recording { first, lines, last }))
     }
 
-    /// Makes a recording of parts that are one, with its last state. Takes no memory.
-    pub(crate) fn of(first: State, lines: Vec<(u32, Noted)>, last: State) -> Recording
+    /// Makes a recording of parts that are known to be one, and of the state after the changes of
+    /// all lines. Tests nothing, and takes no memory.
+    pub fn of_well_formed(first: State, lines: Vec<(u32, Noted)>, last: State) -> Recording
         requires well_formed { IsWellFormed (record { first = first; lines = lines.items }) }
         requires last { last ≡ last_state lines.items first }
         ensures { result ≡ record { first = first; lines = lines.items } }

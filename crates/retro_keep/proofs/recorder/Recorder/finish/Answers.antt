@@ -3,8 +3,8 @@ use Rattle.retro_keep.specs.Recording.{IsWellFormed}
 use Rattle.retro_keep.proofs.Recorded.{finished, recorded_runs, well_formed}
 use Rattle.retro_keep.proofs.recorder.Recorder.finish.Goals as goal
 
-pub of-requires-clause-well_formed : goal.of-requires-clause-well_formed
-of-requires-clause-well_formed c =
+pub of_well_formed-requires-clause-well_formed : goal.of_well_formed-requires-clause-well_formed
+of_well_formed-requires-clause-well_formed c =
     subst (λ s. IsWellFormed (record { first = s; lines = c.args.self.lines.items }))
     (sym (c.in_ok-first.ensures ∙ c.first.ensures.value))
     (well_formed c.args.script.now c.args.self.lines.items c.first.ensures.lawful c.requires.lines_are
@@ -12,5 +12,6 @@ of-requires-clause-well_formed c =
 
 pub returns-clause-outcome : goal.returns-clause-outcome
 returns-clause-outcome c =
-    recorded_runs c.args.script.now c.of.result (finished c.args.script.now c.of.result c.args.self.lines.items
-    c.args.self.state c.in_ok-first.first c.of.ensures (c.in_ok-first.ensures ∙ c.first.ensures.value) c.requires)
+    let made = c.of_well_formed.result in
+    recorded_runs c.args.script.now made (finished c.args.script.now made c.args.self.lines.items c.args.self.state
+    c.in_ok-first.first c.of_well_formed.ensures (c.in_ok-first.ensures ∙ c.first.ensures.value) c.requires)
