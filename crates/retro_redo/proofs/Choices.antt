@@ -1,5 +1,5 @@
 -- The lines of a repair as they are chosen.
-use Rattle.std.proofs.Common.{◌≡◌, List, [], ◌∷◌, refl}
+use Rattle.std.proofs.Common.{◌≡◌, ◌⊎◌, inl, inr, List, [], ◌∷◌, length, refl}
 use Rattle.retro_tree.specs.Notes.{after}
 use Rattle.retro_tree.specs.declared.state.State.{State}
 use Rattle.retro_keep.specs.Recording.{last_state}
@@ -16,3 +16,11 @@ last_chosen (l ∷ lines) [] t = refl
 last_chosen (l ∷ lines) (Cancel ∷ steps) t = last_chosen lines steps t
 last_chosen (l ∷ lines) (Keep ∷ steps) t = last_chosen lines steps (after l.1.notes t)
 last_chosen (l ∷ lines) (Take run ∷ steps) t = last_chosen lines steps (after run.notes t)
+
+-- if no line or no choice is left, nothing is chosen of them
+pub nothing_left : (lines : List Line) (steps : List Step) → ((length lines ≡ 0) ⊎ (length steps ≡ 0))
+    → lines_chosen lines steps ≡ []
+nothing_left [] steps none = refl
+nothing_left (l ∷ lines) [] none = refl
+nothing_left (l ∷ lines) (step ∷ steps) (inl none) = cc
+nothing_left (l ∷ lines) (step ∷ steps) (inr none) = cc

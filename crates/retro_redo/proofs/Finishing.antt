@@ -5,6 +5,7 @@ use Rattle.std.proofs.Common.{IsTrue, arith, refl, sym, ap, ap₂, cond, subst, 
 use Rattle.std.proofs.Common.{IfOk, ◌↔◌}
 use Rattle.std.specs.Option.{is_some}
 use Rattle.std.proofs.lemmas.Bool.{false≢true, ltb-true, lt-ltb}
+use Rattle.retro_tree.specs.Commit.{committed}
 use Rattle.retro_tree.specs.Overlay.{OverlayMap}
 use Rattle.retro_tree.specs.declared.state.State.{State}
 use Rattle.retro_tree.proofs.Small.{first_true, both_true, and_true}
@@ -22,7 +23,7 @@ use Rattle.retro_redo.specs.Final.{IsFinal}
 use Rattle.retro_redo.specs.Keeping.{Keeps}
 use Rattle.retro_redo.specs.Moments.{AreVerdicts, IsMet, Picks, others}
 use Rattle.retro_redo.specs.Progress.{ProgressValue, cancelled_in, lines_chosen, next_line, repaired_now}
-use Rattle.retro_redo.specs.Progress.{repaired_recording}
+use Rattle.retro_redo.specs.Progress.{repaired_after, repaired_recording}
 use Rattle.retro_redo.specs.Repair.{IsRepair, IsRunAgain, moments_of, script_of_others}
 use Rattle.retro_redo.specs.Settled.{AreSettled, IsSettled}
 use Rattle.retro_redo.specs.Progress.{compensations_chosen, settled, verdicts_chosen}
@@ -30,7 +31,8 @@ use Rattle.retro_redo.specs.declared.repair.Repair.{Repair}
 use Rattle.retro_redo.specs.declared.step.Step.{Step}
 use Rattle.retro_redo.proofs.Choices.{last_chosen}
 use Rattle.retro_redo.proofs.Final.{settles_final}
-use Rattle.retro_redo.proofs.Positions.{Line, all_settled}
+use Rattle.retro_redo.proofs.Keeping.{repaired_is}
+use Rattle.retro_redo.proofs.Positions.{Line, all_settled, recorded_all}
 
 -- ---- the script of the other lines
 
@@ -42,7 +44,8 @@ sids_are : (lines : List Line) → map sid_of (map script_line lines) ≡ map si
 sids_are [] = refl
 sids_are (l ∷ lines) = ap (λ ns. l.1.sid ∷ ns) (sids_are lines)
 
-rises_from_less : (m n : ℕ) (numbers : List ℕ) → m < n → IsTrue (rises_from n numbers) → IsTrue (rises_from m numbers)
+pub rises_from_less : (m n : ℕ) (numbers : List ℕ) → m < n → IsTrue (rises_from n numbers)
+    → IsTrue (rises_from m numbers)
 rises_from_less m n [] less rising = refl
 rises_from_less m n (number ∷ numbers) less rising =
     let above = ltb-true n number (first_true (nat_lt n number) _ rising) in
@@ -179,78 +182,78 @@ pub none_is : {X : Type 0} (found : Option X) → ((x : X) → found ≡ Some x 
 none_is None h = refl
 none_is (Some x) h = absurd (h x refl)
 
-same_recording : (first f : State) (lines ls : List Line) → first ≡ f → lines ≡ ls
-    → ◌≡◌ {A = RecordingValue} (record { first = first; lines = lines }) (record { first = f; lines = ls })
-same_recording first f lines ls e g = λ i. record { first = e i; lines = g i }
-
 module _ (p q : ProgressValue) (overlay : OverlayMap) (met : List ℕ) (e : q ≡ p) (keeps : Keeps q overlay met)
-    (w : IsWellFormed q.recording) (ended : next_line p ≡ None) (first : State) (lines : List Line)
-    (first_is : first ≡ q.recording.first) (lines_are : lines ≡ lines_chosen q.recording.lines q.choices)
-    (found : Option RecordingValue)
-    (exact : IsTrue (is_some found) ↔ IsWellFormed (record { first = first; lines = lines })) where
-  is_in : IsRecordingOf (script_in p.recording) p.recording → IsRecordingOf (script_in q.recording) q.recording
-  is_in is = subst (λ x. IsRecordingOf (script_in x.recording) x.recording) (sym e) is
-
+    (w : IsWellFormed q.recording) (ended : next_line p ≡ None) where
   ended_in : next_line q ≡ None
   ended_in = ap next_line e ∙ ended
 
-  made : ◌≡◌ {A = RecordingValue} (record { first = first; lines = lines }) (repaired_recording q)
-  made = same_recording first q.recording.first lines (lines_chosen q.recording.lines q.choices) first_is lines_are
+  -- the overlay makes the state after the lines as chosen of the one after all lines
+  pub last_committed : committed overlay (last_state q.recording.lines q.recording.first)
+      ≡ repaired_after q.recording.lines q.choices q.recording.first
+  last_committed =
+      ap (committed overlay)
+      (sym (recorded_all q.recording.lines q.choices q.recording.first (all_chosen p q overlay met e keeps ended)))
+      ∙ repaired_is q q overlay met refl keeps
 
-  -- on a recording the lines as chosen make one
-  pub found_none : found ≡ None → IsRecordingOf (script_in p.recording) p.recording → ⊥
-  found_none none is =
-      false≢true (sym (ap is_some none)
-      ∙ exact.1 (subst IsWellFormed (sym made) (chosen_well_formed q overlay met keeps w ended_in (is_in is))))
+  module _ (found : Option RecordingValue)
+      (exact : IsTrue (is_some found) ↔ IsWellFormed (repaired_recording q)) where
+    is_in : IsRecordingOf (script_in p.recording) p.recording → IsRecordingOf (script_in q.recording) q.recording
+    is_in is = subst (λ x. IsRecordingOf (script_in x.recording) x.recording) (sym e) is
 
-  -- each line has its choice, and the lines as chosen make no recording
-  pub settled_again : found ≡ None → (repair : Repair) → IsRunAgain (cancelled_in q) q.recording repair
-      → IsSettled (cancelled_in p) p.recording p.choices repair
-  settled_again none repair again =
-      subst (λ (x : ProgressValue). IsSettled (cancelled_in x) x.recording x.choices repair) e (record {
-        settles = keeps.settles;
-        all = all_chosen p q overlay met e keeps ended;
-        chosen = λ well. absurd (false≢true (sym (ap is_some none) ∙ exact.1 (subst IsWellFormed (sym made) well)));
-        again = λ not_well. again;
-      })
+    -- on a recording the lines as chosen make one
+    pub found_none : found ≡ None → IsRecordingOf (script_in p.recording) p.recording → ⊥
+    found_none none is =
+        false≢true (sym (ap is_some none)
+        ∙ exact.1 (chosen_well_formed q overlay met keeps w ended_in (is_in is)))
 
-  -- each line has its choice, and the lines as chosen make a recording
-  pub settled_found : (repair : Repair) (r : RecordingValue) → found ≡ Some r
-      → repair.recording ≡ record { first = first; lines = lines }
-      → repair.state ≡ last_state repair.recording.lines repair.recording.first
-      → repair.outputs.items ≡ map output_in repair.recording.lines
-      → repair.verdicts.items ≡ verdicts_chosen q.recording.lines q.choices
-      → repair.compensations.items ≡ compensations_chosen q.recording.lines q.choices
-      → repair.met.items ≡ met → IsSettled (cancelled_in p) p.recording p.choices repair
-  settled_found repair r some recording state outputs verdicts compensated met_are =
-      let same = recording ∙ made in
-      subst (λ (x : ProgressValue). IsSettled (cancelled_in x) x.recording x.choices repair) e (record {
-        settles = keeps.settles;
-        all = all_chosen p q overlay met e keeps ended;
-        chosen = λ well. record {
-          recording_is = same;
-          state_is = state ∙ ap (λ (x : RecordingValue). last_state x.lines x.first) same
-              ∙ last_chosen q.recording.lines q.choices q.recording.first;
-          outputs_are = outputs ∙ ap (λ (x : RecordingValue). map output_in x.lines) same;
-          compensated = compensated;
-          verdicts_are = verdicts;
-          met_are = subst (λ ns. Picks (IsMet (cancelled_in q))
-              (settled q.recording.lines q.choices q.recording.first q.recording.first) ns) (sym met_are) keeps.are_met;
-        };
-        again = λ not_well. absurd (not_well (subst IsWellFormed made (exact.0 (ap is_some some))));
-      })
+    -- each line has its choice, and the lines as chosen make no recording
+    pub settled_again : found ≡ None → (repair : Repair) → IsRunAgain (cancelled_in q) q.recording repair
+        → IsSettled (cancelled_in p) p.recording p.choices repair
+    settled_again none repair again =
+        subst (λ (x : ProgressValue). IsSettled (cancelled_in x) x.recording x.choices repair) e (record {
+          settles = keeps.settles;
+          all = all_chosen p q overlay met e keeps ended;
+          chosen = λ well. absurd (false≢true (sym (ap is_some none) ∙ exact.1 well));
+          again = λ not_well. again;
+        })
 
-  pub repair_found : (repair : Repair) → IsRecordingOf (script_in p.recording) p.recording
-      → repair.recording ≡ record { first = first; lines = lines }
-      → repair.state ≡ last_state repair.recording.lines repair.recording.first
-      → repair.outputs.items ≡ map output_in repair.recording.lines
-      → repair.verdicts.items ≡ verdicts_chosen q.recording.lines q.choices
-      → repair.compensations.items ≡ compensations_chosen q.recording.lines q.choices
-      → repair.met.items ≡ met → IsRepair (cancelled_in p) p.recording repair
-  repair_found repair is recording state outputs verdicts compensated met_are =
-      subst (λ x. IsRepair (cancelled_in x) x.recording repair) e
-      (is_repair q overlay met keeps w ended_in (is_in is) repair (recording ∙ made) state outputs verdicts
-      compensated met_are)
+    -- each line has its choice, and the lines as chosen make a recording
+    pub settled_found : (repair : Repair) (r : RecordingValue) → found ≡ Some r
+        → repair.recording ≡ repaired_recording q
+        → repair.state ≡ last_state repair.recording.lines repair.recording.first
+        → repair.outputs.items ≡ map output_in repair.recording.lines
+        → repair.verdicts.items ≡ verdicts_chosen q.recording.lines q.choices
+        → repair.compensations.items ≡ compensations_chosen q.recording.lines q.choices
+        → repair.met.items ≡ met → IsSettled (cancelled_in p) p.recording p.choices repair
+    settled_found repair r some recording state outputs verdicts compensated met_are =
+        subst (λ (x : ProgressValue). IsSettled (cancelled_in x) x.recording x.choices repair) e (record {
+          settles = keeps.settles;
+          all = all_chosen p q overlay met e keeps ended;
+          chosen = λ well. record {
+            recording_is = recording;
+            state_is = state ∙ ap (λ (x : RecordingValue). last_state x.lines x.first) recording
+                ∙ last_chosen q.recording.lines q.choices q.recording.first;
+            outputs_are = outputs ∙ ap (λ (x : RecordingValue). map output_in x.lines) recording;
+            compensated = compensated;
+            verdicts_are = verdicts;
+            met_are = subst (λ ns. Picks (IsMet (cancelled_in q))
+                (settled q.recording.lines q.choices q.recording.first q.recording.first) ns) (sym met_are)
+                keeps.are_met;
+          };
+          again = λ not_well. absurd (not_well (exact.0 (ap is_some some)));
+        })
+
+    pub repair_found : (repair : Repair) → IsRecordingOf (script_in p.recording) p.recording
+        → repair.recording ≡ repaired_recording q
+        → repair.state ≡ last_state repair.recording.lines repair.recording.first
+        → repair.outputs.items ≡ map output_in repair.recording.lines
+        → repair.verdicts.items ≡ verdicts_chosen q.recording.lines q.choices
+        → repair.compensations.items ≡ compensations_chosen q.recording.lines q.choices
+        → repair.met.items ≡ met → IsRepair (cancelled_in p) p.recording repair
+    repair_found repair is recording state outputs verdicts compensated met_are =
+        subst (λ x. IsRepair (cancelled_in x) x.recording repair) e
+        (is_repair q overlay met keeps w ended_in (is_in is) repair recording state outputs verdicts compensated
+        met_are)
 
 -- the same numbers are cancelled
 pub repair_same : (a b : List ℕ) (r q : RecordingValue) (repair : Repair)

@@ -15,3 +15,6 @@ pub mod Skipped
 pub mod KeptLines
 pub mod StepUses
 pub mod Unmet
+pub mod AlteredPaths
+pub mod Altered
+pub mod ChosenLines

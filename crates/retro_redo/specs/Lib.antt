@@ -13,3 +13,5 @@ pub mod Ground
 pub mod GroundCode
 pub mod Skipping
 pub mod Stops
+pub mod Altered
+pub mod AlteredCode

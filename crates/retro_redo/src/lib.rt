@@ -19,6 +19,7 @@
 //! If allocation fails, calls return `NoMem`, or `OutOfMemory` if they have other refusals.
 #![tactic(auto)]
 
+mod altered_paths;
 mod cancelled;
 mod compensation;
 mod gate;

@@ -1,53 +1,84 @@
 //! What the choices of a repair come to.
-ghost use Rattle.std.specs.Prelude.{◌≡◌, ◌++◌, IfOk, OnOk, length, map};
-ghost use Rattle.retro_keep.specs.Recording.{output_in};
-ghost use Rattle.retro_redo.specs.Progress.{compensations_chosen, line_chosen};
+ghost use Rattle.std.specs.Prelude.{◌≡◌, ◌↔◌, ◌++◌, Bool, IfOk, IfSome, IsTrue, OnOk, is_some};
+ghost use Rattle.std.specs.Prelude.{length, map, ℕ};
+ghost use Rattle.retro_tree.specs.Commit.{committed};
+ghost use Rattle.retro_keep.specs.Recording.{IsWellFormed, last_state, output_in};
+ghost use Rattle.retro_redo.specs.Progress.{Settles, compensations_chosen, line_chosen};
 ghost use Rattle.retro_redo.specs.Progress.{lines_chosen, noted_of, output_chosen};
-ghost use Rattle.retro_redo.specs.Progress.{verdict_of, verdicts_chosen};
+ghost use Rattle.retro_redo.specs.Progress.{repaired_after, verdict_of, verdicts_chosen};
+ghost use Rattle.retro_redo.specs.Settled.{recording_chosen};
 
+use crate::altered_paths::keeps_near;
 use crate::compensation::{Compensation, compensate};
 use crate::step::Step;
 use crate::verdict::Verdict;
-use retro_keep::Noted;
+use retro_keep::{Noted, Recording};
 use retro_shell::Run;
-use retro_tree::{Bytes, NoMem, Text};
+use retro_tree::{Bytes, NoMem, Overlay};
 use std::alloc::Global;
 
-/// Returns the lines of the repaired recording.
-pub(crate) fn chosen_lines(
+/// Returns the recording of the lines as chosen, or `None` if they make none.
+///
+/// If no kept line changes a path near one that the repair alters, the lines make one. Then nothing
+/// is tested, and the last state is the recorded one, to which the overlay is committed. Else each
+/// change of each line is tested.
+pub(crate) fn chosen_recording(
+    alloc: Global,
+    recording: &Recording,
+    choices: Vec<Step>,
+    overlay: Overlay,
+) -> Result<Option<Recording>, NoMem>
+    requires settles { (cancelled : ℕ → Bool) × Settles cancelled recording.now.lines choices.items
+        recording.now.first recording.now.first }
+    requires all { length choices.items ≡ length recording.now.lines }
+    requires last { committed overlay (last_state recording.now.lines recording.now.first)
+        ≡ repaired_after recording.now.lines choices.items recording.now.first }
+    ensures value { IfOk result (λ found. IfSome found (λ r.
+        r ≡ recording_chosen recording.now choices.items)) }
+    ensures exact { IfOk result (λ found. IsTrue (is_some found)
+        ↔ IsWellFormed (recording_chosen recording.now choices.items)) }
+{
+    let lines = recording.lines();
+    let near = keeps_near(alloc, lines, choices.as_slice())?;
+    let chosen = chosen_lines(alloc, lines, choices)?;
+    let first = recording.first().copy()?;
+    if near {
+        return Recording::new(alloc, first, chosen);
+    }
+    let mut last = recording.last().copy()?;
+    overlay.commit(alloc, &mut last)?;
+    Ok(Some(Recording::of_well_formed(first, chosen, last)))
+}
+
+/// Returns the lines of the repaired recording. Moves the runs of redone lines.
+fn chosen_lines(
     alloc: Global,
     lines: &[(u32, Noted)],
-    choices: &[Step],
+    choices: Vec<Step>,
 ) -> Result<Vec<(u32, Noted)>, NoMem>
-    requires { length choices.now ≡ length lines.now }
-    ensures { IfOk result (λ chosen. chosen.items ≡ lines_chosen lines.now choices.now) }
+    ensures { IfOk result (λ chosen. chosen.items ≡ lines_chosen lines.now choices.items) }
 {
     let mut chosen = Vec::new(alloc);
-    for i in 0..lines.len() {
-        push_line(alloc, &mut chosen, &lines[i], &choices[i])?;
+    for (line, step) in lines.iter().zip(choices) {
+        push_line(&mut chosen, line, step)?;
     }
     Ok(chosen)
 }
 
 /// Appends a line as it was chosen, if it isn't cancelled.
-fn push_line(
-    alloc: Global,
-    chosen: &mut Vec<(u32, Noted)>,
-    line: &(u32, Noted),
-    step: &Step,
-) -> Result<(), NoMem>
-    ensures { OnOk result (chosen.new.items ≡ chosen.old.items ++ line_chosen line.now step.now) }
+fn push_line(chosen: &mut Vec<(u32, Noted)>, line: &(u32, Noted), step: Step) -> Result<(), NoMem>
+    ensures { OnOk result (chosen.new.items ≡ chosen.old.items ++ line_chosen line.now step) }
 {
     match step {
         Step::Cancel => {}
-        Step::Keep => chosen.push((line.0, copy_noted(alloc, &line.1)?))?,
-        Step::Take(run) => chosen.push((line.0, noted_of(alloc, run)?))?,
+        Step::Keep => chosen.push((line.0, copy_noted(&line.1)?))?,
+        Step::Take(run) => chosen.push((line.0, noted_of(run)))?,
     }
     Ok(())
 }
 
-/// Returns a copy.
-fn copy_noted(alloc: Global, noted: &Noted) -> Result<Noted, NoMem>
+/// Returns a copy, which shares the notes.
+fn copy_noted(noted: &Noted) -> Result<Noted, NoMem>
     ensures { IfOk result (λ copy. copy ≡ noted.now) }
 {
     Ok(Noted {
@@ -58,16 +89,18 @@ fn copy_noted(alloc: Global, noted: &Noted) -> Result<Noted, NoMem>
     })
 }
 
-/// Returns what a recording keeps of a run.
-fn noted_of(alloc: Global, run: &Run) -> Result<Noted, NoMem>
-    ensures { IfOk result (λ noted. noted ≡ noted_of run.now) }
+/// Returns what a recording keeps of a run. Takes no memory.
+fn noted_of(run: Run) -> Noted
+    ensures { result ≡ noted_of run }
 {
-    Ok(Noted {
-        sid: run.sid(),
-        text: Text::of(String::from_str(alloc, run.text())?),
-        notes: run.notes().copy()?,
-        output: run.output().copy()?,
-    })
+    let sid = run.sid();
+    let (text, notes, output) = run.into_parts();
+    Noted {
+        sid,
+        text,
+        notes,
+        output,
+    }
 }
 
 /// Returns the numbers of lines with what they printed.

@@ -24,7 +24,7 @@ use crate::gate::{Gate, Turn};
 use crate::ground::Ground;
 use crate::next_uses::NextUses;
 use crate::others::run_others;
-use crate::outcome::{chosen_lines, compensations, outputs, verdicts};
+use crate::outcome::{chosen_recording, compensations, outputs, verdicts};
 use crate::repair::Repair;
 use crate::skipping::{push_kept, unmet_lines};
 use crate::step::Step;
@@ -259,16 +259,14 @@ impl<'a> Progress<'a> {
             recording,
             cancelled,
             choices,
-            overlay: _,
+            overlay,
             uses: _,
             met,
         } = self;
         let lines = recording.lines();
         let verdicts = verdicts(alloc, lines, choices.as_slice())?;
         let compensations = compensations(alloc, lines, choices.as_slice())?;
-        let chosen = chosen_lines(alloc, lines, choices.as_slice())?;
-        let first = recording.first().copy()?;
-        let Some(repaired) = Recording::new(alloc, first, chosen)? else {
+        let Some(repaired) = chosen_recording(alloc, recording, choices, overlay)? else {
             return run_others(alloc, recording, &cancelled, tally);
         };
         let outputs = outputs(alloc, repaired.lines())?;

@@ -1,8 +1,9 @@
 use Rattle.std.proofs.Common.{◌≡◌, ◌∙◌, IfSome, Option, ap, length, map, refl, subst, sym}
 use Rattle.retro_keep.specs.Recording.{RecordingValue, output_in}
-use Rattle.retro_redo.specs.Progress.{compensations_chosen, lines_chosen, verdicts_chosen}
-use Rattle.retro_redo.proofs.Finishing.{all_chosen, found_none, if_ok_all, if_ok_map, none_is, repair_found}
-use Rattle.retro_redo.proofs.Finishing.{settled_again, settled_found}
+use Rattle.retro_redo.specs.Progress.{compensations_chosen, verdicts_chosen}
+use Rattle.retro_redo.specs.Settled.{recording_chosen}
+use Rattle.retro_redo.proofs.Finishing.{all_chosen, found_none, if_ok_all, if_ok_map, last_committed, none_is}
+use Rattle.retro_redo.proofs.Finishing.{repair_found, settled_again, settled_found}
 use Rattle.retro_redo.proofs.progress.Progress.finish.Goals as goal
 
 pub verdicts-requires : goal.verdicts-requires
@@ -19,41 +20,38 @@ compensations-requires c =
     c.requires
     ∙ sym (ap length c.lines-lines.ensures.value)
 
-pub chosen_lines-requires : goal.chosen_lines-requires
-chosen_lines-requires c =
-    ap length c.as_slice-3.ensures.value
-    ∙ all_chosen c.args.self _ c.self.inside.overlay c.self.inside.met.items c.self.view_is c.self.invariant.0
+pub chosen_recording-requires-clause-settles : goal.chosen_recording-requires-clause-settles
+chosen_recording-requires-clause-settles c = (_, c.self.invariant.0.settles)
+
+pub chosen_recording-requires-clause-all : goal.chosen_recording-requires-clause-all
+chosen_recording-requires-clause-all c =
+    all_chosen c.args.self _ c.self.inside.overlay c.self.inside.met.items c.self.view_is c.self.invariant.0
     c.requires
-    ∙ sym (ap length c.lines-lines.ensures.value)
+
+pub chosen_recording-requires-clause-last : goal.chosen_recording-requires-clause-last
+chosen_recording-requires-clause-last c =
+    last_committed c.args.self _ c.self.inside.overlay c.self.inside.met.items c.self.view_is c.self.invariant.0
+    c.lines-lines.ensures.well_formed c.requires
 
 pub returns-in_default-clause-repair : goal.returns-in_default-clause-repair
 returns-in_default-clause-repair c =
     if_ok_all c.run_others.result (λ repair is. absurd
     (found_none c.args.self _ c.self.inside.overlay c.self.inside.met.items c.self.view_is c.self.invariant.0
-    c.lines-lines.ensures.well_formed c.requires c.in_ok-first.first c.in_ok-chosen.chosen.items
-    (c.in_ok-first.ensures ∙ c.first.ensures.value)
-    (c.in_ok-chosen.ensures ∙ (λ i. lines_chosen (c.lines-lines.ensures.value i) (c.as_slice-3.ensures.value i)))
-    c.in_ok-repaired.field-0 c.in_ok-repaired.ensures.exact
+    c.lines-lines.ensures.well_formed c.requires c.in_ok-repaired.field-0 c.in_ok-repaired.ensures.exact
     (none_is c.in_ok-repaired.field-0 c.in_default.not-Some) is))
 
 pub returns-in_default-clause-settled : goal.returns-in_default-clause-settled
 returns-in_default-clause-settled c =
     if_ok_map c.run_others.result c.run_others.ensures.again (λ repair again.
     settled_again c.args.self _ c.self.inside.overlay c.self.inside.met.items c.self.view_is c.self.invariant.0
-    c.lines-lines.ensures.well_formed c.requires c.in_ok-first.first c.in_ok-chosen.chosen.items
-    (c.in_ok-first.ensures ∙ c.first.ensures.value)
-    (c.in_ok-chosen.ensures ∙ (λ i. lines_chosen (c.lines-lines.ensures.value i) (c.as_slice-3.ensures.value i)))
-    c.in_ok-repaired.field-0 c.in_ok-repaired.ensures.exact
+    c.lines-lines.ensures.well_formed c.requires c.in_ok-repaired.field-0 c.in_ok-repaired.ensures.exact
     (none_is c.in_ok-repaired.field-0 c.in_default.not-Some) repair again)
 
 pub returns-clause-repair : goal.returns-clause-repair
 returns-clause-repair c =
     λ is.
     repair_found c.args.self _ c.self.inside.overlay c.self.inside.met.items c.self.view_is c.self.invariant.0
-    c.lines-lines.ensures.well_formed c.requires c.in_ok-first.first c.in_ok-chosen.chosen.items
-    (c.in_ok-first.ensures ∙ c.first.ensures.value)
-    (c.in_ok-chosen.ensures ∙ (λ i. lines_chosen (c.lines-lines.ensures.value i) (c.as_slice-3.ensures.value i)))
-    c.in_ok-repaired.field-0 c.in_ok-repaired.ensures.exact (record {
+    c.lines-lines.ensures.well_formed c.requires c.in_ok-repaired.field-0 c.in_ok-repaired.ensures.exact (record {
       state = c.in_ok-state.state;
       outputs = c.in_ok-outputs.outputs;
       verdicts = c.in_ok-verdicts.verdicts;
@@ -62,10 +60,9 @@ returns-clause-repair c =
       tally = c.args.tally;
       recording = c.in-Some.repaired;
     }) is
-    (subst (λ (found : Option RecordingValue). IfSome found (λ r. r ≡ record {
-      first = c.in_ok-first.first;
-      lines = c.in_ok-chosen.chosen.items;
-    })) c.in-Some.is c.in_ok-repaired.ensures.value)
+    (subst (λ (found : Option RecordingValue).
+    IfSome found (λ r. r ≡ recording_chosen c.self.inside.recording.now c.self.inside.choices.items)) c.in-Some.is
+    c.in_ok-repaired.ensures.value)
     (c.in_ok-state.ensures ∙ c.last.ensures.value)
     (c.in_ok-outputs.ensures ∙ ap (map output_in) c.lines.ensures.value)
     (c.in_ok-verdicts.ensures
@@ -77,10 +74,7 @@ returns-clause-repair c =
 pub returns-clause-settled : goal.returns-clause-settled
 returns-clause-settled c =
     settled_found c.args.self _ c.self.inside.overlay c.self.inside.met.items c.self.view_is c.self.invariant.0
-    c.lines-lines.ensures.well_formed c.requires c.in_ok-first.first c.in_ok-chosen.chosen.items
-    (c.in_ok-first.ensures ∙ c.first.ensures.value)
-    (c.in_ok-chosen.ensures ∙ (λ i. lines_chosen (c.lines-lines.ensures.value i) (c.as_slice-3.ensures.value i)))
-    c.in_ok-repaired.field-0 c.in_ok-repaired.ensures.exact (record {
+    c.lines-lines.ensures.well_formed c.requires c.in_ok-repaired.field-0 c.in_ok-repaired.ensures.exact (record {
       state = c.in_ok-state.state;
       outputs = c.in_ok-outputs.outputs;
       verdicts = c.in_ok-verdicts.verdicts;
@@ -89,10 +83,9 @@ returns-clause-settled c =
       tally = c.args.tally;
       recording = c.in-Some.repaired;
     }) c.in-Some.repaired c.in-Some.is
-    (subst (λ (found : Option RecordingValue). IfSome found (λ r. r ≡ record {
-      first = c.in_ok-first.first;
-      lines = c.in_ok-chosen.chosen.items;
-    })) c.in-Some.is c.in_ok-repaired.ensures.value)
+    (subst (λ (found : Option RecordingValue).
+    IfSome found (λ r. r ≡ recording_chosen c.self.inside.recording.now c.self.inside.choices.items)) c.in-Some.is
+    c.in_ok-repaired.ensures.value)
     (c.in_ok-state.ensures ∙ c.last.ensures.value)
     (c.in_ok-outputs.ensures ∙ ap (map output_in) c.lines.ensures.value)
     (c.in_ok-verdicts.ensures

@@ -1,0 +1,184 @@
+//! Paths that a repair alters.
+ghost use Rattle.std.specs.Prelude.{◌≡◌, ◌||◌, ◌∷◌, [], IfOk, OnOk, is_some, length};
+ghost use Rattle.std.specs.List.{list_any};
+ghost use Rattle.std.specs.Option.{option_copied};
+ghost use Rattle.retro_tree.specs.Path.{PathValue, below};
+ghost use Rattle.retro_redo.specs.Altered.{altered_by, altered_paths, changed_path};
+ghost use Rattle.retro_redo.specs.Altered.{changed_paths, has_path, is_near, kept_by, kept_paths};
+ghost use Rattle.retro_redo.specs.Altered.{keeps_near};
+
+use crate::step::Step;
+use retro_keep::Noted;
+use retro_tree::{Change, NoMem, Note, Notes, Path};
+use std::alloc::Global;
+use std::collections::BTreeSet;
+use std::marker::Model;
+
+/// The paths that lines change which a repair doesn't keep: by their recorded notes, and by the
+/// notes of the runs that replace them. At every other path the recorded and the repaired state
+/// have the same node.
+#[derive(Drop)]
+struct AlteredPaths {
+    paths: BTreeSet<Path>,
+}
+
+impl Model for AlteredPaths {
+    ghost use Rattle.std.specs.Prelude.{List};
+    ghost use Rattle.retro_tree.specs.Path.{PathValue};
+    ghost use Rattle.retro_redo.specs.AlteredCode.{coded_paths};
+
+    ghost Value = { List PathValue };
+
+    ghost coded = { coded_paths };
+
+    ghost view = { λ a. a.paths.keys };
+}
+
+impl AlteredPaths {
+    /// Returns the paths that lines alter by their choices.
+    fn of(alloc: Global, lines: &[(u32, Noted)], choices: &[Step]) -> Result<AlteredPaths, NoMem>
+        requires { length choices.now ≡ length lines.now }
+        ensures { IfOk result (λ altered. (p : PathValue)
+            → has_path p altered ≡ has_path p (altered_paths lines.now choices.now)) }
+    {
+        let mut altered = AlteredPaths {
+            paths: BTreeSet::new(alloc),
+        };
+        for i in 0..lines.len() {
+            altered.add_line(&lines[i], &choices[i])?;
+        }
+        Ok(altered)
+    }
+
+    /// Adds the paths that a line alters by its choice.
+    fn add_line(&mut self, line: &(u32, Noted), step: &Step) -> Result<(), NoMem>
+        ensures { OnOk result ((p : PathValue) → has_path p self.new
+            ≡ (has_path p self.old || has_path p (altered_by line.now step.now))) }
+    {
+        match step {
+            Step::Cancel => self.add_changed(&line.1.notes),
+            Step::Keep => Ok(()),
+            Step::Take(run) => {
+                self.add_changed(&line.1.notes)?;
+                self.add_changed(run.notes())
+            }
+        }
+    }
+
+    /// Adds the paths that notes change.
+    fn add_changed(&mut self, notes: &Notes) -> Result<(), NoMem>
+        ensures { OnOk result ((p : PathValue) → has_path p self.new
+            ≡ (has_path p self.old || has_path p (changed_paths notes.now))) }
+    {
+        for note in notes.as_slice() {
+            if let Some(path) = changed_path(note) {
+                self.add(path)?;
+            }
+        }
+        Ok(())
+    }
+
+    /// Adds a path. Copies it only if it is new.
+    fn add(&mut self, path: &Path) -> Result<(), NoMem>
+        ensures { OnOk result ((p : PathValue)
+            → has_path p self.new ≡ (has_path p self.old || has_path p (path.now ∷ []))) }
+    {
+        if !self.paths.contains(path) {
+            self.paths.insert(path.copy()?)?;
+        }
+        Ok(())
+    }
+
+    /// Returns whether a path is altered, or its parent is, or a path below it.
+    fn is_near(&self, alloc: Global, path: &Path) -> Result<bool, NoMem>
+        ensures { IfOk result (λ near. near ≡ is_near self.now path.now) }
+    {
+        if self.has_below(path) {
+            return Ok(true);
+        }
+        let parent = path.parent(alloc)?;
+        Ok(self.paths.contains(&parent))
+    }
+
+    /// Returns whether a path is altered, or one below it. The paths below it follow it in order,
+    /// so the first altered path that isn't before it decides.
+    fn has_below(&self, path: &Path) -> bool
+        ensures { result ≡ list_any (λ q. is_some (below path.now q)) self.now }
+    {
+        match self.paths.range(path..).next() {
+            Some(next) => next.strip_prefix(path).is_some(),
+            None => false,
+        }
+    }
+
+    /// Returns whether notes change a path near an altered one.
+    fn is_any_near(&self, alloc: Global, notes: &Notes) -> Result<bool, NoMem>
+        ensures { IfOk result (λ near.
+            near ≡ list_any (is_near self.now) (changed_paths notes.now)) }
+    {
+        for note in notes.as_slice() {
+            if let Some(path) = changed_path(note) {
+                if self.is_near(alloc, path)? {
+                    return Ok(true);
+                }
+            }
+        }
+        Ok(false)
+    }
+
+    /// Returns whether a line is kept and changes a path near an altered one.
+    fn is_line_near(&self, alloc: Global, line: &(u32, Noted), step: &Step) -> Result<bool, NoMem>
+        ensures { IfOk result (λ near.
+            near ≡ list_any (is_near self.now) (kept_by line.now step.now)) }
+    {
+        match step {
+            Step::Keep => self.is_any_near(alloc, &line.1.notes),
+            Step::Cancel | Step::Take(_) => Ok(false),
+        }
+    }
+
+    /// Returns whether a kept line changes a path near an altered one.
+    fn is_kept_near(
+        &self,
+        alloc: Global,
+        lines: &[(u32, Noted)],
+        choices: &[Step],
+    ) -> Result<bool, NoMem>
+        requires { length choices.now ≡ length lines.now }
+        ensures { IfOk result (λ near.
+            near ≡ list_any (is_near self.now) (kept_paths lines.now choices.now)) }
+    {
+        for i in 0..lines.len() {
+            if self.is_line_near(alloc, &lines[i], &choices[i])? {
+                return Ok(true);
+            }
+        }
+        Ok(false)
+    }
+}
+
+/// Returns the path whose node a note changes.
+fn changed_path(note: &Note) -> Option<&Path>
+    ensures { option_copied result ≡ changed_path note.now }
+{
+    match note {
+        Note::Made(Change::Put(path, _) | Change::Grow(path, _)) => Some(path),
+        _ => None,
+    }
+}
+
+/// Returns whether a kept line changes a path near one that the repair alters.
+///
+/// If not, each change of a kept line is as lawful in the repaired state as it was where it was
+/// recorded: the node at its path, the node at the parent and those below are the same.
+pub(crate) fn keeps_near(
+    alloc: Global,
+    lines: &[(u32, Noted)],
+    choices: &[Step],
+) -> Result<bool, NoMem>
+    requires { length choices.now ≡ length lines.now }
+    ensures { IfOk result (λ near. near ≡ keeps_near lines.now choices.now) }
+{
+    let altered = AlteredPaths::of(alloc, lines, choices)?;
+    altered.is_kept_near(alloc, lines, choices)
+}
