@@ -49,7 +49,7 @@ impl Path {
             (list_all is_name (map string_bytes texts.items) ≡ false)
             (λ path. path ≡ map string_bytes texts.items)) }
     {
-        let mut names = Vec::new(alloc);
+        let mut names = Vec::with_capacity(alloc, texts.len())?;
         for text in texts {
             match Name::of(text) {
                 Some(name) => names.push(name)?,

@@ -33,10 +33,12 @@ impl Notes {
         Notes::of(alloc, Vec::new(alloc))
     }
 
-    /// Makes notes of a vector, which isn't copied.
+    /// Makes notes of a vector, which isn't copied, and gives back the room that it doesn't use.
     pub fn of(alloc: Global, notes: Vec<Note>) -> Result<Notes, AllocError>
         ensures { IfOk result (λ made. made ≡ notes.items) }
     {
+        let mut notes = notes;
+        notes.shrink_to_fit();
         Ok(Notes {
             notes: Arc::new(alloc, notes)?,
         })
