@@ -236,10 +236,17 @@ impl<'h, 'a> Repairer<'h, 'a> {
             self.entry.recording self.entry.choices repair) }
         ensures fault { IfErr result (λ fault. fault ≡ faults.OutOfMemory) }
     {
+        Ok(self.into_progress().finish(alloc, tally)?)
+    }
+
+    /// Returns the choices and what they come to, without the history.
+    pub(crate) fn into_progress(self) -> Progress<'a>
+        ensures { result ≡ self.entry }
+    {
         let Repairer {
             progress,
             history: _,
         } = self;
-        Ok(progress.finish(alloc, tally)?)
+        progress
     }
 }

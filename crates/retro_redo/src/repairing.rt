@@ -1,12 +1,14 @@
 //! Repairs on one thread.
-ghost use Rattle.std.specs.Prelude.{◌≡◌, IfErr, IfOk, OnOk};
+ghost use Rattle.std.specs.Prelude.{◌≡◌, IfErr, IfOk, None, OnOk, ℕ};
 ghost use Rattle.retro_keep.specs.Edit.{is_among};
 ghost use Rattle.retro_keep.specs.Recording.{IsRecordingOf, script_in};
 ghost use Rattle.retro_redo.specs.Cancelling.{AreLines, Refuses};
+ghost use Rattle.retro_redo.specs.Progress.{next_line};
 ghost use Rattle.retro_redo.specs.Repair.{IsRepair, no_guesses};
 ghost use Rattle.retro_redo.specs.Settled.{AreSettled};
 
 use crate::gate::{Gate, Quiet};
+use crate::progress::Progress;
 use crate::repair::Repair;
 use crate::repair_fault::RepairFault;
 use crate::repairer::Repairer;
@@ -57,10 +59,30 @@ pub fn repair_watched<G: Gate>(
     ensures known { OnOk result (AreLines cancel.now recording.now) }
     ensures refused { IfErr result (λ fault. Refuses cancel.now recording.now fault) }
 {
+    let settled = settle_all(alloc, recording, cancel, gate)?;
+    let repair = settled.finish(alloc, Tally::none())?;
+    Ok(repair)
+}
+
+/// Settles all lines of a recording on one thread. The history is dropped at the end, so that it
+/// takes no memory beside the repaired recording.
+fn settle_all<'a, G: Gate>(
+    alloc: Global,
+    recording: &'a Recording,
+    cancel: &[u32],
+    gate: &G,
+) -> Result<Progress<'a>, RepairFault>
+    ensures recording { IfOk result (λ settled. settled.recording ≡ recording.now) }
+    ensures cancel { IfOk result (λ settled.
+        (n : ℕ) → is_among settled.cancel n ≡ is_among cancel.now n) }
+    ensures settled { IfOk result (λ settled. next_line settled ≡ None) }
+    ensures known { OnOk result (AreLines cancel.now recording.now) }
+    ensures refused { IfErr result (λ fault. Refuses cancel.now recording.now fault) }
+{
     let history = History::of(alloc, recording)?;
     let mut repairer = Repairer::new(alloc, recording, &history, cancel)?;
     while let Some(number) = repairer.skip_unmet()? {
         repairer.settle(alloc, number, gate)?;
     }
-    repairer.finish(alloc, Tally::none())
+    Ok(repairer.into_progress())
 }

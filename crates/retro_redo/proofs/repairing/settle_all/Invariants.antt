@@ -1,6 +1,6 @@
 use Rattle.std.proofs.Common.{◌≡◌, ◌-◌, ℕ, length}
 use Rattle.retro_keep.specs.Edit.{is_among}
-use Rattle.retro_redo.proofs.repairing.repair_watched.Given as goal
+use Rattle.retro_redo.proofs.repairing.settle_all.Given as goal
 
 abbrev pub invariant-loop-repairer : goal.invariant-loop-repairer
 invariant-loop-repairer g l = record {
