@@ -1,66 +1,74 @@
 //! Cells and values as the texts of rows.
 use hex::encode;
-use retro_tree::{Cell, Node, Path, Resolved, Text, Value, VarName, resolve};
-use std::alloc::Global;
+use retro_rows::{fail, path, text};
+use retro_tree::{Cell, Name, Node, Text, Value, VarName};
+use std::alloc::{AllocError, Global};
 use std::test::Fail;
 
-/// The path that a text is.
-pub fn path(alloc: Global, text: &str) -> Result<Path, Fail> {
-    match resolve(alloc, &Path::root(alloc), text)? {
-        Resolved::Is(path) => Ok(path),
-        _ => Err("no path")?,
+/// The cell of a session's variable.
+fn variable(alloc: Global, sid: u32, name: &str) -> Result<Cell, Fail> {
+    match VarName::of(alloc, name)? {
+        Some(name) => Ok(Cell::Var(sid, name)),
+        None => fail("no name"),
+    }
+}
+
+/// The cell of a session: `cwd`, `status` or a variable.
+fn session_cell(alloc: Global, sid: u32, name: &str) -> Result<Cell, Fail> {
+    match name {
+        "cwd" => Ok(Cell::Cwd(sid)),
+        "status" => Ok(Cell::Status(sid)),
+        _ => variable(alloc, sid, name),
     }
 }
 
 /// The cell with a name: a path, or `cwd`, `status` or a variable after the number of its session.
-pub fn cell(alloc: Global, text: &str) -> Result<Cell, Fail> {
-    let Some((sid, name)) = text.split_once(' ') else {
-        return Ok(Cell::At(path(alloc, text)?));
-    };
-    let sid: u32 = sid.parse()?;
-    match name {
-        "cwd" => Ok(Cell::Cwd(sid)),
-        "status" => Ok(Cell::Status(sid)),
-        _ => Ok(Cell::Var(sid, VarName::of(alloc, name)?.ok_or("no name")?)),
+pub fn cell(alloc: Global, given: &str) -> Result<Cell, Fail> {
+    match given.split_once(' ') {
+        Some((sid, name)) => session_cell(alloc, sid.parse()?, name),
+        None => Ok(Cell::At(path(alloc, given)?)),
     }
 }
 
-/// A path as a text.
-fn path_text(alloc: Global, path: &Path) -> Result<String, Fail> {
+/// The text of a path's names.
+fn path_text(alloc: Global, names: &[Name]) -> Result<String, AllocError> {
     let mut out = String::new(alloc);
-    for name in path.names() {
+    for name in names {
         out.push_str("/")?;
         out.push_str(name.as_str())?;
     }
     Ok(out)
 }
 
-/// A node as a text; a file's bytes are in hexadecimal digits.
-fn node_text(alloc: Global, node: &Node) -> Result<String, Fail> {
+/// A file's bytes in hexadecimal digits.
+fn file_text(alloc: Global, bytes: &[u8]) -> Result<String, AllocError> {
+    let digits = encode(alloc, bytes)?;
+    format!(in alloc; "file {digits}")
+}
+
+/// A node as a text.
+fn node_text(alloc: Global, node: &Node) -> Result<String, AllocError> {
     match node {
-        Node::Missing => Ok(String::from_str(alloc, "missing")?),
-        Node::Dir => Ok(String::from_str(alloc, "dir")?),
-        Node::File(bytes) => {
-            let digits = encode(alloc, bytes.as_slice())?;
-            Ok(format!(in alloc; "file {digits}")?)
-        }
+        Node::Missing => text(alloc, "missing"),
+        Node::Dir => text(alloc, "dir"),
+        Node::File(bytes) => file_text(alloc, bytes.as_slice()),
     }
 }
 
 /// The text of a variable, or that it isn't set.
-fn variable_text(alloc: Global, text: &Option<Text>) -> Result<String, Fail> {
-    match text {
-        None => Ok(String::from_str(alloc, "unset")?),
-        Some(text) => Ok(format!(in alloc; "text {}", text.as_str())?),
+fn variable_text(alloc: Global, value: &Option<Text>) -> Result<String, AllocError> {
+    match value {
+        None => text(alloc, "unset"),
+        Some(value) => format!(in alloc; "text {}", value.as_str()),
     }
 }
 
 /// A value as a text.
-pub fn value_text(alloc: Global, value: &Value) -> Result<String, Fail> {
+pub fn value_text(alloc: Global, value: &Value) -> Result<String, AllocError> {
     match value {
         Value::Node(node) => node_text(alloc, node),
-        Value::Cwd(path) => path_text(alloc, path),
-        Value::Text(text) => variable_text(alloc, text),
-        Value::Status(status) => Ok(format!(in alloc; "{status}")?),
+        Value::Cwd(path) => path_text(alloc, path.names()),
+        Value::Text(value) => variable_text(alloc, value),
+        Value::Status(status) => format!(in alloc; "{status}"),
     }
 }

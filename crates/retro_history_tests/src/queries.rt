@@ -1,57 +1,94 @@
 //! Queries of a history, with fields and answers as the texts of rows.
-use crate::cells::{cell, path, value_text};
+use crate::cells::{cell, value_text};
 use retro_history::History;
-use retro_tree::{Cell, Overlay, Text, Value};
-use std::alloc::Global;
+use retro_rows::{fail, path, text};
+use retro_tree::{Cell, Listing, Overlay, Path, Text, User, Value};
+use std::alloc::{AllocError, Global};
 use std::collections::BTreeSet;
 use std::test::Fail;
 
+/// Appends a number after a space, or alone as the first one.
+fn push_number(alloc: Global, out: &mut String, number: u32) -> Result<(), AllocError> {
+    if !out.is_empty() {
+        out.push_str(" ")?;
+    }
+    out.push_str(&format!(in alloc; "{number}")?)
+}
+
 /// Numbers as a text.
-fn numbers_text(alloc: Global, numbers: &[u32]) -> Result<String, Fail> {
+fn numbers_text(alloc: Global, numbers: &[u32]) -> Result<String, AllocError> {
     let mut out = String::new(alloc);
     for number in numbers {
-        if !out.is_empty() {
-            out.push_str(" ")?;
-        }
-        out.push_str(format!(in alloc; "{number}")?.as_str())?;
+        push_number(alloc, &mut out, *number)?;
     }
     Ok(out)
 }
 
 /// The number of a line as a text, or `none`.
-fn line_text(alloc: Global, number: Option<u32>) -> Result<String, Fail> {
+fn line_text(alloc: Global, number: Option<u32>) -> Result<String, AllocError> {
     match number {
-        Some(number) => Ok(format!(in alloc; "{number}")?),
-        None => Ok(String::from_str(alloc, "none")?),
+        Some(number) => format!(in alloc; "{number}"),
+        None => text(alloc, "none"),
     }
 }
 
+/// A checkpoint and the value that is rolled back to from there, as a text.
+fn rolled_text(alloc: Global, from: u32, value: &Value) -> Result<String, AllocError> {
+    let value = value_text(alloc, value)?;
+    format!(in alloc; "{from} {value}")
+}
+
 /// The value of a cell before a line. Rolling back to it has to give the same.
-fn value(alloc: Global, history: &History<'_>, name: &str, at: &str) -> Result<String, Fail> {
-    let (cell, number) = (cell(alloc, name)?, at.parse()?);
-    let value = history.value_at(alloc, &cell, number)?;
-    let rolled = history.rollback(alloc, &cell, number)?;
+fn cell_value(
+    alloc: Global,
+    history: &History<'_>,
+    cell: &Cell,
+    number: u32,
+) -> Result<String, AllocError> {
+    let value = history.value_at(alloc, cell, number)?;
+    let rolled = history.rollback(alloc, cell, number)?;
     if rolled.value.is_same(&value) {
-        Ok(format!(in alloc; "{} {}", rolled.from, value_text(alloc, &value)?)?)
+        rolled_text(alloc, rolled.from, &value)
     } else {
-        Err("rolled back to another value")?
+        text(alloc, "rolled back to another value")
+    }
+}
+
+/// The value of the cell with a name before a line.
+fn value(alloc: Global, history: &History<'_>, name: &str, at: &str) -> Result<String, Fail> {
+    let number = at.parse()?;
+    let cell = cell(alloc, name)?;
+    Ok(cell_value(alloc, history, &cell, number)?)
+}
+
+/// The number and the home of a user, or `none`.
+fn user_text(alloc: Global, user: &Option<User>) -> Result<String, AllocError> {
+    match user {
+        Some(user) => format!(in alloc; "{} {}", user.number, user.home.as_str()),
+        None => text(alloc, "none"),
     }
 }
 
 /// The number and the home of a user before a line, or `none`.
-fn entry(alloc: Global, history: &History<'_>, name: &str, at: &str) -> Result<String, Fail> {
-    let name = Text::of(String::from_str(alloc, name)?);
-    match history.entry_at(alloc, &name, at.parse()?)? {
-        Some(user) => Ok(format!(in alloc; "{} {}", user.number, user.home.as_str())?),
-        None => Ok(String::from_str(alloc, "none")?),
-    }
+fn entry_text(
+    alloc: Global,
+    history: &History<'_>,
+    name: &Text,
+    number: u32,
+) -> Result<String, AllocError> {
+    let user = history.entry_at(alloc, name, number)?;
+    user_text(alloc, &user)
 }
 
-/// The names in a directory before a line, or `none`.
-fn names(alloc: Global, history: &History<'_>, of: &str, at: &str) -> Result<String, Fail> {
-    let Some(listing) = history.names_at(alloc, &path(alloc, of)?, at.parse()?)? else {
-        return Ok(String::from_str(alloc, "none")?);
-    };
+/// The number and the home of the user with a name before a line, or `none`.
+fn entry(alloc: Global, history: &History<'_>, name: &str, at: &str) -> Result<String, Fail> {
+    let number = at.parse()?;
+    let name = Text::of(text(alloc, name)?);
+    Ok(entry_text(alloc, history, &name, number)?)
+}
+
+/// The names of a listing, with spaces between.
+fn listing_text(alloc: Global, listing: &Listing) -> Result<String, AllocError> {
     let mut out = String::new(alloc);
     for name in listing.names() {
         if !out.is_empty() {
@@ -62,41 +99,151 @@ fn names(alloc: Global, history: &History<'_>, of: &str, at: &str) -> Result<Str
     Ok(out)
 }
 
+/// The names in a directory before a line, or `none`.
+fn names_at(
+    alloc: Global,
+    history: &History<'_>,
+    path: &Path,
+    number: u32,
+) -> Result<String, AllocError> {
+    match history.names_at(alloc, path, number)? {
+        Some(listing) => listing_text(alloc, &listing),
+        None => text(alloc, "none"),
+    }
+}
+
+/// The names in the directory that a text names before a line, or `none`.
+fn names(alloc: Global, history: &History<'_>, of: &str, at: &str) -> Result<String, Fail> {
+    let number = at.parse()?;
+    let path = path(alloc, of)?;
+    Ok(names_at(alloc, history, &path, number)?)
+}
+
 /// The set of one cell.
-pub fn set_of(alloc: Global, cell: &Cell) -> Result<BTreeSet<Cell>, Fail> {
+fn set_of(alloc: Global, cell: &Cell) -> Result<BTreeSet<Cell>, AllocError> {
     let mut cells = BTreeSet::new(alloc);
     cells.insert(cell.copy()?)?;
     Ok(cells)
 }
 
 /// An overlay of one cell, whatever its value.
-pub fn overlay_of(alloc: Global, cell: &Cell) -> Result<Overlay, Fail> {
+fn overlay_of(alloc: Global, cell: &Cell) -> Result<Overlay, AllocError> {
     let mut overlay = Overlay::new(alloc);
     overlay.insert(cell.copy()?, Value::Status(0))?;
     Ok(overlay)
 }
 
-/// The next line above a number that reads or writes a cell, or `none`.
-fn next(alloc: Global, history: &History<'_>, name: &str, after: &str) -> Result<String, Fail> {
-    let (cell, after) = (cell(alloc, name)?, after.parse()?);
-    let met = history.next_meeting(alloc, &set_of(alloc, &cell)?, after)?;
-    let met_in = history.next_meeting_in(alloc, &overlay_of(alloc, &cell)?, after)?;
-    if met == met_in {
-        line_text(alloc, met)
+/// The next line above a number that meets the set of a cell.
+fn met(
+    alloc: Global,
+    history: &History<'_>,
+    cell: &Cell,
+    after: u32,
+) -> Result<Option<u32>, AllocError> {
+    let cells = set_of(alloc, cell)?;
+    history.next_meeting(alloc, &cells, after)
+}
+
+/// The next line above a number that meets an overlay of a cell.
+fn met_in(
+    alloc: Global,
+    history: &History<'_>,
+    cell: &Cell,
+    after: u32,
+) -> Result<Option<u32>, AllocError> {
+    let overlay = overlay_of(alloc, cell)?;
+    history.next_meeting_in(alloc, &overlay, after)
+}
+
+/// The next line above a number that reads or writes a cell.
+pub fn next_meeting(
+    alloc: Global,
+    history: &History<'_>,
+    cell: &Cell,
+    after: u32,
+) -> Result<Option<u32>, Fail> {
+    let met = met(alloc, history, cell, after)?;
+    if met == met_in(alloc, history, cell, after)? {
+        Ok(met)
     } else {
-        Err("the overlay is met by another line")?
+        fail("the overlay is met by another line")
     }
 }
 
+/// The next line above a number that reads or writes the cell with a name, or `none`.
+fn next(alloc: Global, history: &History<'_>, name: &str, after: &str) -> Result<String, Fail> {
+    let after = after.parse()?;
+    let met = next_meeting(alloc, history, &cell(alloc, name)?, after)?;
+    Ok(line_text(alloc, met)?)
+}
+
 /// The lines that write a cell.
-fn writers(alloc: Global, history: &History<'_>, name: &str) -> Result<String, Fail> {
-    let cell = cell(alloc, name)?;
-    let numbers = history.writers(alloc, &cell)?;
-    if numbers.as_slice() == history.written_by(&cell) {
+fn writers(alloc: Global, history: &History<'_>, cell: &Cell) -> Result<String, AllocError> {
+    let numbers = history.writers(alloc, cell)?;
+    if numbers.as_slice() == history.written_by(cell) {
         numbers_text(alloc, numbers.as_slice())
     } else {
-        Err("written by other lines")?
+        text(alloc, "written by other lines")
     }
+}
+
+/// The lines that read a cell.
+fn readers(alloc: Global, history: &History<'_>, cell: &Cell) -> Result<String, AllocError> {
+    let numbers = history.readers(alloc, cell)?;
+    numbers_text(alloc, numbers.as_slice())
+}
+
+/// The checkpoints of a cell.
+fn checkpoints(alloc: Global, history: &History<'_>, cell: &Cell) -> Result<String, AllocError> {
+    let numbers = history.checkpoints(alloc, cell)?;
+    numbers_text(alloc, numbers.as_slice())
+}
+
+/// What a query about a cell or a directory and a number answers.
+fn numbered(
+    alloc: Global,
+    history: &History<'_>,
+    call: &str,
+    of: &str,
+    at: &str,
+) -> Result<String, Fail> {
+    match call {
+        "value" => value(alloc, history, of, at),
+        "entry" => entry(alloc, history, of, at),
+        "names" => names(alloc, history, of, at),
+        "next" => next(alloc, history, of, at),
+        _ => fail("no such call"),
+    }
+}
+
+/// What a query about a cell answers.
+fn of_cell(
+    alloc: Global,
+    history: &History<'_>,
+    call: &str,
+    cell: &Cell,
+) -> Result<String, AllocError> {
+    match call {
+        "writers" => writers(alloc, history, cell),
+        "readers" => readers(alloc, history, cell),
+        "checkpoints" => checkpoints(alloc, history, cell),
+        _ => text(alloc, "no such call"),
+    }
+}
+
+/// The lines that list the directory that a text names.
+fn listed(alloc: Global, history: &History<'_>, of: &str) -> Result<String, Fail> {
+    let path = path(alloc, of)?;
+    Ok(numbers_text(alloc, history.listed_by(&path))?)
+}
+
+/// What a query about a cell or a directory answers.
+fn plain(alloc: Global, history: &History<'_>, call: &str, of: &str) -> Result<String, Fail> {
+    if call == "listed" {
+        return listed(alloc, history, of);
+    }
+    let cell = cell(alloc, of)?;
+    Ok(of_cell(alloc, history, call, &cell)?)
 }
 
 /// What the query of a row answers.
@@ -106,21 +253,9 @@ pub fn answer(
     call: &str,
     given: &[String],
 ) -> Result<String, Fail> {
-    match (call, given) {
-        ("value", [name, at]) => value(alloc, history, name, at),
-        ("entry", [name, at]) => entry(alloc, history, name, at),
-        ("names", [of, at]) => names(alloc, history, of, at),
-        ("next", [name, after]) => next(alloc, history, name, after),
-        ("writers", [name]) => writers(alloc, history, name),
-        ("readers", [name]) => {
-            let numbers = history.readers(alloc, &cell(alloc, name)?)?;
-            numbers_text(alloc, numbers.as_slice())
-        }
-        ("checkpoints", [name]) => {
-            let numbers = history.checkpoints(alloc, &cell(alloc, name)?)?;
-            numbers_text(alloc, numbers.as_slice())
-        }
-        ("listed", [of]) => numbers_text(alloc, history.listed_by(&path(alloc, of)?)),
-        _ => Err("no such call")?,
+    match given {
+        [of, at] => numbered(alloc, history, call, of, at),
+        [of] => plain(alloc, history, call, of),
+        _ => fail("no such call"),
     }
 }

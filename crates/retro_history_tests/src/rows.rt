@@ -5,7 +5,7 @@ use crate::scans::first_difference;
 use crate::tables::{GROWING, INCIDENTS, LIMITED, SCANNED};
 use retro_history::History;
 use retro_keep::Recording;
-use retro_rows::rows;
+use retro_rows::{Row, fail, rows};
 use std::alloc::Global;
 use std::test::Fail;
 
@@ -18,44 +18,39 @@ fn called(
 ) -> Result<String, Fail> {
     let history = History::of(alloc, recording)?;
     match (call, given) {
-        ("scanned", [numbers]) => first_difference(alloc, &history, numbers.parse()?),
+        ("scanned", [last]) => first_difference(alloc, &history, last.parse()?),
         _ => answer(alloc, &history, call, given),
     }
 }
 
 /// What a row's call returns over the recording of its entries and lines.
-fn returned(alloc: Global, call: &str, given: &[String]) -> Result<String, Fail> {
-    match given {
-        [entries, lines, fields @ ..] => {
-            called(alloc, &recording(alloc, entries, lines)?, call, fields)
-        }
-        _ => Err("no lines")?,
-    }
+fn returned(alloc: Global, row: &Row) -> Result<String, Fail> {
+    let [entries, lines, fields @ ..] = row.given.as_slice() else {
+        return fail("no lines");
+    };
+    let recording = recording(alloc, entries, lines)?;
+    called(alloc, &recording, &row.call, fields)
 }
 
-/// The first row of a table whose call returns something else than it wants, with what it returns.
-/// It is empty if there is none.
-fn first_wrong(alloc: Global, table: &str) -> Result<String, Fail> {
+/// Makes the calls of a table. Fails with the first row whose call returns something else than it
+/// wants.
+fn hold(alloc: Global, table: &str) -> Result<(), Fail> {
     for row in &rows(alloc, table)? {
-        let returned = returned(alloc, &row.call, &row.given)?;
-        if returned != row.wanted {
-            return Ok(format!(in alloc; "{}\nreturned: {returned}", row.text)?);
-        }
+        let returned = returned(alloc, row)?;
+        row.compare(alloc, &returned)?;
     }
-    Ok(String::new(alloc))
+    Ok(())
 }
 
 #[test]
 fn rows_hold(rt: HostRuntime) -> Result<(), Fail> {
-    let alloc = rt.alloc();
-    assert_eq!(rt; first_wrong(alloc, GROWING)?.as_str(), "");
-    assert_eq!(rt; first_wrong(alloc, LIMITED)?.as_str(), "");
-    assert_eq!(rt; first_wrong(alloc, INCIDENTS)?.as_str(), "");
+    for table in [GROWING, LIMITED, INCIDENTS] {
+        hold(rt.alloc(), table)?;
+    }
     Ok(())
 }
 
 #[test]
 fn histories_are_scans(rt: HostRuntime) -> Result<(), Fail> {
-    assert_eq!(rt; first_wrong(rt.alloc(), SCANNED)?.as_str(), "");
-    Ok(())
+    hold(rt.alloc(), SCANNED)
 }

@@ -1,32 +1,61 @@
 //! Histories compared with a plain scan of the notes, and with states that are replayed from them.
-use crate::queries::{overlay_of, set_of};
+use crate::queries::next_meeting;
 use retro_history::History;
 use retro_keep::{Noted, Recording};
-use retro_tree::{Ask, Cell, Change, Note, Notes, State, supports};
+use retro_rows::text;
+use retro_tree::{Ask, Cell, Change, Note, Notes, Path, State, Value, VarName, supports};
 use std::alloc::{AllocError, Global};
 use std::test::Fail;
 
-/// Appends the cell that a change writes or a query is about, and the parent of a path.
-fn push_cells(alloc: Global, cells: &mut Vec<Cell>, note: &Note) -> Result<(), AllocError> {
-    match note {
-        Note::Made(Change::Put(path, _) | Change::Grow(path, _))
-        | Note::Asked(
-            Ask::Kind(path) | Ask::Bytes(path) | Ask::Names(path) | Ask::CanWrite(path, _),
-            _,
-        ) => {
-            cells.push(Cell::At(path.parent(alloc)?))?;
-            cells.push(Cell::At(path.copy()?))?;
+/// Appends the cells of a path and of its parent.
+fn push_path(alloc: Global, cells: &mut Vec<Cell>, path: &Path) -> Result<(), AllocError> {
+    cells.push(Cell::At(path.parent(alloc)?))?;
+    cells.push(Cell::At(path.copy()?))?;
+    Ok(())
+}
+
+/// Appends the cell of a session's variable.
+fn push_variable(cells: &mut Vec<Cell>, sid: u32, name: &VarName) -> Result<(), AllocError> {
+    cells.push(Cell::Var(sid, name.copy()?))?;
+    Ok(())
+}
+
+/// Appends the cell of a session's directory or status.
+fn push_session(cells: &mut Vec<Cell>, cell: Cell) -> Result<(), AllocError> {
+    cells.push(cell)?;
+    Ok(())
+}
+
+/// Appends the cell that a change writes, and the parent of a path.
+fn push_changed(alloc: Global, cells: &mut Vec<Cell>, change: &Change) -> Result<(), AllocError> {
+    match change {
+        Change::Put(path, _) | Change::Grow(path, _) => push_path(alloc, cells, path),
+        Change::SetVar(sid, name, _) => push_variable(cells, *sid, name),
+        Change::SetCwd(sid, _) => push_session(cells, Cell::Cwd(*sid)),
+        Change::SetStatus(sid, _) => push_session(cells, Cell::Status(*sid)),
+    }
+}
+
+/// Appends the cell that a query is about, and the parent of a path.
+fn push_asked(alloc: Global, cells: &mut Vec<Cell>, ask: &Ask) -> Result<(), AllocError> {
+    match ask {
+        Ask::Kind(path) | Ask::Bytes(path) | Ask::Names(path) | Ask::CanWrite(path, _) => {
+            push_path(alloc, cells, path)
         }
-        Note::Made(Change::SetVar(sid, name, _)) | Note::Asked(Ask::VarOf(sid, name), _) => {
-            cells.push(Cell::Var(*sid, name.copy()?))?;
+        Ask::VarOf(sid, name) => push_variable(cells, *sid, name),
+        Ask::CwdOf(sid) => push_session(cells, Cell::Cwd(*sid)),
+        Ask::StatusOf(sid) => push_session(cells, Cell::Status(*sid)),
+        Ask::User(_) => Ok(()),
+    }
+}
+
+/// Appends the cells of notes.
+fn push_cells(alloc: Global, cells: &mut Vec<Cell>, notes: &Notes) -> Result<(), AllocError> {
+    for note in notes.as_slice() {
+        match note {
+            Note::Made(change) => push_changed(alloc, cells, change)?,
+            Note::Asked(ask, _) => push_asked(alloc, cells, ask)?,
         }
-        Note::Made(Change::SetCwd(sid, _)) | Note::Asked(Ask::CwdOf(sid), _) => {
-            cells.push(Cell::Cwd(*sid))?;
-        }
-        Note::Made(Change::SetStatus(sid, _)) | Note::Asked(Ask::StatusOf(sid), _) => {
-            cells.push(Cell::Status(*sid))?;
-        }
-        Note::Asked(Ask::User(_), _) => {}
     }
     Ok(())
 }
@@ -35,9 +64,7 @@ fn push_cells(alloc: Global, cells: &mut Vec<Cell>, note: &Note) -> Result<(), A
 fn cells_of(alloc: Global, lines: &[(u32, Noted)]) -> Result<Vec<Cell>, AllocError> {
     let mut cells = Vec::new(alloc);
     for line in lines {
-        for note in line.1.notes.as_slice() {
-            push_cells(alloc, &mut cells, note)?;
-        }
+        push_cells(alloc, &mut cells, &line.1.notes)?;
     }
     Ok(cells)
 }
@@ -79,16 +106,22 @@ fn scanned(lines: &[(u32, Noted)], cell: &Cell, after: u32) -> Option<u32> {
     None
 }
 
+/// Makes the changes of notes to a state.
+fn replay(alloc: Global, state: &mut State, notes: &Notes) -> Result<(), AllocError> {
+    for note in notes.as_slice() {
+        if let Note::Made(change) = note {
+            state.apply(alloc, change)?;
+        }
+    }
+    Ok(())
+}
+
 /// The state after the lines below a number, which is replayed from the notes.
 fn replayed(alloc: Global, recording: &Recording, number: u32) -> Result<State, AllocError> {
     let mut state = recording.first().copy()?;
     for line in recording.lines() {
         if line.0 < number {
-            for note in line.1.notes.as_slice() {
-                if let Note::Made(change) = note {
-                    state.apply(alloc, change)?;
-                }
-            }
+            replay(alloc, &mut state, &line.1.notes)?;
         }
     }
     Ok(state)
@@ -97,9 +130,19 @@ fn replayed(alloc: Global, recording: &Recording, number: u32) -> Result<State, 
 /// Whether the next line that a history finds for a cell is the one that a scan finds.
 fn finds_next(alloc: Global, history: &History<'_>, cell: &Cell, after: u32) -> Result<bool, Fail> {
     let wanted = scanned(history.recording().lines(), cell, after);
-    let met = history.next_meeting(alloc, &set_of(alloc, cell)?, after)?;
-    let met_in = history.next_meeting_in(alloc, &overlay_of(alloc, cell)?, after)?;
-    Ok(met == wanted && met_in == wanted)
+    Ok(next_meeting(alloc, history, cell, after)? == wanted)
+}
+
+/// Whether a history rolls a cell back to a value before a line.
+fn is_rolled_back(
+    alloc: Global,
+    history: &History<'_>,
+    cell: &Cell,
+    number: u32,
+    wanted: &Value,
+) -> Result<bool, AllocError> {
+    let rolled = history.rollback(alloc, cell, number)?;
+    Ok(rolled.value.is_same(wanted))
 }
 
 /// Whether a history has the value of a state in a cell before a line.
@@ -109,28 +152,56 @@ fn has_value(
     state: &State,
     cell: &Cell,
     number: u32,
-) -> Result<bool, Fail> {
+) -> Result<bool, AllocError> {
     let wanted = state.value(alloc, cell)?;
-    let value = history.value_at(alloc, cell, number)?;
-    let rolled = history.rollback(alloc, cell, number)?;
-    Ok(value.is_same(&wanted) && rolled.value.is_same(&wanted))
+    Ok(
+        history.value_at(alloc, cell, number)?.is_same(&wanted)
+            && is_rolled_back(alloc, history, cell, number, &wanted)?,
+    )
+}
+
+/// What differs, at a number, for a cell.
+fn difference(
+    alloc: Global,
+    history: &History<'_>,
+    state: &State,
+    cell: &Cell,
+    number: u32,
+) -> Result<Option<&'static str>, Fail> {
+    if !finds_next(alloc, history, cell, number)? {
+        return Ok(Some("another line after"));
+    }
+    if !has_value(alloc, history, state, cell, number)? {
+        return Ok(Some("another value before"));
+    }
+    Ok(None)
+}
+
+/// What differs, at a number, for one of some cells.
+fn difference_in(
+    alloc: Global,
+    history: &History<'_>,
+    cells: &[Cell],
+    number: u32,
+) -> Result<Option<&'static str>, Fail> {
+    let state = replayed(alloc, history.recording(), number)?;
+    for cell in cells {
+        let found = difference(alloc, history, &state, cell, number)?;
+        if found.is_some() {
+            return Ok(found);
+        }
+    }
+    Ok(None)
 }
 
 /// What of a history differs from scans and replayed states, for the numbers from 0 to a last one
 /// and all cells of the notes. It is `same` if nothing does.
 pub fn first_difference(alloc: Global, history: &History<'_>, last: u32) -> Result<String, Fail> {
-    let recording = history.recording();
-    let cells = cells_of(alloc, recording.lines())?;
+    let cells = cells_of(alloc, history.recording().lines())?;
     for number in 0..=last {
-        let state = replayed(alloc, recording, number)?;
-        for cell in &cells {
-            if !finds_next(alloc, history, cell, number)? {
-                return Ok(format!(in alloc; "another line after {number}")?);
-            }
-            if !has_value(alloc, history, &state, cell, number)? {
-                return Ok(format!(in alloc; "another value before {number}")?);
-            }
+        if let Some(found) = difference_in(alloc, history, &cells, number)? {
+            return Ok(format!(in alloc; "{found} {number}")?);
         }
     }
-    Ok(String::from_str(alloc, "same")?)
+    Ok(text(alloc, "same")?)
 }

@@ -1,113 +1,196 @@
 //! Documents, and the scripts and recordings that they are.
-use retro_keep::EditFault;
+use retro_keep::{EditFault, Script, ScriptLine};
 use retro_log::{LogFault, read_log, read_script, sessions_value, tree_value};
-use std::alloc::Global;
+use retro_rows::{fail, text};
+use retro_tree::State;
+use std::alloc::{AllocError, Global};
 use std::test::Fail;
 
-/// The number of a document's refusal, or `script`.
-pub fn script(alloc: Global, document: &str) -> Result<String, Fail> {
-    match read_script(alloc, document.as_bytes()) {
-        Ok(_) => Ok(String::from_str(alloc, "script")?),
-        Err(LogFault::NoMem) => Err("out of memory")?,
-        Err(LogFault::Refused(refusal)) => Ok(format!(in alloc; "{}", refusal.number())?),
+/// The number of a fault, or that it is none of the document.
+fn fault_text(alloc: Global, fault: LogFault) -> Result<String, AllocError> {
+    match fault {
+        LogFault::NoMem => Err(AllocError),
+        LogFault::Refused(refusal) => format!(in alloc; "{}", refusal.number()),
     }
 }
 
-/// What a document is that has this value at a key, and lawful values at the others.
-pub fn script_part(alloc: Global, part: &str, value: &str) -> Result<String, Fail> {
-    let (before, after) = match part {
-        "version" => (
+/// The number of a document's refusal, or `script`.
+pub fn script(alloc: Global, document: &str) -> Result<String, AllocError> {
+    match read_script(alloc, document.as_bytes()) {
+        Ok(_) => text(alloc, "script"),
+        Err(fault) => fault_text(alloc, fault),
+    }
+}
+
+/// What a document has before and after the value at a key, with lawful values at the others.
+fn around(part: &str) -> Option<(&'static str, &'static str)> {
+    match part {
+        "version" => Some((
             r#"{"script":"#,
             r#","tree":[],"sessions":[[1,"/",0,[]]],"lines":[]}"#,
-        ),
-        "entries" => (
+        )),
+        "entries" => Some((
             r#"{"script":1,"tree":"#,
             r#","sessions":[[1,"/",0,[]]],"lines":[]}"#,
-        ),
-        "sessions" => (r#"{"script":1,"tree":[],"sessions":"#, r#","lines":[]}"#),
-        "lines" => (
+        )),
+        "sessions" => Some((r#"{"script":1,"tree":[],"sessions":"#, r#","lines":[]}"#)),
+        "lines" => Some((
             r#"{"script":1,"tree":[],"sessions":[[1,"/",0,[]]],"lines":"#,
             "}",
-        ),
-        _ => return Err("no such part")?,
-    };
-    script(alloc, format!(in alloc; "{before}{value}{after}")?.as_str())
+        )),
+        _ => None,
+    }
+}
+
+/// What a document is that has a value between these texts.
+fn script_between(
+    alloc: Global,
+    before: &str,
+    value: &str,
+    after: &str,
+) -> Result<String, AllocError> {
+    let document = format!(in alloc; "{before}{value}{after}")?;
+    script(alloc, &document)
+}
+
+/// What a document is that has this value at a key, and lawful values at the others.
+pub fn script_part(alloc: Global, part: &str, value: &str) -> Result<String, AllocError> {
+    match around(part) {
+        Some((before, after)) => script_between(alloc, before, value, after),
+        None => text(alloc, "no such part"),
+    }
 }
 
 /// The number of a log's refusal, or `log`.
-fn log_of(alloc: Global, document: &[u8]) -> Result<String, Fail> {
+fn log_of(alloc: Global, document: &[u8]) -> Result<String, AllocError> {
     match read_log(alloc, document) {
-        Ok(_) => Ok(String::from_str(alloc, "log")?),
-        Err(LogFault::NoMem) => Err("out of memory")?,
-        Err(LogFault::Refused(refusal)) => Ok(format!(in alloc; "{}", refusal.number())?),
+        Ok(_) => text(alloc, "log"),
+        Err(fault) => fault_text(alloc, fault),
     }
 }
 
 /// What a log is.
-pub fn log(alloc: Global, document: &str) -> Result<String, Fail> {
+pub fn log(alloc: Global, document: &str) -> Result<String, AllocError> {
     log_of(alloc, document.as_bytes())
 }
 
-/// What each front of a log is that lacks the last brace, if all are alike.
-pub fn log_fronts(alloc: Global, document: &str) -> Result<String, Fail> {
-    let Some(longest) = document.strip_suffix("}") else {
-        return Err("no brace at the end")?;
-    };
-    let all = log_of(alloc, longest.as_bytes())?;
-    for end in 0..longest.len() {
-        let front = log_of(alloc, &longest.as_bytes()[..end])?;
-        if front != all {
-            return Ok(format!(in alloc; "{front} for {end} bytes")?);
+/// The first front of a log that isn't what all have to be, or `None`.
+fn other_front(alloc: Global, document: &[u8], all: &str) -> Result<Option<usize>, AllocError> {
+    for end in 0..document.len() {
+        let front = log_of(alloc, &document[..end])?;
+        if front.as_str() != all {
+            return Ok(Some(end));
         }
     }
-    Ok(all)
+    Ok(None)
 }
 
-/// What a log is that has these lines, of two sessions, over a directory `/d` with a file `f`.
-pub fn logged(alloc: Global, lines: &str) -> Result<String, Fail> {
-    let tree = r#"[["/d"],["/d/f","61"]]"#;
-    let sessions = r#"[[1,"/",0,[]],[2,"/",0,[]]]"#;
-    let start = format!(in alloc; r#"{{"log":1,"tree":{tree},"sessions":{sessions},"lines":"#)?;
-    log(alloc, format!(in alloc; "{start}{lines}}}")?.as_str())
+/// What each front of a document is, if all are alike.
+fn fronts_text(alloc: Global, document: &[u8]) -> Result<String, AllocError> {
+    let all = log_of(alloc, document)?;
+    match other_front(alloc, document, &all)? {
+        Some(end) => format!(in alloc; "something else for {end} bytes"),
+        None => Ok(all),
+    }
+}
+
+/// What each front of a log is that lacks the last brace, if all are alike.
+pub fn log_fronts(alloc: Global, document: &str) -> Result<String, AllocError> {
+    match document.strip_suffix("}") {
+        Some(longest) => fronts_text(alloc, longest.as_bytes()),
+        None => text(alloc, "no brace at the end"),
+    }
+}
+
+/// What a log has before its lines, of two sessions, over a directory `/d` with a file `f`.
+const BEFORE_LINES: &str = concat!(
+    r#"{"log":1,"tree":[["/d"],["/d/f","61"]],"#,
+    r#""sessions":[[1,"/",0,[]],[2,"/",0,[]]],"lines":"#,
+);
+
+/// What such a log is that has these lines.
+pub fn logged(alloc: Global, lines: &str) -> Result<String, AllocError> {
+    let document = format!(in alloc; "{BEFORE_LINES}{lines}}}")?;
+    log(alloc, &document)
 }
 
 /// What such a log is that has this note in a line of the first session.
-pub fn note(alloc: Global, note: &str) -> Result<String, Fail> {
-    logged(
-        alloc,
-        format!(in alloc; r#"[[1,1,"",[{note}],""]]"#)?.as_str(),
-    )
+pub fn note(alloc: Global, note: &str) -> Result<String, AllocError> {
+    let lines = format!(in alloc; r#"[[1,1,"",[{note}],""]]"#)?;
+    logged(alloc, &lines)
 }
 
-/// The tree and the sessions of a document as they are written, and its lines.
-pub fn written(alloc: Global, document: &str) -> Result<String, Fail> {
-    let script = read_script(alloc, document.as_bytes()).map_err(|_| "refused")?;
-    let tree = tree_value(alloc, script.first())?.to_string(alloc)?;
-    let sessions = sessions_value(alloc, script.first())?.to_string(alloc)?;
-    let mut out = format!(in alloc; "{tree} {sessions}")?;
-    for line in &script.into_parts().1 {
-        let text = line.text.as_str();
-        out.push_str(format!(in alloc; " {} {} {text}", line.number, line.sid)?.as_str())?;
+/// The script that a document is.
+pub fn script_of(alloc: Global, document: &str) -> Result<Script, Fail> {
+    match read_script(alloc, document.as_bytes()) {
+        Ok(script) => Ok(script),
+        Err(_) => fail("refused"),
+    }
+}
+
+/// The tree and the sessions of a state as they are written.
+fn state_text(alloc: Global, state: &State) -> Result<String, AllocError> {
+    let tree = tree_value(alloc, state)?.to_string(alloc)?;
+    let sessions = sessions_value(alloc, state)?.to_string(alloc)?;
+    format!(in alloc; "{tree} {sessions}")
+}
+
+/// Appends a line.
+fn push_line(alloc: Global, out: &mut String, line: &ScriptLine) -> Result<(), AllocError> {
+    let text = line.text.as_str();
+    out.push_str(&format!(in alloc; " {} {} {text}", line.number, line.sid)?)
+}
+
+/// The first state and the lines of a script as they are written.
+fn script_text(alloc: Global, script: &Script) -> Result<String, AllocError> {
+    let mut out = state_text(alloc, script.first())?;
+    for line in script.lines() {
+        push_line(alloc, &mut out, line)?;
     }
     Ok(out)
 }
 
-/// The numbers of a script's lines without some, or the refusal and the number that no line has.
-pub fn without(alloc: Global, document: &str, given: &str) -> Result<String, Fail> {
-    let script = read_script(alloc, document.as_bytes()).map_err(|_| "refused")?;
-    let mut numbers: Vec<u32> = Vec::new(alloc);
-    for number in given.split(' ') {
+/// The tree and the sessions of a document as they are written, and its lines.
+pub fn written(alloc: Global, document: &str) -> Result<String, Fail> {
+    let script = script_of(alloc, document)?;
+    Ok(script_text(alloc, &script)?)
+}
+
+/// Appends a number with a space.
+fn push_number(alloc: Global, out: &mut String, number: u32) -> Result<(), AllocError> {
+    out.push_str(&format!(in alloc; "{number} ")?)
+}
+
+/// The numbers of a script's lines.
+fn numbers_text(alloc: Global, script: &Script) -> Result<String, AllocError> {
+    let mut out = String::new(alloc);
+    for line in script.lines() {
+        push_number(alloc, &mut out, line.number)?;
+    }
+    Ok(out)
+}
+
+/// The numbers of a list, which spaces separate.
+fn numbers(alloc: Global, list: &str) -> Result<Vec<u32>, Fail> {
+    let mut numbers = Vec::new(alloc);
+    for number in list.split(' ') {
         numbers.push(number.parse()?)?;
     }
-    let mut out = String::new(alloc);
-    match script.without(alloc, &numbers) {
-        Ok(script) => {
-            for line in script.lines() {
-                out.push_str(format!(in alloc; "{} ", line.number)?.as_str())?;
-            }
-            Ok(out)
-        }
-        Err(EditFault::UnknownLine(number)) => Ok(format!(in alloc; "21 {number}")?),
-        Err(EditFault::NoMem) => Err("out of memory")?,
+    Ok(numbers)
+}
+
+/// The numbers of a script's lines without some, or the refusal and the number that no line has.
+fn edited_text(alloc: Global, script: Script, cancel: &[u32]) -> Result<String, AllocError> {
+    match script.without(alloc, cancel) {
+        Ok(script) => numbers_text(alloc, &script),
+        Err(EditFault::UnknownLine(number)) => format!(in alloc; "21 {number}"),
+        Err(EditFault::NoMem) => Err(AllocError),
     }
+}
+
+/// The numbers of a document's lines without some, or the refusal and the number that no line has.
+pub fn without(alloc: Global, document: &str, given: &str) -> Result<String, Fail> {
+    let numbers = numbers(alloc, given)?;
+    let script = script_of(alloc, document)?;
+    Ok(edited_text(alloc, script, &numbers)?)
 }

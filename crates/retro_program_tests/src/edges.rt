@@ -2,6 +2,7 @@
 use crate::programs::words;
 use crate::tables::EMPTY;
 use retro_cli::{Exit, Input, Output, run_with};
+use retro_rows::text;
 use std::alloc::{AllocError, AllocGlobal, Global};
 use std::io;
 use std::io::{ErrorKind, Read, Write};
@@ -32,6 +33,17 @@ struct Drip<'a> {
     kind: ErrorKind,
 }
 
+impl<'a> Drip<'a> {
+    fn new(left: &'a [u8], fails: u32, kind: ErrorKind) -> Drip<'a> {
+        Drip {
+            left,
+            calls: 0,
+            fails,
+            kind,
+        }
+    }
+}
+
 impl Read for Drip<'_> {
     fn read(&mut self, buf: &mut [u8]) -> io::Result<usize> {
         let call = self.calls;
@@ -59,6 +71,17 @@ struct Sip {
     failure: Failure,
 }
 
+impl Sip {
+    fn new(alloc: Global, fails: u32, failure: Failure) -> Sip {
+        Sip {
+            held: Vec::new(alloc),
+            calls: 0,
+            fails,
+            failure,
+        }
+    }
+}
+
 impl Write for Sip {
     fn write(&mut self, buf: &[u8]) -> io::Result<usize> {
         let call = self.calls;
@@ -83,6 +106,16 @@ impl Write for Sip {
     }
 }
 
+/// Runs the program.
+fn replay<T: Threads + Sync + AllocGlobal, R: Read, W: Write>(
+    rt: &T,
+    words: &[String],
+    reader: &mut R,
+    writer: &mut W,
+) -> Exit {
+    run_with(rt, words, &mut Input::new(reader), &mut Output::new(writer))
+}
+
 /// A run on the empty script, whose reader and writer fail at these calls: the exit, how often each
 /// was called, and what was written.
 fn run_edges<T: Threads + Sync + AllocGlobal>(
@@ -91,40 +124,50 @@ fn run_edges<T: Threads + Sync + AllocGlobal>(
     (writes, failure): (u32, Failure),
 ) -> Result<(Exit, u32, u32, Vec<u8>), AllocError> {
     let words = words(rt.alloc(), "retro replay")?;
-    let mut reader = Drip {
-        left: EMPTY.as_bytes(),
-        calls: 0,
-        fails: reads,
-        kind,
-    };
-    let mut writer = Sip {
-        held: Vec::new(rt.alloc()),
-        calls: 0,
-        fails: writes,
-        failure,
-    };
-    let exit = run_with(
-        rt,
-        &words,
-        &mut Input::new(&mut reader),
-        &mut Output::new(&mut writer),
-    );
+    let mut reader = Drip::new(EMPTY.as_bytes(), reads, kind);
+    let mut writer = Sip::new(rt.alloc(), writes, failure);
+    let exit = replay(rt, &words, &mut reader, &mut writer);
     Ok((exit, reader.calls, writer.calls, writer.held))
+}
+
+/// Whether a run ends at a call that fails to read, and writes nothing.
+fn is_unread<T: Threads + Sync + AllocGlobal>(
+    rt: &T,
+    call: u32,
+    kind: ErrorKind,
+) -> Result<bool, AllocError> {
+    let (exit, reads, writes, _) = run_edges(rt, (call, kind), (NEVER, Failure::Nothing))?;
+    Ok(exit == Exit::ReadFailed && reads == call.wrapping_add(1) && writes == 0)
 }
 
 #[test]
 fn a_failed_read_ends_the_run(rt: HostRuntime) -> Result<(), Fail> {
     for kind in [ErrorKind::Other, ErrorKind::Interrupted] {
         for call in 0..EMPTY.len() as u32 + 1 {
-            let (exit, reads, writes, _) = run_edges(&rt, (call, kind), (NEVER, Failure::Nothing))?;
-            assert_eq!(rt;
-                (exit, reads, writes),
-                (Exit::ReadFailed, call + 1, 0),
-                "call {call}"
-            );
+            assert!(rt; is_unread(&rt, call, kind)?, "call {call}, {kind:?}");
         }
     }
     Ok(())
+}
+
+/// Whether a run ends at a call that fails to write, and has written what comes before it. With a
+/// call for each byte of the report, the call after them is none.
+fn is_unwritten<T: Threads + Sync + AllocGlobal>(
+    rt: &T,
+    call: u32,
+    failure: Failure,
+) -> Result<bool, AllocError> {
+    let (exit, _, writes, held) = run_edges(rt, (NEVER, ErrorKind::Other), (call, failure))?;
+    let (wanted, calls) = if call as usize == EMPTY_REPORT.len() {
+        (Exit::Done, call)
+    } else {
+        (Exit::WriteFailed, call.wrapping_add(1))
+    };
+    Ok(
+        exit == wanted
+            && writes == calls
+            && Some(held.as_slice()) == EMPTY_REPORT.get(..call as usize),
+    )
 }
 
 #[test]
@@ -135,109 +178,104 @@ fn a_failed_write_ends_the_run(rt: HostRuntime) -> Result<(), Fail> {
         Failure::Nothing,
     ] {
         for call in 0..EMPTY_REPORT.len() as u32 + 1 {
-            let run = run_edges(&rt, (NEVER, ErrorKind::Other), (call, failure))?;
-            let is_whole = call as usize == EMPTY_REPORT.len();
-            let exit = if is_whole {
-                Exit::Done
-            } else {
-                Exit::WriteFailed
-            };
-            let calls = if is_whole { call } else { call + 1 };
-            assert_eq!(rt; (run.0, run.2), (exit, calls), "call {call}, {failure:?}");
-            assert_eq!(rt; Some(run.3.as_slice()), EMPTY_REPORT.get(..call as usize));
+            assert!(rt;
+                is_unwritten(&rt, call, failure)?,
+                "call {call}, {failure:?}"
+            );
         }
+    }
+    Ok(())
+}
+
+/// Appends a text so many times.
+fn push_times(out: &mut String, text: &str, count: u32) -> Result<(), AllocError> {
+    for _ in 0..count {
+        out.push_str(text)?;
+    }
+    Ok(())
+}
+
+/// Appends a thousand files in a directory.
+fn push_files(alloc: Global, out: &mut String) -> Result<(), AllocError> {
+    for number in 1000..2000_u32 {
+        out.push_str(&format!(in alloc; r#",["/d/{number}",""]"#)?)?;
+    }
+    Ok(())
+}
+
+/// Appends a hundred lines, each with its number, a text of 4,091 letters, and its end.
+fn push_numbered(
+    alloc: Global,
+    out: &mut String,
+    start: &str,
+    letter: &str,
+    end: &str,
+) -> Result<(), AllocError> {
+    for number in 2..102_u32 {
+        out.push_str(&format!(in alloc; ",[{number},{start}")?)?;
+        push_times(out, letter, 4091)?;
+        out.push_str(end)?;
     }
     Ok(())
 }
 
 /// A script of a hundred lines of 4,096 bytes, `echo nn..`, in a directory with a thousand files.
 fn large_script(alloc: Global) -> Result<String, AllocError> {
-    let mut script = String::from_str(alloc, r#"{"script":1,"tree":[["/d"]"#)?;
-    for number in 1000..2000_u32 {
-        script.push_str(format!(in alloc; r#",["/d/{number}",""]"#)?.as_str())?;
-    }
+    let mut script = text(alloc, r#"{"script":1,"tree":[["/d"]"#)?;
+    push_files(alloc, &mut script)?;
     script.push_str(r#"],"sessions":[[1,"/d",0,[]]],"lines":[[1,1,""]"#)?;
-    for number in 2..102_u32 {
-        script.push_str(format!(in alloc; r#",[{number},1,"echo "#)?.as_str())?;
-        for _ in 0..4091 {
-            script.push('n')?;
-        }
-        script.push_str(r#""]"#)?;
-    }
+    push_numbered(alloc, &mut script, r#"1,"echo "#, "n", r#""]"#)?;
     script.push_str("]}")?;
     Ok(script)
 }
 
 /// The report of that script.
 fn large_report(alloc: Global) -> Result<String, AllocError> {
-    let mut report = String::from_str(alloc, r#"{"outputs":[[1,""]"#)?;
-    for number in 2..102_u32 {
-        report.push_str(format!(in alloc; r#",[{number},""#)?.as_str())?;
-        for _ in 0..4091 {
-            report.push_str("6e")?;
-        }
-        report.push_str(r#"0a"]"#)?;
-    }
+    let mut report = text(alloc, r#"{"outputs":[[1,""]"#)?;
+    push_numbered(alloc, &mut report, r#"""#, "6e", r#"0a"]"#)?;
     report.push_str(r#"],"sessions":[[1,"/d",0,[]]],"tree":[["/d"]"#)?;
-    for number in 1000..2000_u32 {
-        report.push_str(format!(in alloc; r#",["/d/{number}",""]"#)?.as_str())?;
-    }
+    push_files(alloc, &mut report)?;
     report.push_str("]}\n")?;
     Ok(report)
 }
 
+/// How a replay of an input ends that gives one byte a call, and what it writes.
+fn replayed<T: Threads + Sync + AllocGlobal>(
+    rt: &T,
+    input: &[u8],
+) -> Result<(Exit, Vec<u8>), AllocError> {
+    let words = words(rt.alloc(), "retro replay")?;
+    let mut reader = Drip::new(input, NEVER, ErrorKind::Other);
+    let mut out = Vec::new(rt.alloc());
+    let exit = replay(rt, &words, &mut reader, &mut out);
+    Ok((exit, out))
+}
+
+/// Whether the report of the large script is as it has to be.
+fn is_large_replayed<T: Threads + Sync + AllocGlobal>(rt: &T) -> Result<bool, AllocError> {
+    let script = large_script(rt.alloc())?;
+    let (exit, out) = replayed(rt, script.as_bytes())?;
+    Ok(exit == Exit::Done && out.as_slice() == large_report(rt.alloc())?.as_bytes())
+}
+
 #[test]
 fn large_scripts_are_replayed(rt: HostRuntime) -> Result<(), Fail> {
-    let words = words(rt.alloc(), "retro replay")?;
-    let script = large_script(rt.alloc())?;
-    let mut reader = Drip {
-        left: script.as_bytes(),
-        calls: 0,
-        fails: NEVER,
-        kind: ErrorKind::Other,
-    };
-    let mut out = Vec::new(rt.alloc());
-    assert_eq!(rt;
-        run_with(
-            &rt,
-            &words,
-            &mut Input::new(&mut reader),
-            &mut Output::new(&mut out)
-        ),
-        Exit::Done
-    );
-    assert!(rt;
-        out.as_slice() == large_report(rt.alloc())?.as_bytes(),
-        "another report"
-    );
+    assert!(rt; is_large_replayed(&rt)?, "another report");
     Ok(())
 }
 
-/// A run that isn't even given its own name, and one on bytes that aren't UTF-8.
+/// A run that isn't even given its own name.
+fn unnamed<T: Threads + Sync + AllocGlobal>(rt: &T) -> Exit {
+    let none: [String; 0] = [];
+    let mut reader = EMPTY.as_bytes();
+    let mut out = Vec::new(rt.alloc());
+    replay(rt, &none, &mut reader, &mut out)
+}
+
+/// A run without its own name, and one on bytes that aren't UTF-8.
 #[test]
 fn odd_inputs_are_refused(rt: HostRuntime) -> Result<(), Fail> {
-    let none: [String; 0] = [];
-    let words = words(rt.alloc(), "retro replay")?;
-    let mut out = Vec::new(rt.alloc());
-    let mut reader: &[u8] = EMPTY.as_bytes();
-    assert_eq!(rt;
-        run_with(
-            &rt,
-            &none,
-            &mut Input::new(&mut reader),
-            &mut Output::new(&mut out)
-        ),
-        Exit::Refused(31)
-    );
-    let mut reader: &[u8] = &[0xff];
-    assert_eq!(rt;
-        run_with(
-            &rt,
-            &words,
-            &mut Input::new(&mut reader),
-            &mut Output::new(&mut out)
-        ),
-        Exit::Refused(12)
-    );
+    assert_eq!(rt; unnamed(&rt), Exit::Refused(31));
+    assert_eq!(rt; replayed(&rt, &[0xff])?.0, Exit::Refused(12));
     Ok(())
 }

@@ -1,8 +1,9 @@
 //! The logs of scripts' recordings.
-use retro_keep::keep_alone;
-use retro_log::{read_log, read_script, write_log};
-use retro_rows::rows;
-use serde_json::Value;
+use crate::documents::script_of;
+use crate::programs::push_lines;
+use retro_keep::{Recording, keep_alone};
+use retro_log::{read_log, write_log};
+use retro_rows::{fail, rows, text};
 use std::alloc::{AllocError, Global};
 use std::test::Fail;
 
@@ -56,46 +57,67 @@ again: {"tree":[["/f","0A"]],"log":1,"sessions":[[1,"/",0,[]]],"lines":[[4294967
   0,[]]],"tree":[["/f","0a"]]}%(NL)"##;
 
 /// The script of session 1's lines, over a tree.
-fn script_of(alloc: Global, entries: &str, lines: &[String]) -> Result<String, AllocError> {
+fn script_over(alloc: Global, entries: &str, lines: &[String]) -> Result<String, AllocError> {
     let mut script = format!(in alloc; "{{\"script\":1,\"tree\":[{entries}]")?;
     script.push_str(r#","sessions":[[1,"/",0,[]]],"lines":["#)?;
-    for (index, line) in lines.iter().enumerate() {
-        if index > 0 {
-            script.push_str(",")?;
-        }
-        let line = Value::String(line.clone()?).to_string(alloc)?;
-        script.push_str(format!(in alloc; "[{},1,{line}]", index.wrapping_add(1))?.as_str())?;
-    }
+    push_lines(alloc, &mut script, lines)?;
     script.push_str("]}")?;
     Ok(script)
 }
 
+/// The text of a recording's log.
+fn log_text(alloc: Global, recording: &Recording) -> Result<String, Fail> {
+    match String::from_utf8(write_log(alloc, recording)?) {
+        Ok(log) => Ok(log),
+        Err(_) => fail("not UTF-8"),
+    }
+}
+
+/// The recording of a script.
+fn recorded(alloc: Global, document: &str) -> Result<Recording, Fail> {
+    let script = script_of(alloc, document)?;
+    Ok(keep_alone(alloc, &script)?)
+}
+
 /// The log of a script's recording.
 fn log(alloc: Global, document: &str) -> Result<String, Fail> {
-    let script = read_script(alloc, document.as_bytes()).map_err(|_| "refused")?;
-    let recording = keep_alone(alloc, &script)?;
-    Ok(String::from_utf8(write_log(alloc, &recording)?).map_err(|_| "not UTF-8")?)
+    let recording = recorded(alloc, document)?;
+    log_text(alloc, &recording)
 }
 
 /// The log of the recording that is read from a log.
 fn log_again(alloc: Global, document: &str) -> Result<String, Fail> {
-    let recording = read_log(alloc, document.as_bytes()).map_err(|_| "refused")?;
-    Ok(String::from_utf8(write_log(alloc, &recording)?).map_err(|_| "not UTF-8")?)
+    match read_log(alloc, document.as_bytes()) {
+        Ok(recording) => log_text(alloc, &recording),
+        Err(_) => fail("refused"),
+    }
+}
+
+/// What a log has after its lines, over a tree.
+fn log_end(alloc: Global, entries: &str) -> Result<String, AllocError> {
+    let mut end = text(alloc, r#","log":1,"sessions":[[1,"/",0,[]]],"tree":["#)?;
+    end.push_str(entries)?;
+    end.push_str("]}\n")?;
+    Ok(end)
+}
+
+/// What a log has at `lines`, if the rest is as it has to be.
+fn lines_of(alloc: Global, log: &str, end: &str) -> Result<String, AllocError> {
+    let Some(log) = log.strip_prefix("{\"lines\":") else {
+        return text(alloc, "another beginning");
+    };
+    match log.strip_suffix(end) {
+        Some(lines) => text(alloc, lines),
+        None => text(alloc, "another end"),
+    }
 }
 
 /// What the log of session 1's lines has at `lines`, if the rest is as it has to be.
 fn noted(alloc: Global, entries: &str, lines: &[String]) -> Result<String, Fail> {
-    let log = log(alloc, script_of(alloc, entries, lines)?.as_str())?;
-    let mut end = String::from_str(alloc, r#","log":1,"sessions":[[1,"/",0,[]]],"tree":["#)?;
-    end.push_str(entries)?;
-    end.push_str("]}\n")?;
-    let Some(log) = log.strip_prefix("{\"lines\":") else {
-        return Err("another beginning")?;
-    };
-    match log.strip_suffix(end.as_str()) {
-        Some(lines) => Ok(String::from_str(alloc, lines)?),
-        None => Err("another end")?,
-    }
+    let script = script_over(alloc, entries, lines)?;
+    let log = log(alloc, &script)?;
+    let end = log_end(alloc, entries)?;
+    Ok(lines_of(alloc, &log, &end)?)
 }
 
 /// What a row's call returns for these fields.
@@ -104,7 +126,7 @@ fn called(alloc: Global, call: &str, given: &[String]) -> Result<String, Fail> {
         ("log", [document]) => log(alloc, document),
         ("again", [document]) => log_again(alloc, document),
         ("noted", [entries, lines @ ..]) => noted(alloc, entries, lines),
-        _ => Err("no such call")?,
+        _ => fail("no such call"),
     }
 }
 
@@ -113,7 +135,7 @@ fn logs_have_their_texts(rt: HostRuntime) -> Result<(), Fail> {
     let alloc = rt.alloc();
     for row in &rows(alloc, LOGS)? {
         let returned = called(alloc, &row.call, &row.given)?;
-        assert_eq!(rt; returned, row.wanted, "{}", row.text);
+        row.compare(alloc, &returned)?;
     }
     Ok(())
 }

@@ -2,6 +2,7 @@
 use crate::tables::input_named;
 use hex::decode;
 use retro_cli::{Exit, Input, Output, run_with};
+use retro_rows::{fail, text, utf8};
 use serde_json::Value;
 use std::alloc::{AllocError, AllocGlobal, Global};
 use std::test::Fail;
@@ -27,6 +28,22 @@ pub fn words(alloc: Global, given: &str) -> Result<Vec<String>, AllocError> {
     Ok(words)
 }
 
+/// Runs the program, and appends what it wrote.
+fn push_output<T: Threads + Sync + AllocGlobal>(
+    rt: &T,
+    words: &[String],
+    input: &str,
+    out: &mut Vec<u8>,
+) -> Exit {
+    let mut reader = input.as_bytes();
+    run_with(
+        rt,
+        words,
+        &mut Input::new(&mut reader),
+        &mut Output::new(out),
+    )
+}
+
 /// Runs the program: how it ended, and what it wrote.
 fn output<T: Threads + Sync + AllocGlobal>(
     rt: &T,
@@ -34,15 +51,22 @@ fn output<T: Threads + Sync + AllocGlobal>(
     input: &str,
 ) -> Result<(Exit, Vec<u8>), AllocError> {
     let words = words(rt.alloc(), given)?;
-    let mut reader = input.as_bytes();
     let mut out = Vec::new(rt.alloc());
-    let exit = run_with(
-        rt,
-        &words,
-        &mut Input::new(&mut reader),
-        &mut Output::new(&mut out),
-    );
+    let exit = push_output(rt, &words, input, &mut out);
     Ok((exit, out))
+}
+
+/// What the program writes.
+fn written<T: Threads + Sync + AllocGlobal>(
+    rt: &T,
+    given: &str,
+    input: &str,
+) -> Result<String, Fail> {
+    let (_, out) = output(rt, given, input)?;
+    match String::from_utf8(out) {
+        Ok(written) => Ok(written),
+        Err(_) => fail("not UTF-8"),
+    }
 }
 
 /// Runs the program with some words after the other, each on what the one before it wrote, and with
@@ -53,12 +77,18 @@ pub fn run_in_turn<T: Threads + Sync + AllocGlobal>(
     last: &str,
     input: &str,
 ) -> Result<String, Fail> {
-    let mut document = String::from_str(rt.alloc(), input_named(input))?;
+    let mut document = text(rt.alloc(), input_named(input))?;
     for given in words {
-        let (_, out) = output(rt, given, document.as_str())?;
-        document = String::from_utf8(out).map_err(|_| "not UTF-8")?;
+        document = written(rt, given, &document)?;
     }
-    run(rt, last, document.as_str())
+    run(rt, last, &document)
+}
+
+/// An exit status, with the line for standard error after what was written.
+fn ended(alloc: Global, exit: Exit, mut out: Vec<u8>) -> Result<String, Fail> {
+    exit.write_message(&mut out)?;
+    let out = utf8(out.as_slice())?;
+    Ok(format!(in alloc; "{} {}", exit.status(), out.trim_end())?)
 }
 
 /// The exit status of the program on words and an input, its line for standard error, and what it
@@ -68,23 +98,31 @@ pub fn run<T: Threads + Sync + AllocGlobal>(
     given: &str,
     input: &str,
 ) -> Result<String, Fail> {
-    let alloc = rt.alloc();
-    let (exit, mut out) = output(rt, given, input_named(input))?;
-    exit.write_message(&mut out)?;
-    let out = String::from_utf8(out).map_err(|_| "not UTF-8")?;
-    Ok(format!(in alloc; "{} {}", exit.status(), out.trim_end())?)
+    let (exit, out) = output(rt, given, input_named(input))?;
+    ended(rt.alloc(), exit, out)
+}
+
+/// A line of session 1 with its number, as scripts write it.
+fn line_json(alloc: Global, number: usize, line: &str) -> Result<String, AllocError> {
+    let line = Value::String(text(alloc, line)?).to_string(alloc)?;
+    format!(in alloc; "[{number},1,{line}]")
+}
+
+/// Appends lines of session 1, numbered from 1.
+pub fn push_lines(alloc: Global, script: &mut String, lines: &[String]) -> Result<(), AllocError> {
+    for (index, line) in lines.iter().enumerate() {
+        if index > 0 {
+            script.push_str(",")?;
+        }
+        script.push_str(&line_json(alloc, index.wrapping_add(1), line)?)?;
+    }
+    Ok(())
 }
 
 /// The script of session 1's lines, over a tree with more entries.
 fn script_of(alloc: Global, entries: &str, lines: &[String]) -> Result<String, AllocError> {
     let mut script = format!(in alloc; "{BEFORE_ENTRIES}{entries}{AFTER_ENTRIES}")?;
-    for (index, line) in lines.iter().enumerate() {
-        if index > 0 {
-            script.push_str(",")?;
-        }
-        let line = Value::String(line.clone()?).to_string(alloc)?;
-        script.push_str(format!(in alloc; "[{},1,{line}]", index.wrapping_add(1))?.as_str())?;
-    }
+    push_lines(alloc, &mut script, lines)?;
     script.push_str("]}")?;
     Ok(script)
 }
@@ -97,19 +135,29 @@ fn last_line(alloc: Global, report: &Value) -> Option<(u64, &str)> {
     Some((sessions.first()?.as_array()?.get(2)?.as_u64()?, printed))
 }
 
+/// A status, and what hexadecimal digits stand for.
+fn printed_text(alloc: Global, status: u64, digits: &str) -> Result<String, Fail> {
+    let printed = decode(alloc, digits)?;
+    let printed = utf8(printed.as_slice())?;
+    Ok(format!(in alloc; "{status} {printed}")?)
+}
+
+/// Session 1's status in a report, and what its last line printed.
+fn report_text(alloc: Global, report: &Value) -> Result<String, Fail> {
+    match last_line(alloc, report) {
+        Some((status, digits)) => printed_text(alloc, status, digits),
+        None => fail("no report"),
+    }
+}
+
 /// The status and the output of the last of session 1's lines, in a script of them.
 pub fn shell<T: Threads + Sync + AllocGlobal>(
     rt: &T,
     entries: &str,
     lines: &[String],
 ) -> Result<String, Fail> {
-    let alloc = rt.alloc();
-    let script = script_of(alloc, entries, lines)?;
-    let (_, out) = output(rt, "retro replay", &script)?;
-    let report = Value::from_slice(alloc, &out)?;
-    let Some((status, printed)) = last_line(alloc, &report) else {
-        return Err("no report")?;
-    };
-    let printed = String::from_utf8(decode(alloc, printed)?).map_err(|_| "not UTF-8")?;
-    Ok(format!(in alloc; "{status} {printed}")?)
+    let script = script_of(rt.alloc(), entries, lines)?;
+    let out = written(rt, "retro replay", &script)?;
+    let report = Value::from_slice(rt.alloc(), out.as_bytes())?;
+    report_text(rt.alloc(), &report)
 }

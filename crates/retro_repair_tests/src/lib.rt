@@ -8,6 +8,8 @@
 #[cfg(test)]
 mod counter;
 #[cfg(test)]
+mod recordings;
+#[cfg(test)]
 mod rows;
 #[cfg(test)]
 mod tables;

@@ -1,20 +1,14 @@
 //! The call that each row names, and the test that makes these calls.
 use crate::counter::Counter;
+use crate::recordings::recording;
 use crate::tables::{IN_TURN, INCIDENTS};
 use crate::telling::{compensations, end, file, lines, outputs};
-use retro_keep::{Recording, keep_alone};
-use retro_log::{check, read_script};
+use retro_keep::Recording;
+use retro_log::check;
 use retro_redo::{Repair, repair_alone, repair_watched};
-use retro_rows::{rows, script_of};
+use retro_rows::{Row, fail, path, rows};
 use std::alloc::Global;
 use std::test::Fail;
-
-/// The recording of a script of lines, as `script_of` writes it.
-fn recording(alloc: Global, entries: &str, lines: &str) -> Result<Recording, Fail> {
-    let document = script_of(alloc, entries, lines)?;
-    let script = read_script(alloc, document.as_bytes()).map_err(|_| "refused")?;
-    Ok(keep_alone(alloc, &script)?)
-}
 
 /// The numbers of a list, which spaces separate.
 fn numbers(alloc: Global, list: &str) -> Result<Vec<u32>, Fail> {
@@ -25,41 +19,65 @@ fn numbers(alloc: Global, list: &str) -> Result<Vec<u32>, Fail> {
     Ok(numbers)
 }
 
+/// The repair of a recording without some lines.
+fn repair_without(alloc: Global, recording: &Recording, cancel: &[u32]) -> Result<Repair, Fail> {
+    match repair_alone(alloc, recording, cancel) {
+        Ok(repair) => Ok(repair),
+        Err(_) => fail("refused"),
+    }
+}
+
 /// The repair of a recording without some lines, whose own recording has to be one.
 fn repaired(alloc: Global, recording: &Recording, list: &str) -> Result<Repair, Fail> {
-    let repair = repair_alone(alloc, recording, &numbers(alloc, list)?).map_err(|_| "refused")?;
+    let repair = repair_without(alloc, recording, &numbers(alloc, list)?)?;
     if check(alloc, &repair.recording)? {
         Ok(repair)
     } else {
-        Err("no recording")?
+        fail("no recording")
     }
+}
+
+/// The recording of a repair.
+fn repaired_recording(alloc: Global, recording: &Recording, list: &str) -> Result<Recording, Fail> {
+    Ok(repaired(alloc, recording, list)?.recording)
+}
+
+/// Whether a repair without some lines can be made while an observer counts.
+fn is_repaired(
+    alloc: Global,
+    recording: &Recording,
+    list: &str,
+    counter: &Counter,
+) -> Result<bool, Fail> {
+    let cancel = numbers(alloc, list)?;
+    Ok(repair_watched(alloc, recording, &cancel, counter).is_ok())
 }
 
 /// How many lines a repair executes.
 fn executed(alloc: Global, recording: &Recording, list: &str) -> Result<String, Fail> {
-    let gate = Counter::new();
-    let cancel = numbers(alloc, list)?;
-    let _ = repair_watched(alloc, recording, &cancel, &gate).map_err(|_| "refused")?;
-    match gate.count() {
+    let counter = Counter::new();
+    if !is_repaired(alloc, recording, list, &counter)? {
+        return fail("refused");
+    }
+    match counter.count() {
         Some(count) => Ok(format!(in alloc; "{count}")?),
-        None => Err("an execution didn't end")?,
+        None => fail("an execution didn't end"),
     }
 }
 
 /// What a call tells of a repair.
 fn told(alloc: Global, repair: &Repair, call: &str, given: &[String]) -> Result<String, Fail> {
     match (call, given) {
-        ("lines", []) => lines(alloc, repair),
+        ("lines", []) => Ok(lines(alloc, repair)?),
         ("outputs", []) => outputs(alloc, repair),
         ("compensations", []) => compensations(alloc, repair),
-        ("file", [at]) => file(alloc, &repair.state, at),
-        ("end", [at]) => end(alloc, &repair.state, at),
-        _ => Err("no such call")?,
+        ("file", [at]) => file(alloc, &repair.state, &path(alloc, at)?),
+        ("end", [at]) => end(alloc, &repair.state, &path(alloc, at)?),
+        _ => fail("no such call"),
     }
 }
 
-/// What a call tells of the repair of a recording, or of the repair of that repair's recording: a
-/// list may have two parts with `then` between them.
+/// What a call tells of the repair of a recording without some lines.
 fn called(
     alloc: Global,
     recording: &Recording,
@@ -70,40 +88,49 @@ fn called(
     if call == "executed" {
         return executed(alloc, recording, list);
     }
-    match list.split_once(" then ") {
-        None => told(alloc, &repaired(alloc, recording, list)?, call, given),
-        Some((first, second)) => {
-            let once = repaired(alloc, recording, first)?;
-            told(
-                alloc,
-                &repaired(alloc, &once.recording, second)?,
-                call,
-                given,
-            )
-        }
-    }
+    let repair = repaired(alloc, recording, list)?;
+    told(alloc, &repair, call, given)
 }
 
-/// The first row of a table whose call returns something else than it wants, with what it returns.
-/// It is empty if there is none.
-fn first_wrong(alloc: Global, table: &str) -> Result<String, Fail> {
+/// What a call tells of the repair of a recording, or of the repair of that repair's recording: a
+/// list may have two parts with `then` between them.
+fn called_in_turn(
+    alloc: Global,
+    recording: &Recording,
+    call: &str,
+    lists: &str,
+    given: &[String],
+) -> Result<String, Fail> {
+    let Some((first, second)) = lists.split_once(" then ") else {
+        return called(alloc, recording, call, lists, given);
+    };
+    let once = repaired_recording(alloc, recording, first)?;
+    called(alloc, &once, call, second, given)
+}
+
+/// What a row's call returns.
+fn returned(alloc: Global, row: &Row) -> Result<String, Fail> {
+    let [entries, lines, lists, given @ ..] = row.given.as_slice() else {
+        return fail("no lines");
+    };
+    let recording = recording(alloc, entries, lines)?;
+    called_in_turn(alloc, &recording, &row.call, lists, given)
+}
+
+/// Makes the calls of a table. Fails with the first row whose call returns something else than it
+/// wants.
+fn hold(alloc: Global, table: &str) -> Result<(), Fail> {
     for row in &rows(alloc, table)? {
-        let [entries, lines, list, given @ ..] = row.given.as_slice() else {
-            return Err("no lines")?;
-        };
-        let recording = recording(alloc, entries, lines)?;
-        let returned = called(alloc, &recording, &row.call, list, given)?;
-        if returned != row.wanted {
-            return Ok(format!(in alloc; "{}\nreturned: {returned}", row.text)?);
-        }
+        let returned = returned(alloc, row)?;
+        row.compare(alloc, &returned)?;
     }
-    Ok(String::new(alloc))
+    Ok(())
 }
 
 #[test]
 fn repairs_are_as_worked_out(rt: HostRuntime) -> Result<(), Fail> {
-    let alloc = rt.alloc();
-    assert_eq!(rt; first_wrong(alloc, INCIDENTS)?.as_str(), "");
-    assert_eq!(rt; first_wrong(alloc, IN_TURN)?.as_str(), "");
+    for table in [INCIDENTS, IN_TURN] {
+        hold(rt.alloc(), table)?;
+    }
     Ok(())
 }

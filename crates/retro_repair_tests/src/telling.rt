@@ -1,81 +1,99 @@
 //! What a repair answers, as the texts of rows.
-use retro_redo::{Repair, Verdict};
-use retro_tree::{Bytes, Path, Resolved, State, resolve};
-use std::alloc::Global;
+use retro_redo::{Compensation, Repair, Verdict};
+use retro_rows::{fail, text, utf8};
+use retro_tree::{Path, State};
+use std::alloc::{AllocError, Global};
 use std::test::Fail;
 
-/// Bytes as a text.
-fn text_of<'a>(bytes: &'a Bytes) -> Result<&'a str, Fail> {
-    Ok(str::from_utf8(bytes.as_slice()).map_err(|_| "not UTF-8")?)
+/// Appends a number.
+fn push_number(alloc: Global, out: &mut String, number: u32) -> Result<(), AllocError> {
+    out.push_str(&format!(in alloc; " {number}")?)
 }
 
-/// Appends a number.
-fn push_number(alloc: Global, out: &mut String, number: u32) -> Result<(), Fail> {
-    Ok(out.push_str(format!(in alloc; " {number}")?.as_str())?)
+/// Appends the numbers of the lines that are redone.
+fn push_redone(
+    alloc: Global,
+    out: &mut String,
+    verdicts: &[(u32, Verdict)],
+) -> Result<(), AllocError> {
+    for (number, verdict) in verdicts {
+        if *verdict == Verdict::Redone {
+            push_number(alloc, out, *number)?;
+        }
+    }
+    Ok(())
 }
 
 /// The numbers of the lines that are met, and of those that are redone.
-pub fn lines(alloc: Global, repair: &Repair) -> Result<String, Fail> {
-    let mut out = String::from_str(alloc, "met")?;
+pub fn lines(alloc: Global, repair: &Repair) -> Result<String, AllocError> {
+    let mut out = text(alloc, "met")?;
     for number in &repair.met {
         push_number(alloc, &mut out, *number)?;
     }
     out.push_str(", redone")?;
-    for (number, verdict) in &repair.verdicts {
-        if *verdict == Verdict::Redone {
-            push_number(alloc, &mut out, *number)?;
-        }
-    }
+    push_redone(alloc, &mut out, &repair.verdicts)?;
     Ok(out)
+}
+
+/// Appends the number of a line with what it prints, if it prints something.
+fn push_output(alloc: Global, out: &mut String, number: u32, output: &[u8]) -> Result<(), Fail> {
+    let printed = utf8(output)?;
+    if !printed.is_empty() {
+        out.push_str(&format!(in alloc; "{number} {printed}")?)?;
+    }
+    Ok(())
 }
 
 /// The number of each line that prints something, with what it prints.
 pub fn outputs(alloc: Global, repair: &Repair) -> Result<String, Fail> {
     let mut out = String::new(alloc);
     for (number, output) in &repair.outputs {
-        let text = text_of(output)?;
-        if !text.is_empty() {
-            out.push_str(format!(in alloc; "{number} {text}")?.as_str())?;
-        }
+        push_output(alloc, &mut out, *number, output.as_slice())?;
     }
     Ok(out)
+}
+
+/// Appends the number of a compensated line, with what it printed and what it prints now.
+fn push_compensation(
+    alloc: Global,
+    out: &mut String,
+    compensation: &Compensation,
+) -> Result<(), Fail> {
+    let before = utf8(compensation.before.as_slice())?;
+    let now = utf8(compensation.now.as_slice())?;
+    let number = compensation.number;
+    Ok(out.push_str(&format!(in alloc; "{number} [{before}] [{now}]")?)?)
 }
 
 /// The number of each compensated line, with what it printed and what it prints now.
 pub fn compensations(alloc: Global, repair: &Repair) -> Result<String, Fail> {
     let mut out = String::new(alloc);
     for compensation in &repair.compensations {
-        let before = text_of(&compensation.before)?;
-        let now = text_of(&compensation.now)?;
-        let number = compensation.number;
-        out.push_str(format!(in alloc; "{number} [{before}] [{now}]")?.as_str())?;
+        push_compensation(alloc, &mut out, compensation)?;
     }
     Ok(out)
 }
 
-/// The path that a text names.
-fn path(alloc: Global, given: &str) -> Result<Path, Fail> {
-    match resolve(alloc, &Path::root(alloc), given)? {
-        Resolved::Is(path) => Ok(path),
-        _ => Err("no path")?,
+/// The bytes of a file, or `none`.
+pub fn file(alloc: Global, state: &State, path: &Path) -> Result<String, Fail> {
+    match state.file(path) {
+        Some(bytes) => Ok(text(alloc, utf8(bytes.as_slice())?)?),
+        None => Ok(text(alloc, "none")?),
     }
 }
 
-/// The bytes of a file, or `none`.
-pub fn file(alloc: Global, state: &State, at: &str) -> Result<String, Fail> {
-    match state.file(&path(alloc, at)?) {
-        Some(bytes) => Ok(String::from_str(alloc, text_of(bytes)?)?),
-        None => Ok(String::from_str(alloc, "none")?),
+/// How many bytes there are, and the last one.
+fn end_of(alloc: Global, bytes: &[u8]) -> Result<String, AllocError> {
+    match bytes.last() {
+        Some(last) => format!(in alloc; "{} {last}", bytes.len()),
+        None => text(alloc, "0"),
     }
 }
 
 /// How many bytes a file has, and its last one.
-pub fn end(alloc: Global, state: &State, at: &str) -> Result<String, Fail> {
-    let Some(bytes) = state.file(&path(alloc, at)?) else {
-        return Err("no file")?;
-    };
-    match bytes.as_slice().last() {
-        Some(last) => Ok(format!(in alloc; "{} {last}", bytes.as_slice().len())?),
-        None => Ok(String::from_str(alloc, "0")?),
+pub fn end(alloc: Global, state: &State, path: &Path) -> Result<String, Fail> {
+    match state.file(path) {
+        Some(bytes) => Ok(end_of(alloc, bytes.as_slice())?),
+        None => fail("no file"),
     }
 }

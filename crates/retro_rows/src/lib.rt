@@ -6,10 +6,14 @@
 //! The crates of tests use it; nothing else does.
 #![tactic(auto)]
 
+mod failure;
+mod paths;
 mod row;
 mod row_error;
 mod script;
 
+pub use failure::{fail, text, utf8};
+pub use paths::path;
 pub use row::{Row, rows};
 pub use row_error::RowError;
 pub use script::script_of;

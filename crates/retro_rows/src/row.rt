@@ -1,6 +1,7 @@
 //! Rows of a table of tests.
 use crate::row_error::RowError;
 use std::alloc::{AllocError, Global};
+use std::test::Fail;
 
 /// One row of a table.
 #[derive(Drop)]
@@ -28,6 +29,16 @@ impl Row {
             given,
             wanted,
         })
+    }
+
+    /// Compares what the row's call returned with what it has to return. The error has the row's
+    /// text and what was returned.
+    pub fn compare(&self, alloc: Global, returned: &str) -> Result<(), Fail> {
+        if self.wanted.as_str() == returned {
+            return Ok(());
+        }
+        let told = format!(in alloc; "{}\nreturned: {returned}", self.text)?;
+        Err(told)?
     }
 }
 

@@ -1,59 +1,99 @@
 //! Notes as JSON, as logs write them.
-use crate::rows::text;
 use hex::encode;
-use retro_tree::{Answer, Ask, Change, Kind, Listing, Node, Note, Path, Permit};
-use std::alloc::Global;
-use std::test::Fail;
+use retro_rows::text;
+use retro_tree::{Answer, Ask, Change, Kind, Listing, Name, Node, Note, Path, Permit, Text, User};
+use std::alloc::{AllocError, Global};
+
+/// Appends a character, with its escape where it has one.
+fn push_escaped(out: &mut String, c: char) -> Result<(), AllocError> {
+    match c {
+        '"' => out.push_str("\\\""),
+        '\\' => out.push_str("\\\\"),
+        '\n' => out.push_str("\\n"),
+        '\r' => out.push_str("\\r"),
+        '\t' => out.push_str("\\t"),
+        _ => out.push(c),
+    }
+}
 
 /// A text between quotes.
-fn quoted(alloc: Global, given: &str) -> Result<String, Fail> {
+fn quoted(alloc: Global, given: &str) -> Result<String, AllocError> {
     let mut out = text(alloc, "\"")?;
     for c in given.chars() {
-        match c {
-            '"' => out.push_str("\\\"")?,
-            '\\' => out.push_str("\\\\")?,
-            '\n' => out.push_str("\\n")?,
-            '\r' => out.push_str("\\r")?,
-            '\t' => out.push_str("\\t")?,
-            _ => out.push(c)?,
-        }
+        push_escaped(&mut out, c)?;
     }
     out.push('"')?;
     Ok(out)
 }
 
-/// A path as text between quotes.
-fn path_json(alloc: Global, path: &Path) -> Result<String, Fail> {
+/// The text of names, with a slash before each.
+fn path_text(alloc: Global, names: &[Name]) -> Result<String, AllocError> {
     let mut out = String::new(alloc);
-    for name in path.names() {
+    for name in names {
         out.push('/')?;
         out.push_str(name.as_str())?;
     }
-    quoted(alloc, if out.is_empty() { "/" } else { out.as_str() })
+    Ok(out)
 }
 
-fn node_json(alloc: Global, node: &Node) -> Result<String, Fail> {
+/// A path as text between quotes.
+fn path_json(alloc: Global, path: &Path) -> Result<String, AllocError> {
+    if path.names().is_empty() {
+        return quoted(alloc, "/");
+    }
+    quoted(alloc, &path_text(alloc, path.names())?)
+}
+
+fn file_json(alloc: Global, content: &[u8]) -> Result<String, AllocError> {
+    let digits = encode(alloc, content)?;
+    format!(in alloc; "[\"f\",\"{digits}\"]")
+}
+
+fn node_json(alloc: Global, node: &Node) -> Result<String, AllocError> {
     match node {
         Node::Missing => text(alloc, "[]"),
         Node::Dir => text(alloc, "[\"d\"]"),
-        Node::File(content) => {
-            let digits = encode(alloc, content.as_slice())?;
-            Ok(format!(in alloc; "[\"f\",\"{digits}\"]")?)
-        }
+        Node::File(content) => file_json(alloc, content.as_slice()),
     }
 }
 
 /// The names of a listing between brackets.
-fn listing_json(alloc: Global, listing: &Listing) -> Result<String, Fail> {
+fn names_json(alloc: Global, listing: &Listing) -> Result<String, AllocError> {
     let mut out = text(alloc, "[")?;
     for name in listing.names() {
         if out.len() > 1 {
             out.push(',')?;
         }
-        out.push_str(quoted(alloc, name.as_str())?.as_str())?;
+        out.push_str(&quoted(alloc, name.as_str())?)?;
     }
     out.push(']')?;
     Ok(out)
+}
+
+fn listing_json(alloc: Global, listing: &Option<Listing>) -> Result<String, AllocError> {
+    match listing {
+        Some(listing) => names_json(alloc, listing),
+        None => text(alloc, "null"),
+    }
+}
+
+fn user_json(alloc: Global, user: &User) -> Result<String, AllocError> {
+    let home = quoted(alloc, user.home.as_str())?;
+    format!(in alloc; "[{},{home}]", user.number)
+}
+
+fn entry_json(alloc: Global, user: &Option<User>) -> Result<String, AllocError> {
+    match user {
+        Some(user) => user_json(alloc, user),
+        None => text(alloc, "null"),
+    }
+}
+
+fn variable_json(alloc: Global, value: &Option<Text>) -> Result<String, AllocError> {
+    match value {
+        Some(value) => quoted(alloc, value.as_str()),
+        None => text(alloc, "null"),
+    }
 }
 
 fn kind_word(kind: Kind) -> &'static str {
@@ -74,96 +114,105 @@ fn permit_word(permit: Permit) -> &'static str {
     }
 }
 
-/// A note about a path.
-fn path_note(alloc: Global, word: &str, path: &Path, value: &str) -> Result<String, Fail> {
+/// A note's word with the path that it is about.
+fn of_path(alloc: Global, word: &str, path: &Path) -> Result<String, AllocError> {
     let path = path_json(alloc, path)?;
-    Ok(format!(in alloc; "[\"{word}\",{path},{value}]")?)
+    format!(in alloc; "\"{word}\",{path}")
 }
 
-/// A question of the tree with its answer.
-fn tree_json(alloc: Global, ask: &Ask, answer: &Answer) -> Result<String, Fail> {
-    match (ask, answer) {
-        (Ask::Kind(path), Answer::Kind(kind)) => {
-            let kind = quoted(alloc, kind_word(*kind))?;
-            path_note(alloc, "kind", path, kind.as_str())
-        }
-        (Ask::Bytes(path), Answer::Bytes(node)) => {
-            let node = node_json(alloc, node)?;
-            path_note(alloc, "bytes", path, node.as_str())
-        }
-        (Ask::Names(path), Answer::Names(None)) => path_note(alloc, "names", path, "null"),
-        (Ask::Names(path), Answer::Names(Some(listing))) => {
-            let names = listing_json(alloc, listing)?;
-            path_note(alloc, "names", path, names.as_str())
-        }
-        (Ask::CanWrite(path, more), Answer::CanWrite(permit)) => {
-            let permit = permit_word(*permit);
-            let value = format!(in alloc; "{more},\"{permit}\"")?;
-            path_note(alloc, "canwrite", path, value.as_str())
-        }
-        _ => Err("no such answer")?,
+/// A note's word with the name that it is about.
+fn of_name(alloc: Global, word: &str, name: &str) -> Result<String, AllocError> {
+    let name = quoted(alloc, name)?;
+    format!(in alloc; "\"{word}\",{name}")
+}
+
+/// A question for leave to write bytes to a path, without its brackets.
+fn of_writing(alloc: Global, path: &Path, more: u32) -> Result<String, AllocError> {
+    let path = path_json(alloc, path)?;
+    format!(in alloc; "\"canwrite\",{path},{more}")
+}
+
+/// A question, without its brackets and its session.
+fn ask_json(alloc: Global, ask: &Ask) -> Result<String, AllocError> {
+    match ask {
+        Ask::Kind(path) => of_path(alloc, "kind", path),
+        Ask::Bytes(path) => of_path(alloc, "bytes", path),
+        Ask::Names(path) => of_path(alloc, "names", path),
+        Ask::CanWrite(path, more) => of_writing(alloc, path, *more),
+        Ask::User(name) => of_name(alloc, "user", name.as_str()),
+        Ask::VarOf(_, name) => of_name(alloc, "var", name.as_str()),
+        Ask::CwdOf(_) => text(alloc, "\"cwd\""),
+        Ask::StatusOf(_) => text(alloc, "\"status\""),
     }
 }
 
-/// A note about a user or a variable.
-fn named_note(alloc: Global, word: &str, name: &str, value: &str) -> Result<String, Fail> {
-    let name = quoted(alloc, name)?;
-    Ok(format!(in alloc; "[\"{word}\",{name},{value}]")?)
+fn answer_json(alloc: Global, answer: &Answer) -> Result<String, AllocError> {
+    match answer {
+        Answer::Kind(kind) => quoted(alloc, kind_word(*kind)),
+        Answer::Bytes(node) => node_json(alloc, node),
+        Answer::Names(listing) => listing_json(alloc, listing),
+        Answer::CanWrite(permit) => quoted(alloc, permit_word(*permit)),
+        Answer::User(user) => entry_json(alloc, user),
+        Answer::Var(value) => variable_json(alloc, value),
+        Answer::Cwd(path) => path_json(alloc, path),
+        Answer::Status(status) => format!(in alloc; "{status}"),
+    }
 }
 
 /// A question with its answer.
-fn asked_json(alloc: Global, ask: &Ask, answer: &Answer) -> Result<String, Fail> {
-    match (ask, answer) {
-        (Ask::User(name), Answer::User(Some(user))) => {
-            let home = quoted(alloc, user.home.as_str())?;
-            let value = format!(in alloc; "[{},{home}]", user.number)?;
-            named_note(alloc, "user", name.as_str(), value.as_str())
-        }
-        (Ask::User(name), Answer::User(None)) => named_note(alloc, "user", name.as_str(), "null"),
-        (Ask::VarOf(_, name), Answer::Var(Some(value))) => {
-            let value = quoted(alloc, value.as_str())?;
-            named_note(alloc, "var", name.as_str(), value.as_str())
-        }
-        (Ask::VarOf(_, name), Answer::Var(None)) => {
-            named_note(alloc, "var", name.as_str(), "null")
-        }
-        (Ask::CwdOf(_), Answer::Cwd(path)) => {
-            Ok(format!(in alloc; "[\"cwd\",{}]", path_json(alloc, path)?)?)
-        }
-        (Ask::StatusOf(_), Answer::Status(status)) => Ok(format!(in alloc;
-            "[\"status\",{status}]"
-        )?),
-        _ => tree_json(alloc, ask, answer),
-    }
+fn asked_json(alloc: Global, ask: &Ask, answer: &Answer) -> Result<String, AllocError> {
+    let ask = ask_json(alloc, ask)?;
+    let answer = answer_json(alloc, answer)?;
+    format!(in alloc; "[{ask},{answer}]")
+}
+
+fn put_json(alloc: Global, path: &Path, node: &Node) -> Result<String, AllocError> {
+    let path = of_path(alloc, "put", path)?;
+    let node = node_json(alloc, node)?;
+    format!(in alloc; "[{path},{node}]")
+}
+
+fn grow_json(alloc: Global, path: &Path, content: &[u8]) -> Result<String, AllocError> {
+    let path = of_path(alloc, "grow", path)?;
+    let digits = encode(alloc, content)?;
+    format!(in alloc; "[{path},\"{digits}\"]")
+}
+
+fn set_var_json(alloc: Global, name: &str, value: &str) -> Result<String, AllocError> {
+    let name = of_name(alloc, "setvar", name)?;
+    let value = quoted(alloc, value)?;
+    format!(in alloc; "[{name},{value}]")
+}
+
+fn set_cwd_json(alloc: Global, path: &Path) -> Result<String, AllocError> {
+    let path = of_path(alloc, "setcwd", path)?;
+    format!(in alloc; "[{path}]")
 }
 
 /// A change.
-fn made_json(alloc: Global, change: &Change) -> Result<String, Fail> {
+fn made_json(alloc: Global, change: &Change) -> Result<String, AllocError> {
     match change {
-        Change::Put(path, node) => {
-            let node = node_json(alloc, node)?;
-            path_note(alloc, "put", path, node.as_str())
-        }
-        Change::Grow(path, content) => {
-            let digits = encode(alloc, content.as_slice())?;
-            let value = quoted(alloc, digits.as_str())?;
-            path_note(alloc, "grow", path, value.as_str())
-        }
-        Change::SetVar(_, name, value) => {
-            let value = quoted(alloc, value.as_str())?;
-            named_note(alloc, "setvar", name.as_str(), value.as_str())
-        }
-        Change::SetCwd(_, path) => {
-            Ok(format!(in alloc; "[\"setcwd\",{}]", path_json(alloc, path)?)?)
-        }
-        Change::SetStatus(_, status) => Ok(format!(in alloc; "[\"setstatus\",{status}]")?),
+        Change::Put(path, node) => put_json(alloc, path, node),
+        Change::Grow(path, content) => grow_json(alloc, path, content.as_slice()),
+        Change::SetVar(_, name, value) => set_var_json(alloc, name.as_str(), value.as_str()),
+        Change::SetCwd(_, path) => set_cwd_json(alloc, path),
+        Change::SetStatus(_, status) => format!(in alloc; "[\"setstatus\",{status}]"),
     }
 }
 
 /// A note, without its session.
-pub fn note_json(alloc: Global, note: &Note) -> Result<String, Fail> {
+fn note_json(alloc: Global, note: &Note) -> Result<String, AllocError> {
     match note {
         Note::Asked(ask, answer) => asked_json(alloc, ask, answer),
         Note::Made(change) => made_json(alloc, change),
     }
+}
+
+/// Appends notes, each after a space.
+pub fn push_notes(alloc: Global, out: &mut String, notes: &[Note]) -> Result<(), AllocError> {
+    for note in notes {
+        out.push(' ')?;
+        out.push_str(&note_json(alloc, note)?)?;
+    }
+    Ok(())
 }

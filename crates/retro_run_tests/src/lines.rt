@@ -2,24 +2,15 @@
 //!
 //! What exists before a line is written as words, as in `states`. A result is the session's status
 //! after the line and the output, and then the notes as JSON.
-use crate::json::note_json;
-use crate::rows::text;
+use crate::json::push_notes;
 use crate::shown::Shown;
-use crate::states::{changes, same_state};
+use crate::states::{same_state, state_of};
+use retro_rows::{fail, text, utf8};
 use retro_shell::{Run, apply_notes, holds, play, run_line, run_parsed, step};
 use retro_syntax::Parsed;
-use retro_tree::{Answer, Ask, State, View};
-use std::alloc::Global;
+use retro_tree::{Answer, Ask, Note, State, View};
+use std::alloc::{AllocError, Global};
 use std::test::Fail;
-
-/// The state that words say.
-fn state_of(alloc: Global, words: &str) -> Result<State, Fail> {
-    let mut state = State::empty(alloc)?;
-    for change in changes(alloc, words)? {
-        state.apply(alloc, &change)?;
-    }
-    Ok(state)
-}
 
 /// Whether two runs have the same notes and output.
 fn same_runs(one: &Run, other: &Run) -> bool {
@@ -31,50 +22,46 @@ fn is_of(run: &Run, given: &str) -> bool {
     run.sid() == 1 && run.text() == given
 }
 
-/// Runs a line over a view. Fails with its text if the run is of another line, or its notes don't
-/// hold.
-fn run_text<V: View>(alloc: Global, view: &V, given: &str) -> Result<Run, Fail> {
-    let run = run_line(alloc, view, 1, given)?;
-    if !is_of(&run, given) || !holds(alloc, run.notes(), view)? {
-        return Err(given)?;
-    }
-    Ok(run)
-}
-
-/// Runs the parsed line over a view. Fails as `run_text` does.
-fn run_tree<V: View>(alloc: Global, view: &V, given: &str) -> Result<Run, Fail> {
+/// Runs the parsed line over a view.
+fn run_tree<V: View>(alloc: Global, view: &V, given: &str) -> Result<Run, AllocError> {
     let parsed = Parsed::of(alloc, text(alloc, given)?)?;
-    let run = run_parsed(alloc, view, 1, &parsed)?;
-    if !is_of(&run, given) || !holds(alloc, run.notes(), view)? {
-        return Err(given)?;
-    }
-    Ok(run)
+    run_parsed(alloc, view, 1, &parsed)
 }
 
-/// Runs a line over a view. Fails with its text if the parsed line leaves anything else.
-fn run_over<V: View>(alloc: Global, view: &V, given: &str) -> Result<Run, Fail> {
-    let run = run_text(alloc, view, given)?;
-    if !same_runs(&run, &run_tree(alloc, view, given)?) {
-        return Err(given)?;
-    }
-    Ok(run)
+/// Whether the parsed line leaves the same over a view as a run.
+fn is_run_parsed<V: View>(alloc: Global, view: &V, run: &Run) -> Result<bool, AllocError> {
+    let other = run_tree(alloc, view, run.text())?;
+    Ok(is_of(&other, run.text()) && same_runs(run, &other))
 }
 
-/// Runs a line over the state that words say.
-fn run_over_state(alloc: Global, words: &str, given: &str) -> Result<Run, Fail> {
+/// Whether the line leaves the same over a view as a run.
+fn is_run_again<V: View>(alloc: Global, view: &V, run: &Run) -> Result<bool, AllocError> {
+    let other = run_line(alloc, view, 1, run.text())?;
+    Ok(is_of(&other, run.text()) && same_runs(run, &other))
+}
+
+/// Whether the notes of a run hold over a view, and its line leaves the same there, also parsed.
+fn is_run_over<V: View>(alloc: Global, view: &V, run: &Run) -> Result<bool, AllocError> {
+    let other = run_line(alloc, view, 1, run.text())?;
+    Ok(
+        is_of(&other, run.text())
+            && same_runs(run, &other)
+            && holds(alloc, run.notes(), view)?
+            && is_run_parsed(alloc, view, run)?,
+    )
+}
+
+/// Whether the line of a run leaves the same over the state that words say.
+fn is_run_over_state(alloc: Global, words: &str, run: &Run) -> Result<bool, Fail> {
     let state = state_of(alloc, words)?;
-    run_over(alloc, &state, given)
+    Ok(is_run_over(alloc, &state, run)?)
 }
 
-/// Whether a run over an overlay that shows the same state leaves the same.
-fn is_same_over_overlay(alloc: Global, words: &str, run: &Run) -> Result<bool, Fail> {
+/// Whether the line of a run leaves the same over an overlay that shows this state.
+fn is_run_over_overlay(alloc: Global, words: &str, run: &Run) -> Result<bool, Fail> {
     let root = State::empty(alloc)?;
-    let mut shown = Shown::new(alloc, &root);
-    for change in changes(alloc, words)? {
-        shown.apply(change)?;
-    }
-    let other = run_over(alloc, &shown, run.text())?;
-    Ok(same_runs(run, &other))
+    let shown = Shown::of(alloc, &root, words)?;
+    Ok(is_run_over(alloc, &shown, run)?)
 }
 
 /// The state after a run's notes.
@@ -84,51 +71,95 @@ fn state_after(alloc: Global, words: &str, run: &Run) -> Result<State, Fail> {
     Ok(state)
 }
 
-/// Whether playing the line gives the state after a run's notes, and its output.
-fn is_played(alloc: Global, words: &str, run: &Run) -> Result<bool, Fail> {
-    let state = state_of(alloc, words)?;
+/// Whether playing the line over a state gives a run's output and the state after its notes.
+fn is_played(alloc: Global, state: &State, after: &State, run: &Run) -> Result<bool, AllocError> {
     if !state.has_session(1) || !state.is_lawful(alloc)? {
-        return Err("a lawless state")?;
+        return Ok(false);
     }
-    let (played, output) = play(alloc, &state, 1, run.text())?;
-    let after = state_after(alloc, words, run)?;
-    Ok(output == *run.output() && same_state(&after, &played))
+    let (played, output) = play(alloc, state, 1, run.text())?;
+    Ok(output == *run.output() && same_state(after, &played))
 }
 
-/// Whether stepping the state by the line leaves the state after a run's notes, and its output.
-fn is_stepped(alloc: Global, words: &str, run: &Run) -> Result<bool, Fail> {
+/// Whether stepping a state by the line leaves a run's output and the state after its notes.
+fn is_stepped(
+    alloc: Global,
+    state: &mut State,
+    after: &State,
+    run: &Run,
+) -> Result<bool, AllocError> {
+    if !state.has_session(1) || !state.is_lawful(alloc)? {
+        return Ok(false);
+    }
+    let output = step(alloc, state, 1, run.text())?;
+    Ok(output == *run.output() && same_state(after, &*state))
+}
+
+/// Whether playing and stepping the state that words say leave a run's output, and the state after
+/// its notes.
+fn is_applied(alloc: Global, words: &str, after: &State, run: &Run) -> Result<bool, Fail> {
     let mut state = state_of(alloc, words)?;
-    if !state.has_session(1) || !state.is_lawful(alloc)? {
-        return Err("a lawless state")?;
-    }
-    let output = step(alloc, &mut state, 1, run.text())?;
-    let after = state_after(alloc, words, run)?;
-    Ok(output == *run.output() && same_state(&after, &state))
+    let played = is_played(alloc, &state, after, run)?;
+    Ok(played && is_stepped(alloc, &mut state, after, run)?)
 }
 
-/// The status after a run, its output and its notes.
-fn result_text(alloc: Global, words: &str, run: &Run) -> Result<String, Fail> {
-    let after = state_after(alloc, words, run)?;
-    let Answer::Status(status) = after.answer(alloc, &Ask::StatusOf(1))? else {
-        return Err("no status")?;
-    };
-    let output = str::from_utf8(run.output().as_slice()).map_err(|_| "not UTF-8")?;
-    let mut out = format!(in alloc; "{status} [{output}]")?;
-    for note in run.notes().as_slice() {
-        out.push(' ')?;
-        out.push_str(note_json(alloc, note)?.as_str())?;
+/// The status of session 1.
+fn status_of(alloc: Global, state: &State) -> Result<u8, Fail> {
+    match state.answer(alloc, &Ask::StatusOf(1))? {
+        Answer::Status(status) => Ok(status),
+        _ => fail("no status"),
     }
+}
+
+/// A status, an output and notes.
+fn result_text(
+    alloc: Global,
+    status: u8,
+    output: &str,
+    notes: &[Note],
+) -> Result<String, AllocError> {
+    let mut out = format!(in alloc; "{status} [{output}]")?;
+    push_notes(alloc, &mut out, notes)?;
     Ok(out)
 }
 
-/// Returns what a line leaves. Fails with its text if the ways to run it differ.
-pub fn line(alloc: Global, words: &str, given: &str) -> Result<String, Fail> {
-    let run = run_over_state(alloc, words, given)?;
-    if is_same_over_overlay(alloc, words, &run)?
-        && is_played(alloc, words, &run)?
-        && is_stepped(alloc, words, &run)?
-    {
-        return result_text(alloc, words, &run);
+/// The status of a state after a run, the run's output and its notes.
+fn run_text(alloc: Global, after: &State, run: &Run) -> Result<String, Fail> {
+    let status = status_of(alloc, after)?;
+    let output = utf8(run.output().as_slice())?;
+    Ok(result_text(alloc, status, output, run.notes().as_slice())?)
+}
+
+/// Whether each other way to run the line of a run leaves the same.
+fn is_run_alike(alloc: Global, words: &str, after: &State, run: &Run) -> Result<bool, Fail> {
+    Ok(
+        is_run_over_state(alloc, words, run)?
+            && is_run_over_overlay(alloc, words, run)?
+            && is_applied(alloc, words, after, run)?,
+    )
+}
+
+/// What a run leaves, or that another way to run its line leaves something else.
+fn told(alloc: Global, words: &str, run: &Run) -> Result<String, Fail> {
+    let after = state_after(alloc, words, run)?;
+    if is_run_alike(alloc, words, &after, run)? {
+        run_text(alloc, &after, run)
+    } else {
+        Ok(text(alloc, "something else, if run in another way")?)
     }
-    Err(given)?
+}
+
+/// Runs a line over the state that words say.
+fn run_over_words(alloc: Global, words: &str, given: &str) -> Result<Run, Fail> {
+    let state = state_of(alloc, words)?;
+    Ok(run_line(alloc, &state, 1, given)?)
+}
+
+/// What a line leaves, or that another way to run it leaves something else.
+pub fn line(alloc: Global, words: &str, given: &str) -> Result<String, Fail> {
+    let run = run_over_words(alloc, words, given)?;
+    if is_of(&run, given) {
+        told(alloc, words, &run)
+    } else {
+        fail("a run of another line")
+    }
 }

@@ -1,7 +1,9 @@
 //! A view that is an overlay over another view.
+use crate::states::changes;
 use retro_tree::{Answer, Ask, Change, Listing, Overlay, Path, View};
 use std::alloc::{AllocError, Global};
 use std::marker::Model;
+use std::test::Fail;
 
 /// A view of another view's state after changes, which an overlay holds.
 #[derive(Drop)]
@@ -26,8 +28,17 @@ impl<'a, V: View> Model for Shown<'a, V> {
 }
 
 impl<'a, V: View> Shown<'a, V> {
+    /// Returns a view of the state after the changes that words say.
+    pub fn of(alloc: Global, below: &'a V, words: &str) -> Result<Self, Fail> {
+        let mut shown = Self::new(alloc, below);
+        for change in changes(alloc, words)? {
+            shown.apply(change)?;
+        }
+        Ok(shown)
+    }
+
     /// Returns a view of the same state.
-    pub fn new(alloc: Global, below: &'a V) -> Self {
+    fn new(alloc: Global, below: &'a V) -> Self {
         Shown {
             below,
             overlay: Overlay::new(alloc),
@@ -35,7 +46,7 @@ impl<'a, V: View> Shown<'a, V> {
     }
 
     /// Makes a change.
-    pub fn apply(&mut self, change: Change) -> Result<(), AllocError> {
+    fn apply(&mut self, change: Change) -> Result<(), AllocError> {
         self.overlay.apply(change)
     }
 }

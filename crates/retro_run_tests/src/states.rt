@@ -4,11 +4,11 @@
 //! `NAME=TEXT` a variable. In a TEXT `_` is a space. `/f*N` and `NAME*N` have N letters `n`. A
 //! first word `base` is short for directories `/etc`, `/h` and `/tmp`, a password file, and a
 //! session in `/h`, its HOME.
-use crate::rows::text;
+use retro_rows::{fail, path};
 use retro_tree::{
     Bytes, Change, Entry, Node, Path, Resolved, Session, State, Text, Tree, VarName, resolve,
 };
-use std::alloc::Global;
+use std::alloc::{AllocError, Global};
 use std::test::Fail;
 
 /// What `base` is short for.
@@ -17,22 +17,13 @@ const BASE: &str = concat!(
     "alice:x:100:100:a:/h:/bin/sh\nmallory:x:200:200:m:/tmp:/bin/sh\n",
 );
 
-/// The path that a text names from the root.
-pub fn path(alloc: Global, given: &str) -> Result<Path, Fail> {
-    match resolve(alloc, &Path::root(alloc), given)? {
-        Resolved::Is(path) => Ok(path),
-        _ => Err("no path")?,
-    }
-}
-
 /// The bytes of a text.
-pub fn bytes(alloc: Global, given: &str) -> Result<Bytes, Fail> {
+pub fn bytes(alloc: Global, given: &str) -> Result<Bytes, AllocError> {
     Ok(Bytes::of(Vec::from_slice(alloc, given.as_bytes())?))
 }
 
-/// The text of as many letters `n` as a number says.
-fn letters(alloc: Global, count: &str) -> Result<String, Fail> {
-    let count: u32 = count.parse()?;
+/// The text of so many letters `n`.
+fn letters(alloc: Global, count: u32) -> Result<String, AllocError> {
     let mut out = String::new(alloc);
     for _ in 0..count {
         out.push('n')?;
@@ -40,14 +31,37 @@ fn letters(alloc: Global, count: &str) -> Result<String, Fail> {
     Ok(out)
 }
 
+/// The change that sets a variable.
+fn variable(alloc: Global, name: &str, value: String) -> Result<Change, Fail> {
+    match VarName::of(alloc, name)? {
+        Some(name) => Ok(Change::SetVar(1, name, Text::of(value))),
+        None => fail("no variable"),
+    }
+}
+
 /// The change that sets a file or a variable.
 fn content(alloc: Global, at: &str, value: String) -> Result<Change, Fail> {
-    if at.starts_with("/") {
-        let content = Bytes::of(value.into_bytes());
-        return Ok(Change::Put(path(alloc, at)?, Node::File(content)));
+    if !at.starts_with("/") {
+        return variable(alloc, at, value);
     }
-    let name = VarName::of(alloc, at)?.ok_or("no variable")?;
-    Ok(Change::SetVar(1, name, Text::of(value)))
+    let content = Bytes::of(value.into_bytes());
+    Ok(Change::Put(path(alloc, at)?, Node::File(content)))
+}
+
+/// The change that makes a directory, or what has so many letters.
+fn counted(alloc: Global, word: &str) -> Result<Change, Fail> {
+    match word.split_once("*") {
+        None => Ok(Change::Put(path(alloc, word)?, Node::Dir)),
+        Some((at, count)) => content(alloc, at, letters(alloc, count.parse()?)?),
+    }
+}
+
+/// The change that makes a file, a variable or a directory.
+fn entry(alloc: Global, word: &str) -> Result<Change, Fail> {
+    match word.split_once("=") {
+        None => counted(alloc, word),
+        Some((at, value)) => content(alloc, at, value.replace(alloc, '_', " ")?),
+    }
 }
 
 /// The change that makes what a word says.
@@ -55,15 +69,9 @@ fn change(alloc: Global, word: &str) -> Result<Change, Fail> {
     if let Some(cwd) = word.strip_prefix("@") {
         return Ok(Change::SetCwd(1, path(alloc, cwd)?));
     }
-    if let Some(status) = word.strip_prefix("?") {
-        return Ok(Change::SetStatus(1, status.parse()?));
-    }
-    if let Some((at, value)) = word.split_once("=") {
-        return content(alloc, at, value.replace(alloc, '_', " ")?);
-    }
-    match word.split_once("*") {
-        None => Ok(Change::Put(path(alloc, word)?, Node::Dir)),
-        Some((at, count)) => content(alloc, at, letters(alloc, count)?),
+    match word.strip_prefix("?") {
+        Some(status) => Ok(Change::SetStatus(1, status.parse()?)),
+        None => entry(alloc, word),
     }
 }
 
@@ -80,13 +88,30 @@ fn push_changes(alloc: Global, words: &str, changes: &mut Vec<Change>) -> Result
 /// The changes that make what the words say.
 pub fn changes(alloc: Global, words: &str) -> Result<Vec<Change>, Fail> {
     let mut changes = Vec::new(alloc);
-    let mut words = words;
-    if let Some(rest) = words.strip_prefix("base") {
-        push_changes(alloc, BASE, &mut changes)?;
-        words = rest;
+    match words.strip_prefix("base") {
+        Some(more) => {
+            push_changes(alloc, BASE, &mut changes)?;
+            push_changes(alloc, more, &mut changes)?;
+        }
+        None => push_changes(alloc, words, &mut changes)?,
     }
-    push_changes(alloc, words, &mut changes)?;
     Ok(changes)
+}
+
+/// Makes changes to a state.
+fn apply_all(alloc: Global, state: &mut State, changes: &[Change]) -> Result<(), AllocError> {
+    for change in changes {
+        state.apply(alloc, change)?;
+    }
+    Ok(())
+}
+
+/// The state that words say.
+pub fn state_of(alloc: Global, words: &str) -> Result<State, Fail> {
+    let changes = changes(alloc, words)?;
+    let mut state = State::empty(alloc)?;
+    apply_all(alloc, &mut state, &changes)?;
+    Ok(state)
 }
 
 /// Whether two entries are the same.

@@ -1,11 +1,11 @@
 //! What utilities compute from texts alone.
-use crate::rows::text;
+use hex::encode;
+use retro_rows::text;
 use retro_text::{
     Condition, Cut, KnownLetters, Lines, PathTest, Request, Search, UsageError, Utility,
     before_bracket, echo_text, label, usage_text,
 };
-use std::alloc::Global;
-use std::test::Fail;
+use std::alloc::{AllocError, Global};
 
 /// The option letters of `cut`.
 const CUT: KnownLetters = KnownLetters {
@@ -19,33 +19,86 @@ const GREP: KnownLetters = KnownLetters {
     arguments: b"",
 };
 
-/// Bytes as text, or in hexadecimal digits after `0x` if they aren't UTF-8.
-fn shown(alloc: Global, bytes: &[u8]) -> Result<String, Fail> {
-    if let Ok(valid) = str::from_utf8(bytes) {
-        return text(alloc, valid);
-    }
+/// Bytes in hexadecimal digits after `0x`.
+fn hexadecimal(alloc: Global, bytes: &[u8]) -> Result<String, AllocError> {
     let mut digits = text(alloc, "0x")?;
-    for byte in bytes {
-        digits.push_str(format!(in alloc; "{byte:02x}")?.as_str())?;
-    }
+    digits.push_str(&encode(alloc, bytes)?)?;
     Ok(digits)
 }
 
+/// Bytes as text, or in hexadecimal digits if they aren't UTF-8.
+fn shown(alloc: Global, bytes: &[u8]) -> Result<String, AllocError> {
+    match str::from_utf8(bytes) {
+        Ok(valid) => text(alloc, valid),
+        Err(_) => hexadecimal(alloc, bytes),
+    }
+}
+
 /// What a call that reads fields returns if it fails.
-fn refused(alloc: Global, error: UsageError) -> Result<String, Fail> {
+fn refused(alloc: Global, error: UsageError) -> Result<String, AllocError> {
     match error {
         UsageError::Usage => text(alloc, "usage"),
-        UsageError::NoMem => Err("out of memory")?,
+        UsageError::NoMem => Err(AllocError),
     }
 }
 
 /// Appends texts, each after a space.
-fn push_texts(out: &mut String, texts: &[String]) -> Result<(), Fail> {
+fn push_texts(out: &mut String, texts: &[String]) -> Result<(), AllocError> {
     for each in texts {
         out.push(' ')?;
         out.push_str(each.as_str())?;
     }
     Ok(())
+}
+
+/// Appends the flags that were given.
+fn push_flags(out: &mut String, request: &Request<'_>, flags: &[u8]) -> Result<(), AllocError> {
+    for letter in flags {
+        if request.has(*letter) {
+            out.push(char::from(*letter))?;
+        }
+    }
+    Ok(())
+}
+
+/// Appends a letter with its argument.
+fn push_argument(
+    alloc: Global,
+    out: &mut String,
+    letter: char,
+    argument: &[u8],
+) -> Result<(), AllocError> {
+    let argument = shown(alloc, argument)?;
+    out.push_str(&format!(in alloc; " {letter}={argument}")?)
+}
+
+/// Appends the letters with their arguments.
+fn push_arguments(
+    alloc: Global,
+    out: &mut String,
+    request: &Request<'_>,
+    letters: &[u8],
+) -> Result<(), AllocError> {
+    for letter in letters {
+        if let Some(argument) = request.argument(*letter) {
+            push_argument(alloc, out, char::from(*letter), argument)?;
+        }
+    }
+    Ok(())
+}
+
+/// A request as text.
+fn request_text(
+    alloc: Global,
+    request: &Request<'_>,
+    known: &KnownLetters<'_>,
+) -> Result<String, AllocError> {
+    let mut out = String::new(alloc);
+    push_flags(&mut out, request, known.flags)?;
+    push_arguments(alloc, &mut out, request, known.arguments)?;
+    out.push_str(" |")?;
+    push_texts(&mut out, request.operands())?;
+    Ok(out)
 }
 
 /// The options and operands in fields: the flags that were given, the letters with their arguments,
@@ -55,67 +108,104 @@ pub fn request(
     flags: &str,
     arguments: &str,
     fields: &[String],
-) -> Result<String, Fail> {
+) -> Result<String, AllocError> {
     let known = KnownLetters {
         flags: flags.as_bytes(),
         arguments: arguments.as_bytes(),
     };
-    let request = match Request::of(alloc, &known, fields) {
-        Ok(request) => request,
-        Err(error) => return refused(alloc, error),
-    };
-    let mut out = String::new(alloc);
-    for letter in flags.as_bytes() {
-        if request.has(*letter) {
-            out.push(char::from(*letter))?;
-        }
-    }
-    for letter in arguments.as_bytes() {
-        if let Some(argument) = request.argument(*letter) {
-            let argument = shown(alloc, argument)?;
-            out.push_str(format!(in alloc; " {}={argument}", char::from(*letter))?.as_str())?;
-        }
-    }
-    out.push_str(" |")?;
-    push_texts(&mut out, request.operands())?;
-    Ok(out)
-}
-
-/// The lines of a text, each in brackets.
-pub fn lines(alloc: Global, given: &str) -> Result<String, Fail> {
-    let mut out = String::new(alloc);
-    for line in Lines::of(given.as_bytes()) {
-        let line = shown(alloc, line)?;
-        out.push_str(format!(in alloc; "[{line}]")?.as_str())?;
-    }
-    Ok(out)
-}
-
-/// What `cut` with these options leaves of a text.
-pub fn cut(alloc: Global, given: &str, fields: &[String]) -> Result<String, Fail> {
-    let cut = match Request::of(alloc, &CUT, fields) {
-        Ok(request) => Cut::of(alloc, &request),
-        Err(error) => return refused(alloc, error),
-    };
-    match cut {
-        Ok(cut) => shown(alloc, cut.text(alloc, given.as_bytes())?.as_slice()),
+    match Request::of(alloc, &known, fields) {
+        Ok(request) => request_text(alloc, &request, &known),
         Err(error) => refused(alloc, error),
     }
 }
 
-/// The status of a `grep` without faults over one text, and what it prints, with a label.
-pub fn grep(alloc: Global, name: &str, given: &str, fields: &[String]) -> Result<String, Fail> {
-    let request = match Request::of(alloc, &GREP, fields) {
-        Ok(request) => request,
-        Err(error) => return refused(alloc, error),
-    };
-    let Some((search, files)) = Search::of(&request) else {
+/// Appends a line in brackets.
+fn push_line(alloc: Global, out: &mut String, line: &[u8]) -> Result<(), AllocError> {
+    let line = shown(alloc, line)?;
+    out.push_str(&format!(in alloc; "[{line}]")?)
+}
+
+/// The lines of a text, each in brackets.
+pub fn lines(alloc: Global, given: &str) -> Result<String, AllocError> {
+    let mut out = String::new(alloc);
+    for line in Lines::of(given.as_bytes()) {
+        push_line(alloc, &mut out, line)?;
+    }
+    Ok(out)
+}
+
+/// What `cut` leaves of a text.
+fn cut_text(alloc: Global, cut: &Cut, given: &str) -> Result<String, AllocError> {
+    let left = cut.text(alloc, given.as_bytes())?;
+    shown(alloc, left.as_slice())
+}
+
+/// What `cut` with this request leaves of a text.
+fn cut_of(alloc: Global, request: &Request<'_>, given: &str) -> Result<String, AllocError> {
+    match Cut::of(alloc, request) {
+        Ok(cut) => cut_text(alloc, &cut, given),
+        Err(error) => refused(alloc, error),
+    }
+}
+
+/// What `cut` with these options leaves of a text.
+pub fn cut(alloc: Global, given: &str, fields: &[String]) -> Result<String, AllocError> {
+    match Request::of(alloc, &CUT, fields) {
+        Ok(request) => cut_of(alloc, &request, given),
+        Err(error) => refused(alloc, error),
+    }
+}
+
+/// The status of a `grep` without faults over one text, and what it prints.
+fn found_text(
+    alloc: Global,
+    search: &Search<'_>,
+    label: &[u8],
+    given: &str,
+) -> Result<String, AllocError> {
+    let found = search.run(alloc, label, given.as_bytes())?;
+    let output = shown(alloc, found.output.as_slice())?;
+    format!(in alloc; "{} {output}", search.status(found.selected, false))
+}
+
+/// The status of a `grep` with this request over one text, and what it prints, with a label.
+fn grep_of(
+    alloc: Global,
+    request: &Request<'_>,
+    name: &str,
+    given: &str,
+) -> Result<String, AllocError> {
+    let Some((search, files)) = Search::of(request) else {
         return text(alloc, "usage");
     };
     let label = label(alloc, files.len() > 1, name)?;
-    let found = search.run(alloc, label.as_slice(), given.as_bytes())?;
-    let output = shown(alloc, found.output.as_slice())?;
-    Ok(format!(in alloc; "{} {output}", search.status(found.selected, false))?)
+    found_text(alloc, &search, label.as_slice(), given)
+}
+
+/// The status of a `grep` without faults over one text, and what it prints, with a label.
+pub fn grep(
+    alloc: Global,
+    name: &str,
+    given: &str,
+    fields: &[String],
+) -> Result<String, AllocError> {
+    match Request::of(alloc, &GREP, fields) {
+        Ok(request) => grep_of(alloc, &request, name, given),
+        Err(error) => refused(alloc, error),
+    }
+}
+
+/// The status of a `grep` with this request that selected a line or not, and met a fault or not.
+fn status_of(
+    alloc: Global,
+    request: &Request<'_>,
+    selected: bool,
+    fault: bool,
+) -> Result<String, AllocError> {
+    match Search::of(request) {
+        Some((search, _)) => format!(in alloc; "{}", search.status(selected, fault)),
+        None => text(alloc, "usage"),
+    }
 }
 
 /// The status of a `grep` that selected a line or not, and met a fault or not.
@@ -124,54 +214,53 @@ pub fn grep_status(
     selected: &str,
     fault: &str,
     fields: &[String],
-) -> Result<String, Fail> {
-    let request = match Request::of(alloc, &GREP, fields) {
-        Ok(request) => request,
-        Err(error) => return refused(alloc, error),
-    };
-    match Search::of(&request) {
-        Some((search, _)) => {
-            let status = search.status(selected == "selected", fault == "fault");
-            Ok(format!(in alloc; "{status}")?)
-        }
-        None => text(alloc, "usage"),
+) -> Result<String, AllocError> {
+    match Request::of(alloc, &GREP, fields) {
+        Ok(request) => status_of(alloc, &request, selected == "selected", fault == "fault"),
+        Err(error) => refused(alloc, error),
+    }
+}
+
+/// What a test of a path tests.
+fn test_word(test: PathTest) -> &'static str {
+    match test {
+        PathTest::Exists => "exists",
+        PathTest::IsFile => "file",
+        PathTest::IsDir => "dir",
     }
 }
 
 /// The condition that operands are: `true`, `false`, or which path it asks for.
-pub fn condition(alloc: Global, operands: &[String]) -> Result<String, Fail> {
+pub fn condition(alloc: Global, operands: &[String]) -> Result<String, AllocError> {
     match Condition::of(operands) {
         None => text(alloc, "usage"),
-        Some(Condition::Known(holds)) => Ok(format!(in alloc; "{holds}")?),
-        Some(Condition::Path(test, path)) => {
-            let test = match test {
-                PathTest::Exists => "exists",
-                PathTest::IsFile => "file",
-                PathTest::IsDir => "dir",
-            };
-            Ok(format!(in alloc; "{test} {path}")?)
-        }
+        Some(Condition::Known(holds)) => format!(in alloc; "{holds}"),
+        Some(Condition::Path(test, path)) => format!(in alloc; "{} {path}", test_word(test)),
     }
 }
 
 /// The condition that the operands of `[` are.
-pub fn bracket(alloc: Global, operands: &[String]) -> Result<String, Fail> {
+pub fn bracket(alloc: Global, operands: &[String]) -> Result<String, AllocError> {
     match before_bracket(operands) {
         None => text(alloc, "usage"),
         Some(operands) => condition(alloc, operands),
     }
 }
 
-/// What `echo` prints, or a fault in the fields of a utility.
-pub fn printed(alloc: Global, call: &str, operands: &[String]) -> Result<String, Fail> {
-    match (call, operands) {
-        ("usage", [name]) => shown(alloc, usage_text(alloc, name.as_str())?.as_slice()),
-        _ => shown(alloc, echo_text(alloc, operands)?.as_slice()),
-    }
+/// What `echo` prints.
+pub fn echo(alloc: Global, operands: &[String]) -> Result<String, AllocError> {
+    let printed = echo_text(alloc, operands)?;
+    shown(alloc, printed.as_slice())
+}
+
+/// What a fault in the fields of a utility prints.
+pub fn usage(alloc: Global, name: &str) -> Result<String, AllocError> {
+    let printed = usage_text(alloc, name)?;
+    shown(alloc, printed.as_slice())
 }
 
 /// The name of the utility that has a name, or `none`.
-pub fn utility(alloc: Global, name: &str) -> Result<String, Fail> {
+pub fn utility(alloc: Global, name: &str) -> Result<String, AllocError> {
     match Utility::of(name) {
         Some(utility) => text(alloc, utility.name()),
         None => text(alloc, "none"),

@@ -6,7 +6,11 @@
 #![tactic(auto)]
 
 #[cfg(test)]
+mod changes;
+#[cfg(test)]
 mod paths;
+#[cfg(test)]
+mod questions;
 #[cfg(test)]
 mod rows;
 #[cfg(test)]

@@ -1,72 +1,141 @@
 //! Names, paths, and the paths that texts name.
-use crate::rows::text;
-use retro_tree::{Name, Path, Resolved, resolve};
+use retro_rows::{fail, path, text};
+use retro_tree::{Name, Path, Resolved, VarName, is_relative, resolve};
 use std::alloc::{AllocError, Global};
 use std::test::Fail;
 
-/// The path that a text names from the root.
-pub fn path(alloc: Global, text: &str) -> Result<Path, Fail> {
-    match resolve(alloc, &Path::root(alloc), text)? {
-        Resolved::Is(path) => Ok(path),
-        _ => Err("no path")?,
-    }
-}
-
 /// The path of these names as text, `/` for none.
 pub fn path_text(alloc: Global, names: &[Name]) -> Result<String, AllocError> {
+    if names.is_empty() {
+        return text(alloc, "/");
+    }
     let mut text = String::new(alloc);
     for name in names {
         text.push('/')?;
         text.push_str(name.as_str())?;
     }
-    if text.is_empty() {
-        text.push('/')?;
-    }
     Ok(text)
 }
 
-/// What `resolve` returns for a text in a directory.
-pub fn resolved(alloc: Global, cwd: &str, given: &str) -> Result<String, Fail> {
-    match resolve(alloc, &path(alloc, cwd)?, given)? {
-        Resolved::Is(path) => Ok(path_text(alloc, path.names())?),
+/// What resolving a text came to.
+fn resolved_text(alloc: Global, resolved: &Resolved) -> Result<String, AllocError> {
+    match resolved {
+        Resolved::Is(path) => path_text(alloc, path.names()),
         Resolved::Empty => text(alloc, "empty"),
         Resolved::LongName => text(alloc, "long"),
     }
 }
 
-/// The path of these names, or `none`.
-pub fn joined_path(alloc: Global, names: &[String]) -> Result<String, Fail> {
-    let mut texts = Vec::new(alloc);
-    for name in names {
-        texts.push(name.clone()?)?;
-    }
-    match Path::of(alloc, texts)? {
-        Some(path) => Ok(path_text(alloc, path.copy()?.names())?),
+/// What `resolve` returns for a text in a directory.
+pub fn resolved(alloc: Global, cwd: &str, given: &str) -> Result<String, Fail> {
+    let cwd = path(alloc, cwd)?;
+    let resolved = resolve(alloc, &cwd, given)?;
+    Ok(resolved_text(alloc, &resolved)?)
+}
+
+/// A truth value as text.
+pub fn bool_text(alloc: Global, holds: bool) -> Result<String, AllocError> {
+    text(alloc, if holds { "true" } else { "false" })
+}
+
+/// Whether a text is relative.
+pub fn relative(alloc: Global, text: &str) -> Result<String, AllocError> {
+    let relative = is_relative(alloc, text)?;
+    bool_text(alloc, relative)
+}
+
+/// Whether a text is a name.
+pub fn is_name(alloc: Global, given: &str) -> Result<String, AllocError> {
+    let name = text(alloc, given)?;
+    bool_text(alloc, Name::of(name).is_some())
+}
+
+/// The variable's name that a text is, or `none`.
+pub fn variable(alloc: Global, given: &str) -> Result<String, AllocError> {
+    match VarName::of(alloc, given)? {
+        Some(name) => text(alloc, name.copy()?.as_str()),
         None => text(alloc, "none"),
     }
 }
 
-/// A path near another one: its `parent`, the `child` of a name, the names `below` a prefix, or its
-/// `prefixes`.
-pub fn near(alloc: Global, call: &str, given: &str, other: &str) -> Result<String, Fail> {
-    let given = path(alloc, given)?;
-    match call {
-        "parent" => Ok(path_text(alloc, given.parent(alloc)?.names())?),
-        "child" => {
-            let name = Name::of(text(alloc, other)?).ok_or("no name")?;
-            Ok(path_text(alloc, given.child(alloc, &name.copy()?)?.names())?)
-        }
-        "below" => match given.strip_prefix(&path(alloc, other)?) {
-            Some(names) => Ok(path_text(alloc, names)?),
-            None => text(alloc, "none"),
-        },
-        _ => {
-            let mut out = String::new(alloc);
-            for prefix in &given.prefixes(alloc)? {
-                out.push_str(path_text(alloc, prefix.names())?.as_str())?;
-                out.push(' ')?;
-            }
-            Ok(out)
-        }
+/// Copies of texts.
+fn copies(alloc: Global, texts: &[String]) -> Result<Vec<String>, AllocError> {
+    let mut copies = Vec::new(alloc);
+    for text in texts {
+        copies.push(text.clone()?)?;
     }
+    Ok(copies)
+}
+
+/// The path of these names, or `none`.
+pub fn joined_path(alloc: Global, names: &[String]) -> Result<String, AllocError> {
+    match Path::of(alloc, copies(alloc, names)?)? {
+        Some(path) => path_text(alloc, path.names()),
+        None => text(alloc, "none"),
+    }
+}
+
+/// The parent of a path.
+fn parent_of(alloc: Global, path: &Path) -> Result<String, AllocError> {
+    let parent = path.parent(alloc)?;
+    path_text(alloc, parent.names())
+}
+
+/// The parent of the path that a text names.
+pub fn parent(alloc: Global, given: &str) -> Result<String, Fail> {
+    let path = path(alloc, given)?;
+    Ok(parent_of(alloc, &path)?)
+}
+
+/// The child of a path with a copy of a name.
+fn child_of(alloc: Global, path: &Path, name: &Name) -> Result<String, AllocError> {
+    let name = name.copy()?;
+    let child = path.child(alloc, &name)?;
+    path_text(alloc, child.names())
+}
+
+/// The child of the path that a text names with a name, or that it isn't one.
+pub fn child(alloc: Global, given: &str, name: &str) -> Result<String, Fail> {
+    let path = path(alloc, given)?;
+    match Name::of(text(alloc, name)?) {
+        Some(name) => Ok(child_of(alloc, &path, &name)?),
+        None => fail("no name"),
+    }
+}
+
+/// The names of a path below a prefix, or `none`.
+fn names_below(alloc: Global, path: &Path, prefix: &Path) -> Result<String, AllocError> {
+    match path.strip_prefix(prefix) {
+        Some(names) => path_text(alloc, names),
+        None => text(alloc, "none"),
+    }
+}
+
+/// The names of a path that a text names below the prefix that another one names, or `none`.
+pub fn below(alloc: Global, given: &str, prefix: &str) -> Result<String, Fail> {
+    let prefix = path(alloc, prefix)?;
+    let given = path(alloc, given)?;
+    Ok(names_below(alloc, &given, &prefix)?)
+}
+
+/// Paths, each with a space after it.
+fn paths_text(alloc: Global, paths: &[Path]) -> Result<String, AllocError> {
+    let mut out = String::new(alloc);
+    for path in paths {
+        out.push_str(&path_text(alloc, path.names())?)?;
+        out.push(' ')?;
+    }
+    Ok(out)
+}
+
+/// The prefixes of a path, each with a space after it.
+fn prefixes_of(alloc: Global, path: &Path) -> Result<String, AllocError> {
+    let prefixes = path.prefixes(alloc)?;
+    paths_text(alloc, &prefixes)
+}
+
+/// The prefixes of the path that a text names, each with a space after it.
+pub fn prefixes(alloc: Global, given: &str) -> Result<String, Fail> {
+    let path = path(alloc, given)?;
+    Ok(prefixes_of(alloc, &path)?)
 }

@@ -1,11 +1,11 @@
 //! Lines, and the trees that they are read as: lists in `[ ]`, simple commands in `( )`.
-use crate::rows::text;
+use retro_rows::text;
 use retro_syntax::tree::{
-    AndOr, Assignment, Command, Commands, Connector, Direction, Item, Piece, Pipeline, Simple, Word,
+    AndOr, Assignment, Command, Commands, Conditional, Connector, Direction, Item, Loop, Piece,
+    Pipeline, Simple, Word,
 };
 use retro_syntax::{Line, Parsed, Refused, TildePrefix, parse};
 use std::alloc::{AllocError, Global};
-use std::test::Fail;
 
 /// Quoted pieces stand in double quotes, and parameters in `${ }`.
 fn show_word(out: &mut String, word: &Word) -> Result<(), AllocError> {
@@ -80,32 +80,40 @@ fn show_command(out: &mut String, command: &Command, room: u8) -> Result<(), All
     }
     match command {
         Command::Pipe(stages) => show_stages(out, stages),
-        Command::If(parts) => {
-            for arm in &parts.before {
-                show_list(out, "if", &arm.0, room - 1)?;
-                show_list(out, "then", &arm.1, room - 1)?;
-            }
-            show_list(out, "if", &parts.condition, room - 1)?;
-            show_list(out, "then", &parts.consequence, room - 1)
-        }
+        Command::If(parts) => show_arms(out, parts, room - 1),
         Command::IfElse(parts, alternative) => {
-            for arm in &parts.before {
-                show_list(out, "if", &arm.0, room - 1)?;
-                show_list(out, "then", &arm.1, room - 1)?;
-            }
-            show_list(out, "if", &parts.condition, room - 1)?;
-            show_list(out, "then", &parts.consequence, room - 1)?;
+            show_arms(out, parts, room - 1)?;
             show_list(out, "else", alternative, room - 1)
         }
-        Command::For(parts) => {
-            show_between(out, "for ", parts.name.as_str(), " in ")?;
-            for word in &parts.words {
-                show_word(out, word)?;
-                out.push_str(",")?;
-            }
-            show_list(out, "do", &parts.body, room - 1)
-        }
+        Command::For(parts) => show_loop(out, parts, room - 1),
     }
+}
+
+/// The conditions of an `if`, each with its consequence.
+#[cycle(shown)]
+fn show_arms(out: &mut String, parts: &Conditional<Command>, room: u8) -> Result<(), AllocError> {
+    for arm in &parts.before {
+        show_list(out, "if", &arm.0, room)?;
+        show_list(out, "then", &arm.1, room)?;
+    }
+    show_list(out, "if", &parts.condition, room)?;
+    show_list(out, "then", &parts.consequence, room)
+}
+
+/// What a `for` has before its body.
+fn show_head(out: &mut String, parts: &Loop<Command>) -> Result<(), AllocError> {
+    show_between(out, "for ", parts.name.as_str(), " in ")?;
+    for word in &parts.words {
+        show_word(out, word)?;
+        out.push_str(",")?;
+    }
+    Ok(())
+}
+
+#[cycle(shown)]
+fn show_loop(out: &mut String, parts: &Loop<Command>, room: u8) -> Result<(), AllocError> {
+    show_head(out, parts)?;
+    show_list(out, "do", &parts.body, room)
 }
 
 #[cycle(shown)]
@@ -149,46 +157,81 @@ fn show_list(
     out.push_str(if list.final_semicolon { ";]" } else { "]" })
 }
 
-/// The tree of a text, nothing for a blank line, or the number of its refusal.
-pub fn tree(alloc: Global, given: &str) -> Result<String, Fail> {
-    let parsed = Parsed::of(alloc, text(alloc, given)?)?;
-    if parsed.text() != given {
-        return Err("another text")?;
-    }
-    match parsed.refused() {
-        Some(Refused::Unsupported) => return text(alloc, "5"),
-        Some(Refused::TooLong) => return text(alloc, "6"),
-        Some(Refused::TooDeep) => return text(alloc, "7"),
-        Some(Refused::NoMem) => return Err("out of memory")?,
-        None => (),
-    }
+/// The tree of a line, nothing for a blank one.
+fn line_text(alloc: Global, line: &Line) -> Result<String, AllocError> {
     let mut out = String::new(alloc);
-    if let Some(commands) = &parsed.line().ok_or("no line")?.commands {
+    if let Some(commands) = &line.commands {
         show_list(&mut out, "", commands, 40)?;
     }
     Ok(out)
 }
 
+/// The number of a refusal.
+fn refusal(refused: Option<Refused>) -> &'static str {
+    match refused {
+        Some(Refused::Unsupported) => "5",
+        Some(Refused::TooLong) => "6",
+        Some(Refused::TooDeep) => "7",
+        Some(Refused::NoMem) => "out of memory",
+        None => "no line",
+    }
+}
+
+/// The tree of a parsed text, or the number of its refusal.
+fn parsed_text(alloc: Global, parsed: &Parsed) -> Result<String, AllocError> {
+    match parsed.line() {
+        Some(line) => line_text(alloc, line),
+        None => text(alloc, refusal(parsed.refused())),
+    }
+}
+
+/// The tree of a parsed text, or the number of its refusal, or that its text isn't the given one.
+fn tree_of(alloc: Global, parsed: &Parsed, given: &str) -> Result<String, AllocError> {
+    if parsed.text() == given {
+        parsed_text(alloc, parsed)
+    } else {
+        text(alloc, "another text")
+    }
+}
+
+/// The tree of a text, nothing for a blank line, or the number of its refusal.
+pub fn tree(alloc: Global, given: &str) -> Result<String, AllocError> {
+    let text = text(alloc, given)?;
+    tree_of(alloc, &Parsed::of(alloc, text)?, given)
+}
+
+/// The tilde prefix of a command's first word or first value, where it has one.
+fn stage_prefix(stage: &Simple) -> Option<TildePrefix<'_>> {
+    match stage {
+        Simple::Assignments(assignments) => assignments.first()?.tilde_prefix(),
+        Simple::Command(items) => match items.first()? {
+            Item::Argument(word) => word.tilde_prefix(),
+            Item::Redirect(_, word) => word.tilde_prefix(),
+        },
+    }
+}
+
 /// The tilde prefix of a line's first word or first value, where it has one.
-fn first_tilde_prefix(line: &Line) -> Option<TildePrefix<'_>> {
+fn line_prefix(line: &Line) -> Option<TildePrefix<'_>> {
     let commands = line.commands.as_ref()?;
     match &commands.last.last.command {
-        Command::Pipe(stages) => match stages.first()? {
-            Simple::Assignments(assignments) => assignments.first()?.tilde_prefix(),
-            Simple::Command(items) => match items.first()? {
-                Item::Argument(word) => word.tilde_prefix(),
-                Item::Redirect(_, word) => word.tilde_prefix(),
-            },
-        },
+        Command::Pipe(stages) => stage_prefix(stages.first()?),
         Command::If(_) | Command::IfElse(_, _) | Command::For(_) => None,
     }
 }
 
-/// The login name and the rest of the first tilde prefix of a text's line, or `none`.
-pub fn tilde(alloc: Global, given: &str) -> Result<String, Fail> {
-    let line = parse(alloc, given)?;
-    match first_tilde_prefix(&line) {
-        Some(prefix) => Ok(format!(in alloc; "{}|{}", prefix.login, prefix.rest)?),
+/// A login name and the rest of its word, or `none`.
+fn prefix_text(alloc: Global, prefix: Option<TildePrefix<'_>>) -> Result<String, AllocError> {
+    match prefix {
+        Some(prefix) => format!(in alloc; "{}|{}", prefix.login, prefix.rest),
         None => text(alloc, "none"),
+    }
+}
+
+/// The login name and the rest of the first tilde prefix of a text's line, or `none`.
+pub fn tilde(alloc: Global, given: &str) -> Result<String, AllocError> {
+    match parse(alloc, given) {
+        Ok(line) => prefix_text(alloc, line_prefix(&line)),
+        Err(_) => text(alloc, "refused"),
     }
 }

@@ -1,54 +1,119 @@
 //! Bytes, texts, notes and overlays, by their small calls.
-use crate::paths::path;
+use retro_rows::path;
 use retro_tree::{
     Answer, Ask, Bytes, Cell, Change, Note, Notes, Overlay, OverlayEntry, Text, Value,
 };
-use std::alloc::Global;
+use std::alloc::{AllocError, Global};
 use std::test::Fail;
 
+/// Whether bytes are what they are made of, and what extends them.
+fn bytes_are_kept(alloc: Global) -> Result<bool, AllocError> {
+    let mut bytes = Bytes::of(Vec::from_slice(alloc, b"ab")?);
+    bytes.extend(b"c")?;
+    Ok(
+        bytes.len() == 3
+            && bytes.copy()? == bytes
+            && bytes.into_vec().as_slice() == b"abc".as_slice(),
+    )
+}
+
+/// Whether a text has its bytes.
+fn texts_are_kept(alloc: Global) -> Result<bool, AllocError> {
+    let text = Text::of(String::from_str(alloc, "é")?);
+    Ok(text.copy()?.bytes() == [195, 169].as_slice())
+}
+
 /// A question with its answer and a change, in this order.
-fn two_notes(alloc: Global, status: u8) -> Result<Notes, Fail> {
+fn two_notes(alloc: Global, status: u8) -> Result<Notes, AllocError> {
     let mut notes = Vec::new(alloc);
     notes.push(Note::Asked(Ask::StatusOf(7), Answer::Status(1)))?;
     notes.push(Note::Made(Change::SetStatus(7, status)))?;
-    Ok(Notes::of(alloc, notes)?)
+    Notes::of(alloc, notes)
+}
+
+/// Whether notes are those that `two_notes` makes with a status, by each note's own comparison.
+fn are_two_notes(notes: &[Note], status: u8) -> bool {
+    match notes {
+        [Note::Asked(ask, answer), Note::Made(change)] => {
+            answer.is_same(&Answer::Status(1))
+                && !answer.is_same(&Answer::Status(2))
+                && !ask.is_same(&Ask::CwdOf(7))
+                && change.is_same(&Change::SetStatus(7, status))
+        }
+        _ => false,
+    }
+}
+
+/// Whether a copy of notes is the same as they are.
+fn notes_are_kept(alloc: Global) -> Result<bool, AllocError> {
+    let notes = two_notes(alloc, 2)?;
+    let copy = notes.copy()?;
+    Ok(are_two_notes(copy.as_slice(), 2) && copy.is_same(&notes))
+}
+
+/// Whether notes with other changes are others.
+fn notes_differ(alloc: Global) -> Result<bool, AllocError> {
+    let notes = two_notes(alloc, 2)?;
+    Ok(!notes.is_same(&two_notes(alloc, 3)?))
 }
 
 #[test]
 fn small_values_are_kept(rt: HostRuntime) -> Result<(), Fail> {
-    let mut bytes = Bytes::of(Vec::from_slice(rt.alloc(), b"ab")?);
-    bytes.extend(b"c")?;
-    assert!(rt; bytes.len() == 3 && bytes.copy()? == bytes);
-    assert_eq!(rt; bytes.into_vec().as_slice(), b"abc".as_slice());
-    let text = Text::of(String::from_str(rt.alloc(), "é")?);
-    assert_eq!(rt; text.copy()?.bytes(), [195, 169].as_slice());
-    let notes = two_notes(rt.alloc(), 2)?.copy()?;
-    let [Note::Asked(ask, answer), Note::Made(change)] = notes.as_slice() else {
-        return Err("other notes")?;
-    };
-    assert!(rt; answer.is_same(&Answer::Status(1)) && !answer.is_same(&Answer::Status(2)));
-    assert!(rt; change.is_same(&Change::SetStatus(7, 2)) && !ask.is_same(&Ask::CwdOf(7)));
-    assert!(rt; notes.is_same(&two_notes(rt.alloc(), 2)?));
-    assert!(rt; !notes.is_same(&two_notes(rt.alloc(), 3)?));
+    assert!(rt; bytes_are_kept(rt.alloc())?, "bytes");
+    assert!(rt; texts_are_kept(rt.alloc())?, "texts");
+    assert!(rt; notes_are_kept(rt.alloc())?, "notes");
+    assert!(rt; notes_differ(rt.alloc())?, "other notes");
     Ok(())
+}
+
+/// The cell of a session's directory.
+const CELL: Cell = Cell::Cwd(7);
+
+/// A directory as that cell's value.
+fn directory(alloc: Global, at: &str) -> Result<Value, Fail> {
+    Ok(Value::Cwd(path(alloc, at)?))
+}
+
+/// Whether an entry is a directory.
+fn is_directory(entry: &Option<OverlayEntry>) -> bool {
+    matches!(entry, Some(OverlayEntry::Value(Value::Cwd(_))))
+}
+
+/// Whether a value is there, and the same as another one.
+fn is_same(value: Option<&Value>, wanted: &Value) -> bool {
+    match value {
+        Some(value) => value.is_same(wanted),
+        None => false,
+    }
+}
+
+/// Whether a replaced entry gives the previous one back and is the new one, alone in its overlay.
+fn entries_are_replaced(alloc: Global) -> Result<bool, Fail> {
+    let (first, second) = (directory(alloc, "/d")?, directory(alloc, "/e")?);
+    let wanted = directory(alloc, "/e")?;
+    let mut overlay = Overlay::new(alloc);
+    overlay.insert(CELL, first)?;
+    let previous = overlay.replace(&CELL, OverlayEntry::Value(second));
+    Ok(
+        is_directory(&previous)
+            && is_same(overlay.get_value(&CELL), &wanted)
+            && overlay.len() == 1
+            && overlay.get(&Cell::Cwd(8)).is_none(),
+    )
+}
+
+/// Whether an overlay without its entry is empty.
+fn entries_are_removed(alloc: Global) -> Result<bool, Fail> {
+    let mut overlay = Overlay::new(alloc);
+    overlay.insert(CELL, directory(alloc, "/d")?)?;
+    let had = !overlay.is_empty();
+    overlay.remove(&CELL);
+    Ok(had && overlay.is_empty())
 }
 
 #[test]
 fn overlays_keep_their_entries(rt: HostRuntime) -> Result<(), Fail> {
-    let cell = Cell::Cwd(7);
-    let mut overlay = Overlay::new(rt.alloc());
-    overlay.insert(cell.copy()?, Value::Cwd(path(rt.alloc(), "/d")?))?;
-    let entry = OverlayEntry::Value(Value::Cwd(path(rt.alloc(), "/e")?));
-    let previous = overlay.replace(&cell, entry);
-    assert!(rt; matches!(previous, Some(OverlayEntry::Value(Value::Cwd(_)))));
-    let wanted = Value::Cwd(path(rt.alloc(), "/e")?);
-    assert!(rt;
-        overlay
-            .get_value(&cell)
-            .is_some_and(|value| value.is_same(&wanted))
-    );
-    assert!(rt; overlay.len() == 1 && overlay.get(&Cell::Cwd(8)).is_none());
-    overlay.remove(&cell);
-    assert!(rt; overlay.is_empty());
+    assert!(rt; entries_are_replaced(rt.alloc())?, "replaced");
+    assert!(rt; entries_are_removed(rt.alloc())?, "removed");
     Ok(())
 }

@@ -1,0 +1,125 @@
+//! Changes as text, and states after them.
+//!
+//! Changes are separated by `; `: `put PATH dir`, `put PATH missing`, `put PATH file TEXT`,
+//! `grow PATH by TEXT`, `var SID NAME TEXT`, `cwd SID PATH`, `status SID NUMBER`.
+use retro_rows::{fail, path, text};
+use retro_tree::{Bytes, Change, Node, State, Text, VarName};
+use std::alloc::{AllocError, Global};
+use std::test::Fail;
+
+/// A name of a variable.
+pub fn variable(alloc: Global, given: &str) -> Result<VarName, Fail> {
+    match VarName::of(alloc, given)? {
+        Some(name) => Ok(name),
+        None => fail("no variable"),
+    }
+}
+
+/// The bytes of a text.
+fn bytes(alloc: Global, given: &str) -> Result<Bytes, AllocError> {
+    Ok(Bytes::of(Vec::from_slice(alloc, given.as_bytes())?))
+}
+
+/// The node that `dir`, `missing`, or `file` and its content is.
+fn node(alloc: Global, given: &str) -> Result<Node, Fail> {
+    match given {
+        "dir" => Ok(Node::Dir),
+        "missing" => Ok(Node::Missing),
+        _ => match given.strip_prefix("file ") {
+            Some(content) => Ok(Node::File(bytes(alloc, content)?)),
+            None => fail("no such node"),
+        },
+    }
+}
+
+/// A change of a file by `by` and what is appended.
+fn growth(alloc: Global, place: &str, given: &str) -> Result<Change, Fail> {
+    let Some(more) = given.strip_prefix("by ") else {
+        return fail("no such growth");
+    };
+    let more = bytes(alloc, more)?;
+    Ok(Change::Grow(path(alloc, place)?, more))
+}
+
+/// A change of a session's variable.
+fn variable_change(alloc: Global, sid: u32, given: &str) -> Result<Change, Fail> {
+    let Some((name, value)) = given.split_once(' ') else {
+        return fail("no value");
+    };
+    let name = variable(alloc, name)?;
+    Ok(Change::SetVar(sid, name, Text::of(text(alloc, value)?)))
+}
+
+/// A change of the node at a path.
+fn put(alloc: Global, place: &str, value: &str) -> Result<Change, Fail> {
+    let node = node(alloc, value)?;
+    Ok(Change::Put(path(alloc, place)?, node))
+}
+
+/// A change of a session's directory, status or variable.
+fn session_change(alloc: Global, kind: &str, sid: u32, value: &str) -> Result<Change, Fail> {
+    match kind {
+        "var" => variable_change(alloc, sid, value),
+        "cwd" => Ok(Change::SetCwd(sid, path(alloc, value)?)),
+        "status" => Ok(Change::SetStatus(sid, value.parse()?)),
+        _ => fail("no such change"),
+    }
+}
+
+/// The change of a kind, at a path or in a session, to a value.
+fn change_of(alloc: Global, kind: &str, place: &str, value: &str) -> Result<Change, Fail> {
+    match kind {
+        "put" => put(alloc, place, value),
+        "grow" => growth(alloc, place, value),
+        _ => session_change(alloc, kind, place.parse()?, value),
+    }
+}
+
+/// The change that a text is.
+pub fn change(alloc: Global, given: &str) -> Result<Change, Fail> {
+    let Some((kind, rest)) = given.split_once(' ') else {
+        return fail("no change");
+    };
+    match rest.split_once(' ') {
+        Some((place, value)) => change_of(alloc, kind, place, value),
+        None => fail("no value"),
+    }
+}
+
+/// The changes that a text is.
+fn changes(alloc: Global, given: &str) -> Result<Vec<Change>, Fail> {
+    let mut changes = Vec::new(alloc);
+    for each in given.split("; ") {
+        if !each.is_empty() {
+            changes.push(change(alloc, each)?)?;
+        }
+    }
+    Ok(changes)
+}
+
+/// Makes a copy of a change to a state.
+fn apply_copy(alloc: Global, state: &mut State, change: &Change) -> Result<(), AllocError> {
+    let copy = change.copy()?;
+    state.apply(alloc, &copy)
+}
+
+/// Makes copies of changes to a state.
+fn apply_all(alloc: Global, state: &mut State, changes: &[Change]) -> Result<(), AllocError> {
+    for change in changes {
+        apply_copy(alloc, state, change)?;
+    }
+    Ok(())
+}
+
+/// A state after these changes.
+pub fn after(alloc: Global, mut state: State, given: &str) -> Result<State, Fail> {
+    let changes = changes(alloc, given)?;
+    apply_all(alloc, &mut state, &changes)?;
+    Ok(state)
+}
+
+/// The root alone after these changes.
+pub fn changed(alloc: Global, given: &str) -> Result<State, Fail> {
+    let root = State::empty(alloc)?;
+    after(alloc, root.copy()?, given)
+}
