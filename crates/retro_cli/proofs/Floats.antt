@@ -2,10 +2,10 @@
 use Rattle.std.proofs.Common.{◌≡◌, ℕ, List, false, refl}
 use Rattle.serde_json.specs.Written.{has_float}
 use Rattle.retro_tree.specs.declared.state.State.{State}
-use Rattle.retro_log.proofs.Floats.{array_float, tree_float, sessions_float}
+use Rattle.retro_json.proofs.Floats.{array_float, tree_float, sessions_float}
 use Rattle.retro_redo.specs.declared.repair.Repair.{Repair}
 use Rattle.retro_redo.specs.declared.verdict.Verdict.TheVariants.{Cancelled, Redone}
-use Rattle.retro_log.specs.Values.{number_data}
+use Rattle.retro_json.specs.Values.{number_data}
 use Rattle.retro_cli.specs.Report.{output_data, replay_data}
 use Rattle.retro_cli.specs.RepairReport.{compensation_data, numbers_with, repair_data}
 

@@ -4,7 +4,7 @@ use Rattle.std.proofs.Common.{refl, sym}
 use Rattle.std.proofs.lemmas.Bool.{true≢false}
 use Rattle.retro_keep.specs.Edit.{first_unknown, is_among}
 use Rattle.retro_keep.specs.Recording.{RecordingValue}
-use Rattle.retro_log.specs.declared.fault.Refusal.{Refusal}
+use Rattle.retro_json.specs.declared.fault.Refusal.{Refusal}
 use Rattle.retro_redo.specs.Cancelling as repairs
 use Rattle.retro_redo.specs.Cancelling.{is_line}
 use Rattle.retro_redo.specs.declared.repair_fault.RepairFault.{RepairFault}

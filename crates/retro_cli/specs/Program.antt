@@ -14,8 +14,8 @@ use Rattle.retro_redo.specs.Repair.{IsRepair, script_of_others}
 use Rattle.retro_redo.specs.declared.repair.Repair.{Repair}
 use Rattle.retro_log.specs.Document.{script_in, log_in}
 use Rattle.retro_log.specs.LogText.{log_text}
-use Rattle.retro_log.specs.Numbers.{refusal_number}
-use Rattle.retro_log.specs.declared.fault.Refusal.{Refusal}
+use Rattle.retro_json.specs.Numbers.{refusal_number}
+use Rattle.retro_json.specs.declared.fault.Refusal.{Refusal}
 use Rattle.retro_cli.specs.Output.{AppendsPart}
 use Rattle.retro_cli.specs.Report.{replay_text}
 use Rattle.retro_cli.specs.RepairReport.{repair_text}

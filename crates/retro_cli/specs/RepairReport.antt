@@ -2,7 +2,7 @@
 use Rattle.std.specs.Prelude.{ℕ, Bool, true, false, List, [], ◌∷◌, ◌++◌, map, filter, codes}
 use Rattle.serde_json.specs.Data.{Data, object, no_members, member}
 use Rattle.serde_json.specs.Written.{compact_text}
-use Rattle.retro_log.specs.Values.{array_of, number_data, hex_data, tree_data, sessions_data}
+use Rattle.retro_json.specs.Values.{array_of, number_data, hex_data, tree_data, sessions_data}
 use Rattle.retro_redo.specs.declared.compensation.Compensation.{Compensation}
 use Rattle.retro_redo.specs.declared.repair.Repair.{Repair}
 use Rattle.retro_redo.specs.declared.verdict.Verdict.{Verdict}

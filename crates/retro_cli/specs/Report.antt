@@ -3,7 +3,7 @@ use Rattle.std.specs.Prelude.{ℕ, List, [], ◌∷◌, ◌++◌, map, codes}
 use Rattle.serde_json.specs.Data.{Data, object, no_members, member}
 use Rattle.serde_json.specs.Written.{compact_text}
 use Rattle.retro_tree.specs.declared.state.State.{State}
-use Rattle.retro_log.specs.Values.{array_of, number_data, hex_data, tree_data, sessions_data}
+use Rattle.retro_json.specs.Values.{array_of, number_data, hex_data, tree_data, sessions_data}
 
 -- `[number,"hex"]`: a line and what it printed
 abbrev pub output_data : ℕ × List ℕ → Data

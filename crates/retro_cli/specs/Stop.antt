@@ -3,9 +3,9 @@ use Rattle.std.specs.Prelude.{◌≡◌, ℕ, Option, Some, None, Result, Ok, Er
 use Rattle.retro_tree.specs.OutOfMemory.{UnlessOutOfMemory}
 use Rattle.retro_keep.specs.declared.script.EditFault.{EditFault}
 use Rattle.retro_keep.specs.declared.script.EditFault.TheVariants as edits
-use Rattle.retro_log.specs.Numbers.{refusal_number}
-use Rattle.retro_log.specs.declared.fault.LogFault.{LogFault}
-use Rattle.retro_log.specs.declared.fault.LogFault.TheVariants as documents
+use Rattle.retro_json.specs.Numbers.{refusal_number}
+use Rattle.retro_json.specs.declared.fault.LogFault.{LogFault}
+use Rattle.retro_json.specs.declared.fault.LogFault.TheVariants as documents
 use Rattle.retro_redo.specs.RepairFault.{fault_number}
 use Rattle.retro_redo.specs.declared.repair_fault.RepairFault.{RepairFault}
 use Rattle.retro_redo.specs.declared.repair_fault.RepairFault.TheVariants as repairs

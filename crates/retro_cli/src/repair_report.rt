@@ -1,7 +1,7 @@
 //! The report of a repair, as a JSON text.
 ghost use Rattle.std.specs.Prelude.{◌≡◌, IfOk, map};
 ghost use Rattle.serde_json.specs.View.{view};
-ghost use Rattle.retro_log.specs.Values.{number_data};
+ghost use Rattle.retro_json.specs.Values.{number_data};
 ghost use Rattle.retro_cli.specs.RepairReport.{compensation_data, numbers_with};
 ghost use Rattle.retro_cli.specs.RepairReport.{repair_data, repair_text};
 

@@ -17,11 +17,11 @@ use Rattle.retro_keep.specs.RecordingFault.{IsFaultOf}
 use Rattle.retro_keep.specs.declared.noted.Noted.{Noted}
 use Rattle.retro_keep.specs.declared.recording_fault.RecordingFault.{RecordingFault}
 use Rattle.retro_keep.specs.declared.recording_fault.RecordingFault.TheVariants as recording
-use Rattle.retro_log.specs.declared.fault.Refusal.TheVariants.{LawlessTree}
+use Rattle.retro_json.specs.declared.fault.Refusal.TheVariants.{LawlessTree}
 use Rattle.retro_log.specs.Allowed.{are_allowed, are_lines_allowed, is_lawful_change}
 use Rattle.retro_log.specs.Document.{recording_of}
-use Rattle.retro_log.specs.ReadsAs.{FailsAs}
-use Rattle.retro_log.specs.RecordingFaults.{recording_fault}
+use Rattle.retro_json.specs.ReadsAs.{FailsAs}
+use Rattle.retro_json.specs.RecordingFaults.{recording_fault}
 
 off : (b : Bool) → not b ≡ true → b ≡ false
 off true h = absurd (false≢true h)

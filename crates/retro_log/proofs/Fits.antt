@@ -13,17 +13,17 @@ use Rattle.retro_local.specs.Trace.{asked_session, changed_session, named_sessio
 use Rattle.retro_keep.specs.Recording.{answers_are_of_kind, are_own, is_line_of_kind, is_of_kind, is_own_line}
 use Rattle.retro_keep.specs.declared.noted.Noted.{Noted}
 use Rattle.retro_keep.specs.declared.script.ScriptLine.{ScriptLine}
-use Rattle.retro_log.specs.declared.fault.Part.TheVariants.{Lines}
-use Rattle.retro_log.specs.declared.fault.Refusal.{Refusal}
-use Rattle.retro_log.specs.Steps.{◌>>=◌}
-use Rattle.retro_log.specs.Worst.{both, every}
-use Rattle.retro_log.specs.Shape.{Text, cells, text_in, u32_in, u8_in}
+use Rattle.retro_json.specs.declared.fault.Part.TheVariants.{Lines}
+use Rattle.retro_json.specs.declared.fault.Refusal.{Refusal}
+use Rattle.retro_json.specs.Steps.{◌>>=◌}
+use Rattle.retro_json.specs.Worst.{both, every}
+use Rattle.retro_json.specs.Shape.{Text, cells, text_in, u32_in, u8_in}
 use Rattle.retro_log.specs.LinesPart.{head_of}
-use Rattle.retro_log.specs.LogFields.{hex_field, kind_field, listing_field, node_field, or_null, path_field}
-use Rattle.retro_log.specs.LogFields.{permit_field, user_field, value_field, var_field}
-use Rattle.retro_log.specs.NotesPart.{bytes_cells, can_write_cells, cwd_cells, grow_cells, kind_cells, names_cells}
-use Rattle.retro_log.specs.NotesPart.{note_cells, note_of, notes_field, put_cells, set_cwd_cells, set_status_cells}
-use Rattle.retro_log.specs.NotesPart.{set_var_cells, status_cells, tagged_note, user_note_cells, var_cells}
+use Rattle.retro_json.specs.LogFields.{hex_field, kind_field, listing_field, node_field, or_null, path_field}
+use Rattle.retro_json.specs.LogFields.{permit_field, user_field, value_field, var_field}
+use Rattle.retro_json.specs.NotesPart.{bytes_cells, can_write_cells, cwd_cells, grow_cells, kind_cells, names_cells}
+use Rattle.retro_json.specs.NotesPart.{note_cells, note_of, notes_field, put_cells, set_cwd_cells, set_status_cells}
+use Rattle.retro_json.specs.NotesPart.{set_var_cells, status_cells, tagged_note, user_note_cells, var_cells}
 use Rattle.retro_log.specs.LogLinesPart.{log_line_cells, log_line_of, log_lines_of, with_run}
 
 -- ---- what holds of all that is read

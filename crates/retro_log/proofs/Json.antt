@@ -1,22 +1,12 @@
--- JSON values as `serde_json` keeps them.
+-- Objects as `serde_json` keeps them, and lines as they are.
 use Rattle.std.proofs.Common.{◌≡◌, ℕ, List, [], ◌∷◌, map, refl, ap, Bool, ◌&&◌, String, Global, BTreeMap, string_bytes}
 use Rattle.std.specs.BTreeMap.{keys}
 use Rattle.std.specs.Map.{keys_of}
 use Rattle.std.specs.List.{list_all}
-use Rattle.serde_json.specs.Data.{Data}
-use Rattle.serde_json.specs.View.{view, items_of, items_view, members_view}
+use Rattle.serde_json.specs.View.{members_view}
 use Rattle.serde_json.specs.declared.value.Value.{Value}
 use Rattle.retro_keep.specs.declared.script.ScriptLine.{ScriptLine}
-use Rattle.retro_log.specs.Shape.{item_list}
 use Rattle.retro_log.specs.Document.{has_keys}
-
--- the items of the array of a list are the list
-pub item_list-items_of : (ds : List Data) → item_list (items_of ds) ≡ ds
-item_list-items_of [] = refl
-item_list-items_of (d ∷ ds) = ap (λ (es : List Data). d ∷ es) (item_list-items_of ds)
-
-pub item_list-items_view : (vs : List Value) → item_list (items_view vs) ≡ map view vs
-item_list-items_view vs = item_list-items_of (map view vs)
 
 -- a test of all keys of an object
 pub keys_of_entries : (p : List ℕ → Bool) (es : List (String Global × Value))

@@ -25,13 +25,13 @@ use Rattle.retro_tree.specs.declared.session.Session.{Session}
 use Rattle.retro_tree.specs.declared.user.User.{User}
 use Rattle.retro_keep.specs.Recording.{RecordingValue}
 use Rattle.retro_keep.specs.declared.noted.Noted.{Noted}
-use Rattle.retro_log.specs.Shape.{Text}
-use Rattle.retro_log.specs.Values.{path_text, entry_data, row_data, is_listed, tree_data, var_data, vars_data}
-use Rattle.retro_log.specs.Values.{session_data, sessions_data}
-use Rattle.retro_log.specs.NoteValues.{node_data, listing_data, user_data, value_data, answer_data, asked_data}
-use Rattle.retro_log.specs.NoteValues.{change_data, note_data, notes_data}
+use Rattle.retro_json.specs.Shape.{Text}
+use Rattle.retro_json.specs.Values.{path_text, entry_data, row_data, is_listed, tree_data, var_data, vars_data}
+use Rattle.retro_json.specs.Values.{session_data, sessions_data}
+use Rattle.retro_json.specs.NoteValues.{node_data, listing_data, user_data, value_data, answer_data, asked_data}
+use Rattle.retro_json.specs.NoteValues.{change_data, note_data, notes_data}
 use Rattle.retro_log.specs.LogText.{line_data, lines_data, log_data}
-use Rattle.retro_log.proofs.Floats.{array_float, tree_float, sessions_float}
+use Rattle.retro_json.proofs.Floats.{array_float, tree_float, sessions_float}
 
 -- ---- no float
 

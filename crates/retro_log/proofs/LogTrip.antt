@@ -22,14 +22,14 @@ use Rattle.retro_log.specs.LogLinesPart.{log_line_of, log_lines_of}
 use Rattle.retro_log.specs.Allowed.{is_lawful_change, are_allowed, are_lines_allowed}
 use Rattle.retro_log.specs.Document.{recording_of, log_parts_of, log_of, log_in}
 use Rattle.retro_log.specs.LogText.{line_data, lines_data, log_data}
-use Rattle.retro_log.specs.NoNul.{tree_without_nul, sessions_without_nul, line_without_nul, recording_without_nul}
-use Rattle.retro_log.specs.NoteLimits.{line_fits, notes_fit}
-use Rattle.retro_log.specs.Typed.{is_u32, note_typed, tree_typed, sessions_typed, line_typed, recording_typed}
-use Rattle.retro_log.proofs.Json.{item_list-items_of}
-use Rattle.retro_log.proofs.Listed.{all_both, every_again, map_unchanged}
-use Rattle.retro_log.proofs.TreeTrip.{tree_again}
-use Rattle.retro_log.proofs.SessionsTrip.{sessions_again}
-use Rattle.retro_log.proofs.NotesTrip.{hex_field_again, notes_again}
+use Rattle.retro_json.specs.NoNul.{tree_without_nul, sessions_without_nul, line_without_nul, recording_without_nul}
+use Rattle.retro_json.specs.NoteLimits.{line_fits, notes_fit}
+use Rattle.retro_json.specs.Typed.{is_u32, note_typed, tree_typed, sessions_typed, line_typed, recording_typed}
+use Rattle.retro_json.proofs.Json.{item_list-items_of}
+use Rattle.retro_json.proofs.Listed.{all_both, every_again, map_unchanged}
+use Rattle.retro_json.proofs.TreeTrip.{tree_again}
+use Rattle.retro_json.proofs.SessionsTrip.{sessions_again}
+use Rattle.retro_json.proofs.NotesTrip.{hex_field_again, notes_again}
 
 -- ---- lines
 

@@ -14,28 +14,28 @@ use Rattle.retro_tree.specs.declared.state.State.{State}
 use Rattle.retro_keep.specs.Recording.{RecordingValue, IsRecordingOf, IsWellFormed, number_in, script_in, sid_in}
 use Rattle.retro_keep.specs.Script.{have_sessions, rises_from}
 use Rattle.retro_keep.specs.declared.noted.Noted.{Noted}
-use Rattle.retro_log.specs.declared.fault.Part.TheVariants.{Lines}
-use Rattle.retro_log.specs.declared.fault.Refusal.{Refusal}
-use Rattle.retro_log.specs.declared.fault.Refusal.TheVariants.{OverLimit, NumbersNotRising, UnknownSession, LawlessTree}
-use Rattle.retro_log.specs.declared.fault.Refusal.TheVariants.{NotJson}
-use Rattle.retro_log.specs.Steps.{◌>>=◌, guard}
-use Rattle.retro_log.specs.Worst.{both, every}
-use Rattle.retro_log.specs.Shape.{Text, cells, text_in, u32_in, u8_in}
+use Rattle.retro_json.specs.declared.fault.Part.TheVariants.{Lines}
+use Rattle.retro_json.specs.declared.fault.Refusal.{Refusal}
+use Rattle.retro_json.specs.declared.fault.Refusal.TheVariants.{OverLimit, NumbersNotRising, UnknownSession, LawlessTree}
+use Rattle.retro_json.specs.declared.fault.Refusal.TheVariants.{NotJson}
+use Rattle.retro_json.specs.Steps.{◌>>=◌, guard}
+use Rattle.retro_json.specs.Worst.{both, every}
+use Rattle.retro_json.specs.Shape.{Text, cells, text_in, u32_in, u8_in}
 use Rattle.retro_log.specs.LinesPart.{head_of}
-use Rattle.retro_log.specs.LogFields.{wrong, or_null, hex_field, path_field, listing_field, kind_field, permit_field}
-use Rattle.retro_log.specs.LogFields.{file_field, tagged_node, node_cells, node_field, user_field, var_field}
-use Rattle.retro_log.specs.LogFields.{value_field}
-use Rattle.retro_log.specs.NotesPart.{kind_cells, bytes_cells, names_cells, can_write_cells, user_note_cells, var_cells}
-use Rattle.retro_log.specs.NotesPart.{cwd_cells, status_cells, put_cells, grow_cells, set_var_cells, set_cwd_cells}
-use Rattle.retro_log.specs.NotesPart.{set_status_cells, tagged_note, note_cells, note_of, notes_field}
+use Rattle.retro_json.specs.LogFields.{wrong, or_null, hex_field, path_field, listing_field, kind_field, permit_field}
+use Rattle.retro_json.specs.LogFields.{file_field, tagged_node, node_cells, node_field, user_field, var_field}
+use Rattle.retro_json.specs.LogFields.{value_field}
+use Rattle.retro_json.specs.NotesPart.{kind_cells, bytes_cells, names_cells, can_write_cells, user_note_cells, var_cells}
+use Rattle.retro_json.specs.NotesPart.{cwd_cells, status_cells, put_cells, grow_cells, set_var_cells, set_cwd_cells}
+use Rattle.retro_json.specs.NotesPart.{set_status_cells, tagged_note, note_cells, note_of, notes_field}
 use Rattle.retro_log.specs.LogLinesPart.{with_run, log_line_cells, log_line_of, log_lines_of}
 use Rattle.retro_log.specs.Allowed.{are_lines_allowed}
 use Rattle.retro_log.specs.Document.{has_form, log_keys, member_at, first_of, json_of, recording_of, log_parts_of}
 use Rattle.retro_log.specs.Document.{log_of}
 use Rattle.retro_log.specs.Document.{log_in}
-use Rattle.retro_log.specs.NoteLimits.{node_fits, value_fits, found_fits, note_fits, line_fits, notes_fit}
+use Rattle.retro_json.specs.NoteLimits.{node_fits, value_fits, found_fits, note_fits, line_fits, notes_fit}
 use Rattle.retro_log.specs.RoundTrip.{WasRead}
-use Rattle.retro_log.proofs.RecordedLimits.{recorded_fits}
+use Rattle.retro_json.proofs.RecordedLimits.{recorded_fits}
 
 -- ---- reading that gives what passes a test, if it isn't refused
 

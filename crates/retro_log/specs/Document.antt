@@ -11,15 +11,15 @@ use Rattle.retro_keep.specs.Recording.{RecordingValue, number_in, sid_in}
 use Rattle.retro_keep.specs.Script.{ScriptValue, have_sessions, rises_from, script_of_lines}
 use Rattle.retro_keep.specs.declared.noted.Noted.{Noted}
 use Rattle.retro_keep.specs.declared.script.LinesFault.{LinesFault}
-use Rattle.retro_keep.specs.declared.script.LinesFault.TheVariants as lines_faults
-use Rattle.retro_log.specs.declared.fault.Part.TheVariants.{Document, Version}
-use Rattle.retro_log.specs.declared.fault.Refusal.{Refusal}
-use Rattle.retro_log.specs.declared.fault.Refusal.TheVariants.{NumbersNotRising, UnknownSession, LawlessTree, NotJson}
-use Rattle.retro_log.specs.declared.fault.Refusal.TheVariants.{WrongShape, UnknownKey, BadVersion}
-use Rattle.retro_log.specs.Steps.{◌>>=◌, guard}
-use Rattle.retro_log.specs.Shape.{Text, unsigned_in}
-use Rattle.retro_log.specs.TreePart.{tree_of}
-use Rattle.retro_log.specs.SessionsPart.{sessions_of}
+use Rattle.retro_json.specs.declared.fault.Part.TheVariants.{Document, Version}
+use Rattle.retro_json.specs.declared.fault.Refusal.{Refusal}
+use Rattle.retro_json.specs.declared.fault.Refusal.TheVariants.{NumbersNotRising, UnknownSession, LawlessTree, NotJson}
+use Rattle.retro_json.specs.declared.fault.Refusal.TheVariants.{WrongShape, UnknownKey, BadVersion}
+use Rattle.retro_json.specs.RecordingFaults.{lines_refusal}
+use Rattle.retro_json.specs.Steps.{◌>>=◌, guard}
+use Rattle.retro_json.specs.Shape.{Text, unsigned_in}
+use Rattle.retro_json.specs.TreePart.{tree_of}
+use Rattle.retro_json.specs.SessionsPart.{sessions_of}
 use Rattle.retro_log.specs.LinesPart.{lines_of}
 use Rattle.retro_log.specs.LogLinesPart.{log_lines_of}
 use Rattle.retro_log.specs.Allowed.{are_lines_allowed}
@@ -89,10 +89,6 @@ script_keys = codes "script" ∷ part_keys
 
 abbrev pub script_version : ℕ
 script_version = 1
-
-abbrev pub lines_refusal : LinesFault → Refusal
-lines_refusal lines_faults.NumbersNotRising = NumbersNotRising
-lines_refusal lines_faults.UnknownSession = UnknownSession
 
 abbrev pub with_refusal : Result ScriptValue LinesFault → Result ScriptValue Refusal
 with_refusal (Ok script) = Ok script

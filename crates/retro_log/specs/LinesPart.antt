@@ -2,11 +2,11 @@
 use Rattle.std.specs.Prelude.{List, [], ◌∷◌, Result, Ok, Err, nat_lt}
 use Rattle.serde_json.specs.Data.{Data}
 use Rattle.retro_keep.specs.declared.script.ScriptLine.{ScriptLine}
-use Rattle.retro_log.specs.declared.fault.Part.TheVariants.{Lines}
-use Rattle.retro_log.specs.declared.fault.Refusal.{Refusal}
-use Rattle.retro_log.specs.declared.fault.Refusal.TheVariants.{WrongShape}
-use Rattle.retro_log.specs.Steps.{◌>>=◌, each, guard}
-use Rattle.retro_log.specs.Shape.{cells, text_in, u32_in}
+use Rattle.retro_json.specs.declared.fault.Part.TheVariants.{Lines}
+use Rattle.retro_json.specs.declared.fault.Refusal.{Refusal}
+use Rattle.retro_json.specs.declared.fault.Refusal.TheVariants.{WrongShape}
+use Rattle.retro_json.specs.Steps.{◌>>=◌, each, guard}
+use Rattle.retro_json.specs.Shape.{cells, text_in, u32_in}
 
 -- what a line of a script or of a log begins with
 abbrev pub head_of : Data → Data → Data → Result ScriptLine Refusal

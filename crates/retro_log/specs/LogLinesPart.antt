@@ -3,14 +3,14 @@ use Rattle.std.specs.Prelude.{ℕ, List, [], ◌∷◌, Result, Ok}
 use Rattle.serde_json.specs.Data.{Data}
 use Rattle.retro_keep.specs.declared.noted.Noted.{Noted}
 use Rattle.retro_keep.specs.declared.script.ScriptLine.{ScriptLine}
-use Rattle.retro_log.specs.declared.fault.Part.TheVariants.{Lines}
-use Rattle.retro_log.specs.declared.fault.Refusal.{Refusal}
-use Rattle.retro_log.specs.Steps.{◌>>=◌}
-use Rattle.retro_log.specs.Worst.{both, every}
-use Rattle.retro_log.specs.Shape.{cells}
+use Rattle.retro_json.specs.declared.fault.Part.TheVariants.{Lines}
+use Rattle.retro_json.specs.declared.fault.Refusal.{Refusal}
+use Rattle.retro_json.specs.Steps.{◌>>=◌}
+use Rattle.retro_json.specs.Worst.{both, every}
+use Rattle.retro_json.specs.Shape.{cells}
 use Rattle.retro_log.specs.LinesPart.{head_of}
-use Rattle.retro_log.specs.LogFields.{wrong, hex_field}
-use Rattle.retro_log.specs.NotesPart.{notes_field}
+use Rattle.retro_json.specs.LogFields.{wrong, hex_field}
+use Rattle.retro_json.specs.NotesPart.{notes_field}
 
 -- a line with its notes and its output
 abbrev pub with_run : ScriptLine → Data → Data → Result (ℕ × Noted) Refusal

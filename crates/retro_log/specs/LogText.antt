@@ -4,8 +4,8 @@ use Rattle.serde_json.specs.Data.{Data, string, object, no_members, member}
 use Rattle.serde_json.specs.Written.{compact_text}
 use Rattle.retro_keep.specs.Recording.{RecordingValue}
 use Rattle.retro_keep.specs.declared.noted.Noted.{Noted}
-use Rattle.retro_log.specs.Values.{array_of, number_data, hex_data, tree_data, sessions_data}
-use Rattle.retro_log.specs.NoteValues.{notes_data}
+use Rattle.retro_json.specs.Values.{array_of, number_data, hex_data, tree_data, sessions_data}
+use Rattle.retro_json.specs.NoteValues.{notes_data}
 
 -- `[number,sid,text,notes,"hex"]`, where the hex is what the line printed
 unfoldable pub line_data : ℕ × Noted → Data

@@ -1,22 +1,20 @@
-//! Documents: JSON texts (RFC 8259) that hold scripts, and the values that states are written as.
+//! Documents: JSON texts (RFC 8259) that hold scripts and logs.
 //!
 //! [`read_script`] returns the script that bytes are, or their first refusal: what `script_in` of
 //! `specs/Document.antt` says of the bytes. Each part of a document is tested as a whole before the
 //! next part, and of the refusals of a part the worst counts.
 //!
-//! [`write_log`] returns the log of a recording, as `specs/LogText.antt` defines it.
-//! [`tree_value`], [`sessions_value`] and [`hex_value`] return the JSON values that
-//! `specs/Values.antt` defines. Logs and reports are made of them.
+//! [`write_log`] returns the log of a recording, as `specs/LogText.antt` defines it. The JSON values
+//! of states and notes, of which documents and reports are made, are those of `retro_json`.
 //!
 //! If allocation fails, calls return `NoMem` and leave their arguments unchanged.
 #![tactic(auto)]
 
 mod checking;
-mod fault;
 mod reading;
 mod writing;
 
 pub use checking::check;
-pub use fault::{LogFault, Part, Refusal};
 pub use reading::{read_log, read_script};
-pub use writing::{hex_value, sessions_value, tree_value, write_log};
+pub use retro_json::{LogFault, Part, Refusal, hex_value, sessions_value, tree_value};
+pub use writing::write_log;

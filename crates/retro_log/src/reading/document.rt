@@ -4,15 +4,12 @@ ghost use Rattle.std.specs.List.{list_all};
 ghost use Rattle.std.specs.BTreeMap.{keys as key_list};
 ghost use Rattle.serde_json.specs.View.{view};
 ghost use Rattle.retro_tree.specs.Lawful.{IsLawful};
-ghost use Rattle.retro_log.specs.ReadsAs.{ReadsAs, seen};
+ghost use Rattle.retro_json.specs.ReadsAs.{ReadsAs, seen};
 ghost use Rattle.retro_log.specs.Document.{is_key, only_keys, has_member, member_at, version_is};
 ghost use Rattle.retro_log.specs.Document.{first_of, has_form, json_of, state_of};
-ghost use Rattle.retro_log.specs.declared.fault.Refusal.TheVariants.{NotJson};
+ghost use Rattle.retro_json.specs.declared.fault.Refusal.TheVariants.{NotJson};
 
-use crate::fault::{LogFault, Part, Refusal};
-use crate::reading::sessions::read_sessions;
-use crate::reading::tree::read_tree;
-use crate::reading::worst::Judged;
+use retro_json::{Judged, LogFault, Part, Refusal, read_sessions, read_tree};
 use retro_tree::State;
 use serde_json::{Map, Value};
 use std::alloc::Global;
@@ -106,7 +103,7 @@ pub fn has_form(keys: &[&str], kind: &str, version: u64, value: &Value) -> Judge
 }
 
 /// The state of a tree and of sessions: a lawful one.
-#[tactic(auto, using(crate::proofs::Limits::state_is_lawful))]
+#[tactic(auto, using(retro_json::proofs::Limits::state_is_lawful))]
 fn state_of(alloc: Global, tree_value: &Value, sessions_value: &Value) -> Result<State, LogFault>
     ensures value { ReadsAs (λ s. s) result
         (state_of (view tree_value.now) (view sessions_value.now)) }

@@ -1,13 +1,11 @@
 //! Reading the lines of a script.
 ghost use Rattle.std.specs.Prelude.{◌≡◌, map, IfOk};
 ghost use Rattle.serde_json.specs.View.{view};
-ghost use Rattle.retro_log.specs.ReadsAs.{ReadsAs, seen};
-ghost use Rattle.retro_log.specs.Steps.{each};
+ghost use Rattle.retro_json.specs.ReadsAs.{ReadsAs, seen};
+ghost use Rattle.retro_json.specs.Steps.{each};
 ghost use Rattle.retro_log.specs.LinesPart.{head_of, line_of, lines_of};
 
-use crate::fault::{LogFault, Part, Refusal};
-use crate::reading::shape::{cells, text, u32_in};
-use crate::reading::worst::Judged;
+use retro_json::{Judged, LogFault, Part, Refusal, cells, text, u32_in};
 use retro_keep::ScriptLine;
 use retro_tree::{NoMem, Text};
 use serde_json::Value;

@@ -4,12 +4,12 @@ ghost use Rattle.std.specs.List.{list_all};
 ghost use Rattle.serde_json.specs.View.{view};
 ghost use Rattle.retro_tree.specs.Lawful.{IsLawful};
 ghost use Rattle.retro_keep.specs.Recording.{is_line_of_kind, is_own_line};
-ghost use Rattle.retro_log.specs.ReadsAs.{ReadsAs};
+ghost use Rattle.retro_json.specs.ReadsAs.{ReadsAs};
 ghost use Rattle.retro_log.specs.Document.{log_in, log_of, log_parts_of, recording_of};
 
-use crate::fault::LogFault;
 use crate::reading::document::{has_form, json, read_first, take_member};
 use crate::reading::log_lines::read_log_lines;
+use retro_json::LogFault;
 use retro_keep::{Noted, Recording};
 use retro_tree::State;
 use serde_json::Value;

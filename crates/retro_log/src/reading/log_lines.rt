@@ -1,17 +1,13 @@
 //! Reading the lines of a log.
 ghost use Rattle.std.specs.Prelude.{◌≡◌, IfOk, map};
 ghost use Rattle.serde_json.specs.View.{view};
-ghost use Rattle.retro_log.specs.ReadsAs.{seen};
-ghost use Rattle.retro_log.specs.Worst.{every};
+ghost use Rattle.retro_json.specs.ReadsAs.{seen};
+ghost use Rattle.retro_json.specs.Worst.{every};
 ghost use Rattle.retro_log.specs.LogLinesPart.{log_line_cells, log_line_of, log_lines_of};
 ghost use Rattle.retro_log.specs.LogLinesPart.{with_run};
 
-use crate::fault::{Part, Refusal};
-use crate::reading::fields::hex_field;
 use crate::reading::lines::read_head;
-use crate::reading::notes::notes_field;
-use crate::reading::shape::cells;
-use crate::reading::worst::{Judged, both, with_item};
+use retro_json::{Judged, Part, Refusal, both, cells, hex_field, notes_field, with_item};
 use retro_keep::{Noted, ScriptLine};
 use retro_tree::NoMem;
 use serde_json::Value;
@@ -71,7 +67,7 @@ fn take_line(alloc: Global, value: Value) -> Result<Judged<(u32, Noted)>, NoMem>
     read_line(alloc, &value)
 }
 
-#[tactic(auto, using(crate::proofs::Worst::taking_starts))]
+#[tactic(auto, using(retro_json::proofs::Worst::taking_starts))]
 fn read_items(alloc: Global, items: Vec<Value>) -> Result<Judged<Vec<(u32, Noted)>>, NoMem>
     ensures { IfOk result (λ lines. seen (λ v. v.items) lines
         ≡ every log_line_of (map view items.items)) }

@@ -1,12 +1,12 @@
 //! Reading a script's document.
 ghost use Rattle.std.specs.Prelude.{◌≡◌};
 ghost use Rattle.serde_json.specs.View.{view};
-ghost use Rattle.retro_log.specs.ReadsAs.{ReadsAs};
+ghost use Rattle.retro_json.specs.ReadsAs.{ReadsAs};
 ghost use Rattle.retro_log.specs.Document.{script_in, script_of};
 
-use crate::fault::LogFault;
 use crate::reading::document::{has_form, json, member, read_first};
 use crate::reading::lines::read_lines;
+use retro_json::LogFault;
 use retro_keep::Script;
 use serde_json::Value;
 use std::alloc::Global;

@@ -4,19 +4,17 @@ ghost use Rattle.std.specs.List.{list_all};
 ghost use Rattle.serde_json.specs.View.{view};
 ghost use Rattle.serde_json.specs.Written.{comma_if, compact_text};
 ghost use Rattle.retro_log.specs.LogText.{line_data, lines_data};
-ghost use Rattle.retro_log.specs.ReadBack.{IsReadBack};
-ghost use Rattle.retro_log.specs.Typed.{line_typed};
+ghost use Rattle.retro_json.specs.ReadBack.{IsReadBack};
+ghost use Rattle.retro_json.specs.Typed.{line_typed};
 
-use crate::writing::fields::{hex_value, number_value};
-use crate::writing::notes::notes_value;
-use crate::writing::text::push_value;
+use retro_json::{hex_value, notes_value, number_value, push_value};
 use retro_keep::Noted;
 use retro_tree::NoMem;
 use serde_json::{Value, json};
 use std::alloc::Global;
 
 /// The JSON value of a line: `[number,sid,text,notes,"hex"]`.
-#[tactic(auto, unfolding(crate::specs::LogText::line_data, crate::specs::Typed::line_typed))]
+#[tactic(auto, unfolding(crate::specs::LogText::line_data, retro_json::specs::Typed::line_typed))]
 fn line_value(alloc: Global, number: u32, noted: &Noted) -> Result<Value, NoMem>
     ensures value { IfOk result (λ v. view v ≡ line_data (number, noted.now)) }
     ensures typed { OnOk result (line_typed (number, noted.now) ≡ true) }

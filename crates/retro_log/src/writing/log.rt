@@ -4,21 +4,19 @@ ghost use Rattle.serde_json.specs.Written.{compact_text};
 ghost use Rattle.retro_keep.specs.Recording.{IsRecordingOf, IsWellFormed, script_in};
 ghost use Rattle.retro_log.specs.Document.{log_in};
 ghost use Rattle.retro_log.specs.LogText.{log_data, log_text};
-ghost use Rattle.retro_log.specs.NoNul.{recording_without_nul};
-ghost use Rattle.retro_log.specs.ReadBack.{IsReadBack};
+ghost use Rattle.retro_json.specs.NoNul.{recording_without_nul};
+ghost use Rattle.retro_json.specs.ReadBack.{IsReadBack};
 ghost use Rattle.retro_log.specs.RoundTrip.{WasRead};
-ghost use Rattle.retro_log.specs.Typed.{recording_typed};
+ghost use Rattle.retro_json.specs.Typed.{recording_typed};
 
 use crate::writing::line::push_lines;
-use crate::writing::sessions::sessions_value;
-use crate::writing::text::push_value;
-use crate::writing::tree::tree_value;
+use retro_json::{push_value, sessions_value, tree_value};
 use retro_keep::Recording;
 use retro_tree::NoMem;
 use std::alloc::Global;
 
 /// Appends the log of a recording without its newline. Only one line at a time is a JSON value.
-#[tactic(auto, unfolding(crate::specs::LogText::log_data, crate::specs::Typed::recording_typed))]
+#[tactic(auto, unfolding(crate::specs::LogText::log_data, retro_json::specs::Typed::recording_typed))]
 fn push_log(alloc: Global, recording: &Recording, text: &mut Vec<u8>) -> Result<(), NoMem>
     ensures text { OnOk result (text.new.items
         ≡ text.old.items ++ compact_text (log_data recording.now)) }

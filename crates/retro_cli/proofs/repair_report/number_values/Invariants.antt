@@ -1,6 +1,6 @@
 use Rattle.std.proofs.Common.{◌≡◌, ◌++◌, map, drop}
 use Rattle.serde_json.specs.View.{view}
-use Rattle.retro_log.specs.Values.{number_data}
+use Rattle.retro_json.specs.Values.{number_data}
 use Rattle.retro_cli.proofs.repair_report.number_values.Given as goal
 
 abbrev pub invariant-loop-number : goal.invariant-loop-number

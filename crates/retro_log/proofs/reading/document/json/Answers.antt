@@ -6,7 +6,7 @@ use Rattle.std.proofs.lemmas.Str.{is_utf8-from_IsUtf8, IsUtf8-from_is_utf8}
 use Rattle.serde_json.specs.Data.{Data}
 use Rattle.serde_json.specs.Read.{read}
 use Rattle.retro_log.specs.Document.{json_of}
-use Rattle.retro_log.specs.declared.fault.Refusal.TheVariants.{NotJson}
+use Rattle.retro_json.specs.declared.fault.Refusal.TheVariants.{NotJson}
 use Rattle.retro_log.proofs.reading.document.json.Goals as goal
 
 is_json : (bs : List ℕ) (d : Data) → IsUtf8 bs → read bs ≡ Some d → ok_or (json_of bs) NotJson ≡ Ok d

@@ -1,7 +1,7 @@
 use Rattle.std.proofs.lemmas.Result.{err_from_is_err_and}
 use Rattle.serde_json.specs.View.{view}
 use Rattle.retro_log.specs.LinesPart.{line_of}
-use Rattle.retro_log.proofs.Each.{loop_goes_on, loop_ends, loop_done}
+use Rattle.retro_json.proofs.Each.{loop_goes_on, loop_ends, loop_done}
 use Rattle.retro_log.proofs.reading.lines.read_items.Goals as goal
 
 pub returns-in_err-read_line : goal.returns-in_err-read_line

@@ -1,6 +1,6 @@
 use Rattle.serde_json.specs.View.{view}
 use Rattle.retro_log.specs.LinesPart.{line_of}
-use Rattle.retro_log.proofs.Each.{IsReadTo}
+use Rattle.retro_json.proofs.Each.{IsReadTo}
 use Rattle.retro_log.proofs.reading.lines.read_items.Given as goal
 
 abbrev pub invariant-loop-item : goal.invariant-loop-item

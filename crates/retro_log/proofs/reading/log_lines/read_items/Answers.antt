@@ -3,8 +3,8 @@ use Rattle.std.proofs.lemmas.List.{nil_from_length}
 use Rattle.std.specs.Vec.Iter.{into_iter_items}
 use Rattle.serde_json.specs.View.{view}
 use Rattle.retro_log.specs.LogLinesPart.{log_line_of}
-use Rattle.retro_log.specs.ReadsAs.{seen}
-use Rattle.retro_log.proofs.Worst.{IsJudgedBefore, taking_goes_on, taking_done}
+use Rattle.retro_json.specs.ReadsAs.{seen}
+use Rattle.retro_json.proofs.Worst.{IsJudgedBefore, taking_goes_on, taking_done}
 use Rattle.retro_log.proofs.reading.log_lines.read_items.Goals as goal
 
 pub loop-item-preserved : goal.loop-item-preserved

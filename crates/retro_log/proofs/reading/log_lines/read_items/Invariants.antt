@@ -1,8 +1,8 @@
 use Rattle.std.specs.Vec.Iter.{into_iter_items}
 use Rattle.serde_json.specs.View.{view}
 use Rattle.retro_log.specs.LogLinesPart.{log_line_of}
-use Rattle.retro_log.specs.ReadsAs.{seen}
-use Rattle.retro_log.proofs.Worst.{IsJudgedBefore}
+use Rattle.retro_json.specs.ReadsAs.{seen}
+use Rattle.retro_json.proofs.Worst.{IsJudgedBefore}
 use Rattle.retro_log.proofs.reading.log_lines.read_items.Given as goal
 
 abbrev pub invariant-loop-item : goal.invariant-loop-item

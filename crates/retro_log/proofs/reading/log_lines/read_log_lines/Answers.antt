@@ -3,9 +3,9 @@ use Rattle.std.specs.Prelude.{IfOk, map}
 use Rattle.serde_json.specs.View.{view}
 use Rattle.serde_json.proofs.Views.{view-Array}
 use Rattle.retro_log.specs.LogLinesPart.{log_line_of, log_lines_of}
-use Rattle.retro_log.specs.ReadsAs.{seen}
-use Rattle.retro_log.specs.Worst.{every}
-use Rattle.retro_log.proofs.Json.{item_list-items_view}
+use Rattle.retro_json.specs.ReadsAs.{seen}
+use Rattle.retro_json.specs.Worst.{every}
+use Rattle.retro_json.proofs.Json.{item_list-items_view}
 use Rattle.retro_log.proofs.reading.log_lines.read_log_lines.Goals as goal
 
 pub returns-in-Array : goal.returns-in-Array

@@ -2,7 +2,7 @@ use Rattle.std.proofs.Common.{◌≡◌, ◌∙◌, ◌++◌, [], ap, drop, drop
 use Rattle.serde_json.specs.View.{items_of}
 use Rattle.serde_json.specs.Written.{items_text}
 use Rattle.retro_log.specs.LogText.{line_data, lines_data}
-use Rattle.retro_log.proofs.ReadBack.{AreReadBack, array_read_back}
+use Rattle.retro_json.proofs.ReadBack.{AreReadBack, array_read_back}
 use Rattle.retro_log.proofs.writing.line.push_lines.Goals as goal
 
 pub returns-clause-text : goal.returns-clause-text

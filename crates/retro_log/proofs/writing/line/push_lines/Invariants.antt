@@ -3,8 +3,8 @@ use Rattle.std.specs.List.{list_all}
 use Rattle.serde_json.specs.View.{items_of}
 use Rattle.serde_json.specs.Written.{items_text}
 use Rattle.retro_log.specs.LogText.{line_data}
-use Rattle.retro_log.specs.Typed.{line_typed}
-use Rattle.retro_log.proofs.ReadBack.{AreReadBack}
+use Rattle.retro_json.specs.Typed.{line_typed}
+use Rattle.retro_json.proofs.ReadBack.{AreReadBack}
 use Rattle.retro_log.proofs.writing.line.push_lines.Given as goal
 
 abbrev pub invariant-loop-number : goal.invariant-loop-number

@@ -3,9 +3,9 @@ use Rattle.serde_json.specs.Data.{depth}
 use Rattle.serde_json.specs.Read.{max_depth}
 use Rattle.serde_json.specs.Written.{compact_text, has_float}
 use Rattle.retro_log.specs.LogText.{lines_data, log_data}
-use Rattle.retro_log.specs.Values.{sessions_data, tree_data}
-use Rattle.retro_log.specs.ReadBack.{IsReadBack}
-use Rattle.retro_log.proofs.Floats.{sessions_float, tree_float}
+use Rattle.retro_json.specs.Values.{sessions_data, tree_data}
+use Rattle.retro_json.specs.ReadBack.{IsReadBack}
+use Rattle.retro_json.proofs.Floats.{sessions_float, tree_float}
 use Rattle.retro_log.proofs.LogShape.{sessions_low, tree_low}
 use Rattle.retro_log.proofs.ReadBack.{log_pieces, log_read_back}
 use Rattle.retro_log.proofs.writing.log.push_log.Goals as goal

@@ -11,7 +11,7 @@ use Rattle.retro_log.specs.LogText.{log_data, log_text}
 use Rattle.retro_log.proofs.LogShape.{log_low}
 use Rattle.retro_log.proofs.LogTrip.{log_again}
 use Rattle.retro_log.proofs.Newline.{newline_reads, newline_utf8}
-use Rattle.retro_log.proofs.ReadBack.{text_reads, text_tokens}
+use Rattle.retro_json.proofs.ReadBack.{text_reads, text_tokens}
 use Rattle.retro_log.proofs.ReadLimits.{fits_again}
 use Rattle.retro_log.proofs.writing.log.write_log.Goals as goal
 

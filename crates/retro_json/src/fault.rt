@@ -1,0 +1,125 @@
+//! Why a document isn't read.
+ghost use Rattle.std.specs.Prelude.{◌≡◌};
+ghost use Rattle.retro_json.specs.Numbers.{refusal_number};
+ghost use Rattle.retro_json.specs.RecordingFaults.{lines_refusal, recording_fault};
+ghost use Rattle.retro_json.specs.declared.fault.LogFault.TheVariants as faults;
+
+use retro_keep::{LinesFault, RecordingFault};
+use std::alloc::{AllocError, AllocFailed};
+use thiserror::Error;
+
+/// The part of a document that has a wrong shape.
+#[derive(Clone, Copy, Debug, PartialEq, Eq)]
+pub enum Part {
+    /// The whole document: no object, or a missing key.
+    Document,
+    /// The version's number.
+    Version,
+    /// The list of directories and files.
+    Tree,
+    /// The list of sessions.
+    Sessions,
+    /// The list of lines.
+    Lines,
+}
+
+/// Why a document is refused.
+#[derive(Clone, Copy, Debug, PartialEq, Eq)]
+pub enum Refusal {
+    /// Line numbers don't rise.
+    NumbersNotRising,
+    /// A line's session is missing among the sessions.
+    UnknownSession,
+    /// The directories and files don't make a tree, or a change of a log isn't lawful where it is
+    /// made.
+    LawlessTree,
+    /// A name, a file or a variable's value is too long.
+    OverLimit,
+    /// The bytes aren't UTF-8, or the text isn't one JSON value.
+    NotJson,
+    /// A value has another shape than its place asks for.
+    WrongShape(Part),
+    /// The document has a key that it may not have.
+    UnknownKey,
+    /// A text for bytes isn't pairs of hexadecimal digits.
+    BadHex,
+    /// The version isn't the one that is read.
+    BadVersion,
+}
+
+impl Refusal {
+    /// The number under which the program reports this refusal, whatever the part.
+    pub fn number(self) -> u8
+        ensures { result ≡ refusal_number self }
+    {
+        match self {
+            Refusal::NumbersNotRising => 8,
+            Refusal::UnknownSession => 9,
+            Refusal::LawlessTree => 10,
+            Refusal::OverLimit => 11,
+            Refusal::NotJson => 12,
+            Refusal::WrongShape(_) => 13,
+            Refusal::UnknownKey => 14,
+            Refusal::BadHex => 15,
+            Refusal::BadVersion => 16,
+        }
+    }
+}
+
+/// Why a document isn't read.
+#[derive(Debug, Drop, Error)]
+pub enum LogFault {
+    #[error("out of memory")]
+    NoMem,
+    /// The document has a fault.
+    #[error("refused: {0:?}")]
+    Refused(Refusal),
+}
+
+impl From<AllocError> for LogFault {
+    ghost from_gives = { λ _ fault. fault ≡ faults.NoMem };
+
+    fn from(_error: AllocError) -> LogFault {
+        LogFault::NoMem
+    }
+}
+
+impl<T: Drop> From<AllocFailed<T>> for LogFault {
+    ghost from_gives = { λ _ fault. fault ≡ faults.NoMem };
+
+    fn from(_error: AllocFailed<T>) -> LogFault {
+        LogFault::NoMem
+    }
+}
+
+impl From<Refusal> for LogFault {
+    ghost from_gives = { λ refusal fault. fault ≡ faults.Refused refusal };
+
+    fn from(refusal: Refusal) -> LogFault {
+        LogFault::Refused(refusal)
+    }
+}
+
+impl From<LinesFault> for LogFault {
+    ghost from_gives = { λ lines fault. fault ≡ faults.Refused (lines_refusal lines) };
+
+    fn from(fault: LinesFault) -> LogFault {
+        match fault {
+            LinesFault::NumbersNotRising => LogFault::Refused(Refusal::NumbersNotRising),
+            LinesFault::UnknownSession => LogFault::Refused(Refusal::UnknownSession),
+        }
+    }
+}
+
+impl From<RecordingFault> for LogFault {
+    ghost from_gives = { λ recording fault. fault ≡ recording_fault recording };
+
+    fn from(fault: RecordingFault) -> LogFault {
+        match fault {
+            RecordingFault::NumbersNotRising => LogFault::Refused(Refusal::NumbersNotRising),
+            RecordingFault::UnknownSession => LogFault::Refused(Refusal::UnknownSession),
+            RecordingFault::LawlessChange => LogFault::Refused(Refusal::LawlessTree),
+            RecordingFault::NoMem => LogFault::NoMem,
+        }
+    }
+}

@@ -1,0 +1,18 @@
+//! Reading the values of states and notes.
+mod asked;
+mod fields;
+mod hex_text;
+mod made;
+mod notes;
+mod path;
+mod sessions;
+mod shape;
+mod tree;
+mod worst;
+
+pub use fields::hex_field;
+pub use notes::notes_field;
+pub use sessions::read_sessions;
+pub use shape::{cells, text, u32_in};
+pub use tree::read_tree;
+pub use worst::{Judged, both, with_item};

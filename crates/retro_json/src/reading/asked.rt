@@ -1,0 +1,135 @@
+//! Notes of queries with their answers.
+ghost use Rattle.std.specs.Prelude.{◌≡◌, IfOk, map};
+ghost use Rattle.serde_json.specs.View.{view};
+ghost use Rattle.retro_json.specs.NotesPart.{bytes_cells, can_write_cells, cwd_cells, kind_cells};
+ghost use Rattle.retro_json.specs.NotesPart.{names_cells, status_cells, user_note_cells, var_cells};
+
+use crate::fault::{Part, Refusal};
+use crate::reading::fields::{
+    kind_field, listing_field, node_field, or_null, path_field, permit_field, text_field,
+    user_field, value_field, var_field,
+};
+use crate::reading::shape::{u8_in, u32_in};
+use crate::reading::worst::{Judged, both};
+use retro_tree::{Answer, Ask, NoMem, Note};
+use serde_json::Value;
+use std::alloc::Global;
+
+/// `["kind",path,"missing"|"dir"|"file"]`, without its tag.
+pub fn kind_note(alloc: Global, rest: &[Value]) -> Result<Judged<Note>, NoMem>
+    ensures { IfOk result (λ note. note ≡ kind_cells (map view rest.now)) }
+{
+    match rest {
+        [path, kind] => match both(path_field(alloc, path)?, kind_field(kind)) {
+            Ok((path, kind)) => Ok(Ok(Note::Asked(Ask::Kind(path), Answer::Kind(kind)))),
+            Err(refusal) => Ok(Err(refusal)),
+        },
+        _ => Ok(Err(Refusal::WrongShape(Part::Lines))),
+    }
+}
+
+/// `["bytes",path,node]`, without its tag.
+pub fn bytes_note(alloc: Global, rest: &[Value]) -> Result<Judged<Note>, NoMem>
+    ensures { IfOk result (λ note. note ≡ bytes_cells (map view rest.now)) }
+{
+    match rest {
+        [path, node] => match both(path_field(alloc, path)?, node_field(alloc, node)?) {
+            Ok((path, node)) => Ok(Ok(Note::Asked(Ask::Bytes(path), Answer::Bytes(node)))),
+            Err(refusal) => Ok(Err(refusal)),
+        },
+        _ => Ok(Err(Refusal::WrongShape(Part::Lines))),
+    }
+}
+
+/// `["names",path,null|[name,..]]`, without its tag.
+pub fn names_note(alloc: Global, rest: &[Value]) -> Result<Judged<Note>, NoMem>
+    ensures { IfOk result (λ note. note ≡ names_cells (map view rest.now)) }
+{
+    match rest {
+        [path, names] => {
+            let listing = or_null(names, listing_field(alloc, names)?);
+            match both(path_field(alloc, path)?, listing) {
+                Ok((path, names)) => Ok(Ok(Note::Asked(Ask::Names(path), Answer::Names(names)))),
+                Err(refusal) => Ok(Err(refusal)),
+            }
+        }
+        _ => Ok(Err(Refusal::WrongShape(Part::Lines))),
+    }
+}
+
+/// `["canwrite",path,n,"yes"|"noparent"|"notdir"|"isdir"|"toolarge"]`, without its tag.
+pub fn can_write_note(alloc: Global, rest: &[Value]) -> Result<Judged<Note>, NoMem>
+    ensures { IfOk result (λ note. note ≡ can_write_cells (map view rest.now)) }
+{
+    match rest {
+        [path, more, permit] => {
+            let answer = both(u32_in(Part::Lines, more), permit_field(permit));
+            match both(path_field(alloc, path)?, answer) {
+                Ok((path, (more, permit))) => Ok(Ok(Note::Asked(
+                    Ask::CanWrite(path, more),
+                    Answer::CanWrite(permit),
+                ))),
+                Err(refusal) => Ok(Err(refusal)),
+            }
+        }
+        _ => Ok(Err(Refusal::WrongShape(Part::Lines))),
+    }
+}
+
+/// `["user",name,null|[number,home]]`, without its tag.
+pub fn user_note(alloc: Global, rest: &[Value]) -> Result<Judged<Note>, NoMem>
+    ensures { IfOk result (λ note. note ≡ user_note_cells (map view rest.now)) }
+{
+    match rest {
+        [name, user] => {
+            let user = or_null(user, user_field(alloc, user)?);
+            match both(text_field(alloc, name)?, user) {
+                Ok((name, user)) => Ok(Ok(Note::Asked(Ask::User(name), Answer::User(user)))),
+                Err(refusal) => Ok(Err(refusal)),
+            }
+        }
+        _ => Ok(Err(Refusal::WrongShape(Part::Lines))),
+    }
+}
+
+/// `["var",name,null|value]`, without its tag.
+pub fn var_note(alloc: Global, sid: u32, rest: &[Value]) -> Result<Judged<Note>, NoMem>
+    ensures { IfOk result (λ note. note ≡ var_cells sid (map view rest.now)) }
+{
+    match rest {
+        [name, value] => {
+            let value = or_null(value, value_field(alloc, value)?);
+            match both(var_field(alloc, name)?, value) {
+                Ok((name, value)) => Ok(Ok(Note::Asked(Ask::VarOf(sid, name), Answer::Var(value)))),
+                Err(refusal) => Ok(Err(refusal)),
+            }
+        }
+        _ => Ok(Err(Refusal::WrongShape(Part::Lines))),
+    }
+}
+
+/// `["cwd",path]`, without its tag.
+pub fn cwd_note(alloc: Global, sid: u32, rest: &[Value]) -> Result<Judged<Note>, NoMem>
+    ensures { IfOk result (λ note. note ≡ cwd_cells sid (map view rest.now)) }
+{
+    match rest {
+        [path] => match path_field(alloc, path)? {
+            Ok(path) => Ok(Ok(Note::Asked(Ask::CwdOf(sid), Answer::Cwd(path)))),
+            Err(refusal) => Ok(Err(refusal)),
+        },
+        _ => Ok(Err(Refusal::WrongShape(Part::Lines))),
+    }
+}
+
+/// `["status",n]`, without its tag.
+pub fn status_note(sid: u32, rest: &[Value]) -> Judged<Note>
+    ensures { result ≡ status_cells sid (map view rest.now) }
+{
+    match rest {
+        [status] => {
+            let status = u8_in(Part::Lines, status)?;
+            Ok(Note::Asked(Ask::StatusOf(sid), Answer::Status(status)))
+        }
+        _ => Err(Refusal::WrongShape(Part::Lines)),
+    }
+}

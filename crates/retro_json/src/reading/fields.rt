@@ -1,0 +1,265 @@
+//! What the notes of a log are made of: paths, nodes, listings, users and variables.
+ghost use Rattle.std.specs.Prelude.{◌≡◌, IfOk, map, true};
+ghost use Rattle.serde_json.specs.View.{view};
+ghost use Rattle.retro_json.specs.ReadsAs.{seen};
+ghost use Rattle.retro_json.specs.Shape.{text_in};
+ghost use Rattle.retro_json.specs.PathText.{is_written_name};
+ghost use Rattle.retro_json.specs.Worst.{every};
+ghost use Rattle.retro_json.specs.LogFields.{file_field, hex_field, kind_field, listing_field};
+ghost use Rattle.retro_json.specs.LogFields.{name_field, node_cells, node_field, or_null};
+ghost use Rattle.retro_json.specs.LogFields.{path_field};
+ghost use Rattle.retro_json.specs.LogFields.{permit_field, tagged_node, user_cells, user_field};
+ghost use Rattle.retro_json.specs.LogFields.{value_field, var_field, written_name};
+ghost use Rattle.retro_json.specs.declared.fault.Part.TheVariants.{Lines};
+
+use crate::fault::{Part, Refusal};
+use crate::reading::hex_text::bytes_in;
+use crate::reading::path::{is_written_name, path_in};
+use crate::reading::shape::{cells, text, u32_in};
+use crate::reading::worst::{Judged, with_item};
+use retro_tree::{
+    Bytes, FILE_LIMIT, Kind, Listing, Name, NoMem, Node, Path, Permit, Text, User, VALUE_LIMIT,
+    VarName,
+};
+use serde_json::Value;
+use std::alloc::Global;
+
+/// What a value is, or `None` where it is `null`.
+pub fn or_null<T: Drop>(value: &Value, field: Judged<T>) -> Judged<Option<T>>
+    ensures { result ≡ or_null (λ _. field) (view value.now) }
+{
+    if value.is_null() {
+        return Ok(None);
+    }
+    Ok(Some(field?))
+}
+
+/// A text.
+pub fn text_field(alloc: Global, value: &Value) -> Result<Judged<Text>, NoMem>
+    ensures { IfOk result (λ text. text ≡ text_in Lines (view value.now)) }
+{
+    match text(Part::Lines, value) {
+        Ok(text) => Ok(Ok(Text::of(String::from_str(alloc, text)?))),
+        Err(refusal) => Ok(Err(refusal)),
+    }
+}
+
+/// Bytes, as hex digits of either case.
+pub fn hex_field(alloc: Global, value: &Value) -> Result<Judged<Bytes>, NoMem>
+    ensures { IfOk result (λ bytes. bytes ≡ hex_field (view value.now)) }
+{
+    match text(Part::Lines, value) {
+        Ok(text) => Ok(bytes_in(alloc, text)?.ok_or(Refusal::BadHex)),
+        Err(refusal) => Ok(Err(refusal)),
+    }
+}
+
+/// A path.
+pub fn path_field(alloc: Global, value: &Value) -> Result<Judged<Path>, NoMem>
+    ensures { IfOk result (λ path. path ≡ path_field (view value.now)) }
+{
+    path_in(alloc, Part::Lines, value)
+}
+
+/// A text that may be written as a name in a path.
+fn written_name(value: &Value) -> Judged<&str>
+    ensures value { seen (λ name. name.now) result ≡ written_name (view value.now) }
+    ensures written { IfOk result (λ name. is_written_name name.now ≡ true) }
+{
+    let name = text(Part::Lines, value)?;
+    if is_written_name(name) {
+        Ok(name)
+    } else {
+        Err(Refusal::WrongShape(Part::Lines))
+    }
+}
+
+/// A name in a listing.
+#[tactic(auto, using(crate::proofs::Names::name_fits))]
+fn name_field(alloc: Global, value: &Value) -> Result<Judged<Name>, NoMem>
+    ensures { IfOk result (λ name. name ≡ name_field (view value.now)) }
+{
+    match written_name(value) {
+        Ok(name) => match Name::of(String::from_str(alloc, name)?) {
+            Some(name) => Ok(Ok(name)),
+            None => Ok(Err(Refusal::OverLimit)),
+        },
+        Err(refusal) => Ok(Err(refusal)),
+    }
+}
+
+fn read_names(alloc: Global, items: &[Value]) -> Result<Judged<Vec<Name>>, NoMem>
+    ensures { IfOk result (λ names. seen (λ v. v.items) names
+        ≡ every name_field (map view items.now)) }
+{
+    let mut names = Ok(Vec::new(alloc));
+    for item in items {
+        let name = name_field(alloc, item)?;
+        names = with_item(names, name)?;
+    }
+    Ok(names)
+}
+
+/// The names in a directory, in any order.
+#[tactic(auto, unfolding(crate::specs::LogFields::listing_field))]
+pub fn listing_field(alloc: Global, value: &Value) -> Result<Judged<Listing>, NoMem>
+    ensures { IfOk result (λ names. names ≡ listing_field (view value.now)) }
+{
+    let items = match cells(Part::Lines, value) {
+        Ok(items) => items,
+        Err(refusal) => return Ok(Err(refusal)),
+    };
+    match read_names(alloc, items)? {
+        Ok(names) => Ok(Ok(Listing::of(names))),
+        Err(refusal) => Ok(Err(refusal)),
+    }
+}
+
+/// The kind of a node, by its name.
+#[tactic(auto, unfolding(crate::specs::LogFields::kind_field))]
+pub fn kind_field(value: &Value) -> Judged<Kind>
+    ensures { result ≡ kind_field (view value.now) }
+{
+    match text(Part::Lines, value)? {
+        "missing" => Ok(Kind::Missing),
+        "dir" => Ok(Kind::Dir),
+        "file" => Ok(Kind::File),
+        _ => Err(Refusal::WrongShape(Part::Lines)),
+    }
+}
+
+/// Whether bytes can be written, by the name of the answer.
+#[tactic(auto, unfolding(crate::specs::LogFields::permit_field))]
+pub fn permit_field(value: &Value) -> Judged<Permit>
+    ensures { result ≡ permit_field (view value.now) }
+{
+    match text(Part::Lines, value)? {
+        "yes" => Ok(Permit::Yes),
+        "noparent" => Ok(Permit::NoParent),
+        "notdir" => Ok(Permit::NotDir),
+        "isdir" => Ok(Permit::IsDir),
+        "toolarge" => Ok(Permit::TooLarge),
+        _ => Err(Refusal::WrongShape(Part::Lines)),
+    }
+}
+
+/// A file of these bytes.
+fn file_field(alloc: Global, value: &Value) -> Result<Judged<Node>, NoMem>
+    ensures { IfOk result (λ node. node ≡ file_field (view value.now)) }
+{
+    match hex_field(alloc, value)? {
+        Ok(bytes) => {
+            if bytes.len() as u64 <= FILE_LIMIT {
+                Ok(Ok(Node::File(bytes)))
+            } else {
+                Ok(Err(Refusal::OverLimit))
+            }
+        }
+        Err(refusal) => Ok(Err(refusal)),
+    }
+}
+
+fn tagged_node(alloc: Global, tag: &str, rest: &[Value]) -> Result<Judged<Node>, NoMem>
+    ensures { IfOk result (λ node. node ≡ tagged_node tag.now (map view rest.now)) }
+{
+    match rest {
+        [] => {
+            if tag == "d" {
+                Ok(Ok(Node::Dir))
+            } else {
+                Ok(Err(Refusal::WrongShape(Part::Lines)))
+            }
+        }
+        [hex] => {
+            if tag == "f" {
+                file_field(alloc, hex)
+            } else {
+                Ok(Err(Refusal::WrongShape(Part::Lines)))
+            }
+        }
+        _ => Ok(Err(Refusal::WrongShape(Part::Lines))),
+    }
+}
+
+fn node_of_cells(alloc: Global, cells: &[Value]) -> Result<Judged<Node>, NoMem>
+    ensures { IfOk result (λ node. node ≡ node_cells (map view cells.now)) }
+{
+    match cells {
+        [] => Ok(Ok(Node::Missing)),
+        [tag, rest @ ..] => match text(Part::Lines, tag) {
+            Ok(tag) => tagged_node(alloc, tag, rest),
+            Err(refusal) => Ok(Err(refusal)),
+        },
+    }
+}
+
+/// A node: `[]` for a missing one, `["d"]` or `["f","hex"]`.
+#[tactic(auto, unfolding(crate::specs::LogFields::node_field))]
+pub fn node_field(alloc: Global, value: &Value) -> Result<Judged<Node>, NoMem>
+    ensures { IfOk result (λ node. node ≡ node_field (view value.now)) }
+{
+    match cells(Part::Lines, value) {
+        Ok(cells) => node_of_cells(alloc, cells),
+        Err(refusal) => Ok(Err(refusal)),
+    }
+}
+
+/// The number of a user, and the text of the home directory.
+fn user_parts(cells: &[Value]) -> Judged<(u32, &str)>
+    ensures { user_cells (map view cells.now)
+        ≡ seen (λ parts. record { number = parts.0; home = parts.1.now }) result }
+{
+    match cells {
+        [number, home] => {
+            let number = u32_in(Part::Lines, number)?;
+            Ok((number, text(Part::Lines, home)?))
+        }
+        _ => Err(Refusal::WrongShape(Part::Lines)),
+    }
+}
+
+/// What the password file says of a user: `[number,home]`.
+#[tactic(auto, unfolding(crate::specs::LogFields::user_field))]
+pub fn user_field(alloc: Global, value: &Value) -> Result<Judged<User>, NoMem>
+    ensures { IfOk result (λ user. user ≡ user_field (view value.now)) }
+{
+    let cells = match cells(Part::Lines, value) {
+        Ok(cells) => cells,
+        Err(refusal) => return Ok(Err(refusal)),
+    };
+    match user_parts(cells) {
+        Ok((number, home)) => {
+            let home = Text::of(String::from_str(alloc, home)?);
+            Ok(Ok(User { number, home }))
+        }
+        Err(refusal) => Ok(Err(refusal)),
+    }
+}
+
+/// The name of a variable that a line may assign.
+pub fn var_field(alloc: Global, value: &Value) -> Result<Judged<VarName>, NoMem>
+    ensures { IfOk result (λ name. name ≡ var_field (view value.now)) }
+{
+    match text(Part::Lines, value) {
+        Ok(text) => match VarName::of(alloc, text)? {
+            Some(name) => Ok(Ok(name)),
+            None => Ok(Err(Refusal::WrongShape(Part::Lines))),
+        },
+        Err(refusal) => Ok(Err(refusal)),
+    }
+}
+
+/// The value of a variable.
+pub fn value_field(alloc: Global, value: &Value) -> Result<Judged<Text>, NoMem>
+    ensures { IfOk result (λ text. text ≡ value_field (view value.now)) }
+{
+    match text(Part::Lines, value) {
+        Ok(text) => {
+            if text.len() > VALUE_LIMIT {
+                return Ok(Err(Refusal::OverLimit));
+            }
+            Ok(Ok(Text::of(String::from_str(alloc, text)?)))
+        }
+        Err(refusal) => Ok(Err(refusal)),
+    }
+}

@@ -1,0 +1,18 @@
+//! Bytes as documents write them.
+ghost use Rattle.std.specs.Prelude.{◌≡◌, IfOk};
+ghost use Rattle.retro_json.specs.TreePart.{bytes_in};
+
+use hex::FromHexError;
+use retro_tree::{Bytes, NoMem};
+use std::alloc::{AllocError, Global};
+
+/// The bytes that hex digits of either case encode, or `None` if they are bad.
+pub fn bytes_in(alloc: Global, hex: &str) -> Result<Option<Bytes>, NoMem>
+    ensures { IfOk result (λ bytes. bytes ≡ bytes_in hex.now) }
+{
+    match hex::decode(alloc, hex) {
+        Ok(bytes) => Ok(Some(Bytes::of(bytes))),
+        Err(FromHexError::OutOfMemory) => Err(AllocError),
+        Err(_) => Ok(None),
+    }
+}

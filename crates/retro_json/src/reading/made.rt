@@ -1,0 +1,78 @@
+//! Notes of changes.
+ghost use Rattle.std.specs.Prelude.{◌≡◌, IfOk, map};
+ghost use Rattle.serde_json.specs.View.{view};
+ghost use Rattle.retro_json.specs.NotesPart.{grow_cells, put_cells, set_cwd_cells};
+ghost use Rattle.retro_json.specs.NotesPart.{set_status_cells, set_var_cells};
+
+use crate::fault::{Part, Refusal};
+use crate::reading::fields::{hex_field, node_field, path_field, value_field, var_field};
+use crate::reading::shape::u8_in;
+use crate::reading::worst::{Judged, both};
+use retro_tree::{Change, NoMem, Note};
+use serde_json::Value;
+use std::alloc::Global;
+
+/// `["put",path,node]`, without its tag.
+pub fn put_note(alloc: Global, rest: &[Value]) -> Result<Judged<Note>, NoMem>
+    ensures { IfOk result (λ note. note ≡ put_cells (map view rest.now)) }
+{
+    match rest {
+        [path, node] => match both(path_field(alloc, path)?, node_field(alloc, node)?) {
+            Ok((path, node)) => Ok(Ok(Note::Made(Change::Put(path, node)))),
+            Err(refusal) => Ok(Err(refusal)),
+        },
+        _ => Ok(Err(Refusal::WrongShape(Part::Lines))),
+    }
+}
+
+/// `["grow",path,"hex"]`, without its tag.
+pub fn grow_note(alloc: Global, rest: &[Value]) -> Result<Judged<Note>, NoMem>
+    ensures { IfOk result (λ note. note ≡ grow_cells (map view rest.now)) }
+{
+    match rest {
+        [path, hex] => match both(path_field(alloc, path)?, hex_field(alloc, hex)?) {
+            Ok((path, bytes)) => Ok(Ok(Note::Made(Change::Grow(path, bytes)))),
+            Err(refusal) => Ok(Err(refusal)),
+        },
+        _ => Ok(Err(Refusal::WrongShape(Part::Lines))),
+    }
+}
+
+/// `["setvar",name,value]`, without its tag.
+pub fn set_var_note(alloc: Global, sid: u32, rest: &[Value]) -> Result<Judged<Note>, NoMem>
+    ensures { IfOk result (λ note. note ≡ set_var_cells sid (map view rest.now)) }
+{
+    match rest {
+        [name, value] => match both(var_field(alloc, name)?, value_field(alloc, value)?) {
+            Ok((name, value)) => Ok(Ok(Note::Made(Change::SetVar(sid, name, value)))),
+            Err(refusal) => Ok(Err(refusal)),
+        },
+        _ => Ok(Err(Refusal::WrongShape(Part::Lines))),
+    }
+}
+
+/// `["setcwd",path]`, without its tag.
+pub fn set_cwd_note(alloc: Global, sid: u32, rest: &[Value]) -> Result<Judged<Note>, NoMem>
+    ensures { IfOk result (λ note. note ≡ set_cwd_cells sid (map view rest.now)) }
+{
+    match rest {
+        [path] => match path_field(alloc, path)? {
+            Ok(path) => Ok(Ok(Note::Made(Change::SetCwd(sid, path)))),
+            Err(refusal) => Ok(Err(refusal)),
+        },
+        _ => Ok(Err(Refusal::WrongShape(Part::Lines))),
+    }
+}
+
+/// `["setstatus",n]`, without its tag.
+pub fn set_status_note(sid: u32, rest: &[Value]) -> Judged<Note>
+    ensures { result ≡ set_status_cells sid (map view rest.now) }
+{
+    match rest {
+        [status] => {
+            let status = u8_in(Part::Lines, status)?;
+            Ok(Note::Made(Change::SetStatus(sid, status)))
+        }
+        _ => Err(Refusal::WrongShape(Part::Lines)),
+    }
+}

@@ -1,0 +1,90 @@
+//! Reading the notes of a line in a log.
+ghost use Rattle.std.specs.Prelude.{◌≡◌, IfOk, map};
+ghost use Rattle.serde_json.specs.View.{view};
+ghost use Rattle.retro_json.specs.ReadsAs.{seen};
+ghost use Rattle.retro_json.specs.Worst.{every};
+ghost use Rattle.retro_json.specs.NotesPart.{note_cells, note_of, notes_field, tagged_note};
+
+use crate::fault::{Part, Refusal};
+use crate::reading::asked::{
+    bytes_note, can_write_note, cwd_note, kind_note, names_note, status_note, user_note, var_note,
+};
+use crate::reading::made::{grow_note, put_note, set_cwd_note, set_status_note, set_var_note};
+use crate::reading::shape::{cells, text};
+use crate::reading::worst::{Judged, with_item};
+use retro_tree::{NoMem, Note, Notes};
+use serde_json::Value;
+use std::alloc::Global;
+
+/// The note of a session that has this tag, with what follows the tag.
+#[tactic(auto, unfolding(crate::specs::NotesPart::tagged_note))]
+fn tagged_note(alloc: Global, sid: u32, tag: &str, rest: &[Value]) -> Result<Judged<Note>, NoMem>
+    ensures { IfOk result (λ note. note ≡ tagged_note sid tag.now (map view rest.now)) }
+{
+    match tag {
+        "kind" => kind_note(alloc, rest),
+        "bytes" => bytes_note(alloc, rest),
+        "names" => names_note(alloc, rest),
+        "canwrite" => can_write_note(alloc, rest),
+        "user" => user_note(alloc, rest),
+        "var" => var_note(alloc, sid, rest),
+        "cwd" => cwd_note(alloc, sid, rest),
+        "status" => Ok(status_note(sid, rest)),
+        "put" => put_note(alloc, rest),
+        "grow" => grow_note(alloc, rest),
+        "setvar" => set_var_note(alloc, sid, rest),
+        "setcwd" => set_cwd_note(alloc, sid, rest),
+        "setstatus" => Ok(set_status_note(sid, rest)),
+        _ => Ok(Err(Refusal::WrongShape(Part::Lines))),
+    }
+}
+
+fn note_of_cells(alloc: Global, sid: u32, cells: &[Value]) -> Result<Judged<Note>, NoMem>
+    ensures { IfOk result (λ note. note ≡ note_cells sid (map view cells.now)) }
+{
+    match cells {
+        [] => Ok(Err(Refusal::WrongShape(Part::Lines))),
+        [tag, rest @ ..] => match text(Part::Lines, tag) {
+            Ok(tag) => tagged_note(alloc, sid, tag, rest),
+            Err(refusal) => Ok(Err(refusal)),
+        },
+    }
+}
+
+#[tactic(auto, unfolding(crate::specs::NotesPart::note_of))]
+fn read_note(alloc: Global, sid: u32, value: &Value) -> Result<Judged<Note>, NoMem>
+    ensures { IfOk result (λ note. note ≡ note_of sid (view value.now)) }
+{
+    match cells(Part::Lines, value) {
+        Ok(cells) => note_of_cells(alloc, sid, cells),
+        Err(refusal) => Ok(Err(refusal)),
+    }
+}
+
+#[tactic(auto, using(crate::proofs::Worst::judging_starts))]
+fn read_items(alloc: Global, sid: u32, items: &[Value]) -> Result<Judged<Vec<Note>>, NoMem>
+    ensures { IfOk result (λ notes. seen (λ v. v.items) notes
+        ≡ every (note_of sid) (map view items.now)) }
+{
+    let mut notes = Ok(Vec::with_capacity(alloc, items.len())?);
+    for item in items {
+        let note = read_note(alloc, sid, item)?;
+        notes = with_item(notes, note)?;
+    }
+    Ok(notes)
+}
+
+/// The notes of a line of this session, or the worst refusal of all.
+#[tactic(auto, unfolding(crate::specs::NotesPart::notes_field))]
+pub fn notes_field(alloc: Global, sid: u32, value: &Value) -> Result<Judged<Notes>, NoMem>
+    ensures { IfOk result (λ notes. notes ≡ notes_field sid (view value.now)) }
+{
+    let items = match cells(Part::Lines, value) {
+        Ok(items) => items,
+        Err(refusal) => return Ok(Err(refusal)),
+    };
+    match read_items(alloc, sid, items)? {
+        Ok(notes) => Ok(Ok(Notes::of(alloc, notes)?)),
+        Err(refusal) => Ok(Err(refusal)),
+    }
+}

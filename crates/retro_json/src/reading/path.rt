@@ -1,0 +1,125 @@
+//! Paths as documents write them.
+ghost use Rattle.std.specs.Prelude.{◌≡◌, ◌==◌, map, IfOk, option_map, if◌then◌else◌};
+ghost use Rattle.std.specs.List.{list_all, slice_split};
+ghost use Rattle.serde_json.specs.View.{view};
+ghost use Rattle.retro_json.specs.PathText.{is_written_name, names_of_parts, path_in, path_of};
+ghost use Rattle.retro_json.specs.NoNul.{have_no_nul};
+ghost use Rattle.retro_json.specs.declared.fault.Refusal.TheVariants.{OverLimit, WrongShape};
+
+use crate::fault::{Part, Refusal};
+use crate::reading::shape::text;
+use crate::reading::worst::Judged;
+use retro_tree::{Name, NoMem, Path};
+use serde_json::Value;
+use std::alloc::Global;
+
+/// The byte between the names of a path.
+const SLASH: u8 = b'/';
+
+/// The byte that no name has.
+const NUL: u8 = 0;
+
+/// Whether a text may be written as a name in a path.
+#[tactic(auto, unfolding(crate::specs::PathText::is_written_name))]
+pub fn is_written_name(name: &str) -> bool
+    ensures { result ≡ is_written_name name.now }
+{
+    !name.is_empty()
+        && !(name == "." || name == "..")
+        && !name.as_bytes().contains(&SLASH)
+        && !name.as_bytes().contains(&NUL)
+}
+
+fn are_written(names: &[&str]) -> bool
+    ensures { result ≡ list_all is_written_name (map (λ name. name.now) names.now) }
+{
+    for name in names {
+        if !is_written_name(name) {
+            return false;
+        }
+    }
+    true
+}
+
+/// The texts before, between and after the slashes of a text.
+fn split_path(alloc: Global, text: &str) -> Result<Vec<&str>, NoMem>
+    ensures { IfOk result (λ parts.
+        map (λ part. part.now) parts.items ≡ slice_split (λ b. b == SLASH) text.now) }
+{
+    text.split('/').collect(alloc)
+}
+
+/// What stands for names in the parts of a path's text.
+fn names_of_parts<'p, 't>(parts: &'p [&'t str]) -> Option<&'p [&'t str]>
+    ensures { option_map (λ names. map (λ name. name.now) names.now) result
+        ≡ names_of_parts (map (λ part. part.now) parts.now) }
+{
+    match parts {
+        [front, names @ ..] if front.is_empty() => match names {
+            [] => None,
+            [name] if name.is_empty() => Some(&names[1..]),
+            _ => Some(names),
+        },
+        _ => None,
+    }
+}
+
+/// Whether no name has a NUL.
+fn have_no_nul(names: &[Name]) -> bool
+    ensures { result ≡ have_no_nul names.now }
+{
+    for name in names {
+        if name.as_str().as_bytes().contains(&NUL) {
+            return false;
+        }
+    }
+    true
+}
+
+/// Why names that make no path are refused: one isn't written as a name, or else one is too long.
+fn names_fault(part: Part, names: &[&str]) -> Refusal
+    ensures { result ≡ (if list_all is_written_name (map (λ name. name.now) names.now)
+        then OverLimit else WrongShape part) }
+{
+    if are_written(names) {
+        Refusal::OverLimit
+    } else {
+        Refusal::WrongShape(part)
+    }
+}
+
+/// The path of these names. `Path` tests them: only if they make none is it asked why.
+fn path_of(alloc: Global, part: Part, names: &[&str]) -> Result<Judged<Path>, NoMem>
+    ensures { IfOk result (λ path. path ≡ path_of part (map (λ name. name.now) names.now)) }
+{
+    let mut texts = Vec::with_capacity(alloc, names.len())?;
+    for name in names {
+        texts.push(String::from_str(alloc, name)?)?;
+    }
+    match Path::of(alloc, texts)? {
+        Some(path) => {
+            if have_no_nul(path.names()) {
+                Ok(Ok(path))
+            } else {
+                Ok(Err(Refusal::WrongShape(part)))
+            }
+        }
+        None => Ok(Err(names_fault(part, names))),
+    }
+}
+
+/// The path that a text names.
+#[tactic(auto, unfolding(crate::specs::PathText::path_in, crate::specs::PathText::names_in))]
+pub fn path_in(alloc: Global, part: Part, value: &Value) -> Result<Judged<Path>, NoMem>
+    ensures { IfOk result (λ path. path ≡ path_in part (view value.now)) }
+{
+    let text = match text(part, value) {
+        Ok(text) => text,
+        Err(refusal) => return Ok(Err(refusal)),
+    };
+    let parts = split_path(alloc, text)?;
+    match names_of_parts(parts.as_slice()) {
+        Some(names) => path_of(alloc, part, names),
+        None => Ok(Err(Refusal::WrongShape(part))),
+    }
+}

@@ -1,0 +1,261 @@
+//! Reading the sessions.
+ghost use Rattle.std.specs.Prelude.{◌≡◌, map, IfOk, option_map, true};
+ghost use Rattle.std.specs.Ordering.{nat_cmp};
+ghost use Rattle.std.specs.FinMap as map;
+ghost use Rattle.serde_json.specs.View.{view};
+ghost use Rattle.retro_tree.specs.Lawful.{is_lawful_tree};
+ghost use Rattle.retro_tree.specs.Limits.{are_lawful_sessions, values_fit};
+ghost use Rattle.retro_tree.specs.Order.{text_cmp};
+ghost use Rattle.retro_tree.specs.State.{put_session};
+ghost use Rattle.retro_json.specs.Keyed.{are_distinct, keys_of, map_of};
+ghost use Rattle.retro_json.specs.ReadsAs.{ReadsAs, seen};
+ghost use Rattle.retro_json.specs.SessionsPart.{row_cells, row_of, session_in, sessions_of};
+ghost use Rattle.retro_json.specs.SessionsPart.{sessions_of_rows, var_cells, var_of, vars_of};
+ghost use Rattle.retro_json.specs.SessionsPart.{vars_of_entries};
+ghost use Rattle.retro_json.specs.Views.{row_view, session_view};
+ghost use Rattle.retro_json.specs.Worst.{both, every};
+
+use crate::fault::{LogFault, Part, Refusal};
+use crate::reading::path::path_in;
+use crate::reading::shape::{cells, text, u8_in, u32_in};
+use crate::reading::worst::{Judged, both, with_item};
+use retro_tree::{NoMem, Path, State, Text, VALUE_LIMIT, VarName};
+use serde_json::Value;
+use std::alloc::Global;
+use std::collections::{BTreeMap, BTreeSet};
+
+/// What a session is made of.
+#[derive(Drop)]
+pub struct SessionParts {
+    pub cwd: Path,
+    pub status: u8,
+    pub vars: BTreeMap<VarName, Text>,
+}
+
+/// A row: the number of a session, and the session or its worst refusal.
+#[derive(Drop)]
+pub struct Row {
+    pub sid: u32,
+    pub session: Judged<SessionParts>,
+}
+
+fn var_of_cells(alloc: Global, cells: &[Value]) -> Result<Judged<(VarName, Text)>, NoMem>
+    ensures { IfOk result (λ var. var ≡ var_cells (map view cells.now)) }
+{
+    match cells {
+        [name, value] => match (text(Part::Sessions, name), text(Part::Sessions, value)) {
+            (Ok(name), Ok(value)) => match VarName::of(alloc, name)? {
+                Some(name) => Ok(Ok((name, Text::of(String::from_str(alloc, value)?)))),
+                None => Ok(Err(Refusal::WrongShape(Part::Sessions))),
+            },
+            _ => Ok(Err(Refusal::WrongShape(Part::Sessions))),
+        },
+        _ => Ok(Err(Refusal::WrongShape(Part::Sessions))),
+    }
+}
+
+#[tactic(auto, unfolding(crate::specs::SessionsPart::var_of))]
+fn read_var(alloc: Global, value: &Value) -> Result<Judged<(VarName, Text)>, NoMem>
+    ensures { IfOk result (λ var. var ≡ var_of (view value.now)) }
+{
+    match cells(Part::Sessions, value) {
+        Ok(cells) => var_of_cells(alloc, cells),
+        Err(refusal) => Ok(Err(refusal)),
+    }
+}
+
+#[tactic(auto, using(crate::proofs::Worst::judging_starts))]
+fn read_vars(alloc: Global, items: &[Value]) -> Result<Judged<Vec<(VarName, Text)>>, NoMem>
+    ensures { IfOk result (λ vars. seen (λ v. v.items) vars ≡ every var_of (map view items.now)) }
+{
+    let mut vars = Ok(Vec::new(alloc));
+    for item in items {
+        let var = read_var(alloc, item)?;
+        vars = with_item(vars, var)?;
+    }
+    Ok(vars)
+}
+
+/// The map of the variables, or `None` if two have one name.
+fn var_map(
+    alloc: Global,
+    vars: Vec<(VarName, Text)>,
+) -> Result<Option<BTreeMap<VarName, Text>>, NoMem>
+    ensures { IfOk result (λ found.
+        option_map (λ values. map.from_entries values.entries) found
+        ≡ map_of text_cmp vars.items) }
+{
+    let mut values = BTreeMap::new(alloc);
+    for var in vars {
+        let (name, value) = var;
+        if values.contains_key(&name) {
+            return Ok(None);
+        }
+        values.insert(name, value)?;
+    }
+    Ok(Some(values))
+}
+
+/// Whether each value is within the limit.
+fn values_fit(vars: &BTreeMap<VarName, Text>) -> bool
+    ensures { result ≡ values_fit (map.from_entries vars.now.entries) }
+{
+    for (_, value) in vars.iter() {
+        if value.bytes().len() > VALUE_LIMIT {
+            return false;
+        }
+    }
+    true
+}
+
+/// The map of variables whose names differ and whose values are within the limit.
+fn fitting_map(
+    alloc: Global,
+    vars: Vec<(VarName, Text)>,
+) -> Result<Judged<BTreeMap<VarName, Text>>, NoMem>
+    ensures { IfOk result (λ read. seen (λ values. map.from_entries values.entries) read
+        ≡ vars_of_entries vars.items) }
+{
+    match var_map(alloc, vars)? {
+        Some(values) => {
+            if values_fit(&values) {
+                Ok(Ok(values))
+            } else {
+                Ok(Err(Refusal::OverLimit))
+            }
+        }
+        None => Ok(Err(Refusal::WrongShape(Part::Sessions))),
+    }
+}
+
+/// The variables of a session.
+#[tactic(auto, unfolding(crate::specs::SessionsPart::vars_of))]
+fn vars_in(alloc: Global, value: &Value) -> Result<Judged<BTreeMap<VarName, Text>>, NoMem>
+    ensures { IfOk result (λ read. seen (λ values. map.from_entries values.entries) read
+        ≡ vars_of (view value.now)) }
+{
+    let items = match cells(Part::Sessions, value) {
+        Ok(items) => items,
+        Err(refusal) => return Ok(Err(refusal)),
+    };
+    match read_vars(alloc, items)? {
+        Ok(vars) => fitting_map(alloc, vars),
+        Err(refusal) => Ok(Err(refusal)),
+    }
+}
+
+/// What a session is made of, or the worst refusal.
+fn session_in(
+    alloc: Global,
+    cwd: &Value,
+    status: &Value,
+    vars: &Value,
+) -> Result<Judged<SessionParts>, NoMem>
+    ensures { IfOk result (λ session. seen session_view session
+        ≡ session_in (view cwd.now) (view status.now) (view vars.now)) }
+{
+    let cwd = path_in(alloc, Part::Sessions, cwd)?;
+    let status = u8_in(Part::Sessions, status);
+    match both(cwd, both(status, vars_in(alloc, vars)?)) {
+        Ok((cwd, (status, vars))) => Ok(Ok(SessionParts { cwd, status, vars })),
+        Err(refusal) => Ok(Err(refusal)),
+    }
+}
+
+fn row_of_cells(alloc: Global, cells: &[Value]) -> Result<Judged<Row>, NoMem>
+    ensures { IfOk result (λ row. seen row_view row ≡ row_cells (map view cells.now)) }
+{
+    match cells {
+        [sid, cwd, status, vars] => match u32_in(Part::Sessions, sid) {
+            Ok(sid) => {
+                let session = session_in(alloc, cwd, status, vars)?;
+                Ok(Ok(Row { sid, session }))
+            }
+            Err(refusal) => Ok(Err(refusal)),
+        },
+        _ => Ok(Err(Refusal::WrongShape(Part::Sessions))),
+    }
+}
+
+#[tactic(auto, unfolding(crate::specs::SessionsPart::row_of))]
+fn read_row(alloc: Global, value: &Value) -> Result<Judged<Row>, NoMem>
+    ensures { IfOk result (λ row. seen row_view row ≡ row_of (view value.now)) }
+{
+    match cells(Part::Sessions, value) {
+        Ok(cells) => row_of_cells(alloc, cells),
+        Err(refusal) => Ok(Err(refusal)),
+    }
+}
+
+#[tactic(auto, using(crate::proofs::Worst::judging_starts))]
+fn read_rows(alloc: Global, items: &[Value]) -> Result<Judged<Vec<Row>>, NoMem>
+    ensures { IfOk result (λ rows. seen (λ v. map row_view v.items) rows
+        ≡ every row_of (map view items.now)) }
+{
+    let mut rows = Ok(Vec::new(alloc));
+    for item in items {
+        let row = read_row(alloc, item)?;
+        rows = with_item(rows, row)?;
+    }
+    Ok(rows)
+}
+
+/// Whether no two rows have one number.
+fn are_distinct(alloc: Global, rows: &[Row]) -> Result<bool, NoMem>
+    ensures { IfOk result (λ distinct. distinct
+        ≡ are_distinct nat_cmp (keys_of (map row_view rows.now))) }
+{
+    let mut sids = BTreeSet::new(alloc);
+    for row in rows {
+        if !sids.insert(row.sid)? {
+            return Ok(false);
+        }
+    }
+    Ok(true)
+}
+
+/// A state with one more session, or the worse refusal.
+fn with_row(state: Judged<State>, row: Row) -> Result<Judged<State>, NoMem>
+    ensures { IfOk result (λ more. more ≡ seen (λ p. put_session row.sid p.1 p.0)
+        (both state (seen session_view row.session))) }
+{
+    match both(state, row.session) {
+        Ok((mut state, session)) => {
+            let SessionParts { cwd, status, vars } = session;
+            state.add_session(row.sid, cwd, status, vars)?;
+            Ok(Ok(state))
+        }
+        Err(refusal) => Ok(Err(refusal)),
+    }
+}
+
+/// A state without sessions, with the sessions of these rows added, or the worst refusal.
+fn state_with_rows(state: State, rows: Vec<Row>) -> Result<Judged<State>, NoMem>
+    requires none { state.sessions ≡ map.empty }
+    requires distinct { are_distinct nat_cmp (keys_of (map row_view rows.items)) ≡ true }
+    ensures value { IfOk result (λ whole. seen (λ s. s.sessions) whole
+        ≡ sessions_of_rows (map row_view rows.items)) }
+    ensures tree { IfOk result (λ whole. IfOk whole (λ s. s.tree ≡ state.tree)) }
+{
+    let mut whole = Ok(state);
+    for row in rows {
+        whole = with_row(whole, row)?;
+    }
+    Ok(whole)
+}
+
+/// A state without sessions, with the sessions that a value is added.
+#[tactic(auto, unfolding(crate::specs::SessionsPart::sessions_of))]
+pub fn read_sessions(alloc: Global, state: State, value: &Value) -> Result<State, LogFault>
+    requires none { state.sessions ≡ map.empty }
+    requires tree { is_lawful_tree state.tree ≡ true }
+    ensures value { ReadsAs (λ s. s.sessions) result (sessions_of (view value.now)) }
+    ensures tree { IfOk result (λ s. s.tree ≡ state.tree) }
+    ensures lawful { IfOk result (λ s. are_lawful_sessions s.sessions ≡ true) }
+{
+    let rows = read_rows(alloc, cells(Part::Sessions, value)?)??;
+    if !are_distinct(alloc, rows.as_slice())? {
+        return Err(LogFault::Refused(Refusal::WrongShape(Part::Sessions)));
+    }
+    Ok(state_with_rows(state, rows)??)
+}

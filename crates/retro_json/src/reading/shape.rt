@@ -1,0 +1,54 @@
+//! JSON values of one shape.
+ghost use Rattle.std.specs.Prelude.{◌≡◌, ◌<◌, IfOk, map};
+ghost use Rattle.serde_json.specs.View.{view};
+ghost use Rattle.retro_json.specs.ReadsAs.{seen};
+ghost use Rattle.retro_json.specs.Shape.{cells, text_in, number_in, u32_in, u8_in};
+
+use crate::fault::{Part, Refusal};
+use crate::reading::worst::Judged;
+use serde_json::Value;
+
+/// The items of an array.
+pub fn cells(part: Part, value: &Value) -> Judged<&[Value]>
+    ensures { seen (λ items. map view items.now) result ≡ cells part (view value.now) }
+{
+    match value.as_array() {
+        Some(items) => Ok(items.as_slice()),
+        None => Err(Refusal::WrongShape(part)),
+    }
+}
+
+/// A text.
+pub fn text(part: Part, value: &Value) -> Judged<&str>
+    ensures { seen (λ text. text.now) result ≡ text_in part (view value.now) }
+{
+    match value.as_str() {
+        Some(text) => Ok(text),
+        None => Err(Refusal::WrongShape(part)),
+    }
+}
+
+/// A whole number below a limit.
+fn number(part: Part, limit: u64, value: &Value) -> Judged<u64>
+    ensures value { result ≡ number_in part limit (view value.now) }
+    ensures range { IfOk result (λ n. n < limit) }
+{
+    match value.as_u64() {
+        Some(n) if n < limit => Ok(n),
+        _ => Err(Refusal::WrongShape(part)),
+    }
+}
+
+/// A whole number of 32 bits.
+pub fn u32_in(part: Part, value: &Value) -> Judged<u32>
+    ensures { result ≡ u32_in part (view value.now) }
+{
+    Ok(number(part, 1 << u32::BITS, value)? as u32)
+}
+
+/// A whole number of 8 bits.
+pub fn u8_in(part: Part, value: &Value) -> Judged<u8>
+    ensures { result ≡ u8_in part (view value.now) }
+{
+    Ok(number(part, 1 << u8::BITS, value)? as u8)
+}

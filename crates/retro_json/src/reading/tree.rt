@@ -1,0 +1,126 @@
+//! Reading the tree.
+ghost use Rattle.std.specs.Prelude.{◌≡◌, ◌∷◌, Some, map, IfOk, option_map, true};
+ghost use Rattle.std.specs.FinMap as map;
+ghost use Rattle.retro_tree.specs.Lawful.{is_lawful_tree};
+ghost use Rattle.retro_tree.specs.Node.{node_of};
+ghost use Rattle.retro_tree.specs.Order.{path_cmp};
+ghost use Rattle.serde_json.specs.View.{view};
+ghost use Rattle.retro_json.specs.Keyed.{map_of};
+ghost use Rattle.retro_json.specs.ReadsAs.{ReadsAs, seen};
+ghost use Rattle.retro_json.specs.TreePart.{file_in, root_entry, row_cells, row_of, tree_of};
+ghost use Rattle.retro_json.specs.Worst.{every};
+
+use crate::fault::{LogFault, Part, Refusal};
+use crate::reading::hex_text::bytes_in;
+use crate::reading::path::path_in;
+use crate::reading::shape::{cells, text};
+use crate::reading::worst::{Judged, both, with_item};
+use retro_tree::{Entry, FILE_LIMIT, NoMem, Node, Path, State};
+use serde_json::Value;
+use std::alloc::Global;
+
+/// The file whose bytes a text of hex digits encodes.
+fn file_in(alloc: Global, value: &Value) -> Result<Judged<Entry>, NoMem>
+    ensures { IfOk result (λ entry. entry ≡ file_in (view value.now)) }
+{
+    let hex = match text(Part::Tree, value) {
+        Ok(hex) => hex,
+        Err(refusal) => return Ok(Err(refusal)),
+    };
+    match bytes_in(alloc, hex)? {
+        Some(bytes) => {
+            if bytes.len() as u64 > FILE_LIMIT {
+                return Ok(Err(Refusal::OverLimit));
+            }
+            Ok(Ok(Entry::File(bytes)))
+        }
+        None => Ok(Err(Refusal::BadHex)),
+    }
+}
+
+fn row_of_cells(alloc: Global, cells: &[Value]) -> Result<Judged<(Path, Entry)>, NoMem>
+    ensures { IfOk result (λ row. row ≡ row_cells (map view cells.now)) }
+{
+    match cells {
+        [path] => match path_in(alloc, Part::Tree, path)? {
+            Ok(path) => Ok(Ok((path, Entry::Dir))),
+            Err(refusal) => Ok(Err(refusal)),
+        },
+        [path, hex] => Ok(both(path_in(alloc, Part::Tree, path)?, file_in(alloc, hex)?)),
+        _ => Ok(Err(Refusal::WrongShape(Part::Tree))),
+    }
+}
+
+#[tactic(auto, unfolding(crate::specs::TreePart::row_of))]
+fn read_row(alloc: Global, value: &Value) -> Result<Judged<(Path, Entry)>, NoMem>
+    ensures { IfOk result (λ row. row ≡ row_of (view value.now)) }
+{
+    match cells(Part::Tree, value) {
+        Ok(cells) => row_of_cells(alloc, cells),
+        Err(refusal) => Ok(Err(refusal)),
+    }
+}
+
+#[tactic(auto, using(crate::proofs::Worst::judging_starts))]
+fn read_rows(alloc: Global, items: &[Value]) -> Result<Judged<Vec<(Path, Entry)>>, NoMem>
+    ensures { IfOk result (λ rows. seen (λ v. v.items) rows ≡ every row_of (map view items.now)) }
+{
+    let mut rows = Ok(Vec::new(alloc));
+    for item in items {
+        let row = read_row(alloc, item)?;
+        rows = with_item(rows, row)?;
+    }
+    Ok(rows)
+}
+
+fn node_of(entry: Entry) -> Node
+    ensures { result ≡ node_of (Some entry) }
+{
+    match entry {
+        Entry::Dir => Node::Dir,
+        Entry::File(bytes) => Node::File(bytes),
+    }
+}
+
+/// The state of these rows and the root, or `None` if a path is listed twice or is the root's.
+fn state_with_rows(alloc: Global, rows: Vec<(Path, Entry)>) -> Result<Option<State>, NoMem>
+    ensures { IfOk result (λ found. found ≡
+        option_map (λ tree. record { tree = tree; sessions = map.empty })
+        (map_of path_cmp (root_entry ∷ rows.items))) }
+{
+    let mut state = State::empty(alloc)?;
+    for row in rows {
+        let (path, entry) = row;
+        if state.tree().get(&path).is_some() {
+            return Ok(None);
+        }
+        state.place(path, node_of(entry))?;
+    }
+    Ok(Some(state))
+}
+
+/// Whether a state without sessions is lawful, which it remembers.
+fn validate_tree(alloc: Global, state: &mut State) -> Result<bool, NoMem>
+    requires { state.old.sessions ≡ map.empty }
+    ensures value { IfOk result (λ lawful. lawful ≡ is_lawful_tree state.old.tree) }
+    ensures same { state.new ≡ state.old }
+{
+    state.validate(alloc)
+}
+
+/// The state without sessions whose tree a value is. It is known to be lawful.
+#[tactic(auto, unfolding(crate::specs::TreePart::tree_of))]
+pub fn read_tree(alloc: Global, value: &Value) -> Result<State, LogFault>
+    ensures value { ReadsAs (λ s. s.tree) result (tree_of (view value.now)) }
+    ensures sessions { IfOk result (λ s. s.sessions ≡ map.empty) }
+    ensures lawful { IfOk result (λ s. is_lawful_tree s.tree ≡ true) }
+{
+    let rows = read_rows(alloc, cells(Part::Tree, value)?)??;
+    let Some(mut state) = state_with_rows(alloc, rows)? else {
+        return Err(LogFault::Refused(Refusal::LawlessTree));
+    };
+    if !validate_tree(alloc, &mut state)? {
+        return Err(LogFault::Refused(Refusal::LawlessTree));
+    }
+    Ok(state)
+}

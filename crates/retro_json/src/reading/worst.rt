@@ -1,0 +1,48 @@
+//! Reading several things, of which the worst refusal counts.
+ghost use Rattle.std.specs.Prelude.{◌≡◌, IfOk};
+ghost use Rattle.retro_json.specs.ReadsAs.{seen};
+ghost use Rattle.retro_json.specs.Worst.{both, with_item, worse};
+
+use crate::fault::Refusal;
+use retro_tree::NoMem;
+
+/// What was read, or why it is refused.
+pub type Judged<T> = Result<T, Refusal>;
+
+/// The worse of two refusals of one part.
+fn worse(one: Refusal, two: Refusal) -> Refusal
+    ensures { result ≡ worse one two }
+{
+    match (one, two) {
+        (Refusal::WrongShape(_), _) => one,
+        (Refusal::BadHex, Refusal::WrongShape(_)) => two,
+        (Refusal::BadHex, _) => one,
+        _ => two,
+    }
+}
+
+/// Two things, or the worse refusal.
+pub fn both<A: Drop, B: Drop>(one: Judged<A>, two: Judged<B>) -> Judged<(A, B)>
+    ensures { result ≡ both one two }
+{
+    match (one, two) {
+        (Ok(one), Ok(two)) => Ok((one, two)),
+        (Ok(_), Err(refusal)) => Err(refusal),
+        (Err(refusal), Ok(_)) => Err(refusal),
+        (Err(one), Err(two)) => Err(worse(one, two)),
+    }
+}
+
+/// Items with one more at the end, or the worse refusal.
+pub fn with_item<T: Drop>(items: Judged<Vec<T>>, item: Judged<T>) -> Result<Judged<Vec<T>>, NoMem>
+    ensures { IfOk result (λ all. seen (λ v. v.items) all
+        ≡ with_item (seen (λ v. v.items) items) item) }
+{
+    match both(items, item) {
+        Ok((mut items, item)) => {
+            items.push(item)?;
+            Ok(Ok(items))
+        }
+        Err(refusal) => Ok(Err(refusal)),
+    }
+}

@@ -1,8 +1,0 @@
-use Rattle.serde_json.specs.View.{view}
-use Rattle.retro_log.specs.NotesPart.{note_of}
-use Rattle.retro_log.specs.ReadsAs.{seen}
-use Rattle.retro_log.proofs.Worst.{IsJudgedTo}
-use Rattle.retro_log.proofs.reading.notes.read_items.Given as goal
-
-abbrev pub invariant-loop-item : goal.invariant-loop-item
-invariant-loop-item l = IsJudgedTo (note_of l.sid) view (seen (λ v. v.items) l.notes) l.items l.item-index

@@ -1,9 +1,0 @@
-use Rattle.std.proofs.Common.{map, drop}
-use Rattle.retro_log.specs.Keyed.{keys_of}
-use Rattle.retro_log.specs.Views.{row_view}
-use Rattle.retro_log.proofs.Keyed.{IsGathered}
-use Rattle.retro_log.proofs.reading.sessions.are_distinct.Given as goal
-
-abbrev pub invariant-loop-row : goal.invariant-loop-row
-invariant-loop-row l =
-    IsGathered (keys_of (map row_view l.rows)) (keys_of (map row_view (drop l.row-index l.rows))) l.sids

@@ -1,6 +1,0 @@
-use Rattle.std.proofs.Common.{rules}
-use Rattle.retro_log.proofs.Json.{item_list-items_view}
-use Rattle.retro_log.proofs.reading.shape.cells.Goals as goal
-
-pub returns-in-Some : goal.returns-in-Some
-returns-in-Some c = search (rules, item_list-items_view)
