@@ -4,8 +4,10 @@
 //! `specs/Document.antt` says of the bytes. Each part of a document is tested as a whole before the
 //! next part, and of the refusals of a part the worst counts.
 //!
-//! [`write_log`] returns the log of a recording, as `specs/LogText.antt` defines it. The JSON values
-//! of states and notes, of which documents and reports are made, are those of `retro_json`.
+//! [`write_log`] returns the log of a recording, as `specs/LogText.antt` defines it.
+//!
+//! Documents and reports are made of the JSON values of states and notes, which `retro_json` reads
+//! and writes. What reports need of them is handed out here.
 //!
 //! If allocation fails, calls return `NoMem` and leave their arguments unchanged.
 #![tactic(auto)]

@@ -1,7 +1,7 @@
 //! Documents, and the scripts and recordings that they are.
 use retro_keep::{EditFault, Script, ScriptLine};
 use retro_log::{LogFault, read_log, read_script, sessions_value, tree_value};
-use retro_rows::{fail, text};
+use retro_rows::{fail, numbers, text};
 use retro_tree::State;
 use std::alloc::{AllocError, Global};
 use std::test::Fail;
@@ -168,15 +168,6 @@ fn numbers_text(alloc: Global, script: &Script) -> Result<String, AllocError> {
         push_number(alloc, &mut out, line.number)?;
     }
     Ok(out)
-}
-
-/// The numbers of a list, which spaces separate.
-fn numbers(alloc: Global, list: &str) -> Result<Vec<u32>, Fail> {
-    let mut numbers = Vec::new(alloc);
-    for number in list.split(' ') {
-        numbers.push(number.parse()?)?;
-    }
-    Ok(numbers)
 }
 
 /// The numbers of a script's lines without some, or the refusal and the number that no line has.

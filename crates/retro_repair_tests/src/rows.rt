@@ -6,18 +6,9 @@ use crate::telling::{compensations, end, file, lines, outputs};
 use retro_keep::Recording;
 use retro_log::check;
 use retro_redo::{Repair, repair_alone, repair_watched};
-use retro_rows::{Row, fail, path, rows};
+use retro_rows::{Row, fail, numbers, path, rows};
 use std::alloc::Global;
 use std::test::Fail;
-
-/// The numbers of a list, which spaces separate.
-fn numbers(alloc: Global, list: &str) -> Result<Vec<u32>, Fail> {
-    let mut numbers = Vec::new(alloc);
-    for number in list.split(' ') {
-        numbers.push(number.parse()?)?;
-    }
-    Ok(numbers)
-}
 
 /// The repair of a recording without some lines.
 fn repair_without(alloc: Global, recording: &Recording, cancel: &[u32]) -> Result<Repair, Fail> {

@@ -11,9 +11,11 @@ mod paths;
 mod row;
 mod row_error;
 mod script;
+mod texts;
 
-pub use failure::{fail, text, utf8};
+pub use failure::fail;
 pub use paths::path;
 pub use row::{Row, rows};
 pub use row_error::RowError;
 pub use script::script_of;
+pub use texts::{numbers, text, utf8};

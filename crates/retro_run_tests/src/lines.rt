@@ -42,13 +42,8 @@ fn is_run_again<V: View>(alloc: Global, view: &V, run: &Run) -> Result<bool, All
 
 /// Whether the notes of a run hold over a view, and its line leaves the same there, also parsed.
 fn is_run_over<V: View>(alloc: Global, view: &V, run: &Run) -> Result<bool, AllocError> {
-    let other = run_line(alloc, view, 1, run.text())?;
-    Ok(
-        is_of(&other, run.text())
-            && same_runs(run, &other)
-            && holds(alloc, run.notes(), view)?
-            && is_run_parsed(alloc, view, run)?,
-    )
+    let holds = holds(alloc, run.notes(), view)?;
+    Ok(holds && is_run_again(alloc, view, run)? && is_run_parsed(alloc, view, run)?)
 }
 
 /// Whether the line of a run leaves the same over the state that words say.
