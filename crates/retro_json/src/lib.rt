@@ -14,6 +14,7 @@ mod writing;
 
 pub use fault::{LogFault, Part, Refusal};
 pub use reading::{
-    Judged, both, cells, hex_field, notes_field, read_sessions, read_tree, text, u32_in, with_item,
+    OrRefusal, both, cells, hex_field, notes_field, read_sessions, read_tree, text, u32_in,
+    with_item,
 };
 pub use writing::{hex_value, notes_value, number_value, push_value, sessions_value, tree_value};

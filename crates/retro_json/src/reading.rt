@@ -15,4 +15,4 @@ pub use notes::notes_field;
 pub use sessions::read_sessions;
 pub use shape::{cells, text, u32_in};
 pub use tree::read_tree;
-pub use worst::{Judged, both, with_item};
+pub use worst::{OrRefusal, both, with_item};

@@ -10,13 +10,13 @@ use crate::reading::fields::{
     user_field, value_field, var_field,
 };
 use crate::reading::shape::{u8_in, u32_in};
-use crate::reading::worst::{Judged, both};
+use crate::reading::worst::{OrRefusal, both};
 use retro_tree::{Answer, Ask, NoMem, Note};
 use serde_json::Value;
 use std::alloc::Global;
 
 /// `["kind",path,"missing"|"dir"|"file"]`, without its tag.
-pub fn kind_note(alloc: Global, rest: &[Value]) -> Result<Judged<Note>, NoMem>
+pub fn kind_note(alloc: Global, rest: &[Value]) -> Result<OrRefusal<Note>, NoMem>
     ensures { IfOk result (λ note. note ≡ kind_cells (map view rest.now)) }
 {
     match rest {
@@ -29,7 +29,7 @@ pub fn kind_note(alloc: Global, rest: &[Value]) -> Result<Judged<Note>, NoMem>
 }
 
 /// `["bytes",path,node]`, without its tag.
-pub fn bytes_note(alloc: Global, rest: &[Value]) -> Result<Judged<Note>, NoMem>
+pub fn bytes_note(alloc: Global, rest: &[Value]) -> Result<OrRefusal<Note>, NoMem>
     ensures { IfOk result (λ note. note ≡ bytes_cells (map view rest.now)) }
 {
     match rest {
@@ -42,7 +42,7 @@ pub fn bytes_note(alloc: Global, rest: &[Value]) -> Result<Judged<Note>, NoMem>
 }
 
 /// `["names",path,null|[name,..]]`, without its tag.
-pub fn names_note(alloc: Global, rest: &[Value]) -> Result<Judged<Note>, NoMem>
+pub fn names_note(alloc: Global, rest: &[Value]) -> Result<OrRefusal<Note>, NoMem>
     ensures { IfOk result (λ note. note ≡ names_cells (map view rest.now)) }
 {
     match rest {
@@ -58,7 +58,7 @@ pub fn names_note(alloc: Global, rest: &[Value]) -> Result<Judged<Note>, NoMem>
 }
 
 /// `["canwrite",path,n,"yes"|"noparent"|"notdir"|"isdir"|"toolarge"]`, without its tag.
-pub fn can_write_note(alloc: Global, rest: &[Value]) -> Result<Judged<Note>, NoMem>
+pub fn can_write_note(alloc: Global, rest: &[Value]) -> Result<OrRefusal<Note>, NoMem>
     ensures { IfOk result (λ note. note ≡ can_write_cells (map view rest.now)) }
 {
     match rest {
@@ -77,7 +77,7 @@ pub fn can_write_note(alloc: Global, rest: &[Value]) -> Result<Judged<Note>, NoM
 }
 
 /// `["user",name,null|[number,home]]`, without its tag.
-pub fn user_note(alloc: Global, rest: &[Value]) -> Result<Judged<Note>, NoMem>
+pub fn user_note(alloc: Global, rest: &[Value]) -> Result<OrRefusal<Note>, NoMem>
     ensures { IfOk result (λ note. note ≡ user_note_cells (map view rest.now)) }
 {
     match rest {
@@ -93,7 +93,7 @@ pub fn user_note(alloc: Global, rest: &[Value]) -> Result<Judged<Note>, NoMem>
 }
 
 /// `["var",name,null|value]`, without its tag.
-pub fn var_note(alloc: Global, sid: u32, rest: &[Value]) -> Result<Judged<Note>, NoMem>
+pub fn var_note(alloc: Global, sid: u32, rest: &[Value]) -> Result<OrRefusal<Note>, NoMem>
     ensures { IfOk result (λ note. note ≡ var_cells sid (map view rest.now)) }
 {
     match rest {
@@ -109,7 +109,7 @@ pub fn var_note(alloc: Global, sid: u32, rest: &[Value]) -> Result<Judged<Note>,
 }
 
 /// `["cwd",path]`, without its tag.
-pub fn cwd_note(alloc: Global, sid: u32, rest: &[Value]) -> Result<Judged<Note>, NoMem>
+pub fn cwd_note(alloc: Global, sid: u32, rest: &[Value]) -> Result<OrRefusal<Note>, NoMem>
     ensures { IfOk result (λ note. note ≡ cwd_cells sid (map view rest.now)) }
 {
     match rest {
@@ -122,7 +122,7 @@ pub fn cwd_note(alloc: Global, sid: u32, rest: &[Value]) -> Result<Judged<Note>,
 }
 
 /// `["status",n]`, without its tag.
-pub fn status_note(sid: u32, rest: &[Value]) -> Judged<Note>
+pub fn status_note(sid: u32, rest: &[Value]) -> OrRefusal<Note>
     ensures { result ≡ status_cells sid (map view rest.now) }
 {
     match rest {

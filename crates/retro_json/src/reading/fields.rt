@@ -16,7 +16,7 @@ use crate::fault::{Part, Refusal};
 use crate::reading::hex_text::bytes_in;
 use crate::reading::path::{is_written_name, path_in};
 use crate::reading::shape::{cells, text, u32_in};
-use crate::reading::worst::{Judged, with_item};
+use crate::reading::worst::{OrRefusal, with_item};
 use retro_tree::{
     Bytes, FILE_LIMIT, Kind, Listing, Name, NoMem, Node, Path, Permit, Text, User, VALUE_LIMIT,
     VarName,
@@ -25,7 +25,7 @@ use serde_json::Value;
 use std::alloc::Global;
 
 /// What a value is, or `None` where it is `null`.
-pub fn or_null<T: Drop>(value: &Value, field: Judged<T>) -> Judged<Option<T>>
+pub fn or_null<T: Drop>(value: &Value, field: OrRefusal<T>) -> OrRefusal<Option<T>>
     ensures { result ≡ or_null (λ _. field) (view value.now) }
 {
     if value.is_null() {
@@ -35,7 +35,7 @@ pub fn or_null<T: Drop>(value: &Value, field: Judged<T>) -> Judged<Option<T>>
 }
 
 /// A text.
-pub fn text_field(alloc: Global, value: &Value) -> Result<Judged<Text>, NoMem>
+pub fn text_field(alloc: Global, value: &Value) -> Result<OrRefusal<Text>, NoMem>
     ensures { IfOk result (λ text. text ≡ text_in Lines (view value.now)) }
 {
     match text(Part::Lines, value) {
@@ -45,7 +45,7 @@ pub fn text_field(alloc: Global, value: &Value) -> Result<Judged<Text>, NoMem>
 }
 
 /// Bytes, as hex digits of either case.
-pub fn hex_field(alloc: Global, value: &Value) -> Result<Judged<Bytes>, NoMem>
+pub fn hex_field(alloc: Global, value: &Value) -> Result<OrRefusal<Bytes>, NoMem>
     ensures { IfOk result (λ bytes. bytes ≡ hex_field (view value.now)) }
 {
     match text(Part::Lines, value) {
@@ -55,14 +55,14 @@ pub fn hex_field(alloc: Global, value: &Value) -> Result<Judged<Bytes>, NoMem>
 }
 
 /// A path.
-pub fn path_field(alloc: Global, value: &Value) -> Result<Judged<Path>, NoMem>
+pub fn path_field(alloc: Global, value: &Value) -> Result<OrRefusal<Path>, NoMem>
     ensures { IfOk result (λ path. path ≡ path_field (view value.now)) }
 {
     path_in(alloc, Part::Lines, value)
 }
 
 /// A text that may be written as a name in a path.
-fn written_name(value: &Value) -> Judged<&str>
+fn written_name(value: &Value) -> OrRefusal<&str>
     ensures value { seen (λ name. name.now) result ≡ written_name (view value.now) }
     ensures written { IfOk result (λ name. is_written_name name.now ≡ true) }
 {
@@ -76,7 +76,7 @@ fn written_name(value: &Value) -> Judged<&str>
 
 /// A name in a listing.
 #[tactic(auto, using(crate::proofs::Names::name_fits))]
-fn name_field(alloc: Global, value: &Value) -> Result<Judged<Name>, NoMem>
+fn name_field(alloc: Global, value: &Value) -> Result<OrRefusal<Name>, NoMem>
     ensures { IfOk result (λ name. name ≡ name_field (view value.now)) }
 {
     match written_name(value) {
@@ -88,7 +88,7 @@ fn name_field(alloc: Global, value: &Value) -> Result<Judged<Name>, NoMem>
     }
 }
 
-fn read_names(alloc: Global, items: &[Value]) -> Result<Judged<Vec<Name>>, NoMem>
+fn read_names(alloc: Global, items: &[Value]) -> Result<OrRefusal<Vec<Name>>, NoMem>
     ensures { IfOk result (λ names. seen (λ v. v.items) names
         ≡ every name_field (map view items.now)) }
 {
@@ -102,7 +102,7 @@ fn read_names(alloc: Global, items: &[Value]) -> Result<Judged<Vec<Name>>, NoMem
 
 /// The names in a directory, in any order.
 #[tactic(auto, unfolding(crate::specs::LogFields::listing_field))]
-pub fn listing_field(alloc: Global, value: &Value) -> Result<Judged<Listing>, NoMem>
+pub fn listing_field(alloc: Global, value: &Value) -> Result<OrRefusal<Listing>, NoMem>
     ensures { IfOk result (λ names. names ≡ listing_field (view value.now)) }
 {
     let items = match cells(Part::Lines, value) {
@@ -117,7 +117,7 @@ pub fn listing_field(alloc: Global, value: &Value) -> Result<Judged<Listing>, No
 
 /// The kind of a node, by its name.
 #[tactic(auto, unfolding(crate::specs::LogFields::kind_field))]
-pub fn kind_field(value: &Value) -> Judged<Kind>
+pub fn kind_field(value: &Value) -> OrRefusal<Kind>
     ensures { result ≡ kind_field (view value.now) }
 {
     match text(Part::Lines, value)? {
@@ -130,7 +130,7 @@ pub fn kind_field(value: &Value) -> Judged<Kind>
 
 /// Whether bytes can be written, by the name of the answer.
 #[tactic(auto, unfolding(crate::specs::LogFields::permit_field))]
-pub fn permit_field(value: &Value) -> Judged<Permit>
+pub fn permit_field(value: &Value) -> OrRefusal<Permit>
     ensures { result ≡ permit_field (view value.now) }
 {
     match text(Part::Lines, value)? {
@@ -144,7 +144,7 @@ pub fn permit_field(value: &Value) -> Judged<Permit>
 }
 
 /// A file of these bytes.
-fn file_field(alloc: Global, value: &Value) -> Result<Judged<Node>, NoMem>
+fn file_field(alloc: Global, value: &Value) -> Result<OrRefusal<Node>, NoMem>
     ensures { IfOk result (λ node. node ≡ file_field (view value.now)) }
 {
     match hex_field(alloc, value)? {
@@ -159,7 +159,7 @@ fn file_field(alloc: Global, value: &Value) -> Result<Judged<Node>, NoMem>
     }
 }
 
-fn tagged_node(alloc: Global, tag: &str, rest: &[Value]) -> Result<Judged<Node>, NoMem>
+fn tagged_node(alloc: Global, tag: &str, rest: &[Value]) -> Result<OrRefusal<Node>, NoMem>
     ensures { IfOk result (λ node. node ≡ tagged_node tag.now (map view rest.now)) }
 {
     match rest {
@@ -181,7 +181,7 @@ fn tagged_node(alloc: Global, tag: &str, rest: &[Value]) -> Result<Judged<Node>,
     }
 }
 
-fn node_of_cells(alloc: Global, cells: &[Value]) -> Result<Judged<Node>, NoMem>
+fn node_of_cells(alloc: Global, cells: &[Value]) -> Result<OrRefusal<Node>, NoMem>
     ensures { IfOk result (λ node. node ≡ node_cells (map view cells.now)) }
 {
     match cells {
@@ -195,7 +195,7 @@ fn node_of_cells(alloc: Global, cells: &[Value]) -> Result<Judged<Node>, NoMem>
 
 /// A node: `[]` for a missing one, `["d"]` or `["f","hex"]`.
 #[tactic(auto, unfolding(crate::specs::LogFields::node_field))]
-pub fn node_field(alloc: Global, value: &Value) -> Result<Judged<Node>, NoMem>
+pub fn node_field(alloc: Global, value: &Value) -> Result<OrRefusal<Node>, NoMem>
     ensures { IfOk result (λ node. node ≡ node_field (view value.now)) }
 {
     match cells(Part::Lines, value) {
@@ -205,7 +205,7 @@ pub fn node_field(alloc: Global, value: &Value) -> Result<Judged<Node>, NoMem>
 }
 
 /// The number of a user, and the text of the home directory.
-fn user_parts(cells: &[Value]) -> Judged<(u32, &str)>
+fn user_parts(cells: &[Value]) -> OrRefusal<(u32, &str)>
     ensures { user_cells (map view cells.now)
         ≡ seen (λ parts. record { number = parts.0; home = parts.1.now }) result }
 {
@@ -220,7 +220,7 @@ fn user_parts(cells: &[Value]) -> Judged<(u32, &str)>
 
 /// What the password file says of a user: `[number,home]`.
 #[tactic(auto, unfolding(crate::specs::LogFields::user_field))]
-pub fn user_field(alloc: Global, value: &Value) -> Result<Judged<User>, NoMem>
+pub fn user_field(alloc: Global, value: &Value) -> Result<OrRefusal<User>, NoMem>
     ensures { IfOk result (λ user. user ≡ user_field (view value.now)) }
 {
     let cells = match cells(Part::Lines, value) {
@@ -237,7 +237,7 @@ pub fn user_field(alloc: Global, value: &Value) -> Result<Judged<User>, NoMem>
 }
 
 /// The name of a variable that a line may assign.
-pub fn var_field(alloc: Global, value: &Value) -> Result<Judged<VarName>, NoMem>
+pub fn var_field(alloc: Global, value: &Value) -> Result<OrRefusal<VarName>, NoMem>
     ensures { IfOk result (λ name. name ≡ var_field (view value.now)) }
 {
     match text(Part::Lines, value) {
@@ -250,7 +250,7 @@ pub fn var_field(alloc: Global, value: &Value) -> Result<Judged<VarName>, NoMem>
 }
 
 /// The value of a variable.
-pub fn value_field(alloc: Global, value: &Value) -> Result<Judged<Text>, NoMem>
+pub fn value_field(alloc: Global, value: &Value) -> Result<OrRefusal<Text>, NoMem>
     ensures { IfOk result (λ text. text ≡ value_field (view value.now)) }
 {
     match text(Part::Lines, value) {

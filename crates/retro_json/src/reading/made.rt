@@ -7,13 +7,13 @@ ghost use Rattle.retro_json.specs.NotesPart.{set_status_cells, set_var_cells};
 use crate::fault::{Part, Refusal};
 use crate::reading::fields::{hex_field, node_field, path_field, value_field, var_field};
 use crate::reading::shape::u8_in;
-use crate::reading::worst::{Judged, both};
+use crate::reading::worst::{OrRefusal, both};
 use retro_tree::{Change, NoMem, Note};
 use serde_json::Value;
 use std::alloc::Global;
 
 /// `["put",path,node]`, without its tag.
-pub fn put_note(alloc: Global, rest: &[Value]) -> Result<Judged<Note>, NoMem>
+pub fn put_note(alloc: Global, rest: &[Value]) -> Result<OrRefusal<Note>, NoMem>
     ensures { IfOk result (λ note. note ≡ put_cells (map view rest.now)) }
 {
     match rest {
@@ -26,7 +26,7 @@ pub fn put_note(alloc: Global, rest: &[Value]) -> Result<Judged<Note>, NoMem>
 }
 
 /// `["grow",path,"hex"]`, without its tag.
-pub fn grow_note(alloc: Global, rest: &[Value]) -> Result<Judged<Note>, NoMem>
+pub fn grow_note(alloc: Global, rest: &[Value]) -> Result<OrRefusal<Note>, NoMem>
     ensures { IfOk result (λ note. note ≡ grow_cells (map view rest.now)) }
 {
     match rest {
@@ -39,7 +39,7 @@ pub fn grow_note(alloc: Global, rest: &[Value]) -> Result<Judged<Note>, NoMem>
 }
 
 /// `["setvar",name,value]`, without its tag.
-pub fn set_var_note(alloc: Global, sid: u32, rest: &[Value]) -> Result<Judged<Note>, NoMem>
+pub fn set_var_note(alloc: Global, sid: u32, rest: &[Value]) -> Result<OrRefusal<Note>, NoMem>
     ensures { IfOk result (λ note. note ≡ set_var_cells sid (map view rest.now)) }
 {
     match rest {
@@ -52,7 +52,7 @@ pub fn set_var_note(alloc: Global, sid: u32, rest: &[Value]) -> Result<Judged<No
 }
 
 /// `["setcwd",path]`, without its tag.
-pub fn set_cwd_note(alloc: Global, sid: u32, rest: &[Value]) -> Result<Judged<Note>, NoMem>
+pub fn set_cwd_note(alloc: Global, sid: u32, rest: &[Value]) -> Result<OrRefusal<Note>, NoMem>
     ensures { IfOk result (λ note. note ≡ set_cwd_cells sid (map view rest.now)) }
 {
     match rest {
@@ -65,7 +65,7 @@ pub fn set_cwd_note(alloc: Global, sid: u32, rest: &[Value]) -> Result<Judged<No
 }
 
 /// `["setstatus",n]`, without its tag.
-pub fn set_status_note(sid: u32, rest: &[Value]) -> Judged<Note>
+pub fn set_status_note(sid: u32, rest: &[Value]) -> OrRefusal<Note>
     ensures { result ≡ set_status_cells sid (map view rest.now) }
 {
     match rest {

@@ -11,14 +11,14 @@ use crate::reading::asked::{
 };
 use crate::reading::made::{grow_note, put_note, set_cwd_note, set_status_note, set_var_note};
 use crate::reading::shape::{cells, text};
-use crate::reading::worst::{Judged, with_item};
+use crate::reading::worst::{OrRefusal, with_item};
 use retro_tree::{NoMem, Note, Notes};
 use serde_json::Value;
 use std::alloc::Global;
 
 /// The note of a session that has this tag, with what follows the tag.
 #[tactic(auto, unfolding(crate::specs::NotesPart::tagged_note))]
-fn tagged_note(alloc: Global, sid: u32, tag: &str, rest: &[Value]) -> Result<Judged<Note>, NoMem>
+fn tagged_note(alloc: Global, sid: u32, tag: &str, rest: &[Value]) -> Result<OrRefusal<Note>, NoMem>
     ensures { IfOk result (λ note. note ≡ tagged_note sid tag.now (map view rest.now)) }
 {
     match tag {
@@ -39,7 +39,7 @@ fn tagged_note(alloc: Global, sid: u32, tag: &str, rest: &[Value]) -> Result<Jud
     }
 }
 
-fn note_of_cells(alloc: Global, sid: u32, cells: &[Value]) -> Result<Judged<Note>, NoMem>
+fn note_of_cells(alloc: Global, sid: u32, cells: &[Value]) -> Result<OrRefusal<Note>, NoMem>
     ensures { IfOk result (λ note. note ≡ note_cells sid (map view cells.now)) }
 {
     match cells {
@@ -52,7 +52,7 @@ fn note_of_cells(alloc: Global, sid: u32, cells: &[Value]) -> Result<Judged<Note
 }
 
 #[tactic(auto, unfolding(crate::specs::NotesPart::note_of))]
-fn read_note(alloc: Global, sid: u32, value: &Value) -> Result<Judged<Note>, NoMem>
+fn read_note(alloc: Global, sid: u32, value: &Value) -> Result<OrRefusal<Note>, NoMem>
     ensures { IfOk result (λ note. note ≡ note_of sid (view value.now)) }
 {
     match cells(Part::Lines, value) {
@@ -62,7 +62,7 @@ fn read_note(alloc: Global, sid: u32, value: &Value) -> Result<Judged<Note>, NoM
 }
 
 #[tactic(auto, using(crate::proofs::Worst::judging_starts))]
-fn read_items(alloc: Global, sid: u32, items: &[Value]) -> Result<Judged<Vec<Note>>, NoMem>
+fn read_items(alloc: Global, sid: u32, items: &[Value]) -> Result<OrRefusal<Vec<Note>>, NoMem>
     ensures { IfOk result (λ notes. seen (λ v. v.items) notes
         ≡ every (note_of sid) (map view items.now)) }
 {
@@ -76,7 +76,7 @@ fn read_items(alloc: Global, sid: u32, items: &[Value]) -> Result<Judged<Vec<Not
 
 /// The notes of a line of this session, or the worst refusal of all.
 #[tactic(auto, unfolding(crate::specs::NotesPart::notes_field))]
-pub fn notes_field(alloc: Global, sid: u32, value: &Value) -> Result<Judged<Notes>, NoMem>
+pub fn notes_field(alloc: Global, sid: u32, value: &Value) -> Result<OrRefusal<Notes>, NoMem>
     ensures { IfOk result (λ notes. notes ≡ notes_field sid (view value.now)) }
 {
     let items = match cells(Part::Lines, value) {

@@ -8,7 +8,7 @@ ghost use Rattle.retro_json.specs.declared.fault.Refusal.TheVariants.{OverLimit,
 
 use crate::fault::{Part, Refusal};
 use crate::reading::shape::text;
-use crate::reading::worst::Judged;
+use crate::reading::worst::OrRefusal;
 use retro_tree::{Name, NoMem, Path};
 use serde_json::Value;
 use std::alloc::Global;
@@ -89,7 +89,7 @@ fn names_fault(part: Part, names: &[&str]) -> Refusal
 }
 
 /// The path of these names. `Path` tests them: only if they make none is it asked why.
-fn path_of(alloc: Global, part: Part, names: &[&str]) -> Result<Judged<Path>, NoMem>
+fn path_of(alloc: Global, part: Part, names: &[&str]) -> Result<OrRefusal<Path>, NoMem>
     ensures { IfOk result (λ path. path ≡ path_of part (map (λ name. name.now) names.now)) }
 {
     let mut texts = Vec::with_capacity(alloc, names.len())?;
@@ -110,7 +110,7 @@ fn path_of(alloc: Global, part: Part, names: &[&str]) -> Result<Judged<Path>, No
 
 /// The path that a text names.
 #[tactic(auto, unfolding(crate::specs::PathText::path_in, crate::specs::PathText::names_in))]
-pub fn path_in(alloc: Global, part: Part, value: &Value) -> Result<Judged<Path>, NoMem>
+pub fn path_in(alloc: Global, part: Part, value: &Value) -> Result<OrRefusal<Path>, NoMem>
     ensures { IfOk result (λ path. path ≡ path_in part (view value.now)) }
 {
     let text = match text(part, value) {

@@ -18,7 +18,7 @@ ghost use Rattle.retro_json.specs.Worst.{both, every};
 use crate::fault::{LogFault, Part, Refusal};
 use crate::reading::path::path_in;
 use crate::reading::shape::{cells, text, u8_in, u32_in};
-use crate::reading::worst::{Judged, both, with_item};
+use crate::reading::worst::{OrRefusal, both, with_item};
 use retro_tree::{NoMem, Path, State, Text, VALUE_LIMIT, VarName};
 use serde_json::Value;
 use std::alloc::Global;
@@ -36,10 +36,10 @@ pub struct SessionParts {
 #[derive(Drop)]
 pub struct Row {
     pub sid: u32,
-    pub session: Judged<SessionParts>,
+    pub session: OrRefusal<SessionParts>,
 }
 
-fn var_of_cells(alloc: Global, cells: &[Value]) -> Result<Judged<(VarName, Text)>, NoMem>
+fn var_of_cells(alloc: Global, cells: &[Value]) -> Result<OrRefusal<(VarName, Text)>, NoMem>
     ensures { IfOk result (λ var. var ≡ var_cells (map view cells.now)) }
 {
     match cells {
@@ -55,7 +55,7 @@ fn var_of_cells(alloc: Global, cells: &[Value]) -> Result<Judged<(VarName, Text)
 }
 
 #[tactic(auto, unfolding(crate::specs::SessionsPart::var_of))]
-fn read_var(alloc: Global, value: &Value) -> Result<Judged<(VarName, Text)>, NoMem>
+fn read_var(alloc: Global, value: &Value) -> Result<OrRefusal<(VarName, Text)>, NoMem>
     ensures { IfOk result (λ var. var ≡ var_of (view value.now)) }
 {
     match cells(Part::Sessions, value) {
@@ -65,7 +65,7 @@ fn read_var(alloc: Global, value: &Value) -> Result<Judged<(VarName, Text)>, NoM
 }
 
 #[tactic(auto, using(crate::proofs::Worst::judging_starts))]
-fn read_vars(alloc: Global, items: &[Value]) -> Result<Judged<Vec<(VarName, Text)>>, NoMem>
+fn read_vars(alloc: Global, items: &[Value]) -> Result<OrRefusal<Vec<(VarName, Text)>>, NoMem>
     ensures { IfOk result (λ vars. seen (λ v. v.items) vars ≡ every var_of (map view items.now)) }
 {
     let mut vars = Ok(Vec::new(alloc));
@@ -112,7 +112,7 @@ fn values_fit(vars: &BTreeMap<VarName, Text>) -> bool
 fn fitting_map(
     alloc: Global,
     vars: Vec<(VarName, Text)>,
-) -> Result<Judged<BTreeMap<VarName, Text>>, NoMem>
+) -> Result<OrRefusal<BTreeMap<VarName, Text>>, NoMem>
     ensures { IfOk result (λ read. seen (λ values. map.from_entries values.entries) read
         ≡ vars_of_entries vars.items) }
 {
@@ -130,7 +130,7 @@ fn fitting_map(
 
 /// The variables of a session.
 #[tactic(auto, unfolding(crate::specs::SessionsPart::vars_of))]
-fn vars_in(alloc: Global, value: &Value) -> Result<Judged<BTreeMap<VarName, Text>>, NoMem>
+fn vars_in(alloc: Global, value: &Value) -> Result<OrRefusal<BTreeMap<VarName, Text>>, NoMem>
     ensures { IfOk result (λ read. seen (λ values. map.from_entries values.entries) read
         ≡ vars_of (view value.now)) }
 {
@@ -150,7 +150,7 @@ fn session_in(
     cwd: &Value,
     status: &Value,
     vars: &Value,
-) -> Result<Judged<SessionParts>, NoMem>
+) -> Result<OrRefusal<SessionParts>, NoMem>
     ensures { IfOk result (λ session. seen session_view session
         ≡ session_in (view cwd.now) (view status.now) (view vars.now)) }
 {
@@ -162,7 +162,7 @@ fn session_in(
     }
 }
 
-fn row_of_cells(alloc: Global, cells: &[Value]) -> Result<Judged<Row>, NoMem>
+fn row_of_cells(alloc: Global, cells: &[Value]) -> Result<OrRefusal<Row>, NoMem>
     ensures { IfOk result (λ row. seen row_view row ≡ row_cells (map view cells.now)) }
 {
     match cells {
@@ -178,7 +178,7 @@ fn row_of_cells(alloc: Global, cells: &[Value]) -> Result<Judged<Row>, NoMem>
 }
 
 #[tactic(auto, unfolding(crate::specs::SessionsPart::row_of))]
-fn read_row(alloc: Global, value: &Value) -> Result<Judged<Row>, NoMem>
+fn read_row(alloc: Global, value: &Value) -> Result<OrRefusal<Row>, NoMem>
     ensures { IfOk result (λ row. seen row_view row ≡ row_of (view value.now)) }
 {
     match cells(Part::Sessions, value) {
@@ -188,7 +188,7 @@ fn read_row(alloc: Global, value: &Value) -> Result<Judged<Row>, NoMem>
 }
 
 #[tactic(auto, using(crate::proofs::Worst::judging_starts))]
-fn read_rows(alloc: Global, items: &[Value]) -> Result<Judged<Vec<Row>>, NoMem>
+fn read_rows(alloc: Global, items: &[Value]) -> Result<OrRefusal<Vec<Row>>, NoMem>
     ensures { IfOk result (λ rows. seen (λ v. map row_view v.items) rows
         ≡ every row_of (map view items.now)) }
 {
@@ -215,7 +215,7 @@ fn are_distinct(alloc: Global, rows: &[Row]) -> Result<bool, NoMem>
 }
 
 /// A state with one more session, or the worse refusal.
-fn with_row(state: Judged<State>, row: Row) -> Result<Judged<State>, NoMem>
+fn with_row(state: OrRefusal<State>, row: Row) -> Result<OrRefusal<State>, NoMem>
     ensures { IfOk result (λ more. more ≡ seen (λ p. put_session row.sid p.1 p.0)
         (both state (seen session_view row.session))) }
 {
@@ -230,7 +230,7 @@ fn with_row(state: Judged<State>, row: Row) -> Result<Judged<State>, NoMem>
 }
 
 /// A state without sessions, with the sessions of these rows added, or the worst refusal.
-fn state_with_rows(state: State, rows: Vec<Row>) -> Result<Judged<State>, NoMem>
+fn state_with_rows(state: State, rows: Vec<Row>) -> Result<OrRefusal<State>, NoMem>
     requires none { state.sessions ≡ map.empty }
     requires distinct { are_distinct nat_cmp (keys_of (map row_view rows.items)) ≡ true }
     ensures value { IfOk result (λ whole. seen (λ s. s.sessions) whole

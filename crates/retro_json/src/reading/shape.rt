@@ -5,11 +5,11 @@ ghost use Rattle.retro_json.specs.ReadsAs.{seen};
 ghost use Rattle.retro_json.specs.Shape.{cells, text_in, number_in, u32_in, u8_in};
 
 use crate::fault::{Part, Refusal};
-use crate::reading::worst::Judged;
+use crate::reading::worst::OrRefusal;
 use serde_json::Value;
 
 /// The items of an array.
-pub fn cells(part: Part, value: &Value) -> Judged<&[Value]>
+pub fn cells(part: Part, value: &Value) -> OrRefusal<&[Value]>
     ensures { seen (λ items. map view items.now) result ≡ cells part (view value.now) }
 {
     match value.as_array() {
@@ -19,7 +19,7 @@ pub fn cells(part: Part, value: &Value) -> Judged<&[Value]>
 }
 
 /// A text.
-pub fn text(part: Part, value: &Value) -> Judged<&str>
+pub fn text(part: Part, value: &Value) -> OrRefusal<&str>
     ensures { seen (λ text. text.now) result ≡ text_in part (view value.now) }
 {
     match value.as_str() {
@@ -29,7 +29,7 @@ pub fn text(part: Part, value: &Value) -> Judged<&str>
 }
 
 /// A whole number below a limit.
-fn number(part: Part, limit: u64, value: &Value) -> Judged<u64>
+fn number(part: Part, limit: u64, value: &Value) -> OrRefusal<u64>
     ensures value { result ≡ number_in part limit (view value.now) }
     ensures range { IfOk result (λ n. n < limit) }
 {
@@ -40,14 +40,14 @@ fn number(part: Part, limit: u64, value: &Value) -> Judged<u64>
 }
 
 /// A whole number of 32 bits.
-pub fn u32_in(part: Part, value: &Value) -> Judged<u32>
+pub fn u32_in(part: Part, value: &Value) -> OrRefusal<u32>
     ensures { result ≡ u32_in part (view value.now) }
 {
     Ok(number(part, 1 << u32::BITS, value)? as u32)
 }
 
 /// A whole number of 8 bits.
-pub fn u8_in(part: Part, value: &Value) -> Judged<u8>
+pub fn u8_in(part: Part, value: &Value) -> OrRefusal<u8>
     ensures { result ≡ u8_in part (view value.now) }
 {
     Ok(number(part, 1 << u8::BITS, value)? as u8)

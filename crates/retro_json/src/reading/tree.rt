@@ -14,13 +14,13 @@ use crate::fault::{LogFault, Part, Refusal};
 use crate::reading::hex_text::bytes_in;
 use crate::reading::path::path_in;
 use crate::reading::shape::{cells, text};
-use crate::reading::worst::{Judged, both, with_item};
+use crate::reading::worst::{OrRefusal, both, with_item};
 use retro_tree::{Entry, FILE_LIMIT, NoMem, Node, Path, State};
 use serde_json::Value;
 use std::alloc::Global;
 
 /// The file whose bytes a text of hex digits encodes.
-fn file_in(alloc: Global, value: &Value) -> Result<Judged<Entry>, NoMem>
+fn file_in(alloc: Global, value: &Value) -> Result<OrRefusal<Entry>, NoMem>
     ensures { IfOk result (λ entry. entry ≡ file_in (view value.now)) }
 {
     let hex = match text(Part::Tree, value) {
@@ -38,7 +38,7 @@ fn file_in(alloc: Global, value: &Value) -> Result<Judged<Entry>, NoMem>
     }
 }
 
-fn row_of_cells(alloc: Global, cells: &[Value]) -> Result<Judged<(Path, Entry)>, NoMem>
+fn row_of_cells(alloc: Global, cells: &[Value]) -> Result<OrRefusal<(Path, Entry)>, NoMem>
     ensures { IfOk result (λ row. row ≡ row_cells (map view cells.now)) }
 {
     match cells {
@@ -52,7 +52,7 @@ fn row_of_cells(alloc: Global, cells: &[Value]) -> Result<Judged<(Path, Entry)>,
 }
 
 #[tactic(auto, unfolding(crate::specs::TreePart::row_of))]
-fn read_row(alloc: Global, value: &Value) -> Result<Judged<(Path, Entry)>, NoMem>
+fn read_row(alloc: Global, value: &Value) -> Result<OrRefusal<(Path, Entry)>, NoMem>
     ensures { IfOk result (λ row. row ≡ row_of (view value.now)) }
 {
     match cells(Part::Tree, value) {
@@ -62,7 +62,7 @@ fn read_row(alloc: Global, value: &Value) -> Result<Judged<(Path, Entry)>, NoMem
 }
 
 #[tactic(auto, using(crate::proofs::Worst::judging_starts))]
-fn read_rows(alloc: Global, items: &[Value]) -> Result<Judged<Vec<(Path, Entry)>>, NoMem>
+fn read_rows(alloc: Global, items: &[Value]) -> Result<OrRefusal<Vec<(Path, Entry)>>, NoMem>
     ensures { IfOk result (λ rows. seen (λ v. v.items) rows ≡ every row_of (map view items.now)) }
 {
     let mut rows = Ok(Vec::new(alloc));

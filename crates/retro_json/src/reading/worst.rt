@@ -7,7 +7,7 @@ use crate::fault::Refusal;
 use retro_tree::NoMem;
 
 /// What was read, or why it is refused.
-pub type Judged<T> = Result<T, Refusal>;
+pub type OrRefusal<T> = Result<T, Refusal>;
 
 /// The worse of two refusals of one part.
 fn worse(one: Refusal, two: Refusal) -> Refusal
@@ -22,7 +22,7 @@ fn worse(one: Refusal, two: Refusal) -> Refusal
 }
 
 /// Two things, or the worse refusal.
-pub fn both<A: Drop, B: Drop>(one: Judged<A>, two: Judged<B>) -> Judged<(A, B)>
+pub fn both<A: Drop, B: Drop>(one: OrRefusal<A>, two: OrRefusal<B>) -> OrRefusal<(A, B)>
     ensures { result ≡ both one two }
 {
     match (one, two) {
@@ -34,7 +34,10 @@ pub fn both<A: Drop, B: Drop>(one: Judged<A>, two: Judged<B>) -> Judged<(A, B)>
 }
 
 /// Items with one more at the end, or the worse refusal.
-pub fn with_item<T: Drop>(items: Judged<Vec<T>>, item: Judged<T>) -> Result<Judged<Vec<T>>, NoMem>
+pub fn with_item<T: Drop>(
+    items: OrRefusal<Vec<T>>,
+    item: OrRefusal<T>,
+) -> Result<OrRefusal<Vec<T>>, NoMem>
     ensures { IfOk result (λ all. seen (λ v. v.items) all
         ≡ with_item (seen (λ v. v.items) items) item) }
 {

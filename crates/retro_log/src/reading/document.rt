@@ -9,7 +9,7 @@ ghost use Rattle.retro_log.specs.Document.{is_key, only_keys, has_member, member
 ghost use Rattle.retro_log.specs.Document.{first_of, has_form, json_of, state_of};
 ghost use Rattle.retro_json.specs.declared.fault.Refusal.TheVariants.{NotJson};
 
-use retro_json::{Judged, LogFault, Part, Refusal, read_sessions, read_tree};
+use retro_json::{LogFault, OrRefusal, Part, Refusal, read_sessions, read_tree};
 use retro_tree::State;
 use serde_json::{Map, Value};
 use std::alloc::Global;
@@ -34,7 +34,7 @@ fn have_keys(members: &Map<String, Value>, keys: &[&str]) -> bool
 
 /// Whether a value is an object that has no other keys.
 #[tactic(auto, using(crate::proofs::Json::keys_of_members))]
-fn only_keys(keys: &[&str], value: &Value) -> Judged<()>
+fn only_keys(keys: &[&str], value: &Value) -> OrRefusal<()>
     ensures { result ≡ only_keys (map (λ k. k.now) keys.now) (view value.now) }
 {
     let Some(members) = value.as_object() else {
@@ -60,7 +60,7 @@ fn has_members(keys: &[&str], value: &Value) -> bool
 }
 
 /// The value at a key.
-pub fn member<'v>(value: &'v Value, key: &str) -> Judged<&'v Value>
+pub fn member<'v>(value: &'v Value, key: &str) -> OrRefusal<&'v Value>
     ensures { seen (λ v. view v.now) result ≡ member_at key.now (view value.now) }
 {
     match value.get(key) {
@@ -70,7 +70,7 @@ pub fn member<'v>(value: &'v Value, key: &str) -> Judged<&'v Value>
 }
 
 /// The value at a key, taken out of its object.
-pub fn take_member(value: &mut Value, key: &str) -> Judged<Value>
+pub fn take_member(value: &mut Value, key: &str) -> OrRefusal<Value>
     ensures { seen view result ≡ member_at key.now (view value.old) }
 {
     match value.get_mut(key) {
@@ -80,7 +80,7 @@ pub fn take_member(value: &mut Value, key: &str) -> Judged<Value>
 }
 
 /// Whether a value is a version's number.
-fn version_is(version: u64, value: &Value) -> Judged<()>
+fn version_is(version: u64, value: &Value) -> OrRefusal<()>
     ensures { result ≡ version_is version (view value.now) }
 {
     match value.as_u64() {
@@ -92,7 +92,7 @@ fn version_is(version: u64, value: &Value) -> Judged<()>
 
 /// Whether a value is a document of one kind: an object that has these keys, no others, and this
 /// version at one of them.
-pub fn has_form(keys: &[&str], kind: &str, version: u64, value: &Value) -> Judged<()>
+pub fn has_form(keys: &[&str], kind: &str, version: u64, value: &Value) -> OrRefusal<()>
     ensures { result ≡ has_form (map (λ k. k.now) keys.now) kind.now version (view value.now) }
 {
     only_keys(keys, value)?;

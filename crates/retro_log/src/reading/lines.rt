@@ -5,14 +5,18 @@ ghost use Rattle.retro_json.specs.ReadsAs.{ReadsAs, seen};
 ghost use Rattle.retro_json.specs.Steps.{each};
 ghost use Rattle.retro_log.specs.LinesPart.{head_of, line_of, lines_of};
 
-use retro_json::{Judged, LogFault, Part, Refusal, cells, text, u32_in};
+use retro_json::{LogFault, OrRefusal, Part, Refusal, cells, text, u32_in};
 use retro_keep::ScriptLine;
 use retro_tree::{NoMem, Text};
 use serde_json::Value;
 use std::alloc::Global;
 
 /// The number of a line, its session and its text.
-fn head_parts<'v>(number: &Value, sid: &Value, text_value: &'v Value) -> Judged<(u32, u32, &'v str)>
+fn head_parts<'v>(
+    number: &Value,
+    sid: &Value,
+    text_value: &'v Value,
+) -> OrRefusal<(u32, u32, &'v str)>
     ensures { head_of (view number.now) (view sid.now) (view text_value.now)
         ≡ seen (λ h. record { number = h.0; sid = h.1; text = h.2.now }) result }
 {
@@ -31,7 +35,7 @@ pub fn read_head(
     number: &Value,
     sid: &Value,
     text: &Value,
-) -> Result<Judged<ScriptLine>, NoMem>
+) -> Result<OrRefusal<ScriptLine>, NoMem>
     ensures { IfOk result (λ head. head
         ≡ head_of (view number.now) (view sid.now) (view text.now)) }
 {

@@ -7,7 +7,7 @@ ghost use Rattle.retro_log.specs.LogLinesPart.{log_line_cells, log_line_of, log_
 ghost use Rattle.retro_log.specs.LogLinesPart.{with_run};
 
 use crate::reading::lines::read_head;
-use retro_json::{Judged, Part, Refusal, both, cells, hex_field, notes_field, with_item};
+use retro_json::{OrRefusal, Part, Refusal, both, cells, hex_field, notes_field, with_item};
 use retro_keep::{Noted, ScriptLine};
 use retro_tree::NoMem;
 use serde_json::Value;
@@ -19,7 +19,7 @@ fn with_run(
     head: ScriptLine,
     notes: &Value,
     output: &Value,
-) -> Result<Judged<(u32, Noted)>, NoMem>
+) -> Result<OrRefusal<(u32, Noted)>, NoMem>
     ensures { IfOk result (λ line. line
         ≡ with_run head (view notes.now) (view output.now)) }
 {
@@ -38,7 +38,7 @@ fn with_run(
     }
 }
 
-fn line_of_cells(alloc: Global, cells: &[Value]) -> Result<Judged<(u32, Noted)>, NoMem>
+fn line_of_cells(alloc: Global, cells: &[Value]) -> Result<OrRefusal<(u32, Noted)>, NoMem>
     ensures { IfOk result (λ line. line ≡ log_line_cells (map view cells.now)) }
 {
     match cells {
@@ -51,7 +51,7 @@ fn line_of_cells(alloc: Global, cells: &[Value]) -> Result<Judged<(u32, Noted)>,
 }
 
 #[tactic(auto, unfolding(crate::specs::LogLinesPart::log_line_of))]
-fn read_line(alloc: Global, value: &Value) -> Result<Judged<(u32, Noted)>, NoMem>
+fn read_line(alloc: Global, value: &Value) -> Result<OrRefusal<(u32, Noted)>, NoMem>
     ensures { IfOk result (λ line. line ≡ log_line_of (view value.now)) }
 {
     match cells(Part::Lines, value) {
@@ -61,14 +61,14 @@ fn read_line(alloc: Global, value: &Value) -> Result<Judged<(u32, Noted)>, NoMem
 }
 
 /// A line, whose value is freed once it is read.
-fn take_line(alloc: Global, value: Value) -> Result<Judged<(u32, Noted)>, NoMem>
+fn take_line(alloc: Global, value: Value) -> Result<OrRefusal<(u32, Noted)>, NoMem>
     ensures { IfOk result (λ line. line ≡ log_line_of (view value)) }
 {
     read_line(alloc, &value)
 }
 
 #[tactic(auto, using(retro_json::proofs::Worst::taking_starts))]
-fn read_items(alloc: Global, items: Vec<Value>) -> Result<Judged<Vec<(u32, Noted)>>, NoMem>
+fn read_items(alloc: Global, items: Vec<Value>) -> Result<OrRefusal<Vec<(u32, Noted)>>, NoMem>
     ensures { IfOk result (λ lines. seen (λ v. v.items) lines
         ≡ every log_line_of (map view items.items)) }
 {
@@ -83,7 +83,7 @@ fn read_items(alloc: Global, items: Vec<Value>) -> Result<Judged<Vec<(u32, Noted
 /// The lines that a value is, whatever their numbers, their sessions and their changes; or the
 /// worst refusal of the whole list.
 #[tactic(auto, unfolding(crate::specs::LogLinesPart::log_lines_of))]
-pub fn read_log_lines(alloc: Global, value: Value) -> Result<Judged<Vec<(u32, Noted)>>, NoMem>
+pub fn read_log_lines(alloc: Global, value: Value) -> Result<OrRefusal<Vec<(u32, Noted)>>, NoMem>
     ensures { IfOk result (λ lines. seen (λ v. v.items) lines ≡ log_lines_of (view value)) }
 {
     match value {
