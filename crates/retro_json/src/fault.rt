@@ -1,4 +1,4 @@
-//! Why a document isn't read.
+//! The refusals and errors of reading documents.
 ghost use Rattle.std.specs.Prelude.{◌≡◌};
 ghost use Rattle.retro_json.specs.Numbers.{refusal_number};
 ghost use Rattle.retro_json.specs.RecordingFaults.{lines_refusal, recording_fault};
@@ -8,10 +8,10 @@ use retro_keep::{LinesFault, RecordingFault};
 use std::alloc::{AllocError, AllocFailed};
 use thiserror::Error;
 
-/// The part of a document that has a wrong shape.
+/// The part of a document in which a value has a wrong shape.
 #[derive(Clone, Copy, Debug, PartialEq, Eq)]
 pub enum Part {
-    /// The whole document: no object, or a missing key.
+    /// The whole document: it isn't an object, or a key is missing.
     Document,
     /// The version's number.
     Version,
@@ -26,29 +26,30 @@ pub enum Part {
 /// Why a document is refused.
 #[derive(Clone, Copy, Debug, PartialEq, Eq)]
 pub enum Refusal {
-    /// Line numbers don't rise.
+    /// The line numbers don't rise from 1 on.
     NumbersNotRising,
-    /// A line's session is missing among the sessions.
+    /// A line's session isn't one of the document's sessions.
     UnknownSession,
-    /// The directories and files don't make a tree, or a change of a log isn't lawful where it is
-    /// made.
+    /// The directories and files don't make a lawful tree, or a noted change isn't lawful in the
+    /// state that it changes.
     LawlessTree,
     /// A name, a file or a variable's value is too long.
     OverLimit,
-    /// The bytes aren't UTF-8, or the text isn't one JSON value.
+    /// The bytes aren't UTF-8, or the text isn't exactly one JSON value.
     NotJson,
-    /// A value has another shape than its place asks for.
+    /// A value doesn't have the shape that its place requires.
     WrongShape(Part),
-    /// The document has a key that it may not have.
+    /// The document has a key that its kind of document doesn't have.
     UnknownKey,
-    /// A text for bytes isn't pairs of hexadecimal digits.
+    /// A text for bytes isn't a sequence of pairs of hexadecimal digits.
     BadHex,
-    /// The version isn't the one that is read.
+    /// The document's version isn't the supported one.
     BadVersion,
 }
 
 impl Refusal {
-    /// The number under which the program reports this refusal, whatever the part.
+    /// Returns the number under which the program reports this refusal, from 8 to 16. A wrong
+    /// shape has the same number in every part.
     pub fn number(self) -> u8
         ensures { result ≡ refusal_number self }
     {
@@ -66,12 +67,13 @@ impl Refusal {
     }
 }
 
-/// Why a document isn't read.
+/// Why reading a document fails.
 #[derive(Debug, Drop, Error)]
 pub enum LogFault {
+    /// Allocation failed.
     #[error("out of memory")]
     NoMem,
-    /// The document has a fault.
+    /// The document is refused.
     #[error("refused: {0:?}")]
     Refused(Refusal),
 }

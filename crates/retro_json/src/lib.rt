@@ -1,11 +1,13 @@
-//! The JSON values (RFC 8259) that states and notes are written as, and how they are read.
+//! Reads and writes the JSON values (RFC 8259) of states and notes.
 //!
-//! Scripts and logs are made of these values: `retro_log` reads and writes the documents. What is
-//! read is the value that the parts of `specs/` define, or the worst refusal of the part.
-//! [`tree_value`], [`sessions_value`] and [`hex_value`] return the values that
-//! `specs/Values.antt` defines, and [`notes_value`] those of `specs/NoteValues.antt`.
+//! Scripts and logs are made of these values; `retro_log` reads and writes the documents
+//! themselves. A reader returns exactly the value that the definitions in `specs/` give, or a
+//! refusal. If a value has several faults, the refusal is the worst of them. [`tree_value`],
+//! [`sessions_value`] and [`hex_value`] return the values that `specs/Values.antt` defines, and
+//! [`notes_value`] those of `specs/NoteValues.antt`.
 //!
-//! If allocation fails, calls return `NoMem` and leave their arguments unchanged.
+//! If allocation fails, calls return `NoMem`, alone or as a variant of their error, and leave
+//! borrowed arguments unchanged.
 #![tactic(auto)]
 
 mod fault;

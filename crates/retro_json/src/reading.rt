@@ -1,4 +1,4 @@
-//! Reading the values of states and notes.
+//! Reads the JSON values of states and notes.
 mod asked;
 mod fields;
 mod hex_text;

@@ -1,4 +1,4 @@
-//! Writing the values of states and notes.
+//! Writes the JSON values of states and notes.
 mod fields;
 mod notes;
 mod sessions;

@@ -1,4 +1,4 @@
-//! Checking that a recording is one of its lines.
+//! Checks that a recording is one of its own lines.
 ghost use Rattle.std.specs.Prelude.{◌≡◌, IfOk, IsTrue, true};
 ghost use Rattle.std.specs.FinMap as map;
 ghost use Rattle.retro_tree.specs.Lawful.{IsLawful};
@@ -10,8 +10,8 @@ use retro_shell::{apply_notes, run_line};
 use retro_tree::{NoMem, State};
 use std::alloc::Global;
 
-/// Runs each line of a recording in the state before it, and returns whether each notes and prints
-/// just what the recording has. If so, it is a recording of the script that its lines are.
+/// Returns whether each line of a recording, run in the state before it, notes and prints exactly
+/// what the recording has. If so, the recording is one of the script that its lines make.
 pub fn check(alloc: Global, recording: &Recording) -> Result<bool, NoMem>
     ensures { IfOk result (λ yes. yes ≡ true
         → IsRecordingOf (script_in recording.now) recording.now) }
@@ -25,8 +25,8 @@ pub fn check(alloc: Global, recording: &Recording) -> Result<bool, NoMem>
     Ok(true)
 }
 
-/// Runs a line in a state, and returns whether it notes and prints just what is noted. Makes the
-/// noted changes then.
+/// Runs a line in a state, and returns whether it notes and prints exactly what is noted. If so,
+/// the noted changes are made in the state. Otherwise the state is unchanged.
 #[tactic(auto, using(retro_shell::proofs::Sessions::after_notes))]
 fn runs_as_noted(alloc: Global, state: &mut State, noted: &Noted) -> Result<bool, NoMem>
     requires lawful { IsLawful state.old }

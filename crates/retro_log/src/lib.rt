@@ -1,15 +1,18 @@
 //! Documents: JSON texts (RFC 8259) that hold scripts and logs.
 //!
-//! [`read_script`] returns the script that bytes are, or their first refusal: what `script_in` of
-//! `specs/Document.antt` says of the bytes. Each part of a document is tested as a whole before the
-//! next part, and of the refusals of a part the worst counts.
+//! [`read_script`] and [`read_log`] return the script or the recording that a document holds, or
+//! the first refusal, as `specs/Document.antt` defines both. They validate each part of a document
+//! as a whole before the next part. If the tree, the sessions or the lines have several faults,
+//! the refusal is the worst of that part.
 //!
-//! [`write_log`] returns the log of a recording, as `specs/LogText.antt` defines it.
+//! [`write_log`] returns the log of a recording, as `specs/LogText.antt` defines it. [`check`]
+//! tests whether a recording is one of its own lines.
 //!
 //! Documents and reports are made of the JSON values of states and notes, which `retro_json` reads
-//! and writes. What reports need of them is handed out here.
+//! and writes. This crate exports those that reports need.
 //!
-//! If allocation fails, calls return `NoMem` and leave their arguments unchanged.
+//! If allocation fails, calls return `NoMem`, alone or as a variant of their error, and leave
+//! borrowed arguments unchanged.
 #![tactic(auto)]
 
 mod checking;

@@ -1,4 +1,4 @@
-//! Reading documents.
+//! Reads documents.
 mod document;
 mod lines;
 mod log;

@@ -1,4 +1,4 @@
-//! Writing logs.
+//! Writes logs.
 mod line;
 mod log;
 

@@ -1,4 +1,4 @@
-//! Notes of queries with their answers.
+//! Reads notes of queries: each is an array of a tag, the query's fields and the answer.
 ghost use Rattle.std.specs.Prelude.{◌≡◌, IfOk, map};
 ghost use Rattle.serde_json.specs.View.{view};
 ghost use Rattle.retro_json.specs.NotesPart.{bytes_cells, can_write_cells, cwd_cells, kind_cells};
@@ -15,7 +15,7 @@ use retro_tree::{Answer, Ask, NoMem, Note};
 use serde_json::Value;
 use std::alloc::Global;
 
-/// `["kind",path,"missing"|"dir"|"file"]`, without its tag.
+/// Reads the note `["kind",path,"missing"|"dir"|"file"]`. `rest` is what follows the tag.
 pub fn kind_note(alloc: Global, rest: &[Value]) -> Result<OrRefusal<Note>, NoMem>
     ensures { IfOk result (λ note. note ≡ kind_cells (map view rest.now)) }
 {
@@ -28,7 +28,7 @@ pub fn kind_note(alloc: Global, rest: &[Value]) -> Result<OrRefusal<Note>, NoMem
     }
 }
 
-/// `["bytes",path,node]`, without its tag.
+/// Reads the note `["bytes",path,node]`. `rest` is what follows the tag.
 pub fn bytes_note(alloc: Global, rest: &[Value]) -> Result<OrRefusal<Note>, NoMem>
     ensures { IfOk result (λ note. note ≡ bytes_cells (map view rest.now)) }
 {
@@ -41,7 +41,7 @@ pub fn bytes_note(alloc: Global, rest: &[Value]) -> Result<OrRefusal<Note>, NoMe
     }
 }
 
-/// `["names",path,null|[name,..]]`, without its tag.
+/// Reads the note `["names",path,null|[name,..]]`. `rest` is what follows the tag.
 pub fn names_note(alloc: Global, rest: &[Value]) -> Result<OrRefusal<Note>, NoMem>
     ensures { IfOk result (λ note. note ≡ names_cells (map view rest.now)) }
 {
@@ -57,7 +57,8 @@ pub fn names_note(alloc: Global, rest: &[Value]) -> Result<OrRefusal<Note>, NoMe
     }
 }
 
-/// `["canwrite",path,n,"yes"|"noparent"|"notdir"|"isdir"|"toolarge"]`, without its tag.
+/// Reads the note `["canwrite",path,n,"yes"|"noparent"|"notdir"|"isdir"|"toolarge"]`, where `n` is
+/// a number of bytes. `rest` is what follows the tag.
 pub fn can_write_note(alloc: Global, rest: &[Value]) -> Result<OrRefusal<Note>, NoMem>
     ensures { IfOk result (λ note. note ≡ can_write_cells (map view rest.now)) }
 {
@@ -76,7 +77,7 @@ pub fn can_write_note(alloc: Global, rest: &[Value]) -> Result<OrRefusal<Note>, 
     }
 }
 
-/// `["user",name,null|[number,home]]`, without its tag.
+/// Reads the note `["user",name,null|[number,home]]`. `rest` is what follows the tag.
 pub fn user_note(alloc: Global, rest: &[Value]) -> Result<OrRefusal<Note>, NoMem>
     ensures { IfOk result (λ note. note ≡ user_note_cells (map view rest.now)) }
 {
@@ -92,7 +93,7 @@ pub fn user_note(alloc: Global, rest: &[Value]) -> Result<OrRefusal<Note>, NoMem
     }
 }
 
-/// `["var",name,null|value]`, without its tag.
+/// Reads the note `["var",name,null|value]` of a session. `rest` is what follows the tag.
 pub fn var_note(alloc: Global, sid: u32, rest: &[Value]) -> Result<OrRefusal<Note>, NoMem>
     ensures { IfOk result (λ note. note ≡ var_cells sid (map view rest.now)) }
 {
@@ -108,7 +109,7 @@ pub fn var_note(alloc: Global, sid: u32, rest: &[Value]) -> Result<OrRefusal<Not
     }
 }
 
-/// `["cwd",path]`, without its tag.
+/// Reads the note `["cwd",path]` of a session. `rest` is what follows the tag.
 pub fn cwd_note(alloc: Global, sid: u32, rest: &[Value]) -> Result<OrRefusal<Note>, NoMem>
     ensures { IfOk result (λ note. note ≡ cwd_cells sid (map view rest.now)) }
 {
@@ -121,7 +122,7 @@ pub fn cwd_note(alloc: Global, sid: u32, rest: &[Value]) -> Result<OrRefusal<Not
     }
 }
 
-/// `["status",n]`, without its tag.
+/// Reads the note `["status",n]` of a session. `rest` is what follows the tag.
 pub fn status_note(sid: u32, rest: &[Value]) -> OrRefusal<Note>
     ensures { result ≡ status_cells sid (map view rest.now) }
 {

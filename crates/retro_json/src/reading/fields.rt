@@ -1,4 +1,4 @@
-//! What the notes of a log are made of: paths, nodes, listings, users and variables.
+//! Reads the fields of notes: paths, nodes, listings, users and variables.
 ghost use Rattle.std.specs.Prelude.{◌≡◌, IfOk, map, true};
 ghost use Rattle.serde_json.specs.View.{view};
 ghost use Rattle.retro_json.specs.ReadsAs.{seen};
@@ -24,7 +24,7 @@ use retro_tree::{
 use serde_json::Value;
 use std::alloc::Global;
 
-/// What a value is, or `None` where it is `null`.
+/// Returns `None` if the value is `null`, whatever `field` is, and otherwise what `field` holds.
 pub fn or_null<T: Drop>(value: &Value, field: OrRefusal<T>) -> OrRefusal<Option<T>>
     ensures { result ≡ or_null (λ _. field) (view value.now) }
 {
@@ -34,7 +34,7 @@ pub fn or_null<T: Drop>(value: &Value, field: OrRefusal<T>) -> OrRefusal<Option<
     Ok(Some(field?))
 }
 
-/// A text.
+/// Reads a text of any length.
 pub fn text_field(alloc: Global, value: &Value) -> Result<OrRefusal<Text>, NoMem>
     ensures { IfOk result (λ text. text ≡ text_in Lines (view value.now)) }
 {
@@ -44,7 +44,7 @@ pub fn text_field(alloc: Global, value: &Value) -> Result<OrRefusal<Text>, NoMem
     }
 }
 
-/// Bytes, as hex digits of either case.
+/// Reads bytes from a text of hexadecimal digits of either case.
 pub fn hex_field(alloc: Global, value: &Value) -> Result<OrRefusal<Bytes>, NoMem>
     ensures { IfOk result (λ bytes. bytes ≡ hex_field (view value.now)) }
 {
@@ -54,14 +54,14 @@ pub fn hex_field(alloc: Global, value: &Value) -> Result<OrRefusal<Bytes>, NoMem
     }
 }
 
-/// A path.
+/// Reads a path.
 pub fn path_field(alloc: Global, value: &Value) -> Result<OrRefusal<Path>, NoMem>
     ensures { IfOk result (λ path. path ≡ path_field (view value.now)) }
 {
     path_in(alloc, Part::Lines, value)
 }
 
-/// A text that may be written as a name in a path.
+/// Returns the text of a value if it may be written as a name in a path.
 fn written_name(value: &Value) -> OrRefusal<&str>
     ensures value { seen (λ name. name.now) result ≡ written_name (view value.now) }
     ensures written { IfOk result (λ name. is_written_name name.now ≡ true) }
@@ -74,7 +74,7 @@ fn written_name(value: &Value) -> OrRefusal<&str>
     }
 }
 
-/// A name in a listing.
+/// Reads a name of a listing.
 #[tactic(auto, using(crate::proofs::Names::name_fits))]
 fn name_field(alloc: Global, value: &Value) -> Result<OrRefusal<Name>, NoMem>
     ensures { IfOk result (λ name. name ≡ name_field (view value.now)) }
@@ -88,6 +88,7 @@ fn name_field(alloc: Global, value: &Value) -> Result<OrRefusal<Name>, NoMem>
     }
 }
 
+/// Reads names of a listing, or returns their worst refusal.
 fn read_names(alloc: Global, items: &[Value]) -> Result<OrRefusal<Vec<Name>>, NoMem>
     ensures { IfOk result (λ names. seen (λ v. v.items) names
         ≡ every name_field (map view items.now)) }
@@ -100,7 +101,7 @@ fn read_names(alloc: Global, items: &[Value]) -> Result<OrRefusal<Vec<Name>>, No
     Ok(names)
 }
 
-/// The names in a directory, in any order.
+/// Reads `[name,..]`: the names in a directory, in any order.
 #[tactic(auto, unfolding(crate::specs::LogFields::listing_field))]
 pub fn listing_field(alloc: Global, value: &Value) -> Result<OrRefusal<Listing>, NoMem>
     ensures { IfOk result (λ names. names ≡ listing_field (view value.now)) }
@@ -115,7 +116,7 @@ pub fn listing_field(alloc: Global, value: &Value) -> Result<OrRefusal<Listing>,
     }
 }
 
-/// The kind of a node, by its name.
+/// Reads the kind of a node: `"missing"`, `"dir"` or `"file"`.
 #[tactic(auto, unfolding(crate::specs::LogFields::kind_field))]
 pub fn kind_field(value: &Value) -> OrRefusal<Kind>
     ensures { result ≡ kind_field (view value.now) }
@@ -128,7 +129,7 @@ pub fn kind_field(value: &Value) -> OrRefusal<Kind>
     }
 }
 
-/// Whether bytes can be written, by the name of the answer.
+/// Reads the answer to a query whether bytes can be written: `"yes"`, or why they can't.
 #[tactic(auto, unfolding(crate::specs::LogFields::permit_field))]
 pub fn permit_field(value: &Value) -> OrRefusal<Permit>
     ensures { result ≡ permit_field (view value.now) }
@@ -143,7 +144,7 @@ pub fn permit_field(value: &Value) -> OrRefusal<Permit>
     }
 }
 
-/// A file of these bytes.
+/// Reads a file from its bytes in hexadecimal digits. Refuses a file over `FILE_LIMIT`.
 fn file_field(alloc: Global, value: &Value) -> Result<OrRefusal<Node>, NoMem>
     ensures { IfOk result (λ node. node ≡ file_field (view value.now)) }
 {
@@ -159,6 +160,7 @@ fn file_field(alloc: Global, value: &Value) -> Result<OrRefusal<Node>, NoMem>
     }
 }
 
+/// Reads the node `["d"]` or `["f","hex"]`. `rest` is what follows the tag.
 fn tagged_node(alloc: Global, tag: &str, rest: &[Value]) -> Result<OrRefusal<Node>, NoMem>
     ensures { IfOk result (λ node. node ≡ tagged_node tag.now (map view rest.now)) }
 {
@@ -181,6 +183,7 @@ fn tagged_node(alloc: Global, tag: &str, rest: &[Value]) -> Result<OrRefusal<Nod
     }
 }
 
+/// Reads a node from the items of its array.
 fn node_of_cells(alloc: Global, cells: &[Value]) -> Result<OrRefusal<Node>, NoMem>
     ensures { IfOk result (λ node. node ≡ node_cells (map view cells.now)) }
 {
@@ -193,7 +196,7 @@ fn node_of_cells(alloc: Global, cells: &[Value]) -> Result<OrRefusal<Node>, NoMe
     }
 }
 
-/// A node: `[]` for a missing one, `["d"]` or `["f","hex"]`.
+/// Reads a node: `[]` for a missing one, `["d"]` for a directory, `["f","hex"]` for a file.
 #[tactic(auto, unfolding(crate::specs::LogFields::node_field))]
 pub fn node_field(alloc: Global, value: &Value) -> Result<OrRefusal<Node>, NoMem>
     ensures { IfOk result (λ node. node ≡ node_field (view value.now)) }
@@ -204,7 +207,7 @@ pub fn node_field(alloc: Global, value: &Value) -> Result<OrRefusal<Node>, NoMem
     }
 }
 
-/// The number of a user, and the text of the home directory.
+/// Returns the number of a user and the text of the home directory, from the items of the array.
 fn user_parts(cells: &[Value]) -> OrRefusal<(u32, &str)>
     ensures { user_cells (map view cells.now)
         ≡ seen (λ parts. record { number = parts.0; home = parts.1.now }) result }
@@ -218,7 +221,7 @@ fn user_parts(cells: &[Value]) -> OrRefusal<(u32, &str)>
     }
 }
 
-/// What the password file says of a user: `[number,home]`.
+/// Reads what the password file says of a user: `[number,home]`.
 #[tactic(auto, unfolding(crate::specs::LogFields::user_field))]
 pub fn user_field(alloc: Global, value: &Value) -> Result<OrRefusal<User>, NoMem>
     ensures { IfOk result (λ user. user ≡ user_field (view value.now)) }
@@ -236,7 +239,7 @@ pub fn user_field(alloc: Global, value: &Value) -> Result<OrRefusal<User>, NoMem
     }
 }
 
-/// The name of a variable that a line may assign.
+/// Reads the name of a variable that a line may assign.
 pub fn var_field(alloc: Global, value: &Value) -> Result<OrRefusal<VarName>, NoMem>
     ensures { IfOk result (λ name. name ≡ var_field (view value.now)) }
 {
@@ -249,7 +252,7 @@ pub fn var_field(alloc: Global, value: &Value) -> Result<OrRefusal<VarName>, NoM
     }
 }
 
-/// The value of a variable.
+/// Reads the value of a variable. Refuses a value over `VALUE_LIMIT`.
 pub fn value_field(alloc: Global, value: &Value) -> Result<OrRefusal<Text>, NoMem>
     ensures { IfOk result (λ text. text ≡ value_field (view value.now)) }
 {

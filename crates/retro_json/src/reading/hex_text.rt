@@ -1,4 +1,4 @@
-//! Bytes as documents write them.
+//! Reads bytes as documents write them: as hexadecimal digits.
 ghost use Rattle.std.specs.Prelude.{◌≡◌, IfOk};
 ghost use Rattle.retro_json.specs.TreePart.{bytes_in};
 
@@ -6,7 +6,8 @@ use hex::FromHexError;
 use retro_tree::{Bytes, NoMem};
 use std::alloc::{AllocError, Global};
 
-/// The bytes that hex digits of either case encode, or `None` if they are bad.
+/// Returns the bytes that pairs of hexadecimal digits of either case encode, or `None` if the text
+/// isn't such pairs.
 pub fn bytes_in(alloc: Global, hex: &str) -> Result<Option<Bytes>, NoMem>
     ensures { IfOk result (λ bytes. bytes ≡ bytes_in hex.now) }
 {

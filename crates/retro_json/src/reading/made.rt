@@ -1,4 +1,4 @@
-//! Notes of changes.
+//! Reads notes of changes: each is an array of a tag and the change's fields.
 ghost use Rattle.std.specs.Prelude.{◌≡◌, IfOk, map};
 ghost use Rattle.serde_json.specs.View.{view};
 ghost use Rattle.retro_json.specs.NotesPart.{grow_cells, put_cells, set_cwd_cells};
@@ -12,7 +12,7 @@ use retro_tree::{Change, NoMem, Note};
 use serde_json::Value;
 use std::alloc::Global;
 
-/// `["put",path,node]`, without its tag.
+/// Reads the note `["put",path,node]`. `rest` is what follows the tag.
 pub fn put_note(alloc: Global, rest: &[Value]) -> Result<OrRefusal<Note>, NoMem>
     ensures { IfOk result (λ note. note ≡ put_cells (map view rest.now)) }
 {
@@ -25,7 +25,7 @@ pub fn put_note(alloc: Global, rest: &[Value]) -> Result<OrRefusal<Note>, NoMem>
     }
 }
 
-/// `["grow",path,"hex"]`, without its tag.
+/// Reads the note `["grow",path,"hex"]`. `rest` is what follows the tag.
 pub fn grow_note(alloc: Global, rest: &[Value]) -> Result<OrRefusal<Note>, NoMem>
     ensures { IfOk result (λ note. note ≡ grow_cells (map view rest.now)) }
 {
@@ -38,7 +38,7 @@ pub fn grow_note(alloc: Global, rest: &[Value]) -> Result<OrRefusal<Note>, NoMem
     }
 }
 
-/// `["setvar",name,value]`, without its tag.
+/// Reads the note `["setvar",name,value]` of a session. `rest` is what follows the tag.
 pub fn set_var_note(alloc: Global, sid: u32, rest: &[Value]) -> Result<OrRefusal<Note>, NoMem>
     ensures { IfOk result (λ note. note ≡ set_var_cells sid (map view rest.now)) }
 {
@@ -51,7 +51,7 @@ pub fn set_var_note(alloc: Global, sid: u32, rest: &[Value]) -> Result<OrRefusal
     }
 }
 
-/// `["setcwd",path]`, without its tag.
+/// Reads the note `["setcwd",path]` of a session. `rest` is what follows the tag.
 pub fn set_cwd_note(alloc: Global, sid: u32, rest: &[Value]) -> Result<OrRefusal<Note>, NoMem>
     ensures { IfOk result (λ note. note ≡ set_cwd_cells sid (map view rest.now)) }
 {
@@ -64,7 +64,7 @@ pub fn set_cwd_note(alloc: Global, sid: u32, rest: &[Value]) -> Result<OrRefusal
     }
 }
 
-/// `["setstatus",n]`, without its tag.
+/// Reads the note `["setstatus",n]` of a session. `rest` is what follows the tag.
 pub fn set_status_note(sid: u32, rest: &[Value]) -> OrRefusal<Note>
     ensures { result ≡ set_status_cells sid (map view rest.now) }
 {

@@ -1,4 +1,4 @@
-//! Reading the notes of a line in a log.
+//! Reads the notes of a line in a log.
 ghost use Rattle.std.specs.Prelude.{◌≡◌, IfOk, map};
 ghost use Rattle.serde_json.specs.View.{view};
 ghost use Rattle.retro_json.specs.ReadsAs.{seen};
@@ -16,7 +16,7 @@ use retro_tree::{NoMem, Note, Notes};
 use serde_json::Value;
 use std::alloc::Global;
 
-/// The note of a session that has this tag, with what follows the tag.
+/// Reads the note of a session that has this tag. `rest` is what follows the tag.
 #[tactic(auto, unfolding(crate::specs::NotesPart::tagged_note))]
 fn tagged_note(alloc: Global, sid: u32, tag: &str, rest: &[Value]) -> Result<OrRefusal<Note>, NoMem>
     ensures { IfOk result (λ note. note ≡ tagged_note sid tag.now (map view rest.now)) }
@@ -39,6 +39,7 @@ fn tagged_note(alloc: Global, sid: u32, tag: &str, rest: &[Value]) -> Result<OrR
     }
 }
 
+/// Reads a note from the items of its array.
 fn note_of_cells(alloc: Global, sid: u32, cells: &[Value]) -> Result<OrRefusal<Note>, NoMem>
     ensures { IfOk result (λ note. note ≡ note_cells sid (map view cells.now)) }
 {
@@ -51,6 +52,7 @@ fn note_of_cells(alloc: Global, sid: u32, cells: &[Value]) -> Result<OrRefusal<N
     }
 }
 
+/// Reads a note of a session.
 #[tactic(auto, unfolding(crate::specs::NotesPart::note_of))]
 fn read_note(alloc: Global, sid: u32, value: &Value) -> Result<OrRefusal<Note>, NoMem>
     ensures { IfOk result (λ note. note ≡ note_of sid (view value.now)) }
@@ -61,6 +63,7 @@ fn read_note(alloc: Global, sid: u32, value: &Value) -> Result<OrRefusal<Note>, 
     }
 }
 
+/// Reads notes of a session, or returns their worst refusal.
 #[tactic(auto, using(crate::proofs::Worst::judging_starts))]
 fn read_items(alloc: Global, sid: u32, items: &[Value]) -> Result<OrRefusal<Vec<Note>>, NoMem>
     ensures { IfOk result (λ notes. seen (λ v. v.items) notes
@@ -74,7 +77,7 @@ fn read_items(alloc: Global, sid: u32, items: &[Value]) -> Result<OrRefusal<Vec<
     Ok(notes)
 }
 
-/// The notes of a line of this session, or the worst refusal of all.
+/// Reads the notes of a line of this session, or returns their worst refusal.
 #[tactic(auto, unfolding(crate::specs::NotesPart::notes_field))]
 pub fn notes_field(alloc: Global, sid: u32, value: &Value) -> Result<OrRefusal<Notes>, NoMem>
     ensures { IfOk result (λ notes. notes ≡ notes_field sid (view value.now)) }

@@ -1,4 +1,4 @@
-//! Paths as documents write them.
+//! Reads paths as documents write them: `/a/b`, and `/` for the root.
 ghost use Rattle.std.specs.Prelude.{◌≡◌, ◌==◌, map, IfOk, option_map, if◌then◌else◌};
 ghost use Rattle.std.specs.List.{list_all, slice_split};
 ghost use Rattle.serde_json.specs.View.{view};
@@ -13,13 +13,14 @@ use retro_tree::{Name, NoMem, Path};
 use serde_json::Value;
 use std::alloc::Global;
 
-/// The byte between the names of a path.
+/// The byte before each name of a path.
 const SLASH: u8 = b'/';
 
-/// The byte that no name has.
+/// The byte that no written name contains.
 const NUL: u8 = 0;
 
-/// Whether a text may be written as a name in a path.
+/// Returns whether a text may be written as a name in a path: it isn't empty, `.` or `..`, and has
+/// neither a slash nor a NUL. Its length isn't tested.
 #[tactic(auto, unfolding(crate::specs::PathText::is_written_name))]
 pub fn is_written_name(name: &str) -> bool
     ensures { result ≡ is_written_name name.now }
@@ -30,6 +31,7 @@ pub fn is_written_name(name: &str) -> bool
         && !name.as_bytes().contains(&NUL)
 }
 
+/// Returns whether each text may be written as a name in a path.
 fn are_written(names: &[&str]) -> bool
     ensures { result ≡ list_all is_written_name (map (λ name. name.now) names.now) }
 {
@@ -41,7 +43,7 @@ fn are_written(names: &[&str]) -> bool
     true
 }
 
-/// The texts before, between and after the slashes of a text.
+/// Splits a text at its slashes. Returns the parts, empty ones too.
 fn split_path(alloc: Global, text: &str) -> Result<Vec<&str>, NoMem>
     ensures { IfOk result (λ parts.
         map (λ part. part.now) parts.items ≡ slice_split (λ b. b == SLASH) text.now) }
@@ -49,7 +51,8 @@ fn split_path(alloc: Global, text: &str) -> Result<Vec<&str>, NoMem>
     text.split('/').collect(alloc)
 }
 
-/// What stands for names in the parts of a path's text.
+/// Returns the names of a path, from the parts of its text: all parts after the first slash, or
+/// none for the root. Returns `None` if the text doesn't begin with a slash.
 fn names_of_parts<'p, 't>(parts: &'p [&'t str]) -> Option<&'p [&'t str]>
     ensures { option_map (λ names. map (λ name. name.now) names.now) result
         ≡ names_of_parts (map (λ part. part.now) parts.now) }
@@ -64,7 +67,7 @@ fn names_of_parts<'p, 't>(parts: &'p [&'t str]) -> Option<&'p [&'t str]>
     }
 }
 
-/// Whether no name has a NUL.
+/// Returns whether no name has a NUL.
 fn have_no_nul(names: &[Name]) -> bool
     ensures { result ≡ have_no_nul names.now }
 {
@@ -76,7 +79,8 @@ fn have_no_nul(names: &[Name]) -> bool
     true
 }
 
-/// Why names that make no path are refused: one isn't written as a name, or else one is too long.
+/// Returns why names that don't make a path are refused: a wrong shape if one may not be written
+/// as a name, and otherwise a broken limit, because one is too long.
 fn names_fault(part: Part, names: &[&str]) -> Refusal
     ensures { result ≡ (if list_all is_written_name (map (λ name. name.now) names.now)
         then OverLimit else WrongShape part) }
@@ -88,7 +92,8 @@ fn names_fault(part: Part, names: &[&str]) -> Refusal
     }
 }
 
-/// The path of these names. `Path` tests them: only if they make none is it asked why.
+/// Returns the path of these names, or why they are refused. The names are tested one by one only
+/// if `Path::of` makes no path of them.
 fn path_of(alloc: Global, part: Part, names: &[&str]) -> Result<OrRefusal<Path>, NoMem>
     ensures { IfOk result (λ path. path ≡ path_of part (map (λ name. name.now) names.now)) }
 {
@@ -108,7 +113,7 @@ fn path_of(alloc: Global, part: Part, names: &[&str]) -> Result<OrRefusal<Path>,
     }
 }
 
-/// The path that a text names.
+/// Reads the path that a text names. `part` is the part of the document that a wrong shape names.
 #[tactic(auto, unfolding(crate::specs::PathText::path_in, crate::specs::PathText::names_in))]
 pub fn path_in(alloc: Global, part: Part, value: &Value) -> Result<OrRefusal<Path>, NoMem>
     ensures { IfOk result (λ path. path ≡ path_in part (view value.now)) }

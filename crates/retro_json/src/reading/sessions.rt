@@ -1,4 +1,4 @@
-//! Reading the sessions.
+//! Reads the sessions of a document: a list of `[sid,cwd,status,[[name,value],..]]`.
 ghost use Rattle.std.specs.Prelude.{◌≡◌, map, IfOk, option_map, true};
 ghost use Rattle.std.specs.Ordering.{nat_cmp};
 ghost use Rattle.std.specs.FinMap as map;
@@ -24,21 +24,27 @@ use serde_json::Value;
 use std::alloc::Global;
 use std::collections::{BTreeMap, BTreeSet};
 
-/// What a session is made of.
+/// The working directory, the status and the variables of a session.
 #[derive(Drop)]
 pub struct SessionParts {
+    /// The working directory.
     pub cwd: Path,
+    /// The status of the last line.
     pub status: u8,
+    /// The values of the variables, by name.
     pub vars: BTreeMap<VarName, Text>,
 }
 
-/// A row: the number of a session, and the session or its worst refusal.
+/// A row of the list: the number of a session, and the session or its worst refusal.
 #[derive(Drop)]
 pub struct Row {
+    /// The number of the session.
     pub sid: u32,
+    /// The session, or its worst refusal.
     pub session: OrRefusal<SessionParts>,
 }
 
+/// Reads a variable from the items of its array.
 fn var_of_cells(alloc: Global, cells: &[Value]) -> Result<OrRefusal<(VarName, Text)>, NoMem>
     ensures { IfOk result (λ var. var ≡ var_cells (map view cells.now)) }
 {
@@ -54,6 +60,7 @@ fn var_of_cells(alloc: Global, cells: &[Value]) -> Result<OrRefusal<(VarName, Te
     }
 }
 
+/// Reads a variable: `[name,value]`. The length of the value isn't tested.
 #[tactic(auto, unfolding(crate::specs::SessionsPart::var_of))]
 fn read_var(alloc: Global, value: &Value) -> Result<OrRefusal<(VarName, Text)>, NoMem>
     ensures { IfOk result (λ var. var ≡ var_of (view value.now)) }
@@ -64,6 +71,7 @@ fn read_var(alloc: Global, value: &Value) -> Result<OrRefusal<(VarName, Text)>, 
     }
 }
 
+/// Reads variables, or returns their worst refusal.
 #[tactic(auto, using(crate::proofs::Worst::judging_starts))]
 fn read_vars(alloc: Global, items: &[Value]) -> Result<OrRefusal<Vec<(VarName, Text)>>, NoMem>
     ensures { IfOk result (λ vars. seen (λ v. v.items) vars ≡ every var_of (map view items.now)) }
@@ -76,7 +84,7 @@ fn read_vars(alloc: Global, items: &[Value]) -> Result<OrRefusal<Vec<(VarName, T
     Ok(vars)
 }
 
-/// The map of the variables, or `None` if two have one name.
+/// Returns the map of the variables, or `None` if two have the same name.
 fn var_map(
     alloc: Global,
     vars: Vec<(VarName, Text)>,
@@ -96,7 +104,7 @@ fn var_map(
     Ok(Some(values))
 }
 
-/// Whether each value is within the limit.
+/// Returns whether each value has at most `VALUE_LIMIT` bytes.
 fn values_fit(vars: &BTreeMap<VarName, Text>) -> bool
     ensures { result ≡ values_fit (map.from_entries vars.now.entries) }
 {
@@ -108,7 +116,8 @@ fn values_fit(vars: &BTreeMap<VarName, Text>) -> bool
     true
 }
 
-/// The map of variables whose names differ and whose values are within the limit.
+/// Returns the map of the variables. Refuses two variables of the same name, and then a value over
+/// `VALUE_LIMIT`.
 fn fitting_map(
     alloc: Global,
     vars: Vec<(VarName, Text)>,
@@ -128,7 +137,7 @@ fn fitting_map(
     }
 }
 
-/// The variables of a session.
+/// Reads the variables of a session.
 #[tactic(auto, unfolding(crate::specs::SessionsPart::vars_of))]
 fn vars_in(alloc: Global, value: &Value) -> Result<OrRefusal<BTreeMap<VarName, Text>>, NoMem>
     ensures { IfOk result (λ read. seen (λ values. map.from_entries values.entries) read
@@ -144,7 +153,8 @@ fn vars_in(alloc: Global, value: &Value) -> Result<OrRefusal<BTreeMap<VarName, T
     }
 }
 
-/// What a session is made of, or the worst refusal.
+/// Reads a session from its working directory, its status and its variables, or returns their
+/// worst refusal.
 fn session_in(
     alloc: Global,
     cwd: &Value,
@@ -162,6 +172,7 @@ fn session_in(
     }
 }
 
+/// Reads a row from the items of its array.
 fn row_of_cells(alloc: Global, cells: &[Value]) -> Result<OrRefusal<Row>, NoMem>
     ensures { IfOk result (λ row. seen row_view row ≡ row_cells (map view cells.now)) }
 {
@@ -177,6 +188,8 @@ fn row_of_cells(alloc: Global, cells: &[Value]) -> Result<OrRefusal<Row>, NoMem>
     }
 }
 
+/// Reads a row. A fault of the session itself is kept in the row, so that the rows' numbers can be
+/// compared first.
 #[tactic(auto, unfolding(crate::specs::SessionsPart::row_of))]
 fn read_row(alloc: Global, value: &Value) -> Result<OrRefusal<Row>, NoMem>
     ensures { IfOk result (λ row. seen row_view row ≡ row_of (view value.now)) }
@@ -187,6 +200,7 @@ fn read_row(alloc: Global, value: &Value) -> Result<OrRefusal<Row>, NoMem>
     }
 }
 
+/// Reads rows, or returns the worst refusal of their shapes and numbers.
 #[tactic(auto, using(crate::proofs::Worst::judging_starts))]
 fn read_rows(alloc: Global, items: &[Value]) -> Result<OrRefusal<Vec<Row>>, NoMem>
     ensures { IfOk result (λ rows. seen (λ v. map row_view v.items) rows
@@ -200,7 +214,7 @@ fn read_rows(alloc: Global, items: &[Value]) -> Result<OrRefusal<Vec<Row>>, NoMe
     Ok(rows)
 }
 
-/// Whether no two rows have one number.
+/// Returns whether all rows have different numbers.
 fn are_distinct(alloc: Global, rows: &[Row]) -> Result<bool, NoMem>
     ensures { IfOk result (λ distinct. distinct
         ≡ are_distinct nat_cmp (keys_of (map row_view rows.now))) }
@@ -214,7 +228,8 @@ fn are_distinct(alloc: Global, rows: &[Row]) -> Result<bool, NoMem>
     Ok(true)
 }
 
-/// A state with one more session, or the worse refusal.
+/// Returns the state with the session of a row added, or the worse of the refusals of the state
+/// and the session.
 fn with_row(state: OrRefusal<State>, row: Row) -> Result<OrRefusal<State>, NoMem>
     ensures { IfOk result (λ more. more ≡ seen (λ p. put_session row.sid p.1 p.0)
         (both state (seen session_view row.session))) }
@@ -229,7 +244,8 @@ fn with_row(state: OrRefusal<State>, row: Row) -> Result<OrRefusal<State>, NoMem
     }
 }
 
-/// A state without sessions, with the sessions of these rows added, or the worst refusal.
+/// Returns a state without sessions, with the sessions of these rows added, or the worst refusal
+/// of the sessions.
 fn state_with_rows(state: State, rows: Vec<Row>) -> Result<OrRefusal<State>, NoMem>
     requires none { state.sessions ≡ map.empty }
     requires distinct { are_distinct nat_cmp (keys_of (map row_view rows.items)) ≡ true }
@@ -244,7 +260,9 @@ fn state_with_rows(state: State, rows: Vec<Row>) -> Result<OrRefusal<State>, NoM
     Ok(whole)
 }
 
-/// A state without sessions, with the sessions that a value is added.
+/// Adds the sessions that a value lists to a state without sessions, and returns that state.
+/// Refuses a wrong shape or a number that is listed twice, and then a session that breaks a limit.
+/// The tree is unchanged.
 #[tactic(auto, unfolding(crate::specs::SessionsPart::sessions_of))]
 pub fn read_sessions(alloc: Global, state: State, value: &Value) -> Result<State, LogFault>
     requires none { state.sessions ≡ map.empty }

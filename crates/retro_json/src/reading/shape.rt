@@ -1,4 +1,4 @@
-//! JSON values of one shape.
+//! Reads JSON values of one shape. `part` is the part of the document that a wrong shape names.
 ghost use Rattle.std.specs.Prelude.{◌≡◌, ◌<◌, IfOk, map};
 ghost use Rattle.serde_json.specs.View.{view};
 ghost use Rattle.retro_json.specs.ReadsAs.{seen};
@@ -8,7 +8,7 @@ use crate::fault::{Part, Refusal};
 use crate::reading::worst::OrRefusal;
 use serde_json::Value;
 
-/// The items of an array.
+/// Returns the items of an array. Refuses any other value.
 pub fn cells(part: Part, value: &Value) -> OrRefusal<&[Value]>
     ensures { seen (λ items. map view items.now) result ≡ cells part (view value.now) }
 {
@@ -18,7 +18,7 @@ pub fn cells(part: Part, value: &Value) -> OrRefusal<&[Value]>
     }
 }
 
-/// A text.
+/// Returns the text of a string. Refuses any other value.
 pub fn text(part: Part, value: &Value) -> OrRefusal<&str>
     ensures { seen (λ text. text.now) result ≡ text_in part (view value.now) }
 {
@@ -28,7 +28,7 @@ pub fn text(part: Part, value: &Value) -> OrRefusal<&str>
     }
 }
 
-/// A whole number below a limit.
+/// Returns a whole number below `limit`. Refuses any other value.
 fn number(part: Part, limit: u64, value: &Value) -> OrRefusal<u64>
     ensures value { result ≡ number_in part limit (view value.now) }
     ensures range { IfOk result (λ n. n < limit) }
@@ -39,14 +39,14 @@ fn number(part: Part, limit: u64, value: &Value) -> OrRefusal<u64>
     }
 }
 
-/// A whole number of 32 bits.
+/// Returns a whole number below 2^32. Refuses any other value.
 pub fn u32_in(part: Part, value: &Value) -> OrRefusal<u32>
     ensures { result ≡ u32_in part (view value.now) }
 {
     Ok(number(part, 1 << u32::BITS, value)? as u32)
 }
 
-/// A whole number of 8 bits.
+/// Returns a whole number below 2^8. Refuses any other value.
 pub fn u8_in(part: Part, value: &Value) -> OrRefusal<u8>
     ensures { result ≡ u8_in part (view value.now) }
 {

@@ -1,4 +1,4 @@
-//! Reading the tree.
+//! Reads the tree of a document: a list of directories `["/d"]` and files `["/f","hex"]`.
 ghost use Rattle.std.specs.Prelude.{◌≡◌, ◌∷◌, Some, map, IfOk, option_map, true};
 ghost use Rattle.std.specs.FinMap as map;
 ghost use Rattle.retro_tree.specs.Lawful.{is_lawful_tree};
@@ -19,7 +19,7 @@ use retro_tree::{Entry, FILE_LIMIT, NoMem, Node, Path, State};
 use serde_json::Value;
 use std::alloc::Global;
 
-/// The file whose bytes a text of hex digits encodes.
+/// Reads a file from its bytes in hexadecimal digits. Refuses a file over `FILE_LIMIT`.
 fn file_in(alloc: Global, value: &Value) -> Result<OrRefusal<Entry>, NoMem>
     ensures { IfOk result (λ entry. entry ≡ file_in (view value.now)) }
 {
@@ -38,6 +38,7 @@ fn file_in(alloc: Global, value: &Value) -> Result<OrRefusal<Entry>, NoMem>
     }
 }
 
+/// Reads a row from the items of its array.
 fn row_of_cells(alloc: Global, cells: &[Value]) -> Result<OrRefusal<(Path, Entry)>, NoMem>
     ensures { IfOk result (λ row. row ≡ row_cells (map view cells.now)) }
 {
@@ -51,6 +52,7 @@ fn row_of_cells(alloc: Global, cells: &[Value]) -> Result<OrRefusal<(Path, Entry
     }
 }
 
+/// Reads a row: the path of a directory, or the path and the bytes of a file.
 #[tactic(auto, unfolding(crate::specs::TreePart::row_of))]
 fn read_row(alloc: Global, value: &Value) -> Result<OrRefusal<(Path, Entry)>, NoMem>
     ensures { IfOk result (λ row. row ≡ row_of (view value.now)) }
@@ -61,6 +63,7 @@ fn read_row(alloc: Global, value: &Value) -> Result<OrRefusal<(Path, Entry)>, No
     }
 }
 
+/// Reads rows, or returns their worst refusal.
 #[tactic(auto, using(crate::proofs::Worst::judging_starts))]
 fn read_rows(alloc: Global, items: &[Value]) -> Result<OrRefusal<Vec<(Path, Entry)>>, NoMem>
     ensures { IfOk result (λ rows. seen (λ v. v.items) rows ≡ every row_of (map view items.now)) }
@@ -73,6 +76,7 @@ fn read_rows(alloc: Global, items: &[Value]) -> Result<OrRefusal<Vec<(Path, Entr
     Ok(rows)
 }
 
+/// Returns the node of an entry.
 fn node_of(entry: Entry) -> Node
     ensures { result ≡ node_of (Some entry) }
 {
@@ -82,7 +86,8 @@ fn node_of(entry: Entry) -> Node
     }
 }
 
-/// The state of these rows and the root, or `None` if a path is listed twice or is the root's.
+/// Returns the state of the root and these rows, without sessions, or `None` if a path is listed
+/// twice or is the root's.
 fn state_with_rows(alloc: Global, rows: Vec<(Path, Entry)>) -> Result<Option<State>, NoMem>
     ensures { IfOk result (λ found. found ≡
         option_map (λ tree. record { tree = tree; sessions = map.empty })
@@ -99,7 +104,8 @@ fn state_with_rows(alloc: Global, rows: Vec<(Path, Entry)>) -> Result<Option<Sta
     Ok(Some(state))
 }
 
-/// Whether a state without sessions is lawful, which it remembers.
+/// Returns whether a state without sessions is lawful. If so, the state is marked as lawful; its
+/// value is unchanged.
 fn validate_tree(alloc: Global, state: &mut State) -> Result<bool, NoMem>
     requires { state.old.sessions ≡ map.empty }
     ensures value { IfOk result (λ lawful. lawful ≡ is_lawful_tree state.old.tree) }
@@ -108,7 +114,9 @@ fn validate_tree(alloc: Global, state: &mut State) -> Result<bool, NoMem>
     state.validate(alloc)
 }
 
-/// The state without sessions whose tree a value is. It is known to be lawful.
+/// Reads a tree, and returns the state that has this tree and no sessions. The state is marked as
+/// lawful. Refuses a wrong shape in any row, then bad hex, then a broken limit, and then a tree
+/// that isn't lawful.
 #[tactic(auto, unfolding(crate::specs::TreePart::tree_of))]
 pub fn read_tree(alloc: Global, value: &Value) -> Result<State, LogFault>
     ensures value { ReadsAs (λ s. s.tree) result (tree_of (view value.now)) }

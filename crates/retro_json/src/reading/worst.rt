@@ -1,4 +1,4 @@
-//! Reading several things, of which the worst refusal counts.
+//! Combines the results of reading several values, so that the worst refusal is returned.
 ghost use Rattle.std.specs.Prelude.{◌≡◌, IfOk};
 ghost use Rattle.retro_json.specs.ReadsAs.{seen};
 ghost use Rattle.retro_json.specs.Worst.{both, with_item, worse};
@@ -6,10 +6,11 @@ ghost use Rattle.retro_json.specs.Worst.{both, with_item, worse};
 use crate::fault::Refusal;
 use retro_tree::NoMem;
 
-/// What was read, or why it is refused.
+/// A value that was read, or why it is refused.
 pub type OrRefusal<T> = Result<T, Refusal>;
 
-/// The worse of two refusals of one part.
+/// Returns the worse of two refusals of one part. A wrong shape is worse than bad hex, and bad hex
+/// is worse than a broken limit.
 fn worse(one: Refusal, two: Refusal) -> Refusal
     ensures { result ≡ worse one two }
 {
@@ -21,7 +22,7 @@ fn worse(one: Refusal, two: Refusal) -> Refusal
     }
 }
 
-/// Two things, or the worse refusal.
+/// Returns both values, or the worse of the refusals.
 pub fn both<A: Drop, B: Drop>(one: OrRefusal<A>, two: OrRefusal<B>) -> OrRefusal<(A, B)>
     ensures { result ≡ both one two }
 {
@@ -33,7 +34,7 @@ pub fn both<A: Drop, B: Drop>(one: OrRefusal<A>, two: OrRefusal<B>) -> OrRefusal
     }
 }
 
-/// Items with one more at the end, or the worse refusal.
+/// Returns the items with `item` appended, or the worse of the refusals.
 pub fn with_item<T: Drop>(
     items: OrRefusal<Vec<T>>,
     item: OrRefusal<T>,

@@ -1,6 +1,8 @@
-//! The JSON values of bytes, paths and numbers.
+//! Makes the JSON values of bytes, paths, texts and numbers.
 //!
-//! The clauses `typed` pass on what the types keep, for the laws that it is read again.
+//! The clauses `typed` say what the types of the written values guarantee: bytes are below 2^8,
+//! numbers are below 2^32, and names are names of files. The proofs that a written value is read
+//! back as the same value need that.
 ghost use Rattle.std.specs.Prelude.{◌≡◌, ◌∷◌, IfOk, OnOk, string_bytes, true};
 ghost use Rattle.serde_json.specs.Data.{string};
 ghost use Rattle.serde_json.specs.View.{view};
@@ -12,7 +14,7 @@ use retro_tree::{Name, NoMem, Path};
 use serde_json::Value;
 use std::alloc::Global;
 
-/// Bytes as a text of lower-case hexadecimal digits.
+/// Returns bytes as a text of lower-case hexadecimal digits.
 pub fn hex_value(alloc: Global, bytes: &[u8]) -> Result<Value, NoMem>
     ensures value { IfOk result (λ v. view v ≡ hex_data bytes.now) }
     ensures typed { OnOk result (are_bytes bytes.now ≡ true) }
@@ -20,7 +22,7 @@ pub fn hex_value(alloc: Global, bytes: &[u8]) -> Result<Value, NoMem>
     Ok(Value::String(hex::encode(alloc, bytes)?))
 }
 
-/// The text of the names, each preceded by a slash.
+/// Returns the names as one text, each preceded by a slash.
 fn names_text(alloc: Global, names: &[Name]) -> Result<String, NoMem>
     ensures { IfOk result (λ text. string_bytes text ≡ names_text names.now) }
 {
@@ -32,7 +34,7 @@ fn names_text(alloc: Global, names: &[Name]) -> Result<String, NoMem>
     Ok(text)
 }
 
-/// The text of a path: `/a/b`, and `/` for the root.
+/// Returns the text of a path: `/a/b`, and `/` for the root.
 pub fn path_text(alloc: Global, path: &Path) -> Result<String, NoMem>
     ensures text { IfOk result (λ text. string_bytes text ≡ path_text path.now) }
     ensures typed { OnOk result (are_names path.now ≡ true) }
@@ -43,7 +45,7 @@ pub fn path_text(alloc: Global, path: &Path) -> Result<String, NoMem>
     }
 }
 
-/// A path as its text.
+/// Returns the JSON value of a path: its text.
 pub fn path_value(alloc: Global, path: &Path) -> Result<Value, NoMem>
     ensures value { IfOk result (λ v. view v ≡ path_data path.now) }
     ensures typed { OnOk result (are_names path.now ≡ true) }
@@ -51,14 +53,14 @@ pub fn path_value(alloc: Global, path: &Path) -> Result<Value, NoMem>
     Ok(Value::String(path_text(alloc, path)?))
 }
 
-/// A text.
+/// Returns a text as a JSON string.
 pub fn text_value(alloc: Global, text: &str) -> Result<Value, NoMem>
     ensures { IfOk result (λ v. view v ≡ string text.now) }
 {
     Ok(Value::String(String::from_str(alloc, text)?))
 }
 
-/// A number.
+/// Returns a number as a JSON number.
 pub fn number_value(number: u32) -> Value
     ensures value { view result ≡ number_data number }
     ensures typed { is_u32 number ≡ true }
@@ -66,7 +68,7 @@ pub fn number_value(number: u32) -> Value
     Value::from(number)
 }
 
-/// A status.
+/// Returns an exit status as a JSON number.
 pub fn status_value(status: u8) -> Value
     ensures value { view result ≡ number_data status }
     ensures typed { is_u8 status ≡ true }

@@ -1,4 +1,4 @@
-//! The JSON values that notes are written as.
+//! Makes the JSON values of notes.
 ghost use Rattle.std.specs.Prelude.{◌≡◌, Some, IfOk, OnOk, true};
 ghost use Rattle.serde_json.specs.View.{view};
 ghost use Rattle.retro_json.specs.NoteValues.{kind_text, permit_text, node_data, listing_data};
@@ -14,6 +14,7 @@ use retro_tree::{Answer, Ask, Change, Kind, Listing, Name, NoMem, Node, Note, Pe
 use serde_json::{Value, json};
 use std::alloc::Global;
 
+/// Returns the name of a kind of node.
 fn kind_text(kind: Kind) -> &'static str
     ensures { result.now ≡ kind_text kind }
 {
@@ -24,6 +25,7 @@ fn kind_text(kind: Kind) -> &'static str
     }
 }
 
+/// Returns the name of an answer to a query whether bytes can be written.
 fn permit_text(permit: Permit) -> &'static str
     ensures { result.now ≡ permit_text permit }
 {
@@ -36,7 +38,8 @@ fn permit_text(permit: Permit) -> &'static str
     }
 }
 
-/// A node: `[]` if it is missing, `["d"]` or `["f","hex"]`.
+/// Returns the value of a node: `[]` for a missing one, `["d"]` for a directory, `["f","hex"]` for
+/// a file.
 #[tactic(auto, unfolding(crate::specs::NoteValues::node_data))]
 fn node_value(alloc: Global, node: &Node) -> Result<Value, NoMem>
     ensures value { IfOk result (λ v. view v ≡ node_data node.now) }
@@ -52,7 +55,7 @@ fn node_value(alloc: Global, node: &Node) -> Result<Value, NoMem>
     }
 }
 
-/// The names of a directory's children, in their order.
+/// Returns the value of the names of a directory's children, in their order: `[name,..]`.
 #[tactic(auto, unfolding(crate::specs::NoteValues::listing_data))]
 fn names_value(alloc: Global, names: &[Name]) -> Result<Value, NoMem>
     ensures value { IfOk result (λ v. view v ≡ listing_data (Some names.now)) }
@@ -65,7 +68,7 @@ fn names_value(alloc: Global, names: &[Name]) -> Result<Value, NoMem>
     Ok(Value::Array(items))
 }
 
-/// The names in a directory, or `null`.
+/// Returns the value of a listing: `[name,..]`, or `null` if there is no listing.
 #[tactic(auto, unfolding(crate::specs::NoteValues::listing_data))]
 fn listing_value(alloc: Global, listing: &Option<Listing>) -> Result<Value, NoMem>
     ensures value { IfOk result (λ v. view v ≡ listing_data listing.now) }
@@ -77,7 +80,8 @@ fn listing_value(alloc: Global, listing: &Option<Listing>) -> Result<Value, NoMe
     }
 }
 
-/// The entry of a login name: `[number,home]`, or `null`.
+/// Returns the value of a login name's entry in the password file: `[number,home]`, or `null` if
+/// there is none.
 #[tactic(auto, unfolding(crate::specs::NoteValues::user_data))]
 fn user_value(alloc: Global, user: &Option<User>) -> Result<Value, NoMem>
     ensures value { IfOk result (λ v. view v ≡ user_data user.now) }
@@ -92,7 +96,7 @@ fn user_value(alloc: Global, user: &Option<User>) -> Result<Value, NoMem>
     }
 }
 
-/// An answer. `null` says that there is none.
+/// Returns the value of an answer: `null` if there is no listing, user or variable.
 #[tactic(auto, unfolding(crate::specs::NoteValues::answer_data))]
 fn answer_value(alloc: Global, answer: &Answer) -> Result<Value, NoMem>
     ensures value { IfOk result (λ v. view v ≡ answer_data answer.now) }
@@ -111,7 +115,8 @@ fn answer_value(alloc: Global, answer: &Answer) -> Result<Value, NoMem>
     }
 }
 
-/// A query with its answer: the query's tag, its fields, and the answer.
+/// Returns the value of a query with its answer: an array of the query's tag, its fields and the
+/// answer. The session isn't written.
 #[tactic(auto, unfolding(crate::specs::NoteValues::asked_data))]
 fn asked_value(alloc: Global, ask: &Ask, answer: Value) -> Result<Value, NoMem>
     ensures value { IfOk result (λ v. view v ≡ asked_data ask.now (view answer)) }
@@ -132,7 +137,7 @@ fn asked_value(alloc: Global, ask: &Ask, answer: Value) -> Result<Value, NoMem>
     }
 }
 
-/// A change: its tag and its fields.
+/// Returns the value of a change: an array of its tag and its fields. The session isn't written.
 #[tactic(auto, unfolding(crate::specs::NoteValues::change_data))]
 fn change_value(alloc: Global, change: &Change) -> Result<Value, NoMem>
     ensures value { IfOk result (λ v. view v ≡ change_data change.now) }
@@ -155,6 +160,7 @@ fn change_value(alloc: Global, change: &Change) -> Result<Value, NoMem>
     }
 }
 
+/// Returns the value of a note.
 fn note_value(alloc: Global, note: &Note) -> Result<Value, NoMem>
     ensures value { IfOk result (λ v. view v ≡ note_data note.now) }
     ensures typed { OnOk result (note_typed note.now ≡ true) }
@@ -168,7 +174,7 @@ fn note_value(alloc: Global, note: &Note) -> Result<Value, NoMem>
     }
 }
 
-/// The notes of a line, in order, without its session.
+/// Returns the value of the notes of a line, in order. The line's session isn't written.
 #[tactic(auto, unfolding(crate::specs::NoteValues::notes_data))]
 pub fn notes_value(alloc: Global, notes: &[Note]) -> Result<Value, NoMem>
     ensures value { IfOk result (λ v. view v ≡ notes_data notes.now) }

@@ -1,4 +1,4 @@
-//! The JSON value that sessions are written as.
+//! Makes the JSON value of the sessions of a state.
 ghost use Rattle.std.specs.Prelude.{◌≡◌, IfOk, OnOk, true};
 ghost use Rattle.serde_json.specs.View.{view};
 ghost use Rattle.retro_json.specs.Values.{vars_data, session_data, sessions_data};
@@ -9,6 +9,7 @@ use retro_tree::{NoMem, Session, State, Vars};
 use serde_json::{Value, json};
 use std::alloc::Global;
 
+/// Returns the value of variables: a list of `[name,value]`, in the order of names.
 #[tactic(auto, unfolding(crate::specs::Values::vars_data, crate::specs::Typed::vars_typed))]
 fn vars_value(alloc: Global, vars: &Vars) -> Result<Value, NoMem>
     ensures value { IfOk result (λ v. view v ≡ vars_data vars.now) }
@@ -22,6 +23,7 @@ fn vars_value(alloc: Global, vars: &Vars) -> Result<Value, NoMem>
     Ok(Value::Array(rows))
 }
 
+/// Returns the value of a session: `[sid,cwd,status,[[name,value],..]]`.
 #[tactic(auto, unfolding(crate::specs::Values::session_data, crate::specs::Typed::session_typed))]
 fn session_value(alloc: Global, sid: u32, session: &Session) -> Result<Value, NoMem>
     ensures value { IfOk result (λ v. view v ≡ session_data (sid, session.now)) }
@@ -32,8 +34,8 @@ fn session_value(alloc: Global, sid: u32, session: &Session) -> Result<Value, No
     json!(in alloc; [sid, cwd, session.status, vars])
 }
 
-/// The sessions of a state: a list of `[sid,cwd,status,[[name,value],..]]`, in the order of
-/// numbers and of names.
+/// Returns the value of the sessions of a state: a list of `[sid,cwd,status,[[name,value],..]]`,
+/// in the order of numbers and, in each row, of names.
 #[tactic(auto, unfolding(crate::specs::Values::sessions_data, crate::specs::Typed::sessions_typed))]
 pub fn sessions_value(alloc: Global, state: &State) -> Result<Value, NoMem>
     ensures value { IfOk result (λ v. view v ≡ sessions_data state.now.sessions) }

@@ -1,4 +1,4 @@
-//! The text of a document, written value by value.
+//! Writes the text of a document value by value.
 ghost use Rattle.std.specs.Prelude.{◌≡◌, ◌≤◌, ◌++◌, OnOk, false};
 ghost use Rattle.serde_json.specs.Data.{depth};
 ghost use Rattle.serde_json.specs.Read.{max_depth};
@@ -10,7 +10,7 @@ use retro_tree::NoMem;
 use serde_json::Value;
 use std::alloc::Global;
 
-/// Appends a value, as compact JSON.
+/// Appends a value to a text, as compact JSON.
 pub fn push_value(alloc: Global, value: &Value, text: &mut Vec<u8>) -> Result<(), NoMem>
     requires float { has_float (view value.now) ≡ false }
     requires low { depth (view value.now) ≤ max_depth }

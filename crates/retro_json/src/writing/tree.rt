@@ -1,4 +1,4 @@
-//! The JSON value that a tree is written as.
+//! Makes the JSON value of the tree of a state.
 ghost use Rattle.std.specs.Prelude.{◌≡◌, IfOk, OnOk, true};
 ghost use Rattle.serde_json.specs.View.{view};
 ghost use Rattle.retro_json.specs.Values.{row_data, tree_data};
@@ -9,6 +9,7 @@ use retro_tree::{Entry, NoMem, Path, State};
 use serde_json::{Value, json};
 use std::alloc::Global;
 
+/// Returns the value of a directory, `["/d"]`, or of a file, `["/f","hex"]`.
 #[tactic(auto, unfolding(crate::specs::Values::row_data))]
 fn row_value(alloc: Global, path: &Path, entry: &Entry) -> Result<Value, NoMem>
     ensures value { IfOk result (λ v. view v ≡ row_data (path.now, entry.now)) }
@@ -24,8 +25,8 @@ fn row_value(alloc: Global, path: &Path, entry: &Entry) -> Result<Value, NoMem>
     }
 }
 
-/// The tree of a state: a list of directories `["/d"]` and files `["/f","hex"]` without the root,
-/// in the order of paths as lists of names.
+/// Returns the value of the tree of a state: a list of directories `["/d"]` and files
+/// `["/f","hex"]` without the root. Paths are ordered as lists of names.
 #[tactic(auto, unfolding(crate::specs::Values::tree_data, crate::specs::Typed::tree_typed))]
 pub fn tree_value(alloc: Global, state: &State) -> Result<Value, NoMem>
     ensures value { IfOk result (λ v. view v ≡ tree_data state.now.tree) }

@@ -1,4 +1,4 @@
-//! Reading what scripts and logs have alike: an object with some keys, a version and a state.
+//! Reads what scripts and logs have in common: an object with some keys, a version and a state.
 ghost use Rattle.std.specs.Prelude.{◌≡◌, IfOk, map, ok_or, string_bytes};
 ghost use Rattle.std.specs.List.{list_all};
 ghost use Rattle.std.specs.BTreeMap.{keys as key_list};
@@ -14,6 +14,7 @@ use retro_tree::State;
 use serde_json::{Map, Value};
 use std::alloc::Global;
 
+/// Returns whether a key is one of `keys`.
 fn is_key(keys: &[&str], key: &str) -> bool
     ensures { result ≡ is_key (map (λ k. k.now) keys.now) key.now }
 {
@@ -25,6 +26,7 @@ fn is_key(keys: &[&str], key: &str) -> bool
     false
 }
 
+/// Returns whether each key of an object is one of `keys`.
 fn have_keys(members: &Map<String, Value>, keys: &[&str]) -> bool
     ensures { result ≡ list_all (λ k. is_key (map (λ k. k.now) keys.now) (string_bytes k))
         (key_list members.now) }
@@ -32,7 +34,8 @@ fn have_keys(members: &Map<String, Value>, keys: &[&str]) -> bool
     members.keys().all(|key| is_key(keys, key.as_str()))
 }
 
-/// Whether a value is an object that has no other keys.
+/// Returns `Ok` if a value is an object whose keys are all among `keys`. Refuses any other value,
+/// and then a key that isn't among them.
 #[tactic(auto, using(crate::proofs::Json::keys_of_members))]
 fn only_keys(keys: &[&str], value: &Value) -> OrRefusal<()>
     ensures { result ≡ only_keys (map (λ k. k.now) keys.now) (view value.now) }
@@ -47,7 +50,7 @@ fn only_keys(keys: &[&str], value: &Value) -> OrRefusal<()>
     }
 }
 
-/// Whether a value has members at all keys.
+/// Returns whether a value has a member at each of `keys`.
 fn has_members(keys: &[&str], value: &Value) -> bool
     ensures { result ≡ list_all (has_member (view value.now)) (map (λ k. k.now) keys.now) }
 {
@@ -59,7 +62,7 @@ fn has_members(keys: &[&str], value: &Value) -> bool
     true
 }
 
-/// The value at a key.
+/// Returns the value at a key. Refuses a value without that key.
 pub fn member<'v>(value: &'v Value, key: &str) -> OrRefusal<&'v Value>
     ensures { seen (λ v. view v.now) result ≡ member_at key.now (view value.now) }
 {
@@ -69,7 +72,8 @@ pub fn member<'v>(value: &'v Value, key: &str) -> OrRefusal<&'v Value>
     }
 }
 
-/// The value at a key, taken out of its object.
+/// Takes the value at a key out of its object, and leaves `null` there. Refuses a value without
+/// that key.
 pub fn take_member(value: &mut Value, key: &str) -> OrRefusal<Value>
     ensures { seen view result ≡ member_at key.now (view value.old) }
 {
@@ -79,7 +83,7 @@ pub fn take_member(value: &mut Value, key: &str) -> OrRefusal<Value>
     }
 }
 
-/// Whether a value is a version's number.
+/// Returns `Ok` if a value is the number of this version. Refuses any other value.
 fn version_is(version: u64, value: &Value) -> OrRefusal<()>
     ensures { result ≡ version_is version (view value.now) }
 {
@@ -90,8 +94,8 @@ fn version_is(version: u64, value: &Value) -> OrRefusal<()>
     }
 }
 
-/// Whether a value is a document of one kind: an object that has these keys, no others, and this
-/// version at one of them.
+/// Returns `Ok` if a value is a document of one kind: an object that has exactly these keys, and
+/// this version at the key `kind`. Refuses any other value.
 pub fn has_form(keys: &[&str], kind: &str, version: u64, value: &Value) -> OrRefusal<()>
     ensures { result ≡ has_form (map (λ k. k.now) keys.now) kind.now version (view value.now) }
 {
@@ -102,7 +106,7 @@ pub fn has_form(keys: &[&str], kind: &str, version: u64, value: &Value) -> OrRef
     version_is(version, member(value, kind)?)
 }
 
-/// The state of a tree and of sessions: a lawful one.
+/// Reads a state from its tree and its sessions. The state is lawful.
 #[tactic(auto, using(retro_json::proofs::Limits::state_is_lawful))]
 fn state_of(alloc: Global, tree_value: &Value, sessions_value: &Value) -> Result<State, LogFault>
     ensures value { ReadsAs (λ s. s) result
@@ -113,7 +117,7 @@ fn state_of(alloc: Global, tree_value: &Value, sessions_value: &Value) -> Result
     read_sessions(alloc, state, sessions_value)
 }
 
-/// The first state of a script or of a log: a lawful one.
+/// Reads the first state of a script or of a log. The state is lawful.
 pub fn read_first(alloc: Global, value: &Value) -> Result<State, LogFault>
     ensures value { ReadsAs (λ s. s) result (first_of (view value.now)) }
     ensures lawful { IfOk result (λ s. IsLawful s) }
@@ -123,7 +127,8 @@ pub fn read_first(alloc: Global, value: &Value) -> Result<State, LogFault>
     state_of(alloc, tree_value, sessions_value)
 }
 
-/// The JSON value that the bytes are.
+/// Reads the JSON value that the bytes are. Refuses bytes that aren't UTF-8, or not exactly one
+/// JSON value.
 pub fn json(alloc: Global, bytes: &[u8]) -> Result<Value, LogFault>
     ensures { ReadsAs view result (ok_or (json_of bytes.now) NotJson) }
 {

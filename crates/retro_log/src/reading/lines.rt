@@ -1,4 +1,4 @@
-//! Reading the lines of a script.
+//! Reads the lines of a script: a list of `[number,sid,text]`.
 ghost use Rattle.std.specs.Prelude.{◌≡◌, map, IfOk};
 ghost use Rattle.serde_json.specs.View.{view};
 ghost use Rattle.retro_json.specs.ReadsAs.{ReadsAs, seen};
@@ -11,7 +11,7 @@ use retro_tree::{NoMem, Text};
 use serde_json::Value;
 use std::alloc::Global;
 
-/// The number of a line, its session and its text.
+/// Returns the number, the session and the text of a line. Refuses the number 0.
 fn head_parts<'v>(
     number: &Value,
     sid: &Value,
@@ -29,7 +29,8 @@ fn head_parts<'v>(
     Ok((number, sid, text))
 }
 
-/// What a line of a script or of a log begins with.
+/// Reads the first three items of a line of a script or of a log: its number, its session and its
+/// text.
 pub fn read_head(
     alloc: Global,
     number: &Value,
@@ -49,6 +50,7 @@ pub fn read_head(
     }
 }
 
+/// Reads a line: `[number,sid,text]`.
 #[tactic(auto, unfolding(crate::specs::LinesPart::line_of))]
 fn read_line(alloc: Global, value: &Value) -> Result<ScriptLine, LogFault>
     ensures { ReadsAs (λ line. line) result (line_of (view value.now)) }
@@ -59,6 +61,7 @@ fn read_line(alloc: Global, value: &Value) -> Result<ScriptLine, LogFault>
     }
 }
 
+/// Reads lines, or returns the refusal of the first that is refused.
 fn read_items(alloc: Global, items: &[Value]) -> Result<Vec<ScriptLine>, LogFault>
     ensures { ReadsAs (λ lines. map (λ line. line) lines.items) result
         (each line_of (map view items.now)) }
@@ -70,7 +73,8 @@ fn read_items(alloc: Global, items: &[Value]) -> Result<Vec<ScriptLine>, LogFaul
     Ok(lines)
 }
 
-/// The lines that a value is, whatever their numbers and sessions.
+/// Reads the lines of a script. Neither the order of their numbers nor the existence of their
+/// sessions is tested.
 #[tactic(auto, using(crate::proofs::Json::map_same), unfolding(crate::specs::LinesPart::lines_of))]
 pub fn read_lines(alloc: Global, value: &Value) -> Result<Vec<ScriptLine>, LogFault>
     ensures { ReadsAs (λ lines. lines.items) result (lines_of (view value.now)) }

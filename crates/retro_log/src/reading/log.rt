@@ -1,4 +1,4 @@
-//! Reading a log's document.
+//! Reads the document of a log.
 ghost use Rattle.std.specs.Prelude.{◌≡◌, IfOk, IsTrue, Ok};
 ghost use Rattle.std.specs.List.{list_all};
 ghost use Rattle.serde_json.specs.View.{view};
@@ -21,8 +21,9 @@ const LOG_KEYS: [&str; 4] = ["log", "tree", "sessions", "lines"];
 /// The version of a log's document.
 const LOG_VERSION: u64 = 1;
 
-/// The recording of a lawful state and of lines whose notes are their session's, with answers of
-/// their queries' kinds.
+/// Returns the recording of a lawful state and lines. Refuses numbers that don't rise, then a
+/// session that doesn't exist, then a change that isn't lawful. The lines' notes must name their
+/// own session alone, and their answers must be of their queries' kinds.
 fn recording_of(
     alloc: Global,
     first: State,
@@ -36,7 +37,7 @@ fn recording_of(
     Ok(Recording::of_lawful(alloc, first, lines)?)
 }
 
-/// The first state, which is lawful, and the lines of a log.
+/// Reads the first state of a log, which is lawful, and its lines.
 #[tactic(auto, unfolding(crate::specs::Document::log_parts_of))]
 fn read_parts(alloc: Global, value: Value) -> Result<(State, Vec<(u32, Noted)>), LogFault>
     ensures value { ReadsAs (λ parts. (parts.0, parts.1.items)) result
@@ -52,16 +53,16 @@ fn read_parts(alloc: Global, value: Value) -> Result<(State, Vec<(u32, Noted)>),
     Ok((first, lines))
 }
 
-/// The recording that the bytes are, or the first refusal in this order:
+/// Returns the recording that a log holds, or the first refusal in this order:
 ///
-/// - the bytes aren't UTF-8, or not one JSON value,
-/// - the value is no object, has a foreign key, or lacks a key (the last value of a doubled key
-///   counts),
-/// - the version is another one,
-/// - the tree and the sessions, as for a script,
+/// - the bytes aren't UTF-8, or not exactly one JSON value,
+/// - the value isn't an object, has a key that a log doesn't have, or lacks a key (if a key occurs
+///   twice, its last value counts),
+/// - the version isn't 1,
+/// - the tree and the sessions, as [`read_script`](crate::read_script) reads them,
 /// - the lines: a wrong shape, then bad hex, then a broken limit, each anywhere in the list,
-/// - numbers don't rise, then a session is missing, then a change isn't lawful in the state that
-///   it meets.
+/// - the numbers of lines don't rise, then a line's session doesn't exist, then a change isn't
+///   lawful in the state that it changes.
 ///
 /// Noted answers aren't compared with the states.
 #[tactic(auto, unfolding(crate::specs::Document::log_in, crate::specs::Document::log_of))]

@@ -1,4 +1,4 @@
-//! Reading the lines of a log.
+//! Reads the lines of a log: a list of `[number,sid,text,notes,"hex"]`.
 ghost use Rattle.std.specs.Prelude.{◌≡◌, IfOk, map};
 ghost use Rattle.serde_json.specs.View.{view};
 ghost use Rattle.retro_json.specs.ReadsAs.{seen};
@@ -13,7 +13,8 @@ use retro_tree::NoMem;
 use serde_json::Value;
 use std::alloc::Global;
 
-/// A line with its notes and its output.
+/// Reads the notes and the output of a line, and returns them with the number, the session and the
+/// text of `head`.
 fn with_run(
     alloc: Global,
     head: ScriptLine,
@@ -38,6 +39,7 @@ fn with_run(
     }
 }
 
+/// Reads a line from the items of its array.
 fn line_of_cells(alloc: Global, cells: &[Value]) -> Result<OrRefusal<(u32, Noted)>, NoMem>
     ensures { IfOk result (λ line. line ≡ log_line_cells (map view cells.now)) }
 {
@@ -50,6 +52,7 @@ fn line_of_cells(alloc: Global, cells: &[Value]) -> Result<OrRefusal<(u32, Noted
     }
 }
 
+/// Reads a line: `[number,sid,text,notes,"hex"]`.
 #[tactic(auto, unfolding(crate::specs::LogLinesPart::log_line_of))]
 fn read_line(alloc: Global, value: &Value) -> Result<OrRefusal<(u32, Noted)>, NoMem>
     ensures { IfOk result (λ line. line ≡ log_line_of (view value.now)) }
@@ -60,13 +63,14 @@ fn read_line(alloc: Global, value: &Value) -> Result<OrRefusal<(u32, Noted)>, No
     }
 }
 
-/// A line, whose value is freed once it is read.
+/// Reads a line, and frees its value.
 fn take_line(alloc: Global, value: Value) -> Result<OrRefusal<(u32, Noted)>, NoMem>
     ensures { IfOk result (λ line. line ≡ log_line_of (view value)) }
 {
     read_line(alloc, &value)
 }
 
+/// Reads lines, or returns their worst refusal. Frees each value as soon as it is read.
 #[tactic(auto, using(retro_json::proofs::Worst::taking_starts))]
 fn read_items(alloc: Global, items: Vec<Value>) -> Result<OrRefusal<Vec<(u32, Noted)>>, NoMem>
     ensures { IfOk result (λ lines. seen (λ v. v.items) lines
@@ -80,8 +84,8 @@ fn read_items(alloc: Global, items: Vec<Value>) -> Result<OrRefusal<Vec<(u32, No
     Ok(lines)
 }
 
-/// The lines that a value is, whatever their numbers, their sessions and their changes; or the
-/// worst refusal of the whole list.
+/// Reads the lines of a log, or returns the worst refusal of the whole list. The order of their
+/// numbers, the existence of their sessions and the law of their changes aren't tested.
 #[tactic(auto, unfolding(crate::specs::LogLinesPart::log_lines_of))]
 pub fn read_log_lines(alloc: Global, value: Value) -> Result<OrRefusal<Vec<(u32, Noted)>>, NoMem>
     ensures { IfOk result (λ lines. seen (λ v. v.items) lines ≡ log_lines_of (view value)) }

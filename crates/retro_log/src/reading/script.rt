@@ -1,4 +1,4 @@
-//! Reading a script's document.
+//! Reads the document of a script.
 ghost use Rattle.std.specs.Prelude.{◌≡◌};
 ghost use Rattle.serde_json.specs.View.{view};
 ghost use Rattle.retro_json.specs.ReadsAs.{ReadsAs};
@@ -17,6 +17,7 @@ const SCRIPT_KEYS: [&str; 4] = ["script", "tree", "sessions", "lines"];
 /// The version of a script's document.
 const SCRIPT_VERSION: u64 = 1;
 
+/// Reads a script from its JSON value.
 #[tactic(auto, unfolding(crate::specs::Document::script_of))]
 fn read_value(alloc: Global, value: &Value) -> Result<Script, LogFault>
     ensures { ReadsAs (λ script. script) result (script_of (view value.now)) }
@@ -27,18 +28,20 @@ fn read_value(alloc: Global, value: &Value) -> Result<Script, LogFault>
     Ok(Script::of_lawful(first, lines)?)
 }
 
-/// The script that the bytes are, or the first refusal in this order:
+/// Returns the script that a document holds, or the first refusal in this order:
 ///
-/// - the bytes aren't UTF-8, or not one JSON value,
-/// - the value is no object, has a foreign key, or lacks a key (the last value of a doubled key
-///   counts),
-/// - the version is another one,
-/// - the tree: a row has a wrong shape, then bad hex, then breaks a limit, then the law,
-/// - the sessions: a row has a wrong shape or a doubled number, then breaks a limit,
-/// - the lines: a row has a wrong shape, then numbers don't rise, then a session is missing.
+/// - the bytes aren't UTF-8, or not exactly one JSON value,
+/// - the value isn't an object, has a key that a script doesn't have, or lacks a key (if a key
+///   occurs twice, its last value counts),
+/// - the version isn't 1,
+/// - the tree: a row has a wrong shape, then bad hex, then a broken limit, then the tree isn't
+///   lawful,
+/// - the sessions: a row has a wrong shape or a number that is listed twice, then a broken limit,
+/// - the lines: a row has a wrong shape, then the numbers don't rise, then a session doesn't
+///   exist.
 ///
-/// Each item is tested over the whole list before the next item. The first state of the script is
-/// known to be lawful.
+/// Each of these is tested over its whole list before the next. The first state of the script is
+/// marked as lawful.
 #[tactic(auto, unfolding(crate::specs::Document::script_in))]
 pub fn read_script(alloc: Global, bytes: &[u8]) -> Result<Script, LogFault>
     ensures { ReadsAs (λ script. script) result (script_in bytes.now) }

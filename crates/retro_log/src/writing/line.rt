@@ -1,4 +1,4 @@
-//! Writing the lines of a log.
+//! Writes the lines of a log.
 ghost use Rattle.std.specs.Prelude.{◌≡◌, ◌++◌, IfOk, OnOk, true};
 ghost use Rattle.std.specs.List.{list_all};
 ghost use Rattle.serde_json.specs.View.{view};
@@ -13,7 +13,7 @@ use retro_tree::NoMem;
 use serde_json::{Value, json};
 use std::alloc::Global;
 
-/// The JSON value of a line: `[number,sid,text,notes,"hex"]`.
+/// Returns the JSON value of a line: `[number,sid,text,notes,"hex"]`.
 #[tactic(auto, unfolding(crate::specs::LogText::line_data, retro_json::specs::Typed::line_typed))]
 fn line_value(alloc: Global, number: u32, noted: &Noted) -> Result<Value, NoMem>
     ensures value { IfOk result (λ v. view v ≡ line_data (number, noted.now)) }
@@ -26,7 +26,7 @@ fn line_value(alloc: Global, number: u32, noted: &Noted) -> Result<Value, NoMem>
     json!(in alloc; [number, sid, noted.text.as_str(), notes, output])
 }
 
-/// Appends a line, after a comma if it is a later one.
+/// Appends a line to a text, preceded by a comma if `later`.
 fn push_line(
     alloc: Global,
     later: bool,
@@ -46,7 +46,8 @@ fn push_line(
     push_value(alloc, &line, text)
 }
 
-/// Appends the lines of a log, one by one: a list of `[number,sid,text,notes,"hex"]`.
+/// Appends the lines of a log to a text: a list of `[number,sid,text,notes,"hex"]`. Only one line
+/// at a time is a JSON value.
 pub fn push_lines(alloc: Global, lines: &[(u32, Noted)], text: &mut Vec<u8>) -> Result<(), NoMem>
     ensures text { OnOk result
         (text.new.items ≡ text.old.items ++ compact_text (lines_data lines.now)) }

@@ -1,4 +1,4 @@
-//! Writing logs.
+//! Writes the document of a log.
 ghost use Rattle.std.specs.Prelude.{◌≡◌, ◌⊎◌, ◌++◌, IfOk, OnOk, Ok, true};
 ghost use Rattle.serde_json.specs.Written.{compact_text};
 ghost use Rattle.retro_keep.specs.Recording.{IsRecordingOf, IsWellFormed, script_in};
@@ -15,7 +15,8 @@ use retro_keep::Recording;
 use retro_tree::NoMem;
 use std::alloc::Global;
 
-/// Appends the log of a recording without its newline. Only one line at a time is a JSON value.
+/// Appends the log of a recording, without its final newline. Only one line at a time is a JSON
+/// value.
 #[tactic(auto, unfolding(crate::specs::LogText::log_data, retro_json::specs::Typed::recording_typed))]
 fn push_log(alloc: Global, recording: &Recording, text: &mut Vec<u8>) -> Result<(), NoMem>
     ensures text { OnOk result (text.new.items
@@ -34,10 +35,10 @@ fn push_log(alloc: Global, recording: &Recording, text: &mut Vec<u8>) -> Result<
     Ok(())
 }
 
-/// The log of a recording: compact JSON (RFC 8259) with keys in byte order, and a newline.
+/// Returns the log of a recording: compact JSON (RFC 8259) with keys in byte order, and a newline.
 ///
-/// `read_log` returns the recording again, if it is that of a script or was read itself, and no
-/// name of a path or of a listing has NUL.
+/// [`read_log`](crate::read_log) reads the log back as the same recording if the recording is one
+/// of a script or was itself read from a log, and if no name of a path or of a listing has a NUL.
 pub fn write_log(alloc: Global, recording: &Recording) -> Result<Vec<u8>, NoMem>
     ensures text { IfOk result (λ text. text.items ≡ log_text recording.now) }
     ensures again { IfOk result (λ text.
