@@ -1,11 +1,11 @@
-//! The program `retro` on the process's arguments, standard input, output and error.
+//! The program `retro`, run on the process's arguments, standard input, output and error.
 #![tactic(auto)]
 
 use retro_cli::{BAD_WORDS, Exit, Input, Output, run_with};
 use std::io::ErrorKind;
 use std::process::ExitCode;
 
-/// Prints the line of an exit on standard error, and returns its status.
+/// Writes the message of an exit on standard error, and returns the exit's status.
 fn end(rt: &HostRuntime, exit: Exit) -> ExitCode {
     // If standard error takes nothing, the status is the same.
     let _ = exit.write_message(&mut rt.stderr());

@@ -1,4 +1,4 @@
-//! The answers to requests about an input.
+//! Answers to requests. In each function `input` is the document that the program read.
 ghost use Rattle.std.specs.Prelude.{◌≡◌, Ok, IfOk, IfErr};
 ghost use Rattle.retro_cli.specs.Exit.{exit_of};
 ghost use Rattle.retro_cli.specs.Program.{Answered, IsLogOf, IsRepairReport, IsRepairedLog};
@@ -20,7 +20,7 @@ use retro_redo::repair_alone;
 use std::alloc::{AllocGlobal, Global};
 use std::thread::Threads;
 
-/// The report of a replay of the script that the input is, without the cancelled lines.
+/// Returns the report of running the lines of a script, without the cancelled lines.
 #[tactic(auto, unfolding(crate::specs::Program::replay_answer))]
 fn replay_input(alloc: Global, cancel: &[u32], input: Vec<u8>) -> Result<Vec<u8>, Stop>
     ensures { ReturnsAs (λ text. text.items) result (replay_answer cancel.now input.items) }
@@ -31,7 +31,7 @@ fn replay_input(alloc: Global, cancel: &[u32], input: Vec<u8>) -> Result<Vec<u8>
     Ok(replay_report(alloc, &state, &outputs)?)
 }
 
-/// The log of a recording of the script that the input is.
+/// Returns the log of a recording of a script.
 fn record_input<T: Threads + Sync + AllocGlobal>(rt: &T, input: Vec<u8>) -> Result<Vec<u8>, Stop>
     ensures ok { IfOk result (λ text. IsLogOf input.items text.items) }
     ensures err { IfErr result (λ stop. Refuses stop (document_refusal (script_in input.items))) }
@@ -42,7 +42,8 @@ fn record_input<T: Threads + Sync + AllocGlobal>(rt: &T, input: Vec<u8>) -> Resu
     Ok(write_log(rt.alloc(), &recording)?)
 }
 
-/// The answer to whether the log that the input is, is a recording of its lines.
+/// Returns `yes` if a log is a recording of its own lines, and `no` otherwise, each followed by a
+/// newline. The ending says the same.
 fn check_input(alloc: Global, input: Vec<u8>) -> Result<(Vec<u8>, Ending), Stop>
     ensures ok { IfOk result (λ answer.
         IsVerdict input.items (exit_of (Ok answer.1)) answer.0.items) }
@@ -57,7 +58,7 @@ fn check_input(alloc: Global, input: Vec<u8>) -> Result<(Vec<u8>, Ending), Stop>
     }
 }
 
-/// The report of a repair, without the cancelled lines, of the log that the input is.
+/// Returns the report of a repair of a log without the cancelled lines.
 #[tactic(auto, using(crate::proofs::RefusalLemmas::fault_refuses))]
 fn repair_input(alloc: Global, cancel: &[u32], input: Vec<u8>) -> Result<Vec<u8>, Stop>
     ensures ok { IfOk result (λ text. IsRepairReport cancel.now input.items text.items) }
@@ -71,7 +72,7 @@ fn repair_input(alloc: Global, cancel: &[u32], input: Vec<u8>) -> Result<Vec<u8>
     Ok(repair_report(alloc, &repair)?)
 }
 
-/// The log of the lines that aren't cancelled, recorded again, of the log that the input is.
+/// Returns the log of the repaired recording of a log without the cancelled lines.
 #[tactic(auto, using(crate::proofs::RefusalLemmas::fault_refuses))]
 fn relog_input(alloc: Global, cancel: &[u32], input: Vec<u8>) -> Result<Vec<u8>, Stop>
     ensures ok { IfOk result (λ text. IsRepairedLog cancel.now input.items text.items) }
@@ -85,7 +86,7 @@ fn relog_input(alloc: Global, cancel: &[u32], input: Vec<u8>) -> Result<Vec<u8>,
     Ok(write_log(alloc, &repair.recording)?)
 }
 
-/// The text that answers a request about an input, and how the program ends once it is written.
+/// Returns the text that answers a request, and how the program ends once the text is written.
 pub(crate) fn answer<T: Threads + Sync + AllocGlobal>(
     rt: &T,
     request: &Request,

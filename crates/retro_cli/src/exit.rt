@@ -1,4 +1,4 @@
-//! How the program ends.
+//! Exits of the program: their statuses, and their lines on standard error.
 ghost use Rattle.std.specs.Prelude.{◌≡◌, true, Ok, OnOk};
 ghost use Rattle.std.specs.Io.KnownBytes.{Appends};
 ghost use Rattle.retro_cli.specs.Exit.{exit_of, has_answered, message_of, status_of};
@@ -11,25 +11,24 @@ use std::io::Write;
 /// How the program ends.
 #[derive(Clone, Copy, Debug, PartialEq, Eq)]
 pub enum Exit {
-    /// The answer was written whole.
+    /// The whole answer was written.
     Done,
-    /// The log isn't a recording, and the answer `no` was written whole.
+    /// The log isn't a recording of its lines, and the whole answer `no` was written.
     CheckNo,
-    /// The words, the document or the request are refused, with the refusal's number: 31 for bad
-    /// words, 8 to 16 for a document, 21 for a cancelled number that no line has. Nothing was
-    /// written.
+    /// The command line, the document or the request is refused, with the refusal's number: 31 for
+    /// a bad command line, 8 to 16 for a document, 21 for a cancelled number that no line has.
+    /// Nothing was written.
     Refused(u8),
-    /// The program ran out of memory. Nothing was written.
+    /// Allocation failed. Nothing was written.
     OutOfMemory,
     /// The input couldn't be read to its end. Nothing was written.
     ReadFailed,
-    /// The answer couldn't be written whole. A part of it from its start, but not all of it, may
-    /// have been written.
+    /// The whole answer couldn't be written. A part of its start may have been written.
     WriteFailed,
 }
 
 impl Exit {
-    /// How the program ends after a run.
+    /// Returns how the program ends after a run.
     pub(crate) fn of(run: Result<Ending, Stop>) -> Exit
         ensures { result ≡ exit_of run }
     {
@@ -43,7 +42,8 @@ impl Exit {
         }
     }
 
-    /// The exit status of the process.
+    /// Returns the exit status of the process: 0 if the request was answered, 1 if it was refused,
+    /// 2 if memory ran out, 3 if reading or writing failed, 4 if the answer to a check is `no`.
     pub fn status(self) -> u8
         ensures { result ≡ status_of self }
     {
@@ -56,7 +56,8 @@ impl Exit {
         }
     }
 
-    /// Writes the line for standard error: nothing if an answer was written. It allocates nothing.
+    /// Writes the line for standard error. Nothing is written if the program wrote an answer. No
+    /// memory is allocated.
     pub fn write_message<W: Write>(self, writer: &mut W) -> io::Result<()>
         ensures message { OnOk result
             (Appends (W.contents writer.old) (W.contents writer.new) (message_of self)) }

@@ -8,24 +8,25 @@ use crate::stop::Stop;
 use std::alloc::Global;
 use std::io::Read;
 
-/// How many calls of `read` an input may take. Reading fails if they find no end.
+/// The greatest number of calls of `read` on an input. If they don't reach the end, reading fails.
 pub const MOST_READS: u32 = 4_294_967_295;
 
-/// How many bytes one call of `read` may give.
+/// The greatest number of bytes that one call of `read` gives.
 const PIECE: usize = 4096;
 
-/// A reader that isn't called after it failed, and what its calls gave.
+/// A reader, and what its calls did. It isn't called again after a failure.
 #[derive(Debug, Drop)]
 pub struct Input<R> {
+    /// The reader.
     pub reader: R,
-    /// How many calls of `read` gave bytes or the end.
+    /// The number of calls of `read` that gave bytes or the end.
     pub reads: u32,
     /// Whether a call of `read` failed.
     pub has_failed: bool,
 }
 
 impl<R: Read> Input<R> {
-    /// An input of which nothing has been read.
+    /// Returns an input that hasn't been read.
     pub fn new(reader: R) -> Input<R>
         ensures { result ≡ record { reader = reader; reads = 0; has_failed = false } }
     {
@@ -36,15 +37,16 @@ impl<R: Read> Input<R> {
         }
     }
 
-    /// Whether no more is read: a call failed, or `MOST_READS` calls were made.
+    /// Returns whether the reader isn't called any more: a call failed, or `MOST_READS` calls
+    /// succeeded.
     pub fn is_broken(&self) -> bool
         ensures { result ≡ is_broken self.now.reads self.now.has_failed }
     {
         self.has_failed || self.reads == MOST_READS
     }
 
-    /// Calls `read` once. Returns how many bytes at the start of `piece` it gave, where 0 is the
-    /// end, or `None` if the input is broken.
+    /// Calls `read` once. Returns how many bytes it put at the start of `piece`, 0 at the end of
+    /// the input. Returns `None` if the input is broken.
     fn read(&mut self, piece: &mut [u8]) -> Option<usize>
         ensures broken { IsNone result → is_broken self.new.reads self.new.has_failed ≡ true }
         ensures failed { self.new.has_failed ≡ true → IsNone result }
@@ -69,7 +71,8 @@ impl<R: Read> Input<R> {
         }
     }
 
-    /// All bytes that the reader still gives.
+    /// Reads and returns all bytes up to the end of the input. Fails with `ReadFailed` if the
+    /// input is broken before its end.
     pub(crate) fn read_to_end(&mut self, alloc: Global) -> Result<Vec<u8>, Stop>
         ensures bytes { IfOk result (λ read. IfSome (R.remaining self.old.reader)
             (λ bytes. read.items ≡ bytes)) }

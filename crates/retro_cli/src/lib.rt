@@ -1,9 +1,11 @@
-//! The program: its words, its input and output, and the answer between them.
+//! The program: its command line, its input and output, and its answers.
 //!
-//! [`run_with`] reads an input to its end, answers what the words ask for, and writes the answer.
-//! If it returns `Done`, it wrote exactly the text that `specs/Program.antt` defines.
+//! [`run_with`] reads an input to its end, answers the request of the command line, and writes the
+//! answer. If it returns [`Exit::Done`], it wrote exactly the text that `specs/Program.antt`
+//! defines.
 //!
-//! If allocation fails, calls return `NoMem` and leave their arguments unchanged.
+//! If allocation fails, [`run_with`] returns [`Exit::OutOfMemory`] and writes nothing. A part of
+//! the input may have been read.
 #![tactic(auto)]
 
 mod answers;

@@ -8,12 +8,13 @@ ghost use Rattle.retro_cli.specs.Words.{Means};
 use crate::words::WordsFault;
 use std::alloc::{AllocError, Global};
 
-/// The byte between the numbers of a list.
+/// The byte between two numbers of a list.
 const COMMA: u8 = b',';
 
-/// How many digits a number may have.
+/// The greatest number of digits of a number.
 const MOST_DIGITS: usize = 10;
 
+/// Returns whether all bytes are ASCII digits.
 fn are_digits(text: &[u8]) -> bool
     ensures { result ≡ all_ascii_digits text.now }
 {
@@ -25,7 +26,8 @@ fn are_digits(text: &[u8]) -> bool
     true
 }
 
-/// A decimal number of one to ten digits, at most 4,294,967,295.
+/// Returns the decimal number that a text is, or `None` if the text isn't one to ten digits or the
+/// number is over 4,294,967,295.
 #[tactic(auto, unfolding(crate::specs::Numbers::number_in))]
 fn number_of(text: &str) -> Option<u32>
     ensures { result ≡ number_in text.now }
@@ -36,7 +38,7 @@ fn number_of(text: &str) -> Option<u32>
     text.parse().ok()
 }
 
-/// The texts between the commas.
+/// Splits a text at its commas. Returns the parts, empty ones too.
 fn split_list(alloc: Global, text: &str) -> Result<Vec<&str>, AllocError>
     ensures { IfOk result (λ v.
         map (λ s. s.now) v.items ≡ slice_split (λ b. b == COMMA) text.now) }
@@ -44,6 +46,7 @@ fn split_list(alloc: Global, text: &str) -> Result<Vec<&str>, AllocError>
     text.split(',').collect(alloc)
 }
 
+/// Returns the number of each text. Fails with `BadWords` if a text isn't a number.
 fn numbers_of(alloc: Global, texts: &[&str]) -> Result<Vec<u32>, WordsFault>
     ensures { Means (λ v. v.items) result (numbers_in (map (λ s. s.now) texts.now)) }
 {
@@ -57,7 +60,8 @@ fn numbers_of(alloc: Global, texts: &[&str]) -> Result<Vec<u32>, WordsFault>
     Ok(numbers)
 }
 
-/// The numbers of a list: an empty text, or numbers separated by single commas.
+/// Returns the numbers of a list: no numbers for an empty text, and otherwise numbers separated by
+/// single commas. Fails with `BadWords` for any other text.
 #[tactic(auto, unfolding(crate::specs::Numbers::list_in))]
 pub(crate) fn list_of(alloc: Global, text: &str) -> Result<Vec<u32>, WordsFault>
     ensures { Means (λ v. v.items) result (list_in text.now) }

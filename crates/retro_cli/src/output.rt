@@ -8,16 +8,17 @@ ghost use Rattle.retro_cli.specs.declared.stop.Stop.TheVariants as stops;
 use crate::stop::Stop;
 use std::io::Write;
 
-/// A writer that isn't called after it failed, and whether it did.
+/// A writer, and whether it failed. It isn't called again after a failure.
 #[derive(Debug, Drop)]
 pub struct Output<W> {
+    /// The writer.
     pub writer: W,
     /// Whether a call of `write` failed or took no byte.
     pub has_failed: bool,
 }
 
 impl<W: Write> Output<W> {
-    /// An output to which nothing has been written.
+    /// Returns an output to which nothing was written.
     pub fn new(writer: W) -> Output<W>
         ensures { result ≡ record { writer = writer; has_failed = false } }
     {
@@ -27,8 +28,8 @@ impl<W: Write> Output<W> {
         }
     }
 
-    /// Calls `write` once, with at least one byte. Returns how many bytes it took, which is at
-    /// least one, or `None` if this call or an earlier one failed.
+    /// Calls `write` once, with at least one byte. Returns how many bytes it took, at least one.
+    /// Returns `None` if this call or an earlier one failed or took no byte.
     fn write(&mut self, bytes: &[u8]) -> Option<usize>
         requires { 0 < length bytes.now }
         ensures failed { IsNone result ↔ (self.new.has_failed ≡ true) }
@@ -50,7 +51,8 @@ impl<W: Write> Output<W> {
         }
     }
 
-    /// Writes a text. After an error a part of it from its start, but not all of it, was written.
+    /// Writes a text. Fails with `WriteFailed` if a call of `write` fails or takes no byte. A part
+    /// of the text's start, but not all of it, was then written.
     pub(crate) fn write_all(&mut self, text: &[u8]) -> Result<(), Stop>
         ensures whole { OnOk result
             (Appends (W.contents self.old.writer) (W.contents self.new.writer) text.now) }

@@ -1,4 +1,4 @@
-//! The program on words, an input and an output.
+//! A run of the program.
 ghost use Rattle.std.specs.Prelude.{◌≡◌, true, false, None, map, Ok, Err, IfOk, IfErr, IfSome};
 ghost use Rattle.std.specs.Prelude.{string_bytes};
 ghost use Rattle.retro_cli.specs.Exit.{exit_of, writes_nothing};
@@ -21,7 +21,8 @@ use std::alloc::AllocGlobal;
 use std::io::{Read, Write};
 use std::thread::Threads;
 
-/// Reads the words, reads the input to its end, and writes the answer.
+/// Reads the command line, reads the input to its end, and writes the answer. Returns how the
+/// program ends, or why it stops.
 #[tactic(auto, unfolding(crate::specs::Program::refusal_of))]
 fn run<T: Threads + Sync + AllocGlobal, R: Read, W: Write>(
     rt: &T,
@@ -50,8 +51,8 @@ fn run<T: Threads + Sync + AllocGlobal, R: Read, W: Write>(
     Ok(ending)
 }
 
-/// Runs the program: reads the words, of which the first is the program's name, reads the input to
-/// its end, and writes the answer.
+/// Runs the program: reads the command line, whose first word is the program's name, reads the
+/// input to its end, and writes the answer. Returns how the program ends.
 pub fn run_with<T: Threads + Sync + AllocGlobal, R: Read, W: Write>(
     rt: &T,
     words: &[String],

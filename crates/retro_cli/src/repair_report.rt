@@ -1,4 +1,4 @@
-//! The report of a repair, as a JSON text.
+//! The report of a repair, as JSON.
 ghost use Rattle.std.specs.Prelude.{◌≡◌, IfOk, map};
 ghost use Rattle.serde_json.specs.View.{view};
 ghost use Rattle.retro_json.specs.Values.{number_data};
@@ -12,7 +12,7 @@ use retro_tree::NoMem;
 use serde_json::{Value, json};
 use std::alloc::Global;
 
-/// Numbers, as they are.
+/// Returns the JSON values of numbers.
 fn number_values(alloc: Global, numbers: &[u32]) -> Result<Vec<Value>, NoMem>
     ensures { IfOk result (λ vs. map view vs.items ≡ map number_data numbers.now) }
 {
@@ -23,7 +23,7 @@ fn number_values(alloc: Global, numbers: &[u32]) -> Result<Vec<Value>, NoMem>
     Ok(values)
 }
 
-/// The numbers of the lines with a verdict.
+/// Returns the numbers of the lines that have a verdict, in order.
 fn lines_with(
     alloc: Global,
     verdicts: &[(u32, Verdict)],
@@ -40,7 +40,7 @@ fn lines_with(
     Ok(numbers)
 }
 
-/// The numbers of the lines with a verdict, as values.
+/// Returns the JSON values of the numbers of the lines that have a verdict, in order.
 fn verdict_values(
     alloc: Global,
     verdicts: &[(u32, Verdict)],
@@ -53,7 +53,8 @@ fn verdict_values(
     number_values(alloc, &numbers)
 }
 
-/// A line's number, what it printed, and what it prints in the repaired run.
+/// Returns the JSON value of a compensation: the line's number, what it printed, and what it
+/// prints in the repaired run, `[number,"hex","hex"]`.
 fn compensation_value(alloc: Global, compensation: &Compensation) -> Result<Value, NoMem>
     ensures { IfOk result (λ v. view v ≡ compensation_data compensation.entry.now) }
 {
@@ -62,6 +63,7 @@ fn compensation_value(alloc: Global, compensation: &Compensation) -> Result<Valu
     json!(in alloc; [compensation.number, before, now])
 }
 
+/// Returns the JSON values of compensations, in order.
 fn compensation_values(alloc: Global, compensations: &[Compensation]) -> Result<Vec<Value>, NoMem>
     ensures { IfOk result (λ vs.
         map view vs.items ≡ map compensation_data compensations.now) }
@@ -73,6 +75,7 @@ fn compensation_values(alloc: Global, compensations: &[Compensation]) -> Result<
     Ok(values)
 }
 
+/// Returns the JSON value of the report of a repair.
 #[tactic(auto, unfolding(crate::specs::RepairReport::repair_data))]
 fn repair_value(alloc: Global, repair: &Repair) -> Result<Value, NoMem>
     ensures { IfOk result (λ v. view v ≡ repair_data repair.now) }
@@ -88,10 +91,15 @@ fn repair_value(alloc: Global, repair: &Repair) -> Result<Value, NoMem>
     })
 }
 
-/// The report of a repair: the numbers of the cancelled lines; each line whose output differs, with
-/// what it printed and what it prints now; the numbers of the lines that were met; each remaining
-/// line's output; the numbers of the lines that were run again; the sessions, and the tree. It is
-/// compact JSON (RFC 8259) with keys in byte order, and a newline.
+/// Returns the report of a repair: compact JSON (RFC 8259) with these keys, in byte order, and a
+/// newline.
+///
+/// - `cancelled`: the numbers of the cancelled lines,
+/// - `compensations`: each line whose output differs, with what it printed and what it prints now,
+/// - `met`: the numbers of the lines that were met,
+/// - `outputs`: the number and the output of each line that isn't cancelled,
+/// - `redone`: the numbers of the lines that were run again,
+/// - `sessions` and `tree`: the state after the repair.
 pub(crate) fn repair_report(alloc: Global, repair: &Repair) -> Result<Vec<u8>, NoMem>
     ensures { IfOk result (λ text. text.items ≡ repair_text repair.now) }
 {

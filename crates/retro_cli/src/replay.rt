@@ -1,4 +1,4 @@
-//! Running a script's lines one by one.
+//! Runs the lines of a script one by one.
 ghost use Rattle.std.specs.Prelude.{◌≡◌, IfOk, IsTrue, map};
 ghost use Rattle.retro_keep.specs.Runs.{outcome};
 ghost use Rattle.retro_keep.specs.Script.{have_sessions, sid_of};
@@ -9,7 +9,7 @@ use retro_shell::step;
 use retro_tree::{Bytes, NoMem, State};
 use std::alloc::Global;
 
-/// Runs lines one by one, each on the state that the line before it left. Returns the last state,
+/// Runs lines one by one, each in the state that the line before it left. Returns the last state,
 /// and each line's number with what it printed.
 fn run_lines(
     alloc: Global,
@@ -29,7 +29,8 @@ fn run_lines(
     Ok((state, outputs))
 }
 
-/// Runs the lines of a script one by one.
+/// Runs the lines of a script one by one. Returns the last state, and each line's number with what
+/// it printed.
 pub(crate) fn replay(alloc: Global, script: Script) -> Result<(State, Vec<(u32, Bytes)>), NoMem>
     ensures { IfOk result (λ run. (run.0, run.1.items) ≡ outcome script.lines script.first) }
 {

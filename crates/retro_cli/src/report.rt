@@ -1,4 +1,4 @@
-//! Reports, as JSON texts.
+//! The report of a replay, as JSON.
 ghost use Rattle.std.specs.Prelude.{◌≡◌, IfOk, map};
 ghost use Rattle.serde_json.specs.View.{view};
 ghost use Rattle.retro_cli.specs.Report.{output_data, replay_data, replay_text};
@@ -8,6 +8,7 @@ use retro_tree::{Bytes, NoMem, State};
 use serde_json::{Value, json};
 use std::alloc::Global;
 
+/// Returns the JSON value of a line's output: `[number,"hex"]`.
 fn output_value(alloc: Global, number: u32, output: &Bytes) -> Result<Value, NoMem>
     ensures { IfOk result (λ v. view v ≡ output_data (number, output.now)) }
 {
@@ -15,7 +16,7 @@ fn output_value(alloc: Global, number: u32, output: &Bytes) -> Result<Value, NoM
     json!(in alloc; [number, output])
 }
 
-/// The numbers of lines, each with what it printed.
+/// Returns the JSON values of the outputs of lines, in order.
 pub(crate) fn output_values(alloc: Global, outputs: &[(u32, Bytes)]) -> Result<Vec<Value>, NoMem>
     ensures { IfOk result (λ vs. map view vs.items ≡ map output_data outputs.now) }
 {
@@ -26,6 +27,7 @@ pub(crate) fn output_values(alloc: Global, outputs: &[(u32, Bytes)]) -> Result<V
     Ok(values)
 }
 
+/// Returns the JSON value of the report of a replay.
 #[tactic(auto, unfolding(crate::specs::Report::replay_data))]
 fn replay_value(alloc: Global, state: &State, outputs: &[(u32, Bytes)]) -> Result<Value, NoMem>
     ensures { IfOk result (λ v. view v ≡ replay_data outputs.now state.now) }
@@ -36,8 +38,11 @@ fn replay_value(alloc: Global, state: &State, outputs: &[(u32, Bytes)]) -> Resul
     json!(in alloc; {"outputs": outputs, "sessions": sessions, "tree": tree})
 }
 
-/// The report of a replay: each line's number and output, the sessions, and the tree, as compact
-/// JSON (RFC 8259) with keys in byte order, and a newline.
+/// Returns the report of a replay: compact JSON (RFC 8259) with these keys, in byte order, and a
+/// newline.
+///
+/// - `outputs`: each line's number and output,
+/// - `sessions` and `tree`: the last state.
 pub(crate) fn replay_report(
     alloc: Global,
     state: &State,

@@ -1,4 +1,4 @@
-//! Why a run ends before its answer is written.
+//! Errors that stop a run.
 ghost use Rattle.std.specs.Prelude.{◌≡◌};
 ghost use Rattle.retro_cli.specs.declared.stop.Stop.TheVariants as stops;
 ghost use Rattle.retro_cli.specs.Stop.{stop_of_words, stop_of_document, stop_of_edit};
@@ -10,19 +10,22 @@ use retro_log::LogFault;
 use retro_redo::RepairFault;
 use retro_tree::NoMem;
 
-/// The number of the refusal of bad words.
+/// The number of the refusal of a bad command line.
 pub const BAD_WORDS: u8 = 31;
 
 /// The number of the refusal of a cancelled number that no line has.
 pub(crate) const UNKNOWN_LINE: u8 = 21;
 
-/// Why a run ends before its answer is written whole.
+/// Why a run ends before its whole answer is written.
 #[derive(Clone, Copy, Debug, PartialEq, Eq)]
 pub(crate) enum Stop {
+    /// Allocation failed.
     NoMem,
-    /// The words, the document or the request are refused, with the refusal's number.
+    /// The command line, the document or the request is refused, with the refusal's number.
     Refused(u8),
+    /// The input couldn't be read to its end.
     ReadFailed,
+    /// The whole answer couldn't be written.
     WriteFailed,
 }
 

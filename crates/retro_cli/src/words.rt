@@ -1,4 +1,4 @@
-//! What the words of the command line ask for, as `clap` reads them.
+//! The request that the words of the command line make, as `clap` reads them.
 ghost use Rattle.std.specs.Prelude.{◌≡◌, ◌∷◌, [], false, map, option_and_then, IfOk, codes};
 ghost use Rattle.std.specs.Prelude.{string_bytes};
 ghost use Rattle.clap.specs.Words.{app_of, rule_of};
@@ -16,23 +16,25 @@ use std::alloc::{AllocError, AllocFailed, Global};
 /// What the program is asked to do.
 #[derive(Debug, Drop)]
 pub(crate) enum Request {
-    /// To run a script's lines without those that have these numbers.
+    /// Run the lines of a script, without the lines that have these numbers.
     Replay { cancel: Vec<u32> },
-    /// To record the lines of a script.
+    /// Record the lines of a script.
     Record,
-    /// To check whether a log is a recording.
+    /// Check whether a log is a recording of its lines.
     Check,
-    /// To repair a log without the lines that have these numbers.
+    /// Repair a log without the lines that have these numbers, and report the repair.
     Repair { cancel: Vec<u32> },
-    /// To write the log of what `Repair` answers.
+    /// Repair a log without the lines that have these numbers, and write the log of the repaired
+    /// recording.
     Relog { cancel: Vec<u32> },
 }
 
-/// Why words ask for nothing.
+/// Why words make no request.
 #[derive(Clone, Copy, Debug, PartialEq, Eq)]
 pub(crate) enum WordsFault {
+    /// Allocation failed.
     NoMem,
-    /// Refusal 31.
+    /// The words are bad (refusal 31).
     BadWords,
 }
 
@@ -52,13 +54,14 @@ impl<T: Drop> From<AllocFailed<T>> for WordsFault {
     }
 }
 
-/// A command's name and the text of its option.
+/// The command that words name, and the text of its option.
 #[derive(Debug, Drop)]
 struct CommandCall<'a> {
     name: &'a str,
     cancel: Option<&'a str>,
 }
 
+/// Returns the option `--cancel`, which takes one value and is empty by default.
 fn cancel_option<'a>(alloc: Global) -> Arg<'a>
     ensures rule { rule_of result ≡ cancel }
     ensures local { result.global ≡ false }
@@ -69,7 +72,7 @@ fn cancel_option<'a>(alloc: Global) -> Arg<'a>
         .default_value("")
 }
 
-/// A command with the option `--cancel`.
+/// Returns a command that has the option `--cancel`.
 fn cancelling_command<'a>(alloc: Global, name: &'a str) -> Result<Command<'a>, AllocError>
     ensures shape { IfOk result (λ c.
         app_of c ≡ record { top = command name.entry.now (cancel ∷ []); subs = [] }) }
@@ -78,7 +81,7 @@ fn cancelling_command<'a>(alloc: Global, name: &'a str) -> Result<Command<'a>, A
     Command::new(alloc, name).arg(cancel_option(alloc))
 }
 
-/// A command without options.
+/// Returns a command without options.
 fn plain_command<'a>(alloc: Global, name: &'a str) -> Command<'a>
     ensures shape { app_of result ≡ record { top = command name.entry.now []; subs = [] } }
     ensures local { (fields_of result).has_globals ≡ false }
@@ -86,6 +89,8 @@ fn plain_command<'a>(alloc: Global, name: &'a str) -> Command<'a>
     Command::new(alloc, name)
 }
 
+/// Returns the program's command line without its commands. One is required, and `clap` adds no
+/// help.
 fn bare_command<'a>(alloc: Global) -> Command<'a>
     ensures { app_of result ≡ bare }
 {
@@ -95,6 +100,7 @@ fn bare_command<'a>(alloc: Global) -> Command<'a>
         .subcommand_required(true)
 }
 
+/// Returns the program's command line with all its commands.
 fn program_command<'a>(alloc: Global) -> Result<Command<'a>, AllocError>
     ensures { IfOk result (λ c. app_of c ≡ program) }
 {
@@ -106,6 +112,8 @@ fn program_command<'a>(alloc: Global) -> Result<Command<'a>, AllocError>
         .subcommand(cancelling_command(alloc, "relog")?)
 }
 
+/// Returns the command that words name, as `clap` reads them. Fails with `BadWords` if `clap`
+/// refuses them.
 fn read_call<'a>(alloc: Global, words: &'a [String]) -> Result<CommandCall<'a>, WordsFault>
     ensures { Means call_view result (call_in (map string_bytes words.entry.now)) }
 {
@@ -125,7 +133,8 @@ fn read_call<'a>(alloc: Global, words: &'a [String]) -> Result<CommandCall<'a>, 
     }
 }
 
-/// The numbers of the lines to cancel.
+/// Returns the numbers of the lines to cancel. Fails with `BadWords` if the command has no option
+/// `--cancel`, or if its text isn't a list of numbers.
 fn cancelled_in(alloc: Global, call: &CommandCall<'_>) -> Result<Vec<u32>, WordsFault>
     ensures { Means (λ v. v.items) result (option_and_then list_in (call_view call.now).cancel) }
 {
@@ -135,10 +144,10 @@ fn cancelled_in(alloc: Global, call: &CommandCall<'_>) -> Result<Vec<u32>, Words
     }
 }
 
-/// What the words ask for; the first is the program's name.
+/// Returns the request that words make. The first word is the program's name.
 ///
-/// Words are bad if `clap` refuses them, as it does a request for help, or if a list isn't numbers
-/// separated by single commas.
+/// Fails with `BadWords` if `clap` refuses the words, as it does a request for help, or if the
+/// list of the cancelled numbers is malformed.
 #[tactic(auto, unfolding(crate::specs::Words::request_in))]
 pub(crate) fn read_words(alloc: Global, words: &[String]) -> Result<Request, WordsFault>
     ensures { Means request_view result (request_in (map string_bytes words.now)) }

@@ -1,15 +1,16 @@
 //! Scripts, and recordings of them.
 //!
-//! A [`Script`] is a first state, and the lines that sessions run from it. The type keeps that the
-//! first state is lawful, that line numbers are at least 1 and rise, and that each line's session
-//! exists in the first state.
+//! A [`Script`] is a first state and the lines that sessions run from it. The type guarantees that
+//! the first state is lawful, that line numbers are at least 1 and rise, and that each line's
+//! session exists in the first state.
 //!
-//! A [`Recording`] has for each line a [`Noted`]: the notes of what the line read and changed, and
-//! what it printed. [`keep`] and [`keep_alone`] run the lines of a script in order and record them.
-//! [`Recording::new`] makes a recording of parts, or refuses them. [`Recording::of_lawful`] also
-//! says why.
+//! A [`Recording`] has a [`Noted`] for each line: the notes of what the line read and changed, and
+//! what it printed. [`keep`] and [`keep_alone`] run the lines of a script in order and record
+//! them. [`Recording::new`] makes a recording of its parts, or refuses them.
+//! [`Recording::of_lawful`] also says why it refuses them.
 //!
-//! If allocation fails, calls return `NoMem` and leave their arguments unchanged.
+//! If allocation fails, calls return `NoMem`, alone or as a variant of their error, and leave
+//! borrowed arguments unchanged.
 #![tactic(auto)]
 
 mod laws;

@@ -1,9 +1,9 @@
-//! What a recording keeps of a line.
+//! A recorded line.
 use retro_tree::{Bytes, Notes, Text};
 
 /// A line of a session, with the notes of what it read and changed, and what it printed.
 ///
-/// This is plain data: nothing is known of how the line, the notes and the output belong together.
+/// This is plain data: the notes and the output need not be those of the line.
 #[derive(Drop)]
 pub struct Noted {
     /// The session that runs the line.

@@ -1,4 +1,4 @@
-//! Lines with numbers and sessions, and what they must satisfy.
+//! What the numbers and sessions of lines must satisfy.
 ghost use Rattle.std.specs.Prelude.{◌≡◌, ℕ, map};
 ghost use Rattle.retro_keep.specs.Recording.{number_in, sid_in};
 ghost use Rattle.retro_keep.specs.Script.{have_sessions, lines_tested, number_of, rises_from};
@@ -8,7 +8,7 @@ use crate::noted::Noted;
 use crate::script::{LinesFault, ScriptLine};
 use retro_tree::State;
 
-/// A line of a script or of a recording: it has a number, and a session runs it.
+/// A line of a script or of a recording, which has a number and a session.
 pub(crate) trait Numbered {
     /// The number.
     ghost number: { Self → ℕ };
@@ -16,11 +16,11 @@ pub(crate) trait Numbered {
     /// The session.
     ghost sid: { Self → ℕ };
 
-    /// Returns the number.
+    /// Returns the line's number.
     fn number(&self) -> u32
         ensures { result ≡ number self.now };
 
-    /// Returns the session.
+    /// Returns the session that runs the line.
     fn sid(&self) -> u32
         ensures { result ≡ sid self.now };
 }
@@ -80,8 +80,8 @@ fn have_sessions<L: Numbered>(state: &State, lines: &[L]) -> bool
     true
 }
 
-/// Tests that line numbers are at least 1 and rise, and then that each line's session exists in
-/// the first state.
+/// Returns `Ok` if line numbers are at least 1 and rise, and each line's session exists in the
+/// first state. The numbers are tested first.
 pub(crate) fn test_lines<L: Numbered>(first: &State, lines: &[L]) -> Result<(), LinesFault>
     ensures { result ≡ lines_tested first.now (map L.number lines.now) (map L.sid lines.now) }
 {

@@ -1,4 +1,4 @@
-//! Running a script's lines one by one, and recording them.
+//! Runs the lines of a script one by one, and records them.
 ghost use Rattle.std.specs.Prelude.{◌≡◌, ◌≤◌, ◌+◌, ◌++◌, ◌∷◌, [], IfOk, IsTrue, List, OnOk, drop};
 ghost use Rattle.std.specs.Prelude.{length, map, take};
 ghost use Rattle.std.specs.FinMap as map_of;
@@ -19,8 +19,8 @@ use retro_tree::{NoMem, State};
 use std::alloc::Global;
 use std::thread::Threads;
 
-/// How many lines are parsed before they are run: enough to keep all threads busy. The trees of all
-/// lines of a long script would take more memory than its recording.
+/// The number of lines that are parsed before they are run: enough to keep all threads busy. The
+/// trees of all lines of a long script would take more memory than its recording.
 const PARSED_AT_ONCE: usize = 4096;
 
 /// The lines that were run so far, and the state after them.
@@ -31,7 +31,7 @@ struct Recorder {
 }
 
 impl Recorder {
-    /// Returns the recorder of a script's lines, before the first of them.
+    /// Returns the recorder of a script before its first line.
     fn new(alloc: Global, script: &Script) -> Result<Recorder, NoMem>
         ensures { IfOk result (λ recorder.
             HasRecorded [] script.now.first recorder.lines.items recorder.state) }
@@ -42,7 +42,7 @@ impl Recorder {
         })
     }
 
-    /// Runs a line, which is given parsed, and records it.
+    /// Runs a line and records it. `parsed` is the line's parsed text.
     fn record(&mut self, alloc: Global, line: &ScriptLine, parsed: &Parsed) -> Result<(), NoMem>
         requires text { parsed.now ≡ line.now.text }
         requires lawful { IsLawful self.old.state }
@@ -64,7 +64,8 @@ impl Recorder {
         Ok(())
     }
 
-    /// Runs the lines of a script from an index on, which are given parsed, and records them.
+    /// Runs the lines of a script that begin at index `start`, as many as `parsed` has, and
+    /// records them. `parsed` has the parsed texts of these lines, in order.
     fn record_parsed(
         &mut self,
         alloc: Global,
@@ -87,7 +88,7 @@ impl Recorder {
         Ok(())
     }
 
-    /// Returns the recording of a script whose lines were all recorded.
+    /// Returns the recording of a script whose lines are all recorded.
     fn finish(self, script: &Script) -> Result<Recording, NoMem>
         requires { HasRecorded script.now.lines script.now.first self.lines.items self.state }
         ensures recording { IfOk result (λ r. IsRecordingOf script.now r) }
@@ -100,7 +101,7 @@ impl Recorder {
     }
 }
 
-/// Parses the texts of lines, in order, in as many threads as there are processors.
+/// Parses the texts of lines in parallel. Returns them in the order of the lines.
 fn parse_lines<T: Threads + Sync>(
     rt: &T,
     alloc: Global,
@@ -126,8 +127,8 @@ fn parse_line(alloc: Global, line: &ScriptLine) -> Result<Parsed, NoMem>
     Parsed::of(alloc, String::from_str(alloc, line.text.as_str())?)
 }
 
-/// Records a script: parses the texts of its lines in parallel, some at once, and runs the lines in
-/// order.
+/// Returns the recording of a script. The lines are parsed in parallel, up to 4096 at a time, and
+/// run one by one in order.
 pub fn keep<T: Threads + Sync>(rt: &T, alloc: Global, script: &Script) -> Result<Recording, NoMem>
     ensures recording { IfOk result (λ r. IsRecordingOf script.now r) }
     ensures outcome { IfOk result (λ r.
@@ -145,7 +146,8 @@ pub fn keep<T: Threads + Sync>(rt: &T, alloc: Global, script: &Script) -> Result
     recorder.finish(script)
 }
 
-/// Records a script on one thread, as [`keep`] does: parses and runs its lines one by one.
+/// Returns the recording of a script, as [`keep`] does, on one thread: each line is parsed and run
+/// before the next.
 pub fn keep_alone(alloc: Global, script: &Script) -> Result<Recording, NoMem>
     ensures recording { IfOk result (λ r. IsRecordingOf script.now r) }
     ensures outcome { IfOk result (λ r.

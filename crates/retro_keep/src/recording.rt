@@ -1,4 +1,4 @@
-//! Recordings.
+//! Recordings of lines.
 ghost use Rattle.std.specs.Prelude.{◌≡◌, ◌↔◌, IfErr, IfOk, IfSome, IsTrue, OnOk, is_some};
 ghost use Rattle.std.specs.List.{list_all};
 ghost use Rattle.std.specs.Option.{option_copied};
@@ -18,10 +18,16 @@ use std::marker::Model;
 
 /// A first state, and the lines that were run from it, each with its notes and its output.
 ///
-/// The first state is lawful, line numbers are at least 1 and rise, each line's session exists and
-/// is the only one that its notes name, each noted answer is of its query's kind, and each noted
-/// change is lawful where it is made. Whether the notes are those of the line isn't known: a
-/// recording can be read from a document. [`keep`](crate::keep) makes one whose notes are.
+/// The type guarantees that
+///
+/// - the first state is lawful,
+/// - line numbers are at least 1 and rise,
+/// - each line's session exists and is the only one that the line's notes name,
+/// - each noted answer is of its query's kind,
+/// - each noted change is lawful in the state that it changes.
+///
+/// The notes need not be those of the lines, because a recording can be read from a document. The
+/// recording that [`keep`](crate::keep) returns has the notes of its lines.
 #[derive(Drop)]
 pub struct Recording {
     first: State,
@@ -43,9 +49,8 @@ impl Model for Recording {
 }
 
 impl Recording {
-    /// Returns the recording of these parts, or `None` if they aren't one: if the first state isn't
-    /// lawful, numbers don't rise from 1 on, a line's session doesn't exist or isn't that of its
-    /// notes, an answer isn't of its query's kind, or a change isn't lawful where it is made.
+    /// Returns the recording of these parts, or `None` if they don't satisfy what [`Recording`]
+    /// guarantees.
     pub fn new(
         alloc: Global,
         first: State,
@@ -63,9 +68,9 @@ impl Recording {
         Recording::of_fitting(alloc, first, lines)
     }
 
-    /// Returns the recording of a lawful state and of lines whose notes name their session alone,
-    /// with answers of their queries' kinds. Or the first refusal in the order line numbers,
-    /// sessions, changes.
+    /// Returns the recording of a lawful state and of lines, or the first refusal in the order
+    /// line numbers, sessions, changes. The lines' notes must name their own session alone, and
+    /// their answers must be of their queries' kinds.
     pub fn of_lawful(
         alloc: Global,
         first: State,
@@ -87,7 +92,7 @@ impl Recording {
     }
 
     /// Returns the recording of a lawful state and of lines that fit it, or `None` if a change
-    /// isn't lawful where it is made.
+    /// isn't lawful in the state that it changes.
     fn of_fitting(
         alloc: Global,
         first: State,
@@ -107,8 +112,8 @@ impl Recording {
         Ok(Some(Recording { first, lines, last }))
     }
 
-    /// Makes a recording of parts that are known to be one, and of the state after the changes of
-    /// all lines. Tests nothing, and takes no memory.
+    /// Makes a recording of parts that satisfy what [`Recording`] guarantees. `last` is the state
+    /// after the changes of all lines. Nothing is tested, and no memory is allocated.
     pub fn of_well_formed(first: State, lines: Vec<(u32, Noted)>, last: State) -> Recording
         requires well_formed { IsWellFormed (record { first = first; lines = lines.items }) }
         requires last { last ≡ last_state lines.items first }
@@ -133,8 +138,8 @@ impl Recording {
         self.lines.as_slice()
     }
 
-    /// Returns what the line with a number noted, or `None` if no line has the number. Searches by
-    /// halves.
+    /// Returns the line with this number, its notes and its output, or `None` if no line has the
+    /// number. The line is found by binary search.
     pub fn run_of(&self, number: u32) -> Option<&Noted>
         ensures value { option_copied result ≡ noted_at number self.now.lines }
         ensures well_formed { IsWellFormed self.now }
@@ -157,7 +162,7 @@ impl Recording {
         &self.last
     }
 
-    /// Returns the first state, the lines and the last state. Takes no memory.
+    /// Returns the first state, the lines and the last state. No memory is allocated.
     pub fn into_parts(self) -> (State, Vec<(u32, Noted)>, State)
         ensures first { result.0 ≡ self.first }
         ensures lines { result.1.items ≡ self.lines }

@@ -1,4 +1,4 @@
-//! Why parts make no recording.
+//! Faults of the parts of a recording.
 ghost use Rattle.std.specs.Prelude.{◌≡◌};
 ghost use Rattle.retro_keep.specs.RecordingFault.{recording_fault};
 ghost use Rattle.retro_keep.specs.declared.recording_fault.RecordingFault.TheVariants as faults;
@@ -7,18 +7,19 @@ use crate::script::LinesFault;
 use std::alloc::AllocError;
 use thiserror::Error;
 
-/// Why a state and lines make no recording.
+/// Why a state and lines don't make a recording.
 #[derive(Clone, Copy, Debug, Drop, PartialEq, Eq, Error)]
 pub enum RecordingFault {
-    /// Line numbers don't rise, or the first is 0.
+    /// Line numbers don't rise, or the first is 0 (refusal 8).
     #[error("line numbers don't rise")]
     NumbersNotRising,
-    /// A line's session is missing in the first state.
+    /// A line's session is missing in the first state (refusal 9).
     #[error("a line's session is missing")]
     UnknownSession,
-    /// A change isn't lawful in the state that it meets.
+    /// A change isn't lawful in the state that it changes (refusal 10).
     #[error("a change isn't lawful")]
     LawlessChange,
+    /// Allocation failed.
     #[error("out of memory")]
     NoMem,
 }

@@ -1,4 +1,4 @@
-//! What the parts of a recording must satisfy.
+//! What the lines of a recording must satisfy.
 ghost use Rattle.std.specs.Prelude.{◌≡◌, ◌↔◌, ◌∷◌, [], IfOk, IsTrue, map};
 ghost use Rattle.std.specs.List.{list_all};
 ghost use Rattle.retro_tree.specs.Notes.{after, AllAllowed};
@@ -11,7 +11,9 @@ use crate::numbered::test_lines;
 use retro_tree::{Answer, Ask, Change, NoMem, Note, Notes, State};
 use std::alloc::Global;
 
-/// Returns whether lines fit a first state, except for their changes.
+/// Returns whether lines fit a first state, apart from their changes: their numbers rise, their
+/// sessions exist, their notes name no other session, and their answers are of their queries'
+/// kinds.
 pub(crate) fn are_parts(first: &State, lines: &[(u32, Noted)]) -> bool
     ensures { result ≡ are_parts first.now lines.now }
 {
@@ -30,7 +32,7 @@ fn are_own(lines: &[(u32, Noted)]) -> bool
     true
 }
 
-/// Returns whether each noted answer is of its query's kind.
+/// Returns whether, in each line, each noted answer is of its query's kind.
 fn are_of_kind(lines: &[(u32, Noted)]) -> bool
     ensures { result ≡ list_all is_line_of_kind lines.now }
 {
@@ -42,7 +44,7 @@ fn are_of_kind(lines: &[(u32, Noted)]) -> bool
     true
 }
 
-/// Returns whether notes name no session but one.
+/// Returns whether notes name no session but this one.
 fn are_notes_own(sid: u32, notes: &Notes) -> bool
     ensures { result ≡ are_own sid notes.now }
 {
@@ -54,7 +56,7 @@ fn are_notes_own(sid: u32, notes: &Notes) -> bool
     true
 }
 
-/// Returns whether a note names no session but one.
+/// Returns whether a note names no session but this one.
 #[tactic(auto, unfolding(retro_local::specs::Trace::named_sessions))]
 fn is_note_own(sid: u32, note: &Note) -> bool
     ensures { result ≡ are_own sid (note.now ∷ []) }
@@ -82,7 +84,7 @@ fn are_answers_of_kind(notes: &Notes) -> bool
     true
 }
 
-/// Returns whether an answer's variant is the one of its query.
+/// Returns whether an answer is of the variant that answers a query.
 fn is_of_kind(ask: &Ask, answer: &Answer) -> bool
     ensures { result ≡ is_of_kind ask.now answer.now }
 {
@@ -99,8 +101,8 @@ fn is_of_kind(ask: &Ask, answer: &Answer) -> bool
     }
 }
 
-/// Makes the changes of lines in a state as long as they are lawful. Returns whether all are. Each
-/// change is tested at the cost of [`State::allows`].
+/// Makes the changes of lines in a state, in order, up to the first that isn't lawful. Returns
+/// whether all are lawful. Each change is tested at the cost of [`State::allows`].
 pub(crate) fn make_changes(
     alloc: Global,
     lines: &[(u32, Noted)],
@@ -118,7 +120,8 @@ pub(crate) fn make_changes(
     Ok(true)
 }
 
-/// Makes the changes of notes in a state as long as they are lawful. Returns whether all are.
+/// Makes the changes of notes in a state, in order, up to the first that isn't lawful. Returns
+/// whether all are lawful.
 fn make_changes_of(alloc: Global, notes: &Notes, state: &mut State) -> Result<bool, NoMem>
     ensures allowed { IfOk result (λ all. IsTrue all ↔ AllAllowed notes.now state.old) }
     ensures after { IfOk result (λ all. IsTrue all → state.new ≡ after notes.now state.old) }

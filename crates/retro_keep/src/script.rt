@@ -16,15 +16,18 @@ use std::collections::BTreeSet;
 use std::marker::Model;
 use thiserror::Error;
 
-/// A line of a script: its number, the session that runs it, and its text.
+/// A line of a script.
 #[derive(Drop)]
 pub struct ScriptLine {
+    /// The line's number, at least 1.
     pub number: u32,
+    /// The session that runs the line.
     pub sid: u32,
+    /// The line's text.
     pub text: Text,
 }
 
-/// Why parts make no script.
+/// Why a state and lines don't make a script.
 #[derive(Clone, Copy, Debug, Drop, PartialEq, Eq, Error)]
 pub enum ScriptFault {
     /// Line numbers don't rise, or the first is 0 (refusal 8).
@@ -39,6 +42,7 @@ pub enum ScriptFault {
     /// A file or the value of a variable is over its limit (refusal 11).
     #[error("over a limit")]
     OverLimit,
+    /// Allocation failed.
     #[error("out of memory")]
     NoMem,
 }
@@ -73,12 +77,13 @@ impl From<LinesFault> for ScriptFault {
     }
 }
 
-/// Why lines can't be left out of a script.
+/// Why lines can't be removed from a script.
 #[derive(Clone, Copy, Debug, Drop, PartialEq, Eq, Error)]
 pub enum EditFault {
     /// No line has this number (refusal 21).
     #[error("no line has the number {0}")]
     UnknownLine(u32),
+    /// Allocation failed.
     #[error("out of memory")]
     NoMem,
 }
@@ -92,6 +97,9 @@ impl From<AllocError> for EditFault {
 }
 
 /// A first state, and the lines that are run from it, in order.
+///
+/// The type guarantees that the first state is lawful, that line numbers are at least 1 and rise,
+/// and that each line's session exists in the first state.
 #[derive(Drop)]
 pub struct Script {
     first: State,
@@ -112,8 +120,8 @@ impl Model for Script {
 }
 
 impl Script {
-    /// The script of these parts, or the first refusal in the order limits, law of the tree, line
-    /// numbers, sessions. The script's first state is known to be lawful.
+    /// Returns the script of these parts, or the first refusal in the order limits, law of the
+    /// tree, line numbers, sessions. The script's first state is marked as lawful.
     #[tactic(auto, using(crate::proofs::Parts::parts), unfolding(crate::specs::Script::script_of))]
     pub fn new(alloc: Global, first: State, lines: Vec<ScriptLine>) -> Result<Script, ScriptFault>
         ensures { Makes result (script_of first lines.items) }
@@ -128,8 +136,8 @@ impl Script {
         Ok(Script::of_lawful(first, lines)?)
     }
 
-    /// The script of a lawful state and lines, or the first refusal in the order line numbers,
-    /// sessions.
+    /// Returns the script of a lawful state and lines, or the first refusal in the order line
+    /// numbers, sessions.
     #[tactic(auto, unfolding(crate::specs::Script::script_of_lines))]
     pub fn of_lawful(first: State, lines: Vec<ScriptLine>) -> Result<Script, LinesFault>
         requires { IsLawful first }
@@ -139,7 +147,7 @@ impl Script {
         Ok(Script { first, lines })
     }
 
-    /// The state before the first line.
+    /// Returns the state before the first line.
     pub fn first(&self) -> &State
         ensures value { result.now ≡ self.now.first }
         ensures lawful { IsScript self.now }
@@ -147,7 +155,7 @@ impl Script {
         &self.first
     }
 
-    /// The lines, in order.
+    /// Returns the lines, in order.
     pub fn lines(&self) -> &[ScriptLine]
         ensures value { result.now ≡ self.now.lines }
         ensures lawful { IsScript self.now }
@@ -155,7 +163,7 @@ impl Script {
         self.lines.as_slice()
     }
 
-    /// The first state and the lines.
+    /// Returns the first state and the lines.
     pub fn into_parts(self) -> (State, Vec<ScriptLine>)
         ensures first { result.0 ≡ self.first }
         ensures lines { result.1.items ≡ self.lines }
@@ -165,8 +173,8 @@ impl Script {
         (first, lines)
     }
 
-    /// The script without the lines that have these numbers, or the first of the numbers that no
-    /// line has.
+    /// Returns the script without the lines that have these numbers. If no line has one of the
+    /// numbers, the error has the first such number.
     #[tactic(auto, using(crate::proofs::Edits::by_set), unfolding(crate::specs::Edit::without))]
     pub fn without(self, alloc: Global, numbers: &[u32]) -> Result<Script, EditFault>
         ensures { Edits result (without numbers.now self) }
@@ -182,14 +190,14 @@ impl Script {
     }
 }
 
-/// The numbers of a list as a set.
+/// Returns the numbers of a list as a set.
 fn number_set(alloc: Global, numbers: &[u32]) -> Result<BTreeSet<u32>, AllocError>
     ensures { IfOk result (λ set. (n : ℕ) → contains nat_cmp set n ≡ is_among numbers.now n) }
 {
     numbers.iter().copied().collect(alloc)
 }
 
-/// The numbers of lines as a set.
+/// Returns the numbers of lines as a set.
 fn line_numbers(alloc: Global, lines: &[ScriptLine]) -> Result<BTreeSet<u32>, AllocError>
     ensures { IfOk result (λ set. (n : ℕ) →
         contains nat_cmp set n ≡ is_among (map number_of lines.now) n) }
@@ -197,7 +205,7 @@ fn line_numbers(alloc: Global, lines: &[ScriptLine]) -> Result<BTreeSet<u32>, Al
     lines.iter().map(|line| line.number).collect(alloc)
 }
 
-/// The first of the numbers that isn't known.
+/// Returns the first of the numbers that isn't known, or `None` if all are known.
 fn first_unknown(known: &BTreeSet<u32>, numbers: &[u32]) -> Option<u32>
     ensures { result ≡ first_unknown (contains nat_cmp known.now) numbers.now }
 {
