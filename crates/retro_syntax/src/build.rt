@@ -14,14 +14,14 @@ ghost use Rattle.retro_syntax.specs.View.{
 use crate::tree::{Command, Commands, Conditional, Loop, Simple};
 use std::alloc::{AllocError, Global};
 
-/// An `if` without `else`.
+/// Returns an `if` without `else`.
 pub fn conditional(alloc: Global, parts: Conditional<Command>) -> Result<Command, AllocError>
     ensures { IfOk result (λ c. view c ≡ Tree.conditional (arms_of view parts)) }
 {
     Ok(Command::If(Box::new(alloc, parts)?))
 }
 
-/// A pipe of these stages.
+/// Returns a pipe of these stages.
 #[tactic(auto, unfolding(crate::specs::View::view))]
 pub fn pipe(stages: Vec<Simple>) -> Command
     ensures { view result ≡ Tree.simples (map simple_view stages.items) }
@@ -29,7 +29,7 @@ pub fn pipe(stages: Vec<Simple>) -> Command
     Command::Pipe(stages)
 }
 
-/// An `if` with the list after its `else`.
+/// Returns an `if` with `alternative` after its `else`.
 pub fn conditional_else(
     alloc: Global,
     parts: Conditional<Command>,
@@ -41,7 +41,7 @@ pub fn conditional_else(
     Ok(Command::IfElse(parts, Box::new(alloc, alternative)?))
 }
 
-/// A `for`.
+/// Returns a `for`.
 pub fn repetition(alloc: Global, parts: Loop<Command>) -> Result<Command, AllocError>
     ensures { IfOk result (λ c. view c
         ≡ Tree.loop parts.name (map word_view parts.words.items)

@@ -1,4 +1,5 @@
-//! How deep `if` and `for` nest.
+//! How deep `if` and `for` nest. Each function with a `room` tests whether at most so many
+//! compound commands are nested in each other.
 
 ghost use Rattle.std.specs.Prelude.{◌≡◌, nat_le, true, false};
 ghost use Rattle.retro_syntax.specs.Depth as Depth;
@@ -7,7 +8,7 @@ ghost use Rattle.retro_syntax.specs.View.{commands_of, view};
 
 use crate::tree::{AndOr, Command, Commands, Conditional, Connector, Pipeline};
 
-/// Whether these pipelines nest at most `room` deep.
+/// Returns whether these pipelines nest at most `room` deep.
 #[cycle(depth)]
 fn pipelines_fit(pipelines: &[(Pipeline<Command>, Connector)], room: u8) -> bool
     ensures { result ≡ Fits.pipelines_fit pipelines.now room }
@@ -22,7 +23,7 @@ fn pipelines_fit(pipelines: &[(Pipeline<Command>, Connector)], room: u8) -> bool
     true
 }
 
-/// Whether an and-or list nests at most `room` deep.
+/// Returns whether an and-or list nests at most `room` deep.
 #[cycle(depth)]
 fn and_or_fits(and_or: &AndOr<Command>, room: u8) -> bool
     ensures { result ≡ Fits.and_or_fits and_or.now room }
@@ -30,7 +31,7 @@ fn and_or_fits(and_or: &AndOr<Command>, room: u8) -> bool
     pipelines_fit(&and_or.before, room) && command_fits(&and_or.last.command, room)
 }
 
-/// Whether these and-or lists nest at most `room` deep.
+/// Returns whether these and-or lists nest at most `room` deep.
 #[cycle(depth)]
 fn and_ors_fit(list: &[AndOr<Command>], room: u8) -> bool
     ensures { result ≡ Fits.and_ors_fit list.now room }
@@ -45,7 +46,7 @@ fn and_ors_fit(list: &[AndOr<Command>], room: u8) -> bool
     true
 }
 
-/// Whether a list nests at most `room` deep.
+/// Returns whether a list nests at most `room` deep.
 #[cycle(depth)]
 fn list_fits(list: &Commands<Command>, room: u8) -> bool
     ensures { result ≡ Fits.list_fits list.now room }
@@ -53,7 +54,7 @@ fn list_fits(list: &Commands<Command>, room: u8) -> bool
     and_ors_fit(&list.before, room) && and_or_fits(&list.last, room)
 }
 
-/// Whether these arms of an `if` nest at most `room` deep.
+/// Returns whether the conditions of an `if` and their lists nest at most `room` deep.
 #[cycle(depth)]
 fn arms_fit(arms: &[(Commands<Command>, Commands<Command>)], room: u8) -> bool
     ensures { result ≡ Fits.arms_fit arms.now room }
@@ -68,7 +69,7 @@ fn arms_fit(arms: &[(Commands<Command>, Commands<Command>)], room: u8) -> bool
     true
 }
 
-/// Whether the lists of an `if` nest at most `room` deep, but for its `else`.
+/// Returns whether the lists of an `if`, except the one after `else`, nest at most `room` deep.
 #[cycle(depth)]
 fn conditional_fits(parts: &Conditional<Command>, room: u8) -> bool
     ensures { result ≡ Fits.conditional_fits parts.now room }
@@ -78,7 +79,8 @@ fn conditional_fits(parts: &Conditional<Command>, room: u8) -> bool
         && list_fits(&parts.consequence, room)
 }
 
-/// Whether a command nests at most `room` deep. An `if` or a `for` is one deeper than its lists.
+/// Returns whether a command nests at most `room` deep. An `if` or a `for` is one deeper than its
+/// lists.
 #[cycle(depth)]
 fn command_fits(command: &Command, room: u8) -> bool
     ensures { result ≡ Fits.command_fits command.now room }
@@ -109,10 +111,10 @@ fn command_fits(command: &Command, room: u8) -> bool
     }
 }
 
-/// How deep `if` and `for` may nest in a line.
+/// The greatest depth to which `if` and `for` may nest in a line.
 pub const DEEPEST_NESTING: u8 = 32;
 
-/// Whether `if` and `for` nest no deeper than [`DEEPEST_NESTING`].
+/// Returns whether `if` and `for` nest at most [`DEEPEST_NESTING`] deep in a list.
 pub fn is_shallow(list: &Commands<Command>) -> bool
     ensures { result ≡ nat_le (Depth.depth (commands_of view list.now)) Depth.deepest_nesting }
 {

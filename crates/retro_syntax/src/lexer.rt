@@ -75,25 +75,25 @@ pub enum Quote {
 /// What the next character may belong to. `quoted` says whether a parameter is in double quotes.
 #[derive(Clone, Copy, Debug, PartialEq, Eq)]
 pub enum Pending {
-    /// Nothing: a token may begin.
+    /// Nothing yet: a token may begin.
     Between,
     /// A comment.
     Comment,
-    /// An operator, of which this character was read.
+    /// An operator whose first character was read.
     Operator(Operator),
     /// A word, outside parameters. `digits` says whether only unquoted digits were read.
     Word { digits: bool, quote: Quote },
-    /// A parameter, of which `$` was read.
+    /// A parameter of which `$` was read.
     Dollar { quoted: bool },
-    /// A parameter, of which `$` and the start of a name were read.
+    /// A parameter of which `$` and the start of a name were read.
     Name { quoted: bool },
-    /// A parameter, of which `${` was read, and perhaps the start of a name.
+    /// A parameter of which `${` was read, and perhaps the start of a name.
     Brace { quoted: bool },
-    /// A parameter, of which `${?` was read.
+    /// A parameter of which `${?` was read.
     Question { quoted: bool },
 }
 
-/// A text that was read up to some character.
+/// The state of reading a text, after some of its characters.
 #[derive(Drop)]
 pub struct Lexer {
     alloc: Global,
@@ -109,7 +109,7 @@ pub struct Lexer {
     backslash: bool,
 }
 
-/// A parameter as a piece of a word.
+/// Returns a parameter as a piece of a word.
 fn parameter_piece(quoted: bool, parameter: Parameter) -> Piece
     ensures { piece_view result ≡ Quoting.parameter_piece quoted (parameter_view parameter) }
 {
@@ -120,7 +120,7 @@ fn parameter_piece(quoted: bool, parameter: Parameter) -> Piece
     }
 }
 
-/// The quotes around a parameter.
+/// Returns the quotes around a parameter.
 fn quote_of(quoted: bool) -> Quote
     ensures { quote_view result ≡ Quoting.quote_of quoted }
 {
@@ -143,7 +143,7 @@ fn take_name(alloc: Global, name: &mut String) -> Option<VarName>
 }
 
 impl Pending {
-    /// Whether a backslash may quote the next character.
+    /// Returns whether a backslash may quote the next character.
     fn takes_backslash(self) -> bool
         ensures { (ps : List Tree.Piece) (n : List ℕ)
             → result ≡ Quoting.takes_backslash (pending_view self ps n) }
@@ -173,7 +173,7 @@ impl Pending {
 }
 
 impl Lexer {
-    /// A lexer that has read nothing.
+    /// Returns a lexer that hasn't read a character.
     fn new(alloc: Global) -> Lexer
         ensures { lexer_view result ≡ Quoting.with_pending [] Quoting.between }
     {
@@ -187,7 +187,7 @@ impl Lexer {
         }
     }
 
-    /// Ends the pending word.
+    /// Appends the pending word to the tokens.
     fn end_word(&mut self) -> Result<(), AllocError>
         ensures { OnOk result (tokens_view self.new.tokens
             ≡ tokens_view self.old.tokens ++ Tree.word (pieces_view self.old.pieces) ∷ []) }
@@ -197,7 +197,8 @@ impl Lexer {
         Ok(())
     }
 
-    /// Ends the pending operator, which no character continues.
+    /// Appends the pending operator to the tokens, without a second character. A single `&` is
+    /// `Unsupported`.
     fn end_operator(&mut self, operator: Operator) -> Result<(), SyntaxError>
         ensures { Gives (λ _. tokens_view self.new.tokens) result
             (Quoting.end_operator (tokens_view self.old.tokens) (operator_view operator)) }
@@ -270,7 +271,7 @@ impl Lexer {
         Ok(())
     }
 
-    /// Adds a quoted character to the pending word.
+    /// Appends a quoted character to the pending word.
     fn add_quoted(&mut self, quote: Quote, c: char) -> Result<(), SyntaxError>
         ensures { Reads self.new result
             (Quoting.word_goes_on (tokens_view self.old.tokens)
@@ -306,7 +307,7 @@ impl Lexer {
         Ok(())
     }
 
-    /// Reads a character in single quotes.
+    /// Reads a character of a word, in single quotes.
     fn read_single(&mut self, c: char) -> Result<(), SyntaxError>
         ensures { Reads self.new result
             (Quoting.word_at (tokens_view self.old.tokens) (pieces_view self.old.pieces) false
@@ -325,7 +326,7 @@ impl Lexer {
         Ok(())
     }
 
-    /// Reads a character in a word or after it.
+    /// Reads a character in a word, or the first one after it.
     fn read_word(&mut self, digits: bool, quote: Quote, c: char) -> Result<(), SyntaxError>
         ensures { Reads self.new result
             (Quoting.word_at (tokens_view self.old.tokens) (pieces_view self.old.pieces) digits
@@ -347,7 +348,7 @@ impl Lexer {
         }
     }
 
-    /// Ends the pending parameter.
+    /// Appends a parameter to the pending word.
     fn end_parameter(&mut self, quoted: bool, parameter: Parameter) -> Result<(), SyntaxError>
         ensures { Reads self.new result
             (Quoting.with_parameter (tokens_view self.old.tokens) (pieces_view self.old.pieces)
@@ -361,7 +362,7 @@ impl Lexer {
         Ok(())
     }
 
-    /// Begins the name of a parameter.
+    /// Begins the name of a parameter with its first character.
     fn begin_name(&mut self, c: char) -> Result<(), AllocError>
         ensures name { OnOk result (string_bytes self.new.name ≡ encode_utf8 c) }
         ensures tokens { self.new.tokens ≡ self.old.tokens }
@@ -371,7 +372,7 @@ impl Lexer {
         self.name.push(c)
     }
 
-    /// Reads a character after `$`.
+    /// Reads the character after `$`.
     fn read_dollar(&mut self, quoted: bool, c: char) -> Result<(), SyntaxError>
         ensures { Reads self.new result
             (Quoting.reading_at (tokens_view self.old.tokens)
@@ -415,7 +416,7 @@ impl Lexer {
         self.read_word(false, quote_of(quoted), c)
     }
 
-    /// Reads a character after `${`.
+    /// Reads the character after `${`.
     fn read_first_in_braces(&mut self, quoted: bool, c: char) -> Result<(), SyntaxError>
         ensures { Reads self.new result
             (Quoting.reading_at (tokens_view self.old.tokens)
@@ -458,7 +459,7 @@ impl Lexer {
         }
     }
 
-    /// Reads a character after an operator's first one.
+    /// Reads the character after an operator's first one.
     fn read_operator(&mut self, operator: Operator, c: char) -> Result<(), SyntaxError>
         ensures { Reads self.new result
             (Quoting.operator_at (tokens_view self.old.tokens) (operator_view operator) c) }
@@ -512,7 +513,7 @@ impl Lexer {
         }
     }
 
-    /// Reads a character after a backslash, in a word.
+    /// Reads a character of a word that follows a backslash.
     fn read_escaped_in(&mut self, quote: Quote, c: char) -> Result<(), SyntaxError>
         ensures { Reads self.new result
             (Quoting.escaped_in (tokens_view self.old.tokens) (pieces_view self.old.pieces)
@@ -565,7 +566,7 @@ impl Lexer {
         }
     }
 
-    /// Reads the next character. A backslash and a newline are removed (XCU 2.2.1).
+    /// Reads the next character. A backslash and a newline after it are removed (XCU 2.2.1).
     #[tactic(auto, unfolding(crate::specs::Quoting::lex_step))]
     fn read(&mut self, c: char) -> Result<(), SyntaxError>
         ensures { Gives (λ _. lexer_view self.new) result
@@ -588,7 +589,8 @@ impl Lexer {
         Ok(())
     }
 
-    /// Ends the text, and returns its tokens.
+    /// Ends the text, and returns its tokens. A text that ends after a backslash, in quotes or in
+    /// braces is `Unsupported`.
     fn finish(mut self) -> Result<Vec<Token>, SyntaxError>
         ensures { Gives (λ tokens. tokens_view tokens) result
             (Quoting.lex_end (Some (lexer_view self))) }
@@ -625,7 +627,7 @@ impl Lexer {
     }
 }
 
-/// The tokens of a text.
+/// Returns the tokens of a text.
 #[tactic(auto, unfolding(crate::specs::Quoting::tokens_of))]
 pub fn tokens_of(alloc: Global, text: &str) -> Result<Vec<Token>, SyntaxError>
     ensures { Gives (λ tokens. tokens_view tokens) result (Quoting.tokens_of (chars text.now)) }

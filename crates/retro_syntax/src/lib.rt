@@ -1,17 +1,18 @@
 //! The grammar of the shell: which texts are lines, and the tree of each.
 //!
 //! [`parse`] returns the tree of the line that a text spells, or says why the text is refused. A
-//! [`Parsed`] keeps a text with that result. No text spells two lines.
+//! [`Parsed`] is a text with that result. No text spells two lines.
 //!
 //! The lexer splits a text into tokens (XCU 2.2, 2.3). `specs/Quoting.antt` defines the tokens
-//! character by character; [`writing_is_read`] and the laws of the lexer, such as
-//! [`single_quotes_read_as_double_quotes`], pin that definition from outside. The parser reads the
-//! tree of the tokens (XCU 2.4, 2.10); [`reading_is_spelling`] says that it finds exactly the tree
-//! that the tokens are, written out.
+//! character by character. [`writing_is_read`] and the laws of the lexer, such as
+//! [`single_quotes_read_as_double_quotes`], confirm that definition independently. The parser
+//! reads the tree of the tokens (XCU 2.4, 2.10). [`reading_is_spelling`] says that it finds
+//! exactly the tree that the tokens spell.
 //!
 //! A word is a list of pieces. [`tree::Word::tilde_prefix`] finds its tilde prefix.
 //!
-//! If allocation fails, calls return `NoMem` and leave their arguments unchanged.
+//! If allocation fails, calls return `NoMem`, alone or as a variant of their error, and leave
+//! borrowed arguments unchanged.
 #![tactic(auto)]
 
 mod build;
@@ -42,7 +43,8 @@ pub use lines::{
 pub use parsed::Parsed;
 pub use tildes::TildePrefix;
 
-/// The parser finds exactly the tree that tokens spell, and no tokens spell two trees.
+/// States that the parser finds exactly the tree that tokens spell, and that no tokens spell two
+/// trees.
 pub fn reading_is_spelling()
     ensures read { (ts : List Token) (c : Commands) → commands_of ts ≡ Some c → Spells ts c }
     ensures spelled { (ts : List Token) (c : Commands) → Spells ts c → commands_of ts ≡ Some c }

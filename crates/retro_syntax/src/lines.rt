@@ -59,7 +59,7 @@ impl From<SyntaxError> for Refused {
     }
 }
 
-/// The line that a text spells, without the limits on its length and depth.
+/// Returns the line that a text spells, whatever its length and depth.
 #[tactic(auto, unfolding(crate::specs::Lines::line_of))]
 fn line_of(alloc: Global, text: &str) -> Result<Line, SyntaxError>
     ensures { Gives line_view result (Lines.line_of text.now) }
@@ -74,7 +74,7 @@ fn line_of(alloc: Global, text: &str) -> Result<Line, SyntaxError>
     })
 }
 
-/// Whether `if` and `for` nest no deeper than the limit.
+/// Returns whether `if` and `for` nest no deeper than the limit in a line.
 fn is_shallow_line(line: &Line) -> bool
     ensures { result ≡ nat_le (line_depth (line_view line.now)) deepest_nesting }
 {
@@ -84,7 +84,8 @@ fn is_shallow_line(line: &Line) -> bool
     }
 }
 
-/// The line that a text spells (XCU 2.2, 2.3, 2.10), if the text and the line keep the limits.
+/// Returns the line that a text spells (XCU 2.2, 2.3, 2.10), if the text and the line keep the
+/// limits.
 ///
 /// # Errors
 ///
@@ -104,13 +105,14 @@ pub fn parse(alloc: Global, text: &str) -> Result<Line, Refused>
     Ok(line)
 }
 
-/// A text spells at most one line.
+/// States that a text spells at most one line.
 pub fn one_line()
     ensures { (text : List ℕ) (k l : Option Tree.Commands) → TextSpells text k
         → TextSpells text l → k ≡ l }
 {}
 
-/// The function `parsed` gives exactly the line that a text spells within the limits.
+/// States that the definition `parsed` gives exactly the line that a text spells within the
+/// limits.
 pub fn parsed_is_spelling()
     ensures read { (text : List ℕ) (line : Option Tree.Commands) → parsed text ≡ Some line
         → SpellsWithin text line }
@@ -118,8 +120,9 @@ pub fn parsed_is_spelling()
         → parsed text ≡ Some line }
 {}
 
-/// Tokens are read back from their canonical writing: quoted parts in double quotes, parameters as
-/// `${name}`, a blank after each token. All tokens that a text has can be written so.
+/// States that tokens are read back from their canonical writing, and that all tokens of a text
+/// can be written so. The canonical writing has quoted parts in double quotes, parameters as
+/// `${name}`, and a blank after each token.
 pub fn writing_is_read()
     ensures read { (ws : List Written) → are_writable ws ≡ true
         → tokens_of (written ws) ≡ Some (map token_of ws) }

@@ -19,7 +19,7 @@ use crate::lines::{Line, Refused, parse};
 use std::alloc::{AllocError, Global};
 use std::marker::Model;
 
-/// A text with the result of [`parse`] for it. Contracts see it as the text.
+/// A text with the result of [`parse`] for it. In contracts it is the text.
 #[derive(Drop)]
 pub struct Parsed {
     text: String,
@@ -38,7 +38,7 @@ impl Model for Parsed {
 }
 
 impl Parsed {
-    /// Parses a text.
+    /// Parses a text, and keeps it with the result.
     pub fn of(alloc: Global, text: String) -> Result<Parsed, AllocError>
         ensures { IfOk result (λ p. p ≡ string_bytes text) }
     {
@@ -48,14 +48,14 @@ impl Parsed {
         }
     }
 
-    /// The text.
+    /// Returns the text.
     pub fn text(&self) -> &str
         ensures { result.now ≡ self.now }
     {
         &self.text
     }
 
-    /// The line that the text spells, or `None` if the text is refused.
+    /// Returns the line that the text spells, or `None` if the text is refused.
     pub fn line(&self) -> Option<&Line>
         ensures { option_map (λ line. line_view line.now) result ≡ parsed self.now }
     {
@@ -65,7 +65,7 @@ impl Parsed {
         }
     }
 
-    /// Why the text is refused, or `None` if it is a line. It is never `NoMem`.
+    /// Returns why the text is refused, or `None` if it spells a line. Never returns `NoMem`.
     pub fn refused(&self) -> Option<Refused>
         ensures meets { IfSome result (λ why. Meets self.now (Err why) × (why ≢ NoMem)) }
         ensures found { is_some result ≡ is_none (parsed self.now) }

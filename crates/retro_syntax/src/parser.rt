@@ -49,16 +49,16 @@ use std::mem;
 /// A condition of an `if`, and the list that runs if it holds.
 pub type Arm = (Commands<Command>, Commands<Command>);
 
-/// What an inner list is a part of.
+/// The part of a compound command that an inner list is, with the parts of the command before it.
 #[derive(Drop)]
 pub enum Frame {
-    /// The condition of an `if` or `elif`, after these arms.
+    /// The condition of an `if` or `elif`, with the arms before it.
     Condition(Vec<Arm>),
-    /// The list after `then`, after these arms and this condition.
+    /// The list after `then`, with the arms before it and its condition.
     Consequence(Vec<Arm>, Commands<Command>),
-    /// The list after `else`, after these arms, the last condition and its consequence.
+    /// The list after `else`, with the arms before the last, the last condition and its list.
     Alternative(Vec<Arm>, Commands<Command>, Commands<Command>),
-    /// The list that a `for` repeats, with its variable and its words.
+    /// The list that a `for` repeats, with the variable and the words.
     Body(VarName, Vec<Word>),
 }
 
@@ -67,9 +67,10 @@ pub enum Frame {
 pub enum Place {
     /// Where a command may begin.
     Start,
-    /// After a part of a simple command, with the stages of the pipe before it.
+    /// After a part of a simple command, with the earlier stages of the pipe and this one so far.
     InSimple(Vec<Simple>, Simple),
-    /// After a redirection's operator, with the stages of the pipe and the items before it.
+    /// After a redirection's operator, with the earlier stages of the pipe and the items before
+    /// it.
     Target(Vec<Simple>, Vec<Item>, Direction),
     /// After a `|`, with the stages before it.
     AfterBar(Vec<Simple>),
@@ -79,18 +80,18 @@ pub enum Place {
     ForName,
     /// After `for` and its variable.
     ForIn(VarName),
-    /// Among the words after `in`.
+    /// Among the words after `in`, with those that were read.
     ForWords(VarName, Vec<Word>),
     /// After the `;` that follows these words.
     ForDo(VarName, Vec<Word>),
 }
 
-/// A line that was read up to some token.
+/// The state of reading a line, after some of its tokens.
 #[derive(Drop)]
 pub struct Parser {
     alloc: Global,
-    /// The lists around the innermost, each with what the list inside it is a part of, outermost
-    /// first.
+    /// The lists that contain the innermost one, outermost first. Each has the frame of the list
+    /// directly inside it.
     stack: Vec<(Open, Frame)>,
     /// The innermost list.
     here: Open,
@@ -98,7 +99,7 @@ pub struct Parser {
     place: Place,
 }
 
-/// Whether a command's items are redirections only.
+/// Returns whether all items of a command are redirections.
 fn no_argument(items: &[Item]) -> bool
     ensures { result ≡ Parsing.no_argument (map item_view items.now) }
 {
@@ -113,7 +114,7 @@ fn no_argument(items: &[Item]) -> bool
 }
 
 impl Parser {
-    /// A parser that has read empty_list.
+    /// Returns a parser that hasn't read a token.
     fn new(alloc: Global) -> Parser
         ensures { parser_view result ≡ Parsing.at [] Parsing.empty_list Parsing.start }
     {
@@ -127,7 +128,8 @@ impl Parser {
 
     // ---- lists
 
-    /// Begins a list inside the innermost one.
+    /// Begins a list inside the innermost one. `frame` is the new list's part of its compound
+    /// command.
     fn begin_list(&mut self, frame: Frame) -> Result<(), SyntaxError>
         ensures { Parses self.new result
             (Some (Parsing.at
@@ -140,7 +142,7 @@ impl Parser {
         Ok(())
     }
 
-    /// Reads an operator after a command.
+    /// Appends a command to the innermost list, and reads the operator after it.
     fn continue_list(&mut self, command: Command, token: Token) -> Result<(), SyntaxError>
         ensures { Parses self.new result
             (Parsing.go_on (stack_view self.old.stack) (open_view self.old.here) (view command)
@@ -170,7 +172,7 @@ impl Parser {
 
     // ---- compound commands
 
-    /// Reads a reserved word that ends a condition.
+    /// Reads the reserved word that ends a condition.
     fn end_condition(
         &mut self,
         before: Vec<Arm>,
@@ -188,7 +190,7 @@ impl Parser {
         }
     }
 
-    /// Reads a reserved word that ends the list after `then`.
+    /// Reads the reserved word that ends the list after `then`.
     fn end_consequence(
         &mut self,
         arms: Conditional<Command>,
@@ -225,7 +227,7 @@ impl Parser {
         }
     }
 
-    /// Reads a reserved word that ends the list after `else`.
+    /// Reads the reserved word that ends the list after `else`.
     fn end_alternative(
         &mut self,
         arms: Conditional<Command>,
@@ -248,7 +250,7 @@ impl Parser {
         }
     }
 
-    /// Reads a reserved word that ends the list that a `for` repeats.
+    /// Reads the reserved word that ends the list that a `for` repeats.
     fn end_body(&mut self, parts: Loop<Command>, reserved: ReservedWord) -> Result<(), SyntaxError>
         ensures { Parses self.new result
             (Parsing.close_by (stack_view self.old.stack) (open_view self.old.here)
@@ -264,7 +266,7 @@ impl Parser {
         }
     }
 
-    /// Reads a reserved word that ends a list of this frame.
+    /// Reads the reserved word that ends a list of this frame.
     fn close_frame(
         &mut self,
         frame: Frame,
@@ -305,7 +307,8 @@ impl Parser {
         }
     }
 
-    /// Reads a reserved word that ends the innermost list, which is `list`.
+    /// Reads the reserved word that ends the innermost list, which is `list`. The list that
+    /// contains it becomes the innermost one.
     fn close(&mut self, list: Commands<Command>, reserved: ReservedWord) -> Result<(), SyntaxError>
         ensures { Parses self.new result
             (Parsing.close (stack_view self.old.stack) (commands_of view list) reserved) }
@@ -362,7 +365,8 @@ impl Parser {
 
     // ---- simple commands
 
-    /// Adds an assignment to a simple command, if the word is one.
+    /// Appends the assignment that a word is to a simple command. A word that isn't an assignment
+    /// is `Unsupported`.
     fn push_assignment(
         &mut self,
         stages: Vec<Simple>,
@@ -380,7 +384,7 @@ impl Parser {
         Ok(())
     }
 
-    /// Reads the first word of a simple command.
+    /// Reads the first word of a simple command. `class` is the class of the word.
     fn begin_simple(
         &mut self,
         stages: Vec<Simple>,
@@ -433,7 +437,7 @@ impl Parser {
         }
     }
 
-    /// Reads an operator that ends a pipe.
+    /// Ends a pipe with its last stage, and reads the operator after it.
     fn end_pipe(
         &mut self,
         mut stages: Vec<Simple>,
@@ -499,7 +503,7 @@ impl Parser {
         }
     }
 
-    /// Reads a token after a redirection's operator.
+    /// Reads the token after a redirection's operator.
     fn read_target(
         &mut self,
         stages: Vec<Simple>,
@@ -523,7 +527,7 @@ impl Parser {
         }
     }
 
-    /// Reads a token after `|`.
+    /// Reads the token after `|`.
     fn read_after_bar(&mut self, stages: Vec<Simple>, token: Token) -> Result<(), SyntaxError>
         ensures { ParsesAt self.old (Parsing.after_bar (stages_view stages))
             token self.new result }
@@ -541,7 +545,7 @@ impl Parser {
         }
     }
 
-    /// Reads a token after a compound command.
+    /// Reads the token after a compound command.
     fn read_after_compound(&mut self, command: Command, token: Token) -> Result<(), SyntaxError>
         ensures { ParsesAt self.old (Parsing.after_compound (view command))
             token self.new result }
@@ -564,7 +568,7 @@ impl Parser {
         }
     }
 
-    /// Reads a token after `for`.
+    /// Reads the token after `for`.
     fn read_for_name(&mut self, token: Token) -> Result<(), SyntaxError>
         ensures { ParsesAt self.old Parsing.for_name token self.new result }
     {
@@ -579,7 +583,7 @@ impl Parser {
         }
     }
 
-    /// Reads a token after the variable of a `for`.
+    /// Reads the token after the variable of a `for`.
     fn read_for_in(&mut self, name: VarName, token: Token) -> Result<(), SyntaxError>
         ensures { ParsesAt self.old (Parsing.for_in name) token self.new result }
     {
@@ -636,7 +640,7 @@ impl Parser {
         }
     }
 
-    /// Reads a token after the `;` that follows the words of a `for`.
+    /// Reads the token after the `;` that follows the words of a `for`.
     fn read_for_do(
         &mut self,
         name: VarName,
@@ -691,7 +695,7 @@ impl Parser {
         }
     }
 
-    /// Ends the line, and returns its list.
+    /// Ends the line, and returns its list. A line that ends inside a command is `Unsupported`.
     fn finish(self) -> Result<Commands<Command>, SyntaxError>
         ensures { Gives (commands_of view) result (Parsing.finish (Some (parser_view self))) }
     {
@@ -724,7 +728,7 @@ impl Parser {
     }
 }
 
-/// The list that tokens are.
+/// Returns the list that tokens spell.
 #[tactic(auto, unfolding(crate::specs::Parsing::commands_of))]
 pub fn commands_of(alloc: Global, tokens: Vec<Token>) -> Result<Commands<Command>, SyntaxError>
     ensures { Gives (commands_of view) result (Parsing.commands_of (tokens_view tokens)) }

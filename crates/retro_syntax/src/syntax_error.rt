@@ -1,11 +1,11 @@
-//! Why a text has no tokens, or tokens no tree.
+//! Errors of the lexer and the parser.
 
 use std::alloc::{AllocError, AllocFailed};
 
-/// Why a text has no tokens, or tokens no tree.
+/// Why a text has no tokens, or tokens have no tree.
 #[derive(Clone, Copy, Debug, PartialEq, Eq)]
 pub enum SyntaxError {
-    /// The definition gives none.
+    /// The definition gives no tokens for the text, or no tree for the tokens.
     Unsupported,
     /// Allocation failed.
     NoMem,

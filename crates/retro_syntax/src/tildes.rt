@@ -29,14 +29,14 @@ pub struct TildePrefix<'a> {
     pub rest: &'a str,
 }
 
-/// Whether a byte ends a login name.
+/// Returns whether a byte ends a login name.
 fn ends_login(in_value: bool, byte: u8) -> bool
     ensures { result ≡ Tildes.ends_login in_value byte }
 {
     byte == b'/' || (in_value && byte == b':')
 }
 
-/// The length of the login name at a text's start, in bytes.
+/// Returns the length of the login name at the start of a text, in bytes.
 fn login_length(in_value: bool, text: &str) -> usize
     ensures boundary { IsCharBoundary text.now result }
     ensures login { take result text.now ≡ Tildes.login_of in_value text.now }
@@ -54,8 +54,8 @@ fn login_length(in_value: bool, text: &str) -> usize
     length
 }
 
-/// The tilde prefix of a word whose first piece is this unquoted text. `is_only` says whether the
-/// word has no other piece.
+/// Returns the tilde prefix of a word whose first piece is this unquoted text, or `None` if it has
+/// none. `is_only` says whether the word has no other piece.
 fn prefix_of<'a>(in_value: bool, is_only: bool, text: &'a str) -> Option<TildePrefix<'a>>
     ensures { option_map tilde_prefix_view result ≡ Tildes.prefix_of in_value is_only text.now }
 {
@@ -68,7 +68,7 @@ fn prefix_of<'a>(in_value: bool, is_only: bool, text: &'a str) -> Option<TildePr
     }
 }
 
-/// The tilde prefix of a word of these pieces.
+/// Returns the tilde prefix of a word of these pieces, or `None` if it has none.
 fn prefix_at<'a>(in_value: bool, pieces: &'a [Piece]) -> Option<TildePrefix<'a>>
     ensures { option_map tilde_prefix_view result
         ≡ Tildes.tilde_prefix in_value (map piece_view pieces.now) }
@@ -83,8 +83,10 @@ fn prefix_at<'a>(in_value: bool, pieces: &'a [Piece]) -> Option<TildePrefix<'a>>
 }
 
 impl Word {
-    /// The word's tilde prefix: an unquoted `~` at its start and the unquoted text up to the first
-    /// slash, or up to the end of the word. `None` if a quote or a parameter comes before that.
+    /// Returns the word's tilde prefix, or `None` if it has none.
+    ///
+    /// The prefix is an unquoted `~` at the word's start and the unquoted text up to the first
+    /// slash or the end of the word. A word with a quote or a parameter before that has no prefix.
     pub fn tilde_prefix(&self) -> Option<TildePrefix<'_>>
         ensures { option_map tilde_prefix_view result
             ≡ Tildes.tilde_prefix false (word_view self.now) }
@@ -94,7 +96,8 @@ impl Word {
 }
 
 impl Assignment {
-    /// The tilde prefix of the value. A colon ends it too.
+    /// Returns the tilde prefix of the value, or `None` if it has none. A colon ends the prefix
+    /// too.
     pub fn tilde_prefix(&self) -> Option<TildePrefix<'_>>
         ensures { option_map tilde_prefix_view result
             ≡ Tildes.tilde_prefix true (word_view self.now.value) }

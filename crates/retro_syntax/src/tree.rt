@@ -16,7 +16,7 @@ pub enum Parameter {
 }
 
 impl Parameter {
-    /// The parameter as it is written between braces: `?` or the variable's name.
+    /// Returns the parameter as it is written between braces: `?` or the variable's name.
     pub fn text(&self) -> &str
         ensures { result.now ≡ parameter_text (parameter_view self.now) }
     {

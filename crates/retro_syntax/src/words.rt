@@ -21,12 +21,12 @@ use crate::tree::{Assignment, Piece, ReservedWord, Word};
 use retro_path::VarName;
 use std::alloc::Global;
 
-/// What a word is where a command may begin.
+/// The meaning of a word where a command may begin.
 #[derive(Clone, Copy, Debug, PartialEq, Eq)]
 pub enum Class {
     /// A reserved word that the grammar has a rule for.
     Reserved(ReservedWord),
-    /// Another reserved word, or an assignment that a line may not have.
+    /// A reserved word without a rule in the grammar, or an assignment that a line may not have.
     Forbidden,
     /// An assignment.
     Assignment,
@@ -34,7 +34,7 @@ pub enum Class {
     Ordinary,
 }
 
-/// How a reserved word is written.
+/// Returns the text of a reserved word.
 fn spelling(reserved: ReservedWord) -> &'static [u8]
     ensures { result.now ≡ Tree.spelling reserved }
 {
@@ -52,7 +52,8 @@ fn spelling(reserved: ReservedWord) -> &'static [u8]
     }
 }
 
-/// The reserved word that the grammar has a rule for and the text spells.
+/// Returns the reserved word that a text spells, or `None` if it spells none that the grammar has
+/// a rule for.
 fn reserved_word_of(text: &[u8]) -> Option<ReservedWord>
     ensures { result ≡ Words.lookup Words.reserved_words text.now }
 {
@@ -81,7 +82,7 @@ fn reserved_word_of(text: &[u8]) -> Option<ReservedWord>
     }
 }
 
-/// Whether the text spells a reserved word that the grammar has no rule for.
+/// Returns whether a text spells a reserved word that the grammar has no rule for.
 fn is_other_reserved(text: &[u8]) -> bool
     ensures { result ≡ Words.is_one_of Words.other_reserved text.now }
 {
@@ -93,7 +94,8 @@ fn is_other_reserved(text: &[u8]) -> bool
         || b"while".as_slice() == text
 }
 
-/// The name and the rest of a text that begins with `name=`.
+/// Splits a text that begins with `name=` into the name and the rest. Returns `None` for any other
+/// text.
 fn split_name<'a>(text: &'a str) -> Option<(&'a str, &'a str)>
     ensures { option_map (λ s. (s.0.now, s.1.now)) result ≡ Words.split_name text.now }
 {
@@ -105,7 +107,7 @@ fn split_name<'a>(text: &'a str) -> Option<(&'a str, &'a str)>
     }
 }
 
-/// Whether `:~` is in the text.
+/// Returns whether a text contains `:~`.
 fn has_colon_tilde(text: &[u8]) -> bool
     ensures { result ≡ Words.has_colon_tilde text.now }
 {
@@ -119,7 +121,7 @@ fn has_colon_tilde(text: &[u8]) -> bool
     false
 }
 
-/// Whether the text begins with `~`.
+/// Returns whether a text begins with `~`.
 pub fn begins_tilde(text: &[u8]) -> bool
     ensures { result ≡ Words.begins_tilde text.now }
 {
@@ -129,7 +131,7 @@ pub fn begins_tilde(text: &[u8]) -> bool
     }
 }
 
-/// Whether an unquoted `:~` is in these pieces.
+/// Returns whether one of these pieces is unquoted text that contains `:~`.
 fn has_unquoted_colon_tilde(pieces: &[Piece]) -> bool
     ensures { result ≡ Words.has_unquoted_colon_tilde (map piece_view pieces.now) }
 {
@@ -148,7 +150,7 @@ fn has_unquoted_colon_tilde(pieces: &[Piece]) -> bool
     false
 }
 
-/// What the word `name=value` is, whose value continues with `more`.
+/// Returns the class of the word `name=value`, whose value continues with the pieces `more`.
 fn assignment_class(name: &str, value: &str, more: &[Piece]) -> Class
     ensures { result
         ≡ Words.assignment_class (Words.assigned name.now value.now (map piece_view more.now)) }
@@ -163,7 +165,7 @@ fn assignment_class(name: &str, value: &str, more: &[Piece]) -> Class
     }
 }
 
-/// What an unquoted word without `name=` is.
+/// Returns the class of an unquoted word that doesn't begin with `name=`.
 fn plain_class(text: &[u8]) -> Class
     ensures { result ≡ Words.plain_class text.now (Words.lookup Words.reserved_words text.now) }
 {
@@ -174,7 +176,7 @@ fn plain_class(text: &[u8]) -> Class
     }
 }
 
-/// What a word is where a command may begin.
+/// Returns the class of a word where a command may begin.
 #[tactic(auto, unfolding(crate::specs::Words::class))]
 pub fn class_of(word: &Word) -> Class
     ensures { result ≡ Words.class (word_view word.now) }
@@ -194,7 +196,7 @@ pub fn class_of(word: &Word) -> Class
     }
 }
 
-/// Splits a word into its first piece and the others.
+/// Splits a word into its first piece and the others. Returns `None` for a word without pieces.
 fn first_piece(word: Word) -> Option<(Piece, Vec<Piece>)>
     ensures { MatchOption result (word.pieces.items ≡ [])
         (λ x. word.pieces.items ≡ x.0 ∷ x.1.items) }
@@ -207,8 +209,8 @@ fn first_piece(word: Word) -> Option<(Piece, Vec<Piece>)>
     Some((first, pieces))
 }
 
-/// What a word assigns. `Unsupported` if it doesn't begin with `name=`, or if a line may not assign
-/// the variable.
+/// Returns the assignment that a word is. A word that doesn't begin with `name=`, or that assigns
+/// a variable that a line may not assign, is `Unsupported`.
 pub fn assignment_of(alloc: Global, word: Word) -> Result<Assignment, SyntaxError>
     ensures { Gives assignment_view result (Words.assignment_of (word_view word)) }
 {
@@ -235,7 +237,7 @@ pub fn assignment_of(alloc: Global, word: Word) -> Result<Assignment, SyntaxErro
     }
 }
 
-/// Whether the class is that of assignments.
+/// Returns whether the class is that of assignments.
 pub fn is_assignment(class: Class) -> bool
     ensures { result ≡ Words.is_assignment class }
 {
@@ -245,7 +247,7 @@ pub fn is_assignment(class: Class) -> bool
     }
 }
 
-/// Whether the class is that of ordinary words.
+/// Returns whether the class is that of ordinary words.
 pub fn is_ordinary(class: Class) -> bool
     ensures { result ≡ Words.is_ordinary class }
 {
@@ -255,8 +257,8 @@ pub fn is_ordinary(class: Class) -> bool
     }
 }
 
-/// The variable that a word names, for `for`. `Unsupported` if the word isn't a variable's name
-/// that a line may assign.
+/// Returns the variable that a word after `for` names. A word that isn't the name of a variable
+/// that a line may assign is `Unsupported`.
 #[tactic(auto, unfolding(crate::specs::Words::name_of))]
 pub fn name_of(alloc: Global, word: &Word) -> Result<VarName, SyntaxError>
     ensures { Gives (λ name. name) result (Words.name_of (word_view word.now)) }

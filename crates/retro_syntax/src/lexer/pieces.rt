@@ -1,4 +1,5 @@
-//! The pieces of a word that is being read.
+//! The pieces of a word that is being read. If allocation fails, the pieces may have lost their
+//! end.
 
 ghost use Rattle.std.specs.Prelude.{◌≡◌, ◌∷◌, ◌++◌, OnOk};
 ghost use Rattle.std.specs.Char.{encode_utf8};
@@ -9,7 +10,7 @@ ghost use Rattle.retro_syntax.specs.QuotingViews.{pieces_view};
 use crate::tree::Piece;
 use std::alloc::{AllocError, Global};
 
-/// Adds `last`, and an unquoted character after it.
+/// Appends `last` and then an unquoted character, to the same piece if `last` is unquoted text.
 fn extend_plain(
     alloc: Global,
     pieces: &mut Vec<Piece>,
@@ -34,7 +35,7 @@ fn extend_plain(
     Ok(())
 }
 
-/// Adds an unquoted character.
+/// Appends an unquoted character.
 pub fn push_plain(alloc: Global, pieces: &mut Vec<Piece>, c: char) -> Result<(), AllocError>
     ensures { OnOk result
         (pieces_view pieces.new ≡ Quoting.add_plain (pieces_view pieces.old) c) }
@@ -50,7 +51,7 @@ pub fn push_plain(alloc: Global, pieces: &mut Vec<Piece>, c: char) -> Result<(),
     }
 }
 
-/// Adds `last`, and a quoted text after it.
+/// Appends `last` and then a quoted text, to the same piece if `last` is quoted text.
 fn extend_quoted(
     alloc: Global,
     pieces: &mut Vec<Piece>,
@@ -75,7 +76,8 @@ fn extend_quoted(
     Ok(())
 }
 
-/// Adds a quoted text, or begins a quoted piece if the text is empty.
+/// Appends a quoted text. If the text is empty, and the last piece isn't quoted text, an empty
+/// quoted piece is appended.
 pub fn push_quoted_text(
     alloc: Global,
     pieces: &mut Vec<Piece>,
@@ -95,7 +97,7 @@ pub fn push_quoted_text(
     }
 }
 
-/// Adds `last`, and a quoted character after it.
+/// Appends `last` and then a quoted character, to the same piece if `last` is quoted text.
 fn extend_quoted_character(
     alloc: Global,
     pieces: &mut Vec<Piece>,
@@ -120,7 +122,7 @@ fn extend_quoted_character(
     Ok(())
 }
 
-/// Adds a quoted character.
+/// Appends a quoted character.
 pub fn push_quoted(alloc: Global, pieces: &mut Vec<Piece>, c: char) -> Result<(), AllocError>
     ensures { OnOk result
         (pieces_view pieces.new ≡ Quoting.add_quoted (pieces_view pieces.old) (encode_utf8 c)) }
@@ -136,7 +138,7 @@ pub fn push_quoted(alloc: Global, pieces: &mut Vec<Piece>, c: char) -> Result<()
     }
 }
 
-/// Adds a `$` that begins no parameter, in double quotes or not.
+/// Appends a `$` that begins no parameter. `quoted` says whether it is in double quotes.
 pub fn push_dollar(alloc: Global, pieces: &mut Vec<Piece>, quoted: bool) -> Result<(), AllocError>
     ensures { OnOk result
         (pieces_view pieces.new ≡ Quoting.add_dollar (pieces_view pieces.old) quoted) }

@@ -1,4 +1,4 @@
-//! A list that is being read (XCU 2.9.3).
+//! Lists that are being read (XCU 2.9.3).
 
 ghost use Rattle.std.specs.Prelude.{◌≡◌, map, option_map, true, false};
 ghost use Rattle.retro_syntax.specs.Parsing;
@@ -8,7 +8,7 @@ ghost use Rattle.retro_syntax.specs.ParserViews.{open_view};
 use crate::tree::{AndOr, Command, Commands, Connector, Pipeline};
 use std::alloc::Global;
 
-/// A list that is being read.
+/// A list that is being read, up to the pending command.
 #[derive(Drop)]
 pub struct Open {
     /// The and-or lists that a `;` follows.
@@ -20,7 +20,7 @@ pub struct Open {
 }
 
 impl Open {
-    /// An empty list.
+    /// Returns an empty list.
     pub fn new(alloc: Global) -> Open
         ensures { open_view result ≡ Parsing.empty_list }
     {
@@ -49,7 +49,7 @@ impl Open {
         )
     }
 
-    /// The list that ends with a command.
+    /// Ends the list with a command, and returns it.
     pub fn end_with(self, command: Command) -> Commands<Command>
         ensures { commands_of view result
             ≡ Parsing.listed (open_view self).and_ors
@@ -63,7 +63,8 @@ impl Open {
         }
     }
 
-    /// The list that ends with the last `;`, or `None` if the list can't end there.
+    /// Ends the list with its last `;`, and returns it. Returns `None` if the list can't end
+    /// there.
     pub fn end_with_semicolon(self) -> Option<Commands<Command>>
         ensures { option_map (commands_of view) result ≡ Parsing.may_end (open_view self) }
     {
