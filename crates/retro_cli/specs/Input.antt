@@ -9,7 +9,7 @@ use Rattle.retro_cli.specs.declared.stop.Stop.TheVariants as stops
 abbrev pub is_broken : ℕ → Bool → Bool
 is_broken reads has_failed = has_failed || reads == MOST_READS
 
--- a call took n bytes from the front of what the reader had left: none only at the end
+-- a call took n bytes from the start of what the reader had left, and n is 0 only at the end
 pub record GivesPiece (old new : Option (List ℕ)) (n : ℕ) (piece : List ℕ) : Type 0 where
   pub bound : n ≤ length piece
   pub bytes : Consumes old new (take n piece)

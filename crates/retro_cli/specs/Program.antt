@@ -1,5 +1,5 @@
--- What the program does: the first refusal of words and an input, the texts that answer a request, and
--- what a run leaves. Each command adds a row to `request_refusal` and to `Answered`.
+-- What the program does: the first refusal of a command line and an input, the texts that answer a
+-- request, and what a run leaves. Each command adds a row to `request_refusal` and to `Answered`.
 use Rattle.std.specs.Prelude.{◌≡◌, ℕ, List, Option, Some, None, IsSome, IsOk, Result, Ok, Err, codes, option_map}
 use Rattle.std.specs.Result.{result_err}
 use Rattle.std.specs.Io.KnownBytes.{Appends}
@@ -72,8 +72,9 @@ IsVerdict input exits.WriteFailed text = ⊥
 
 -- ---- the report of a repair of a log, and the log of the repaired recording
 
--- The text is the report of a repair of the log that the input is. If the log is a recording of its lines,
--- the repair is exact: it is what running all other lines one by one gives.
+-- The text is the report of a repair of the log in the input. If the log is a recording of its
+-- lines, the repair is exact: its state and outputs are those of running all other lines one by
+-- one.
 pub record IsRepairReport (cancelled : List ℕ) (input text : Text) : Type 0 where
   pub recording : RecordingValue
   pub is_log : log_in input ≡ Ok recording
@@ -83,7 +84,7 @@ pub record IsRepairReport (cancelled : List ℕ) (input text : Text) : Type 0 wh
   pub is_repair : IsRecordingOf (recordings.script_in recording) recording
       → IsRepair (is_among cancelled) recording repair
 
--- The text is a log. If the log that the input is, is a recording of its lines, the text is the log of a
+-- The text is a log. If the log in the input is a recording of its lines, the text is the log of a
 -- recording of the other lines.
 pub record IsRepairedLog (cancelled : List ℕ) (input text : Text) : Type 0 where
   pub recording : RecordingValue
@@ -152,7 +153,8 @@ WordsAllow words exits.WriteFailed = IsSome (request_in words)
 abbrev pub Wrote : List Text → Text → Option Text → Option Text → Exit → Type 0
 Wrote words input old new exit = (text : Text) × Answers words input exit text × Appends old new text
 
--- what a run on words and an input leaves: `old` and `new` are what the writer held before and after
+-- what a run on words and an input leaves: `old` and `new` are what the writer held before and
+-- after
 abbrev pub Runs : List Text → Text → Option Text → Option Text → Exit → Type 0
 Runs words input old new exits.Done = Wrote words input old new exits.Done
 Runs words input old new exits.CheckNo = Wrote words input old new exits.CheckNo

@@ -26,8 +26,8 @@ numbers_data numbers = array_of (map number_data numbers)
 abbrev pub compensation_data : Compensation → Data
 compensation_data c = array_of (number_data c.number ∷ hex_data c.before ∷ hex_data c.now ∷ [])
 
--- `{"cancelled":..,"compensations":..,"met":..,"outputs":..,"redone":..,"sessions":..,"tree":..}`, with the
--- keys in byte order
+-- `{"cancelled":..,"compensations":..,"met":..,"outputs":..,"redone":..,"sessions":..,"tree":..}`,
+-- with the keys in byte order
 unfoldable pub repair_data : Repair → Data
 repair_data repair = object
     (member (codes "cancelled") (numbers_data (numbers_with Cancelled repair.verdicts.items))

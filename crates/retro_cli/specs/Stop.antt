@@ -40,7 +40,7 @@ Refuses (stops.Refused number) refusal = refusal ≡ Some number
 Refuses stops.ReadFailed refusal = ⊥
 Refuses stops.WriteFailed refusal = ⊥
 
--- a fault as the definitions say it: none if memory ran out
+-- the refusal or failure of a stop, or None if memory ran out
 abbrev pub refused : {Y : Type 0} → Stop → Option (Result Y Stop)
 refused stops.NoMem = None
 refused (stops.Refused number) = Some (Err (stops.Refused number))

@@ -71,9 +71,9 @@ call_in words = unless_fault (fault_of program words) (option_map call_of (subco
 
 -- ---- what the words ask for
 
--- to run a script's lines without those that have these numbers, to record the lines of a script, to check
--- whether a log is a recording, or to repair a log without the lines that have these numbers, and answer the
--- report of the repair or the log of the repaired recording
+-- a request: to run a script's lines without those that have these numbers, to record the lines of
+-- a script, to check whether a log is a recording, or to repair a log without the lines that have
+-- these numbers and answer the report of the repair or the log of the repaired recording
 pub data Request : Type 0 where
   replay : List ℕ → Request
   record_script : Request
@@ -105,11 +105,11 @@ request_view requests.Check = check_log
 request_view (requests.Repair numbers) = repair numbers.items
 request_view (requests.Relog numbers) = relog numbers.items
 
--- a fault as the definitions say it: none if memory ran out
+-- what a fault says of the words: that they are bad, or None if memory ran out
 abbrev pub not_found : {Y : Type 0} → WordsFault → Option (Option Y)
 not_found faults.NoMem = None
 not_found faults.BadWords = Some None
 
--- what is found, or that nothing is
+-- the result is what the definition finds, or that it finds nothing, unless memory ran out
 abbrev pub Means : {X Y : Type 0} → (X → Y) → Result X WordsFault → Option Y → Type 0
 Means view result found = UnlessOutOfMemory (λ x. Some (view x)) not_found result found

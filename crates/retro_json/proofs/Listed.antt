@@ -1,11 +1,11 @@
--- Lists that are written item by item, and read again.
+-- Lists that are written and read back item by item.
 use Rattle.std.proofs.Common.{◌≡◌, List, [], ◌∷◌, map, Bool, true, ◌&&◌, Result, Ok, refl}
 use Rattle.std.specs.List.{list_all}
 use Rattle.std.proofs.lemmas.Bool.{and_parts, and_from}
 use Rattle.retro_json.specs.declared.fault.Refusal.{Refusal}
 use Rattle.retro_json.specs.Worst.{every}
 
--- each item that passes a test is read again from what it was written as
+-- each item that passes a test is read back from what it was written as
 pub every_again : {X A B : Type 0} (f : A → Result B Refusal) (g : X → A) (h : X → B) (test : X → Bool)
     → ((x : X) → test x ≡ true → f (g x) ≡ Ok (h x)) → (xs : List X) → list_all test xs ≡ true
     → every f (map g xs) ≡ Ok (map h xs)

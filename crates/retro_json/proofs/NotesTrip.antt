@@ -1,4 +1,4 @@
--- What the notes of a line are written as is read again as these notes.
+-- The notes of a line are read back from the value that they are written as.
 use Rattle.std.proofs.Common.{◌≡◌, ℕ, ◌==◌, List, [], ◌∷◌, length, map, Bool, true, ◌&&◌, Option, Some}
 use Rattle.std.proofs.Common.{None, Result, Ok, nat_le, refl, sym, ap}
 use Rattle.std.specs.List.{list_all}

@@ -1,4 +1,4 @@
--- What lawful sessions are written as is read again as these sessions.
+-- Lawful sessions are read back from the value that they are written as.
 use Rattle.std.proofs.Common.{◌≡◌, ◌∙◌, ℕ, ◌^◌, List, [], ◌∷◌, map, Bool, true, ◌&&◌, Result, Ok, nat_lt, nat_le}
 use Rattle.std.proofs.Common.{refl, ap, arith}
 use Rattle.std.specs.List.{list_all}

@@ -1,4 +1,4 @@
--- What a lawful tree is written as is read again as that tree.
+-- A lawful tree is read back from the value that it is written as.
 use Rattle.std.proofs.Common.{◌≡◌, ◌∙◌, ℕ, ◌<◌, List, [], ◌∷◌, map, filter, Bool, true, false, ◌&&◌, Option, Some}
 use Rattle.std.proofs.Common.{None, Ok}
 use Rattle.std.proofs.Common.{length, nat_le, nat_lt, refl, sym, ap, T, arith}

@@ -45,7 +45,7 @@ path_field d = path_in Lines d
 
 -- ---- listings
 
--- a name may be what a name in a path may be
+-- a name in a listing is written as a name in a path is
 abbrev pub written_name : Data → Result Text Refusal
 written_name d = do
   name ← text_in Lines d
@@ -58,7 +58,7 @@ name_field d = do
   short ← guard (is_short_name name) OverLimit
   Ok name
 
--- in any order, and doubled or not
+-- the names may be in any order, and a name may occur twice
 unfoldable pub listing_field : Data → Result (List Text) Refusal
 listing_field d = do
   items ← cells Lines d

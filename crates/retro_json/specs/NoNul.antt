@@ -1,5 +1,6 @@
--- Names without NUL. The name of a file may contain NUL, but no document that has such a name is read: so a round trip
--- is promised for names without NUL alone. Texts of lines, values, login names and homes may contain it.
+-- Names without NUL. The name of a file may contain NUL, but a document with such a name is
+-- refused. So a recording is read back from its log only if no name has a NUL. The texts of lines,
+-- values, login names and homes may contain it.
 use Rattle.std.specs.Prelude.{ℕ, ◌==◌, List, Bool, true, not, ◌&&◌, Option, Some, None}
 use Rattle.std.specs.List.{list_all, list_any}
 use Rattle.std.specs.Ordering.{nat_cmp}

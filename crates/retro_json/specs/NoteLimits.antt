@@ -1,5 +1,5 @@
--- The limits that a log is read with: of the files and of the values of variables in notes. A recording of a script
--- keeps them, as does one that was read.
+-- The limits with which a log is read: the length of a file and of a variable's value in notes. A
+-- recording of a script keeps these limits, and so does a recording that was read.
 use Rattle.std.specs.Prelude.{ℕ, length, Bool, true, Option, Some, None, nat_le}
 use Rattle.std.specs.List.{list_all}
 use Rattle.retro_tree.specs.Node.{file_limit}

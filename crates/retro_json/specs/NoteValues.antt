@@ -70,7 +70,7 @@ answer_data (answers.Var value) = value_data value
 answer_data (answers.Cwd path) = path_data path
 answer_data (answers.Status status) = number_data status
 
--- the query's tag and fields, and the answer, whichever it is: in a recording it is of the query's kind
+-- the query's tag and fields, and the answer; in a recording the answer is of the query's kind
 unfoldable pub asked_data : Ask → Data → Data
 asked_data (asks.Kind path) answer = array_of (string (codes "kind") ∷ path_data path ∷ answer ∷ [])
 asked_data (asks.Bytes path) answer = array_of (string (codes "bytes") ∷ path_data path ∷ answer ∷ [])

@@ -24,7 +24,8 @@ is_written_name name =
 abbrev pub names_after : Text → List Text → List Text
 names_after part parts = if length part == 0 && length parts == 0 then [] else part ∷ parts
 
--- what stands for names, by the texts before, between and after the slashes: the text before the first is empty
+-- the names of a path, from the texts before, between and after its slashes; None if the text
+-- doesn't begin with a slash
 abbrev pub names_of_parts : List Text → Option (List Text)
 names_of_parts [] = None
 names_of_parts (front ∷ []) = None
@@ -36,7 +37,8 @@ names_in text = names_of_parts (slice_split (λ b. b == SLASH) text)
 abbrev pub is_short_name : Text → Bool
 is_short_name name = nat_le (length name) name_limit
 
--- the path of names: all are written as names may be, and then all are short
+-- the path of these names, or the first refusal: a text that may not be written as a name, and then
+-- a name that is too long
 unfoldable pub path_of : Part → List Text → Result PathValue Refusal
 path_of part names = do
   written ← guard (list_all is_written_name names) (WrongShape part)

@@ -5,7 +5,7 @@ use Rattle.retro_json.specs.declared.fault.Refusal.{Refusal}
 use Rattle.retro_json.specs.declared.fault.LogFault.{LogFault}
 use Rattle.retro_json.specs.declared.fault.LogFault.TheVariants as fault
 
--- a fault as the definitions say it: none if memory ran out
+-- the refusal of a fault, or None if memory ran out
 abbrev pub refused : {Y : Type 0} → LogFault → Option (Result Y Refusal)
 refused fault.NoMem = None
 refused (fault.Refused refusal) = Some (Err refusal)

@@ -1,4 +1,5 @@
--- How it is reported that lines make no script, and that a log's state and lines make no recording.
+-- The refusals that are reported if lines don't make a script, or if a state and lines don't make a
+-- recording.
 use Rattle.retro_keep.specs.declared.script.LinesFault.{LinesFault}
 use Rattle.retro_keep.specs.declared.script.LinesFault.TheVariants as lines_faults
 use Rattle.retro_keep.specs.declared.recording_fault.RecordingFault.{RecordingFault}

@@ -53,7 +53,8 @@ row_of d = cells Tree d >>= row_cells
 abbrev pub root_entry : PathValue × Entry
 root_entry = ([], Dir)
 
--- the tree, or the worst refusal of the whole list: of the shape, of the hex, of the limits; and then of the law
+-- the tree, or the worst refusal of the whole list: a wrong shape, then bad hex, then a broken
+-- limit; and then a tree that isn't lawful
 unfoldable pub tree_of : Data → Result TreeValue Refusal
 tree_of d = do
   items ← cells Tree d

@@ -1,6 +1,7 @@
--- What the program's types keep, and the values in definitions don't tell: bytes are below 2^8 and numbers below 2^32,
--- a path has names of files, and a variable has a name that a line can assign. The writers' clauses state it of what
--- they have written, for the laws that it is read again.
+-- What the types of the program guarantee, although the values in definitions don't say it: bytes
+-- are below 2^8, numbers are below 2^32, the names of a path are names of files, and a variable has
+-- a name that a line may assign. The writers' contracts state this of what was written. The proofs
+-- that a log is read back need it.
 use Rattle.std.specs.Prelude.{ℕ, ◌^◌, List, Bool, true, ◌&&◌, nat_lt, filter, Option, Some, None}
 use Rattle.std.specs.List.{list_all}
 use Rattle.std.specs.Ordering.{nat_cmp}

@@ -4,7 +4,8 @@ use Rattle.retro_json.specs.declared.fault.Refusal.{Refusal}
 use Rattle.retro_json.specs.declared.fault.Refusal.TheVariants.{WrongShape, BadHex}
 use Rattle.retro_json.specs.Steps.{◌>>=◌}
 
--- the worse of two refusals of one part: a wrong shape is worse than bad hex, and bad hex than a broken limit
+-- the worse of two refusals of one part: a wrong shape is worse than bad hex, and bad hex is worse
+-- than a broken limit
 abbrev pub worse : Refusal → Refusal → Refusal
 worse (WrongShape part) other = WrongShape part
 worse BadHex (WrongShape part) = WrongShape part

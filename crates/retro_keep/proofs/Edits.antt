@@ -17,7 +17,7 @@ known_first : (p : ℕ → Bool) (n : ℕ) (numbers : List ℕ) → p n ≡ true
     → first_unknown p (n ∷ numbers) ≡ first_unknown p numbers
 known_first p n numbers known = rw known refl
 
--- a known number is passed over
+-- a known number isn't the first unknown one
 pub unknown_after : {found : Option ℕ} (p : ℕ → Bool) (numbers : List ℕ) (i : ℕ) → i < length numbers
     → p (get_or numbers i 0) ≡ true
     → first_unknown p (drop i numbers) ≡ found → first_unknown p (drop (i + 1) numbers) ≡ found
@@ -28,7 +28,7 @@ unknown_after p numbers i lt known so_far =
 
 -- ---- sets of numbers
 
--- a set and the list whose numbers it has know the same
+-- the first unknown number is the same by a set and by the list whose numbers it has
 pub unknown_by_set : (known : BTreeSet ℕ) (list numbers : List ℕ)
     → ((n : ℕ) → contains nat_cmp known n ≡ is_among list n)
     → first_unknown (contains nat_cmp known) numbers ≡ first_unknown (is_among list) numbers

@@ -108,7 +108,8 @@ outcome_of_lines (l ∷ lines) s h =
     ap (λ r. after_line l.0 r (outcome (map script_line lines))) h.0.means
     ∙ ap (with_output l.0 l.1.output) (outcome_of_lines lines (after l.1.notes s) h.1)
 
--- the last state and the outputs of a recording of a script are those of running its lines one by one
+-- the last state and the outputs of a recording of a script are those of running its lines one by
+-- one
 pub recorded_runs : (script : ScriptValue) (r : RecordingValue) → IsRecordingOf script r
     → outcome script.lines script.first ≡ recorded_outcome r
 recorded_runs script r is =

@@ -1,4 +1,4 @@
--- A search by halves finds the line with a number.
+-- Binary search finds the line with a number.
 use Rattle.std.proofs.Common.{◌≡◌, ℕ, zero, suc, ◌<◌, ◌≤◌, List, [], ◌∷◌, length, get_or, map}
 use Rattle.std.proofs.Common.{nat_lt, IsTrue, Some, None, Ok, Err, refl, ap, sym, arith, ⊎_elim}
 use Rattle.std.specs.List.Sorted.{IsBinarySearchResult, IsNonDecreasingBy}
@@ -67,7 +67,7 @@ module _ (lines : List (ℕ × Noted)) (number : ℕ) (rising : IsTrue (rises_fr
   numbers_rise i j d le lt =
       grind (arith, rising_at 0 lines i j d rising, λ (same : i ≡ j). ap (λ k. NumberAt lines k d) same)
 
-  -- the comparisons with the number rise along the lines, as a search by halves asks
+  -- the comparisons with the number rise along the lines, as binary search requires
   comparisons_rise : IsNonDecreasingBy (λ l. ordering_index (nat_cmp l.0 number)) lines
   comparisons_rise i j d le lt =
       let rise = numbers_rise i j d le lt in

@@ -33,7 +33,7 @@ unfoldable pub without : List ℕ → ScriptValue → Result ScriptValue ℕ
 without numbers script =
     without_known (first_unknown (is_among (map number_of script.lines)) numbers) numbers script
 
--- a fault as the definitions say it: none if memory ran out
+-- the refusal of a fault, or None if memory ran out
 abbrev pub unknown : EditFault → Option (Result ScriptValue ℕ)
 unknown (UnknownLine n) = Some (Err n)
 unknown NoMem = None

@@ -35,7 +35,7 @@ abbrev pub last_state : List (ℕ × Noted) → State → State
 last_state [] s = s
 last_state (l ∷ lines) s = last_state lines (after l.1.notes s)
 
--- what the line with a number noted, or None if no line has the number
+-- the line with a number, its notes and its output, or None if no line has the number
 abbrev pub noted_at : ℕ → List (ℕ × Noted) → Option Noted
 noted_at number [] = None
 noted_at number (l ∷ lines) = if l.0 == number then Some l.1 else noted_at number lines
@@ -70,14 +70,14 @@ is_own_line l = are_own l.1.sid l.1.notes
 abbrev pub is_line_of_kind : ℕ × Noted → Bool
 is_line_of_kind l = answers_are_of_kind l.1.notes
 
--- each change of each line is lawful where it is made, from a state on
+-- each change of each line is lawful in the state that it changes, from a state on
 abbrev pub AllLinesAllowed : List (ℕ × Noted) → State → Type 0
 AllLinesAllowed [] s = Unit {0}
 AllLinesAllowed (l ∷ lines) s = AllAllowed l.1.notes s × AllLinesAllowed lines (after l.1.notes s)
 
--- What each recording keeps: the first state is lawful, the numbers rise from 1 on, each line's session
--- exists and is the only one that its notes name, each noted answer is of its query's kind, and each
--- change is lawful where it is made. Whether the notes are those of the line isn't part of it.
+-- What each recording keeps: the first state is lawful, the numbers rise from 1 on, each line's
+-- session exists and is the only one that its notes name, each noted answer is of its query's kind,
+-- and each change is lawful in the state that it changes. The notes need not be those of the line.
 pub record IsWellFormed (r : RecordingValue) : Type 0 where
   pub lawful : IsLawful r.first
   pub rising : IsTrue (rises_from 0 (map number_in r.lines))
@@ -97,8 +97,8 @@ run_value noted = record {
   output = noted.output;
 }
 
--- The notes certify the line, they hold in a state, and there the line gives the state after them and
--- the noted output.
+-- The notes certify the line, they hold in a state, and there the line gives the state after them
+-- and the noted output.
 pub record IsRecorded (noted : Noted) (s : State) : Type 0 where
   pub run : IsRun (run_value noted)
   pub holds : Holds noted.notes s
@@ -117,8 +117,8 @@ script_line l = record { number = l.0; sid = l.1.sid; text = l.1.text }
 abbrev pub script_in : RecordingValue → ScriptValue
 script_in r = record { first = r.first; lines = map script_line r.lines }
 
--- A recording is one of a script if it has its first state and its lines, and each line is recorded in
--- the state before it.
+-- A recording is one of a script if it has its first state and its lines, and each line is recorded
+-- in the state before it.
 pub record IsRecordingOf (script : ScriptValue) (r : RecordingValue) : Type 0 where
   pub first : r.first ≡ script.first
   pub lines : map script_line r.lines ≡ script.lines

@@ -1,4 +1,4 @@
--- Why a lawful state and lines make no recording.
+-- Why a lawful state and lines don't make a recording.
 use Rattle.std.specs.Prelude.{◌≡◌, ℕ, Bool, true, false, List, map, ⊤}
 use Rattle.retro_tree.specs.declared.state.State.{State}
 use Rattle.retro_keep.specs.Recording.{AllLinesAllowed, number_in, sid_in}
@@ -22,8 +22,8 @@ numbers_rise lines = rises_from 0 (map number_in lines)
 abbrev pub sessions_exist : State → List (ℕ × Noted) → Bool
 sessions_exist first lines = have_sessions first (map sid_in lines)
 
--- What a fault says: of the numbers, of the sessions where the numbers rise, or of the changes where the sessions
--- exist too. Memory may run out at any lines.
+-- What each fault says of the lines: the numbers don't rise; or they rise, and a session doesn't
+-- exist; or the sessions exist too, and a change isn't lawful. Memory may run out for any lines.
 abbrev pub IsFaultOf : State → List (ℕ × Noted) → RecordingFault → Type 0
 IsFaultOf first lines NumbersNotRising = numbers_rise lines ≡ false
 IsFaultOf first lines UnknownSession = (numbers_rise lines ≡ true) × (sessions_exist first lines ≡ false)

@@ -63,13 +63,14 @@ script_of first lines =
     else if not (is_lawful first) then Err LawlessTree
     else with_script_fault (script_of_lines first lines)
 
--- what each script keeps: a lawful first state, numbers that rise from 1 on, and sessions that exist
+-- what each script keeps: a lawful first state, numbers that rise from 1 on, and sessions that
+-- exist
 pub record IsScript (script : ScriptValue) : Type 0 where
   pub lawful : IsLawful script.first
   pub rising : IsTrue (rises_from 0 (map number_of script.lines))
   pub known : IsTrue (have_sessions script.first (map sid_of script.lines))
 
--- a fault as the definitions say it: none if memory ran out
+-- the refusal of a fault, or None if memory ran out
 abbrev pub refused : ScriptFault → Option (Result ScriptValue ScriptFault)
 refused NumbersNotRising = Some (Err NumbersNotRising)
 refused UnknownSession = Some (Err UnknownSession)

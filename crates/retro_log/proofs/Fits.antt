@@ -1,4 +1,5 @@
--- Notes as they are read: they name only their line's session, and answers are of their queries' kinds.
+-- Notes as they are read: they name only their line's session, and answers are of their queries'
+-- kinds.
 use Rattle.std.proofs.Common.{◌≡◌, ℕ, ◌==◌, Bool, true, false, ◌&&◌, List, [], ◌∷◌, Option, Some, None, Result, Ok, Err}
 use Rattle.std.proofs.Common.{refl, sym, subst, eq-eqb}
 use Rattle.std.specs.Prelude.{IfOk, codes, bytes_eq, if◌then◌else◌}

@@ -1,4 +1,4 @@
--- What a recording is written as is read again as that recording.
+-- A recording is read back from the log that it is written as.
 use Rattle.std.proofs.Common.{◌≡◌, ℕ, ◌<◌, List, [], ◌∷◌, map, Bool, true, not, ◌&&◌, Some, Ok, nat_lt}
 use Rattle.std.proofs.Common.{refl}
 use Rattle.std.proofs.Common.{arith}

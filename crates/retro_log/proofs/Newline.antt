@@ -1,4 +1,4 @@
--- A newline after the text of a value changes nothing of what is read.
+-- A newline after the text of a value doesn't change what is read.
 use Rattle.std.proofs.Common.{◌≡◌, ◌∙◌, ℕ, Bool, true, false, cond, ◌&&◌, List, [], ◌∷◌, ◌++◌, refl, sym, ap}
 use Rattle.std.proofs.Common.{ap₂, subst, append_assoc, append-nil}
 use Rattle.std.specs.Prelude.{option_and_then, IsUtf8}
@@ -69,7 +69,7 @@ unfolding lex
 same_separator true q r e = ap (λ l. comma ∷ l) e
 same_separator false q r e = e
 
--- what stands after a value ends a word, with a newline at its end or without
+-- the tokens after a value, followed by a text that ends a word, end a word
 ends_so : (ts : List Token) (end : List ℕ) → ends_word end ≡ true → ends_word (print_from true ts ++ end) ≡ true
 unfolding print_from
 ends_so [] end h = h

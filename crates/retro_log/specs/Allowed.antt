@@ -1,4 +1,4 @@
--- Whether the changes of a log are lawful, each in the state that it meets.
+-- Whether the changes of a log are lawful, each in the state that it changes.
 use Rattle.std.specs.Prelude.{ℕ, Bool, true, not, ◌&&◌, List, [], ◌∷◌}
 use Rattle.retro_tree.specs.Change.{apply, grows_dir, has_its_session}
 use Rattle.retro_tree.specs.Lawful.{is_lawful}
@@ -9,7 +9,8 @@ use Rattle.retro_tree.specs.declared.note.Note.TheVariants.{Asked, Made}
 use Rattle.retro_tree.specs.declared.state.State.{State}
 use Rattle.retro_keep.specs.declared.noted.Noted.{Noted}
 
--- whether a change is lawful: it grows no directory, its session exists, and the state after it is lawful
+-- whether a change is lawful: it grows no directory, its session exists, and the state after it is
+-- lawful
 abbrev pub is_lawful_change : Change → State → Bool
 is_lawful_change c s = not (grows_dir c s) && (has_its_session c s && is_lawful (apply c s))
 

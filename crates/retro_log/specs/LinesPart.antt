@@ -8,7 +8,7 @@ use Rattle.retro_json.specs.declared.fault.Refusal.TheVariants.{WrongShape}
 use Rattle.retro_json.specs.Steps.{◌>>=◌, each, guard}
 use Rattle.retro_json.specs.Shape.{cells, text_in, u32_in}
 
--- what a line of a script or of a log begins with
+-- the number, the session and the text of a line of a script or of a log
 abbrev pub head_of : Data → Data → Data → Result ScriptLine Refusal
 head_of n s t = do
   number ← u32_in Lines n

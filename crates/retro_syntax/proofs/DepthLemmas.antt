@@ -26,7 +26,7 @@ and_assoc : (a b c : Bool) → (a && (b && c)) ≡ ((a && b) && c)
 and_assoc true b c = refl
 and_assoc false b c = refl
 
--- both are within a bound just where the greater is
+-- two numbers are within a bound exactly if the greater is
 max_fits : (a b n : ℕ) → nat_le (max a b) n ≡ (nat_le a n && nat_le b n)
 max_fits a b n = grind (arith, leb_tells)
 

@@ -289,7 +289,8 @@ blank_after ts op b c r h a k =
     ap (λ m. lex_run m (c ∷ r)) (blank_ends ts op b h) ∙ between_on (end_operator ts op) c r a
     ∙ sym (ap (λ m. lex_run m r) (step_operator ts op c a ∙ begins_after ts op c k))
 
--- where an operator ends a word or nothing: a blank gives these tokens, and then the operator begins
+-- where an operator ends a word or nothing: a blank gives these tokens, and then the operator
+-- begins
 abbrev before_operator : List T.Token → Pending → Option (List T.Token)
 before_operator ts between = Some ts
 before_operator ts comment = None

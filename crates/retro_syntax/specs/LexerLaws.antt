@@ -1,6 +1,6 @@
--- Laws of the lexer. They pin the definition of tokens in specs/Quoting.antt from outside: each relates
--- the reading of two texts, from any state that fits. `ts` are the tokens before, and `p` is where
--- the next character is.
+-- Laws of the lexer. Each relates the reading of two texts, from any state in which they may occur.
+-- So they describe the tokens of specs/Quoting.antt in other terms. `ts` are the tokens before, and
+-- `p` is where the next character is.
 use Rattle.std.specs.Prelude.{◌≡◌, ℕ, Bool, true, false, not, ◌&&◌, ◌||◌, ◌==◌, List, [], ◌∷◌, ◌++◌, Some}
 use Rattle.retro_path.specs.VarName.{continues_name, is_shell_name}
 use Rattle.retro_syntax.specs.Ascii as ascii
@@ -51,8 +51,8 @@ SingleQuotesLaw =
     → has_no_single_quote cs ≡ true
     → ReadAlike ts p (ascii.single_quote ∷ cs ++ ascii.single_quote ∷ r) (double_quoted cs r)
 
--- Outside quotes, a character after a backslash reads as the character in double quotes. A newline is
--- the exception.
+-- Outside quotes, a character after a backslash reads as the character in double quotes. A newline
+-- is the exception.
 abbrev pub BackslashLaw : Type 0
 BackslashLaw =
     (ts : List Token) (p : Pending) (c : ℕ) (r : List ℕ) → is_outside p ≡ true
@@ -82,7 +82,8 @@ BracesLaw =
 
 -- ---- Blanks and comments.
 
--- whether an operator `o` ends a word here, or nothing; digits before `<` or `>` would number a file
+-- whether an operator `o` ends a word here, or nothing; digits before `<` or `>` would number a
+-- file
 abbrev pub ends_before : ℕ → Pending → Bool
 ends_before o between = true
 ends_before o comment = false
@@ -110,7 +111,8 @@ BlankBeforeLaw =
     (ts : List Token) (p : Pending) (b o : ℕ) (r : List ℕ) → is_blank b ≡ true
     → is_operator o ≡ true → ends_before o p ≡ true → ReadAlike ts p (b ∷ o ∷ r) (o ∷ r)
 
--- A blank after an operator reads as nothing, unless the next character would continue the operator.
+-- A blank after an operator reads as nothing, unless the next character would continue the
+-- operator.
 abbrev pub BlankAfterLaw : Type 0
 BlankAfterLaw =
     (ts : List Token) (op : Operator) (b c : ℕ) (r : List ℕ) → is_blank b ≡ true

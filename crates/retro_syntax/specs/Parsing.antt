@@ -1,5 +1,5 @@
--- The tree of a list of tokens, read token by token. `reading_is_spelling` says that this finds exactly
--- the trees of specs/Spells.antt, so that a reader need not trust this file.
+-- The tree of a list of tokens, read token by token. `reading_is_spelling` says that this finds
+-- exactly the trees of specs/Spells.antt, so that a reader need not trust this file.
 use Rattle.std.specs.Prelude.{ℕ, Bool, true, false, List, [], ◌∷◌, ◌++◌, Option, Some, None, if◌then◌else◌, option_map}
 use Rattle.retro_syntax.specs.Tree.{Word, Assignment, Token, semicolon, bar, connector, redirection, word, Item}
 use Rattle.retro_syntax.specs.Tree.{argument, redirect, Simple, assignments, command, Commands, last, more, AndOr, end}
@@ -19,8 +19,8 @@ use Rattle.retro_syntax.specs.declared.words.Class.TheVariants.{Ordinary as ordi
 
 -- ---- What is being read.
 
--- a list that is being read: its and-or lists that a `;` follows, the pipelines of the pending and-or
--- list with the connectors after them, and whether the pending pipeline begins with `!`
+-- a list that is being read: its and-or lists that a `;` follows, the pipelines of the pending
+-- and-or list with the connectors after them, and whether the pending pipeline begins with `!`
 pub record Open : Type 0 where
   pub and_ors : List AndOr
   pub pipelines : List (Pipeline × Connector)
@@ -29,7 +29,7 @@ pub record Open : Type 0 where
 abbrev pub empty_list : Open
 empty_list = record { and_ors = []; pipelines = []; negated = false }
 
--- what an inner list is a part of
+-- the part of a compound command that an inner list is, with the parts of the command before it
 pub data Frame : Type 0 where
   -- the condition of an `if` or `elif`, after these arms
   condition : List (Commands × Commands) → Frame
@@ -58,7 +58,8 @@ pub data Place : Type 0 where
   for_words : List ℕ → List Word → Place
   for_do : List ℕ → List Word → Place
 
--- the innermost list is `here`; the stack holds those around it, the innermost first
+-- the innermost list is `here`; the stack has the lists that contain it, the innermost of them
+-- first
 pub record State : Type 0 where
   pub stack : List (Open × Frame)
   pub here : Open
@@ -229,6 +230,6 @@ abbrev pub finish : Option State → Option Commands
 finish None = None
 finish (Some s) = finish_at s.stack s.here s.place
 
--- the list that the tokens are
+-- the list that the tokens spell, or None if they spell none
 unfoldable pub commands_of : List Token → Option Commands
 commands_of ts = finish (run (Some (at [] empty_list start)) ts)

@@ -1,6 +1,7 @@
--- The tokens of a text, defined character by character: token recognition (XCU 2.3) with quotes (XCU
--- 2.2), parameters (XCU 2.6.2) and comments. None means a syntax error. The laws of the lexer in
--- specs/LexerLaws.antt and the canonical writing in specs/Writing.antt pin this definition from outside.
+-- The tokens of a text, defined character by character: token recognition (XCU 2.3) with quotes
+-- (XCU 2.2), parameters (XCU 2.6.2) and comments. None means a syntax error. The laws of the lexer
+-- in specs/LexerLaws.antt and the canonical writing in specs/Writing.antt describe the same tokens
+-- in other terms.
 use Rattle.std.specs.Prelude.{ℕ, Bool, true, false, ◌&&◌, ◌||◌, ◌==◌, if◌then◌else◌, List, [], ◌∷◌, ◌++◌, Option, Some}
 use Rattle.std.specs.Prelude.{None, codes}
 use Rattle.std.specs.Char.{encode_utf8, is_ascii_digit}
@@ -25,10 +26,11 @@ pub data Operator : Type 0 where
   one_less : Operator
   one_greater : Operator
 
--- Where in a word the next character is: the word's pieces so far, and for a parameter whether it is in
--- double quotes, and its name so far.
+-- Where in a word the next character is: the word's pieces so far, and for a parameter whether it
+-- is in double quotes, and its name so far.
 pub data Reading : Type 0 where
-  -- outside parameters; whether the word is unquoted digits only, and the quotes around the character
+  -- outside parameters; whether the word is unquoted digits only, and the quotes around the
+  -- character
   in_word : List Piece → Bool → Quote → Reading
   -- after `$`
   dollar : List Piece → Bool → Reading
@@ -170,8 +172,8 @@ word_at ts ps digits double c =
     else (if c == ascii.nul || c == ascii.backquote then None
     else word_goes_on ts (in_word (add_quoted ps (encode_utf8 c)) false double)))
 
--- A character after `$` that begins a parameter or substitution that isn't supported: a digit or one
--- of @*#-$!(
+-- A character after `$` that begins a parameter or substitution that isn't supported: a digit or
+-- one of @*#-$!(
 abbrev pub is_other_parameter : ℕ → Bool
 is_other_parameter c = is_ascii_digit c || ascii.is_among (codes "@*#-$!(") c
 
@@ -204,8 +206,8 @@ reading_at ts (dollar_brace ps inside (b ∷ n)) c =
 reading_at ts (dollar_question ps inside) c =
     if c == ascii.right_brace then with_parameter ts ps inside status else None
 
--- After a character that follows an operator's first one. These are refused: `;;`, `<<`, `<&`, `<>`,
--- `>&`, `>|`.
+-- After a character that follows an operator's first one. These are refused: `;;`, `<<`, `<&`,
+-- `<>`, `>&`, `>|`.
 abbrev pub operator_at : List Token → Operator → ℕ → Option Lexing
 operator_at ts one_semicolon c = if c == ascii.semicolon then None else begin_token (ts ++ semicolon ∷ []) c
 operator_at ts one_ampersand c =

@@ -89,8 +89,8 @@ has_unquoted_colon_tilde (quoted text ∷ ps) = has_unquoted_colon_tilde ps
 has_unquoted_colon_tilde (parameter n ∷ ps) = has_unquoted_colon_tilde ps
 has_unquoted_colon_tilde (quoted_parameter n ∷ ps) = has_unquoted_colon_tilde ps
 
--- Whether a line may have the assignment: it may assign the variable, and no unquoted `:~` is in the
--- value.
+-- Whether a line may have the assignment: it may assign the variable, and no unquoted `:~` is in
+-- the value.
 abbrev pub is_supported : Assignment → Bool
 is_supported a = is_var_name a.name && not (has_unquoted_colon_tilde a.value)
 

@@ -1,5 +1,6 @@
--- The canonical writing of tokens: quoted parts in double quotes, parameters as `${name}`, and a blank
--- after each token. `writing_is_read` says that the lexer reads tokens back from their writing.
+-- The canonical writing of tokens: quoted parts in double quotes, parameters as `${name}`, and a
+-- blank after each token. `writing_is_read` says that the lexer reads tokens back from their
+-- writing.
 use Rattle.std.specs.Prelude.{◌≡◌, ℕ, Bool, true, false, not, ◌&&◌, ◌||◌, ◌==◌, List, [], ◌∷◌, ◌++◌, map, codes}
 use Rattle.std.specs.Prelude.{if◌then◌else◌}
 use Rattle.std.specs.Char.{encode_utf8}
