@@ -1,7 +1,8 @@
 //! The lexer, which splits a text into tokens (XCU 2.2, 2.3, 2.6.2).
 //!
 //! `specs/Quoting.antt` defines the tokens of a text character by character. Each method of
-//! [`Lexer`] is one step of that definition.
+//! [`Lexer`] that reads a character is one step of that definition. It fails with `Unsupported` if
+//! the definition gives no tokens for a text with that character there.
 
 mod characters;
 mod pieces;
@@ -72,7 +73,8 @@ pub enum Quote {
     Double,
 }
 
-/// What the next character may belong to. `quoted` says whether a parameter is in double quotes.
+/// What the next character may belong to. The field `quoted` says whether a parameter is in double
+/// quotes.
 #[derive(Clone, Copy, Debug, PartialEq, Eq)]
 pub enum Pending {
     /// Nothing yet: a token may begin.
@@ -197,8 +199,8 @@ impl Lexer {
         Ok(())
     }
 
-    /// Appends the pending operator to the tokens, without a second character. A single `&` is
-    /// `Unsupported`.
+    /// Appends the pending operator to the tokens, without a second character. Fails with
+    /// `Unsupported` for a single `&`.
     fn end_operator(&mut self, operator: Operator) -> Result<(), SyntaxError>
         ensures { Gives (λ _. tokens_view self.new.tokens) result
             (Quoting.end_operator (tokens_view self.old.tokens) (operator_view operator)) }
@@ -589,8 +591,8 @@ impl Lexer {
         Ok(())
     }
 
-    /// Ends the text, and returns its tokens. A text that ends after a backslash, in quotes or in
-    /// braces is `Unsupported`.
+    /// Ends the text, and returns its tokens. Fails with `Unsupported` if the text ends after a
+    /// backslash, in quotes, in braces, or with a single `&`.
     fn finish(mut self) -> Result<Vec<Token>, SyntaxError>
         ensures { Gives (λ tokens. tokens_view tokens) result
             (Quoting.lex_end (Some (lexer_view self))) }
@@ -627,7 +629,7 @@ impl Lexer {
     }
 }
 
-/// Returns the tokens of a text.
+/// Returns the tokens of a text. Fails with `Unsupported` if the definition gives none.
 #[tactic(auto, unfolding(crate::specs::Quoting::tokens_of))]
 pub fn tokens_of(alloc: Global, text: &str) -> Result<Vec<Token>, SyntaxError>
     ensures { Gives (λ tokens. tokens_view tokens) result (Quoting.tokens_of (chars text.now)) }

@@ -26,7 +26,7 @@ use std::alloc::Global;
 /// The greatest length of a line, in bytes.
 pub const LONGEST_LINE: usize = 4096;
 
-/// Why a text is not a line.
+/// Why a text isn't a line.
 #[derive(Clone, Copy, Debug, PartialEq, Eq)]
 pub enum Refused {
     /// Refusal 5: the text spells no line of the grammar.
@@ -39,7 +39,7 @@ pub enum Refused {
     NoMem,
 }
 
-/// A line.
+/// The tree of a line.
 #[derive(Drop)]
 pub struct Line {
     /// The line's list, or `None` for a blank line.
@@ -59,7 +59,8 @@ impl From<SyntaxError> for Refused {
     }
 }
 
-/// Returns the line that a text spells, whatever its length and depth.
+/// Returns the line that a text spells, whatever its length and depth. Fails with `Unsupported` if
+/// it spells none.
 #[tactic(auto, unfolding(crate::specs::Lines::line_of))]
 fn line_of(alloc: Global, text: &str) -> Result<Line, SyntaxError>
     ensures { Gives line_view result (Lines.line_of text.now) }
@@ -74,7 +75,8 @@ fn line_of(alloc: Global, text: &str) -> Result<Line, SyntaxError>
     })
 }
 
-/// Returns whether `if` and `for` nest no deeper than the limit in a line.
+/// Returns whether `if` and `for` nest no deeper than
+/// [`DEEPEST_NESTING`](crate::depth::DEEPEST_NESTING) in a line.
 fn is_shallow_line(line: &Line) -> bool
     ensures { result ≡ nat_le (line_depth (line_view line.now)) deepest_nesting }
 {

@@ -1,7 +1,8 @@
 //! The parser, which reads the tree of a line token by token (XCU 2.10).
 //!
-//! `specs/Parsing.antt` defines the state after each token. Each method of [`Parser`] is one step
-//! of that definition.
+//! `specs/Parsing.antt` defines the state after each token. Each method of [`Parser`] that reads a
+//! token is one step of that definition. It fails with `Unsupported` if the grammar doesn't allow
+//! the token there.
 
 mod open;
 
@@ -365,8 +366,8 @@ impl Parser {
 
     // ---- simple commands
 
-    /// Appends the assignment that a word is to a simple command. A word that isn't an assignment
-    /// is `Unsupported`.
+    /// Appends the assignment that a word is to a simple command. Fails with `Unsupported` if the
+    /// word doesn't begin with `name=`, or if a line may not assign the variable.
     fn push_assignment(
         &mut self,
         stages: Vec<Simple>,
@@ -695,7 +696,8 @@ impl Parser {
         }
     }
 
-    /// Ends the line, and returns its list. A line that ends inside a command is `Unsupported`.
+    /// Ends the line, and returns its list. Fails with `Unsupported` if the line may not end after
+    /// its last token.
     fn finish(self) -> Result<Commands<Command>, SyntaxError>
         ensures { Gives (commands_of view) result (Parsing.finish (Some (parser_view self))) }
     {
@@ -728,7 +730,7 @@ impl Parser {
     }
 }
 
-/// Returns the list that tokens spell.
+/// Returns the list that tokens spell. Fails with `Unsupported` if they spell none.
 #[tactic(auto, unfolding(crate::specs::Parsing::commands_of))]
 pub fn commands_of(alloc: Global, tokens: Vec<Token>) -> Result<Commands<Command>, SyntaxError>
     ensures { Gives (commands_of view) result (Parsing.commands_of (tokens_view tokens)) }

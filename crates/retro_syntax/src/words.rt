@@ -209,8 +209,8 @@ fn first_piece(word: Word) -> Option<(Piece, Vec<Piece>)>
     Some((first, pieces))
 }
 
-/// Returns the assignment that a word is. A word that doesn't begin with `name=`, or that assigns
-/// a variable that a line may not assign, is `Unsupported`.
+/// Returns the assignment that a word is. Fails with `Unsupported` if the word doesn't begin with
+/// `name=`, or if a line may not assign the variable.
 pub fn assignment_of(alloc: Global, word: Word) -> Result<Assignment, SyntaxError>
     ensures { Gives assignment_view result (Words.assignment_of (word_view word)) }
 {
@@ -257,8 +257,8 @@ pub fn is_ordinary(class: Class) -> bool
     }
 }
 
-/// Returns the variable that a word after `for` names. A word that isn't the name of a variable
-/// that a line may assign is `Unsupported`.
+/// Returns the variable that a word after `for` names. Fails with `Unsupported` if the word isn't
+/// the name of a variable that a line may assign.
 #[tactic(auto, unfolding(crate::specs::Words::name_of))]
 pub fn name_of(alloc: Global, word: &Word) -> Result<VarName, SyntaxError>
     ensures { Gives (λ name. name) result (Words.name_of (word_view word.now)) }
