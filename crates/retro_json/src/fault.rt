@@ -26,7 +26,7 @@ pub enum Part {
 /// Why a document is refused.
 #[derive(Clone, Copy, Debug, PartialEq, Eq)]
 pub enum Refusal {
-    /// The line numbers don't rise from 1 on.
+    /// The line numbers don't rise.
     NumbersNotRising,
     /// A line's session isn't one of the document's sessions.
     UnknownSession,
