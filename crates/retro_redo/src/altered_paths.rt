@@ -1,4 +1,4 @@
-//! Paths that a repair alters.
+//! The paths that a repair alters.
 ghost use Rattle.std.specs.Prelude.{◌≡◌, ◌||◌, ◌∷◌, [], IfOk, OnOk, is_some, length};
 ghost use Rattle.std.specs.List.{list_any};
 ghost use Rattle.std.specs.Option.{option_copied};
@@ -14,9 +14,11 @@ use std::alloc::Global;
 use std::collections::BTreeSet;
 use std::marker::Model;
 
-/// The paths that lines change which a repair doesn't keep: by their recorded notes, and by the
-/// notes of the runs that replace them. At every other path the recorded and the repaired state
-/// have the same node.
+/// The paths that are changed by lines that the repair doesn't keep.
+///
+/// A cancelled line alters the paths that its recorded notes change. A line that is run again
+/// alters those paths and the paths that the notes of its new run change. At every other path the
+/// recorded and the repaired state have the same node.
 #[derive(Drop)]
 struct AlteredPaths {
     paths: BTreeSet<Path>,
@@ -35,7 +37,7 @@ impl Model for AlteredPaths {
 }
 
 impl AlteredPaths {
-    /// Returns the paths that lines alter by their choices.
+    /// Returns the paths that the lines alter. `choices` has the step of each line.
     fn of(alloc: Global, lines: &[(u32, Noted)], choices: &[Step]) -> Result<AlteredPaths, NoMem>
         requires { length choices.now ≡ length lines.now }
         ensures { IfOk result (λ altered. (p : PathValue)
@@ -50,7 +52,7 @@ impl AlteredPaths {
         Ok(altered)
     }
 
-    /// Adds the paths that a line alters by its choice.
+    /// Adds the paths that a line alters if `step` is its step.
     fn add_line(&mut self, line: &(u32, Noted), step: &Step) -> Result<(), NoMem>
         ensures { OnOk result ((p : PathValue) → has_path p self.new
             ≡ (has_path p self.old || has_path p (altered_by line.now step.now))) }
@@ -89,7 +91,7 @@ impl AlteredPaths {
         Ok(())
     }
 
-    /// Returns whether a path is altered, or its parent is, or a path below it.
+    /// Returns whether a path, its parent, or a path below it is altered.
     fn is_near(&self, alloc: Global, path: &Path) -> Result<bool, NoMem>
         ensures { IfOk result (λ near. near ≡ is_near self.now path.now) }
     {
@@ -100,8 +102,9 @@ impl AlteredPaths {
         Ok(self.paths.contains(&parent))
     }
 
-    /// Returns whether a path is altered, or one below it. The paths below it follow it in order,
-    /// so the first altered path that isn't before it decides.
+    /// Returns whether a path or a path below it is altered. In the order of the set, the paths
+    /// below a path follow it directly. So the first altered path that isn't ordered before `path`
+    /// decides.
     fn has_below(&self, path: &Path) -> bool
         ensures { result ≡ list_any (λ q. is_some (below path.now q)) self.now }
     {
@@ -137,7 +140,7 @@ impl AlteredPaths {
         }
     }
 
-    /// Returns whether a kept line changes a path near an altered one.
+    /// Returns whether some kept line changes a path near an altered one.
     fn is_kept_near(
         &self,
         alloc: Global,
@@ -157,7 +160,7 @@ impl AlteredPaths {
     }
 }
 
-/// Returns the path whose node a note changes.
+/// Returns the path whose node a note changes, or `None` if the note changes no node.
 fn changed_path(note: &Note) -> Option<&Path>
     ensures { option_copied result ≡ changed_path note.now }
 {
@@ -167,10 +170,12 @@ fn changed_path(note: &Note) -> Option<&Path>
     }
 }
 
-/// Returns whether a kept line changes a path near one that the repair alters.
+/// Returns whether some kept line changes a path near one that the repair alters. A path is near an
+/// altered one if it, its parent, or a path below it is altered.
 ///
-/// If not, each change of a kept line is as lawful in the repaired state as it was where it was
-/// recorded: the node at its path, the node at the parent and those below are the same.
+/// If the answer is no, each change of a kept line is lawful in the repaired state because it was
+/// lawful where it was recorded: the node at its path, the node at the parent and the nodes below
+/// are the same in both states.
 pub(crate) fn keeps_near(
     alloc: Global,
     lines: &[(u32, Noted)],

@@ -1,4 +1,4 @@
-//! Sets of cancelled lines.
+//! Sets of cancelled numbers.
 ghost use Rattle.std.specs.Prelude.{◌≡◌, IfOk, ℕ};
 ghost use Rattle.retro_redo.specs.Cancelling.{is_line};
 ghost use Rattle.std.specs.BTreeSet.{contains};
@@ -26,7 +26,7 @@ pub(crate) fn has_number(numbers: &BTreeSet<u32>, number: u32) -> bool
     numbers.contains(&number)
 }
 
-/// Returns the least of the numbers that no line has, or `None` if each is a line's.
+/// Returns the least of the numbers that no line has, or `None` if every number is a line's.
 pub(crate) fn first_missing(recording: &Recording, numbers: &BTreeSet<u32>) -> Option<u32>
     ensures value { result ≡ first_unknown (is_line recording.now) numbers.now.keys }
     ensures ordered { IsStrictlySortedBy nat_cmp numbers.now.keys }
@@ -39,7 +39,7 @@ pub(crate) fn first_missing(recording: &Recording, numbers: &BTreeSet<u32>) -> O
     None
 }
 
-/// Returns the least of the numbers from another on, or `None` if there is none.
+/// Returns the least number in the set that is at least `from`, or `None` if there is none.
 pub(crate) fn number_from(numbers: &BTreeSet<u32>, from: u32) -> Option<u32>
     ensures { IsNextAmong numbers.now.keys from result }
 {

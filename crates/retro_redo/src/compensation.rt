@@ -1,23 +1,23 @@
-//! Differences of what lines print.
+//! Differences between what lines printed and what they print in the repaired run.
 ghost use Rattle.std.specs.Prelude.{◌≡◌, ◌++◌, IfOk, OnOk};
 ghost use Rattle.retro_redo.specs.Moments.{compensation};
 
 use retro_tree::{Bytes, NoMem};
 use std::alloc::Global;
 
-/// A line that prints something else in the repaired run than it did. What a terminal has shown
-/// can't be taken back, so whoever saw it has to be told.
+/// An output difference: a line that prints something else in the repaired run than it did when it
+/// was recorded. What a terminal has shown can't be taken back, so whoever saw it has to be told.
 #[derive(Drop)]
 pub struct Compensation {
     /// The line's number.
     pub number: u32,
     /// What the line printed.
     pub before: Bytes,
-    /// What the line prints in the repaired run: nothing, if it is cancelled.
+    /// What the line prints in the repaired run. A cancelled line prints nothing.
     pub now: Bytes,
 }
 
-/// Appends the compensation of a line, if it prints something else than it did.
+/// Appends the compensation of a line, if the line prints something else than it did.
 pub(crate) fn compensate(
     alloc: Global,
     compensations: &mut Vec<Compensation>,

@@ -1,6 +1,6 @@
 //! Observers of executions.
 
-/// Where a line is executed.
+/// When a line is executed.
 #[derive(Clone, Copy, PartialEq, Eq, Debug)]
 pub enum Turn {
     /// Ahead of its turn, as a guess.
@@ -9,12 +9,13 @@ pub enum Turn {
     Place,
 }
 
-/// An observer that is called around each execution of a line.
+/// An observer of executions, which is called before and after each execution of a line.
 pub trait Gate {
-    /// Is called before the line with a number is executed.
+    /// Signals that the line with the given number is about to be executed.
     fn begin(&self, number: u32, turn: Turn);
 
-    /// Is called after the line with a number was executed, also if memory ran out.
+    /// Signals that the execution of the line with the given number has ended, whether or not it
+    /// ran out of memory.
     fn end(&self, number: u32, turn: Turn);
 }
 

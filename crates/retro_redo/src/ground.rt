@@ -1,4 +1,4 @@
-//! What guesses are made on.
+//! What a repair lends for guesses.
 ghost use Rattle.std.specs.Prelude.{◌≡◌};
 ghost use Rattle.retro_tree.specs.Overlay.{Fits, Overlays};
 ghost use Rattle.retro_history.specs.Recorded.{recorded_before};
@@ -13,10 +13,10 @@ use retro_tree::Overlay;
 use std::collections::BTreeSet;
 use std::marker::Model;
 
-/// What a repair lends for guesses: runs of lines ahead of their turns.
+/// What a repair lends for guesses, which are runs of lines ahead of their turns.
 ///
-/// It borrows the recording, its history, the cancelled numbers, and the overlay of the cells in
-/// which the repaired state differs from the recorded one before the next line to settle.
+/// It borrows the recording, its history, the cancelled numbers, and the exact overlay: the cells
+/// in which the repaired state differs from the recorded one before the next line to settle.
 #[derive(Drop)]
 pub struct Ground<'g, 'a> {
     recording: &'a Recording,
@@ -45,7 +45,7 @@ impl<'g, 'a> Model for Ground<'g, 'a> {
 }
 
 impl<'g, 'a> Ground<'g, 'a> {
-    /// Returns the ground of a recording with its history, cancelled numbers and an overlay.
+    /// Returns the ground with the given recording, history, cancelled numbers and overlay.
     pub(crate) fn new(
         recording: &'a Recording,
         cancelled: &'g BTreeSet<u32>,
@@ -80,15 +80,15 @@ impl<'g, 'a> Ground<'g, 'a> {
         self.overlay
     }
 
-    /// Returns whether the line with a number is cancelled.
+    /// Returns whether the line with the given number is cancelled.
     pub fn is_cancelled(&self, number: u32) -> bool
         ensures { result ≡ is_among self.now.cancel number }
     {
         has_number(self.cancelled, number)
     }
 
-    /// Returns the recorded state before the line with a number, with the overlay laid over it. No
-    /// line needs to have the number. Takes no memory.
+    /// Returns a view of the combined state before the line with the given number: the overlay on
+    /// the recorded state. No line needs to have the number. Takes no memory.
     pub fn view(&self, number: u32) -> Shown<'g, 'a>
         ensures state { result ≡ shown_at number self.now }
         ensures overlays { Overlays self.now.overlay (recorded_before number self.now.recording)

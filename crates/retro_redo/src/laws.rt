@@ -1,4 +1,5 @@
-//! Laws of repairs, as contracts of functions that do nothing.
+//! Laws about repairs, for the proofs of crates above. A law is a function without a body whose
+//! contract is the law.
 ghost use Rattle.std.specs.Prelude.{◌≡◌, ◌++◌, ℕ, Bool, List, IsTrue, length, map};
 ghost use Rattle.retro_tree.specs.Lawful.{IsLawful};
 ghost use Rattle.retro_tree.specs.declared.state.State.{State};
@@ -13,9 +14,9 @@ ghost use Rattle.retro_redo.specs.Repair.{IsRepair, IsRepairOf};
 ghost use Rattle.retro_redo.specs.declared.repair.Repair.{Repair};
 ghost use Rattle.retro_redo.specs.declared.step.Step.{Step};
 
-/// Choices for all lines of a recording, each one that its line allows, come to the run of all
-/// other lines: its last state, its outputs, the outputs that differ, the verdicts and the states
-/// on the way. The lines as chosen are a recording of the others.
+/// States that settling all lines gives what running all other lines gives, if each line gets a
+/// step that it allows: the last state, the outputs, the outputs that differ, the verdicts and the
+/// states on the way. The lines as chosen are a recording of the other lines.
 #[tactic(auto, using(crate::proofs::Final::settles_final))]
 pub fn repairs_come_to_the_whole_run()
     ensures { (cancelled : ℕ → Bool) (lines : List (ℕ × Noted)) (steps : List Step) (s t : State)
@@ -24,7 +25,8 @@ pub fn repairs_come_to_the_whole_run()
         → IsFinal cancelled lines steps s t }
 {}
 
-/// Leaving out lines in turn leaves out the lines of both lists.
+/// States that leaving out one list of lines and then a second one leaves out the lines of both
+/// lists.
 #[tactic(auto, using(crate::proofs::InTurn::left_out_in_turn))]
 pub fn repairs_in_turn_leave_out_both()
     ensures { (first second : List ℕ) (lines : List ScriptLine)
@@ -32,8 +34,9 @@ pub fn repairs_in_turn_leave_out_both()
         ≡ lines_without (first ++ second) lines }
 {}
 
-/// The repair of a repaired recording for a second list of lines has the state and the outputs that
-/// the lines of neither list give, and its recording is one of these lines.
+/// States what a second repair gives, which cancels a second list of lines in the recording of a
+/// first repair. Its state and its outputs are those of running the lines that are in neither list,
+/// and its recording is one of these lines.
 #[tactic(auto, using(crate::proofs::InTurn::repaired_in_turn))]
 pub fn repairs_in_turn_repair_both()
     ensures { (first second : List ℕ) (r : RecordingValue) (one two : Repair)

@@ -1,20 +1,22 @@
 //! Selective repair: what a recording would be without its cancelled lines.
 //!
 //! A [`Repairer`] settles the lines of a recording one by one. It compares two states: the recorded
-//! one, and the repaired one, in which cancelled lines never ran. It keeps an overlay of exactly
-//! the cells in which they differ. A line is *met* if it reads or writes one of these cells. A line
-//! whose notes don't hold in the repaired state is run again; every other line is kept as recorded.
+//! one, and the repaired one, in which cancelled lines never ran. It keeps an *exact* overlay,
+//! which has entries for exactly the cells in which the two states differ. A line is *met* if it
+//! reads or writes one of these cells. A line is *stale* if its notes don't hold in the repaired
+//! state. A line that is neither cancelled nor stale is kept as recorded, and a stale line is run
+//! again.
 //!
-//! Lines that aren't met are kept without being looked at: [`Repairer::skip_unmet`] goes to the
-//! next line that is cancelled or met. A repair keeps the number of the next line that uses each
-//! cell in which the states differ, so it finds that line by its number.
+//! Lines that are neither cancelled nor met are kept without being read: [`Repairer::skip_unmet`]
+//! goes to the next line that is cancelled or met. For each cell in which the states differ, the
+//! repair keeps the number of the next line that uses it, so it finds that line by its number.
 //!
-//! [`Repairer::ground`] lends what a guess needs, a run of a line ahead of its turn: its views show
-//! recorded states with the overlay laid over them.
+//! A guess is a run of a line ahead of its turn. [`Repairer::ground`] lends what a guess needs. Its
+//! views are of combined states: the overlay on a recorded state.
 //!
 //! [`repair_alone`] repairs a recording on one thread. State and outputs of the [`Repair`] are
-//! those of running all other lines one by one. Where an output differs from the recorded one, it
-//! has a [`Compensation`], and its recording is one of the other lines.
+//! those of running all other lines one by one. Where an output differs from the recorded one, the
+//! repair has a [`Compensation`]. Its recording is one of the other lines.
 //!
 //! If allocation fails, calls return `NoMem`, or `OutOfMemory` if they have other refusals.
 #![tactic(auto)]

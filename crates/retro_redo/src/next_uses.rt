@@ -15,10 +15,13 @@ use std::alloc::Global;
 use std::collections::BTreeSet;
 use std::marker::Model;
 
-/// For each cell in which two states differ, the number of the next line that reads or writes it.
+/// For each cell in which the recorded and the repaired state differ, the number of the next line
+/// that reads or writes it. Entries are ordered by number, so the first one has the number of the
+/// next line that uses such a cell.
 ///
-/// There may also be entries of cells in which the states don't differ any more. They are removed
-/// when they are the first ones, and no new ones follow them.
+/// An entry is outdated if the states no longer differ in its cell. Outdated entries may stay in
+/// the set for a while. They aren't renewed when their line is settled, and [`NextUses::prune`]
+/// removes them when they come first. So the first entry is never outdated.
 #[derive(Drop)]
 pub(crate) struct NextUses {
     uses: BTreeSet<(u32, Cell)>,
@@ -37,7 +40,7 @@ impl Model for NextUses {
 }
 
 impl NextUses {
-    /// Returns no uses. Takes no memory.
+    /// Returns an empty set. Takes no memory.
     pub(crate) fn new(alloc: Global) -> NextUses
         ensures { result ≡ [] }
     {
@@ -46,7 +49,7 @@ impl NextUses {
         }
     }
 
-    /// Returns the least number of an entry.
+    /// Returns the number of the first entry, or `None` if there are no entries.
     pub(crate) fn next(&self) -> Option<u32>
         ensures { result ≡ first_number self.now }
     {
@@ -56,7 +59,7 @@ impl NextUses {
         }
     }
 
-    /// Returns whether a number is the least one of an entry.
+    /// Returns whether the first entry has the given number.
     pub(crate) fn has_use_at(&self, number: u32) -> bool
         ensures { result ≡ starts_at number self.now }
     {
@@ -79,7 +82,8 @@ impl NextUses {
         Ok(())
     }
 
-    /// Adds an entry of the next line above a number that uses a cell, if there is such a line.
+    /// Adds an entry for a cell, with the number of the next line after `after` that uses the cell.
+    /// Adds nothing if there is no such line.
     fn add_next(
         &mut self,
         alloc: Global,
@@ -96,8 +100,8 @@ impl NextUses {
         Ok(())
     }
 
-    /// Adds the next uses above a number of some cells. If allocation fails, some of them may be
-    /// added.
+    /// Adds, for each of the cells, the next line after `after` that uses it. If allocation fails,
+    /// the entries of some of the cells may have been added.
     pub(crate) fn add_cells(
         &mut self,
         alloc: Global,
@@ -115,8 +119,9 @@ impl NextUses {
         Ok(())
     }
 
-    /// Returns the cells with an entry at a number and one in the overlay. No entry may have a
-    /// lesser number.
+    /// Returns the cells that the line with the given number uses and that have an entry in the
+    /// overlay. The number must be that of the next line to settle, so that no entry has a lesser
+    /// one.
     fn cells_at(&self, alloc: Global, overlay: &Overlay, number: u32) -> Result<Vec<Cell>, NoMem>
         ensures { IfOk result (λ cells. (c : CellValue)
             → has_use number c self.now ≡ true → map.contains_key overlay.now c ≡ true
@@ -134,10 +139,14 @@ impl NextUses {
         Ok(cells)
     }
 
-    /// Returns cells among which are all that need an entry after a line, for which a step was
-    /// chosen, and that may not have it yet: those that the line uses and in which the states
-    /// differ before it, by the overlay, and, unless it is kept, those that it changes, as recorded
-    /// or as chosen. A kept line changes both states alike.
+    /// Returns the cells whose next use has to be looked up after a line is settled by `step`.
+    /// `overlay` is the exact overlay before the line. The cells are:
+    ///
+    /// - those that the line uses and in which the states differ before it;
+    /// - unless the line is kept, those that its recorded notes or its new run change. The states
+    ///   may differ in these after the line. A kept line changes both states alike.
+    ///
+    /// A cell may be returned twice, and the states may agree in it after the line.
     pub(crate) fn cells_to_renew(
         &self,
         alloc: Global,
@@ -159,8 +168,8 @@ impl NextUses {
         }
     }
 
-    /// Removes the first entry until it is of a line after a number, and of a cell with an entry in
-    /// the overlay. Takes no memory.
+    /// Removes entries from the front of the set. Stops at the first entry that is of a line after
+    /// `after` and whose cell has an entry in the overlay. Takes no memory.
     pub(crate) fn prune(&mut self, after: u32, overlay: &Overlay)
         ensures { Prunes after overlay.now self.old self.new }
     {
@@ -169,8 +178,8 @@ impl NextUses {
         }
     }
 
-    /// Returns whether there are no entries, or the first one is of a line after a number, and of a
-    /// cell with an entry in the overlay.
+    /// Returns whether `prune` is done: the set is empty, or its first entry is of a line after
+    /// `after` and the entry's cell has an entry in the overlay.
     fn is_first_over(&self, after: u32, overlay: &Overlay) -> bool
         ensures { result ≡ is_first_over after overlay.now self.now }
     {
@@ -181,7 +190,7 @@ impl NextUses {
     }
 }
 
-/// Returns cells with those that notes change.
+/// Returns the given cells together with those that notes change.
 fn with_changed(cells: Vec<Cell>, notes: &Notes) -> Result<Vec<Cell>, NoMem>
     ensures kept { IfOk result (λ all. (c : CellValue)
         → has_cell c cells.items ≡ true → has_cell c all.items ≡ true) }

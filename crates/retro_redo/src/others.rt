@@ -1,4 +1,4 @@
-//! Repairs that run all lines again that aren't cancelled.
+//! Repairs that run all other lines again: those that aren't cancelled.
 ghost use Rattle.std.specs.Prelude.{◌≡◌, IfOk, map};
 ghost use Rattle.std.specs.List.{flat_map};
 ghost use Rattle.retro_keep.specs.Edit.{is_among};
@@ -18,9 +18,11 @@ use retro_tree::NoMem;
 use std::alloc::Global;
 use std::collections::BTreeSet;
 
-/// Runs all lines of a recording that aren't cancelled, and returns the repair that redoes them
-/// all. This is the answer for a log whose notes aren't those of its lines, if the lines as chosen
-/// make no recording.
+/// Runs all lines that aren't cancelled again, and returns the repair whose verdict on each of them
+/// is `Redone`. The executions aren't observed by a [`Gate`](crate::Gate).
+///
+/// This is the fallback of `Progress::finish`. It is needed only for a recording whose notes aren't
+/// those of running its lines.
 pub(crate) fn run_others(
     alloc: Global,
     recording: &Recording,
@@ -88,7 +90,8 @@ fn other_lines(
     Ok(found)
 }
 
-/// Returns the lines that print something else than was recorded, with both outputs.
+/// Returns the lines that print something else than was recorded, with both outputs. `again` is the
+/// recording of the lines that were run again.
 fn compensations(
     alloc: Global,
     lines: &[(u32, Noted)],
@@ -107,7 +110,7 @@ fn compensations(
     Ok(compensations)
 }
 
-/// Returns what a line prints, if it was run again.
+/// Returns what a line printed when it was run again. If it wasn't run again, it prints nothing.
 fn printed(again: &Recording, number: u32) -> &[u8]
     ensures { result.now ≡ text_again (noted_at number again.now.lines) }
 {
@@ -117,7 +120,8 @@ fn printed(again: &Recording, number: u32) -> &[u8]
     }
 }
 
-/// Returns the numbers of lines with their verdicts: all others are redone.
+/// Returns each line's number with its verdict: cancelled if the number is in `cancelled`, redone
+/// otherwise.
 fn verdicts(
     alloc: Global,
     lines: &[(u32, Noted)],

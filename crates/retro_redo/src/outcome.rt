@@ -1,4 +1,4 @@
-//! What the choices of a repair come to.
+//! The parts of a repair that follow from the steps of all lines.
 ghost use Rattle.std.specs.Prelude.{◌≡◌, ◌↔◌, ◌++◌, Bool, IfOk, IfSome, IsTrue, OnOk, is_some};
 ghost use Rattle.std.specs.Prelude.{length, map, ℕ};
 ghost use Rattle.retro_tree.specs.Commit.{committed};
@@ -17,11 +17,12 @@ use retro_shell::Run;
 use retro_tree::{Bytes, NoMem, Overlay};
 use std::alloc::Global;
 
-/// Returns the recording of the lines as chosen, or `None` if they make none.
+/// Returns the repaired recording: the first state with the lines as chosen. Returns `None` if
+/// these aren't a recording because a change isn't lawful where it is made.
 ///
-/// If no kept line changes a path near one that the repair alters, the lines make one. Then nothing
-/// is tested, and the last state is the recorded one, to which the overlay is committed. Else each
-/// change of each line is tested.
+/// If no kept line changes a path near an altered one, the changes are known to be lawful. Then
+/// nothing is tested, and the last state is the recorded last state with the overlay committed to
+/// it. Otherwise each change of each line is tested.
 pub(crate) fn chosen_recording(
     alloc: Global,
     recording: &Recording,
@@ -50,7 +51,7 @@ pub(crate) fn chosen_recording(
     Ok(Some(Recording::of_well_formed(first, chosen, last)))
 }
 
-/// Returns the lines of the repaired recording. Moves the runs of redone lines.
+/// Returns the lines of the repaired recording. Moves the runs of the redone lines.
 fn chosen_lines(
     alloc: Global,
     lines: &[(u32, Noted)],
@@ -65,7 +66,7 @@ fn chosen_lines(
     Ok(chosen)
 }
 
-/// Appends a line as it was chosen, if it isn't cancelled.
+/// Appends a line as `step` makes it. Appends nothing if the line is cancelled.
 fn push_line(chosen: &mut Vec<(u32, Noted)>, line: &(u32, Noted), step: Step) -> Result<(), NoMem>
     ensures { OnOk result (chosen.new.items ≡ chosen.old.items ++ line_chosen line.now step) }
 {
@@ -103,7 +104,7 @@ fn noted_of(run: Run) -> Noted
     }
 }
 
-/// Returns the numbers of lines with what they printed.
+/// Returns each line's number with what the line printed.
 pub(crate) fn outputs(alloc: Global, lines: &[(u32, Noted)]) -> Result<Vec<(u32, Bytes)>, NoMem>
     ensures { IfOk result (λ outputs. outputs.items ≡ map output_in lines.now) }
 {
@@ -114,7 +115,7 @@ pub(crate) fn outputs(alloc: Global, lines: &[(u32, Noted)]) -> Result<Vec<(u32,
     Ok(outputs)
 }
 
-/// Returns the numbers of lines with their verdicts.
+/// Returns each line's number with its verdict.
 pub(crate) fn verdicts(
     alloc: Global,
     lines: &[(u32, Noted)],
@@ -130,7 +131,7 @@ pub(crate) fn verdicts(
     Ok(verdicts)
 }
 
-/// Returns the verdict of a choice.
+/// Returns the verdict on a line that was settled by `step`.
 fn verdict_of(step: &Step) -> Verdict
     ensures { result ≡ verdict_of step.now }
 {
@@ -161,7 +162,7 @@ pub(crate) fn compensations(
     Ok(compensations)
 }
 
-/// Returns what a line prints by its choice.
+/// Returns what a line prints if `step` is its step.
 fn printed<'a>(noted: &'a Noted, step: &'a Step) -> &'a [u8]
     ensures { result.now ≡ output_chosen noted.now step.now }
 {

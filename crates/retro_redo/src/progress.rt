@@ -38,12 +38,12 @@ use std::alloc::Global;
 use std::collections::BTreeSet;
 use std::marker::Model;
 
-/// The lines of a recording that a repair has settled, in order, and what their choices come to:
-/// the cells in which the repaired state differs from the recorded one, the next lines that use
-/// these cells, and the lines that were met.
+/// How far a repair has come: the steps of the lines that it has settled, in order, and what
+/// follows from them. These are the exact overlay of the cells in which the repaired state differs
+/// from the recorded one, the next uses of these cells, and the numbers of the met lines.
 ///
-/// It knows neither the recorded states nor the history. Calls that need the state before the next
-/// line are given it, as a view or as the values of its cells.
+/// It doesn't know the recorded states and the history. A call that needs the recorded state before
+/// the next line takes it as a parameter, as a view or as the values of its cells.
 #[derive(Drop)]
 pub(crate) struct Progress<'a> {
     recording: &'a Recording,
@@ -99,7 +99,7 @@ impl<'a> Progress<'a> {
         }
     }
 
-    /// Returns the next line to settle.
+    /// Returns the next line to settle, or `None` if all lines are settled.
     pub(crate) fn line(&self) -> Option<&'a (u32, Noted)>
         ensures line { option_copied result ≡ next_line self.now }
         ensures well_formed { IsWellFormed self.now.recording }
@@ -117,15 +117,16 @@ impl<'a> Progress<'a> {
         }
     }
 
-    /// Returns the overlay of the cells in which the repaired state differs from the recorded one,
-    /// before the next line.
+    /// Returns the overlay of exactly the cells in which the repaired state differs from the
+    /// recorded one before the next line.
     pub(crate) fn overlay(&self) -> &Overlay
         ensures { IsExact result.now (recorded_now self.now) (repaired_now self.now) }
     {
         &self.overlay
     }
 
-    /// Returns whether the next line reads or writes a cell in which the states differ.
+    /// Returns whether the next line is met: whether it reads or writes a cell in which the states
+    /// differ.
     pub(crate) fn is_met(&self) -> bool
         requires { IsSome (next_line self.now) }
         ensures met { (l : ℕ × NotedValue) → next_line self.now ≡ Some l
@@ -139,7 +140,8 @@ impl<'a> Progress<'a> {
         self.uses.has_use_at(line.0)
     }
 
-    /// Returns whether the notes of the next line hold in the repaired state.
+    /// Returns whether the notes of the next line hold in the repaired state. `recorded` is a view
+    /// of the recorded state before the line.
     pub(crate) fn equiv<V: View>(&self, alloc: Global, recorded: &V) -> Result<bool, NoMem>
         requires next { IsSome (next_line self.now) }
         requires recorded { V.state recorded.now ≡ recorded_now self.now }
@@ -150,7 +152,8 @@ impl<'a> Progress<'a> {
         equiv(alloc, &line.1.notes, recorded, &self.overlay)
     }
 
-    /// Runs the next line again, in the repaired state. Calls the observer around the execution.
+    /// Runs the next line again, in the repaired state. Calls the observer before and after the
+    /// execution. `recorded` is a view of the recorded state before the line.
     pub(crate) fn redo<V: View, G: Gate>(
         &self,
         alloc: Global,
@@ -173,8 +176,8 @@ impl<'a> Progress<'a> {
         run
     }
 
-    /// Settles the next line. `history` is the recording's, and `recorded` the recorded state
-    /// before the line.
+    /// Settles the next line by `step`. `history` is the recording's, and `recorded` has the values
+    /// of the recorded state before the line. If allocation fails, the progress is unchanged.
     pub(crate) fn step<C: Cells>(
         &mut self,
         alloc: Global,
@@ -198,7 +201,9 @@ impl<'a> Progress<'a> {
         let cells = self.uses.cells_to_renew(alloc, &self.overlay, line, &step)?;
         self.choices.reserve(1)?;
         self.met.reserve(1)?;
-        // Uses that were added stay if memory runs out: each is of a line that uses its cell.
+        // If memory runs out from here on, entries that were added stay. They do no harm, since
+        // each is of a line that uses its cell. `prune` removes those at the front whose cells
+        // don't differ.
         if let Err(error) = self.uses.add_cells(alloc, history, cells, line.0) {
             self.uses.prune(0, &self.overlay);
             return Err(error);
@@ -215,11 +220,13 @@ impl<'a> Progress<'a> {
         Ok(())
     }
 
-    /// Keeps the next lines, up to one that is cancelled or met.
+    /// Settles the next lines by keeping them, up to the first one that is cancelled or met. If
+    /// allocation fails, the progress is unchanged.
     pub(crate) fn skip_unmet(&mut self) -> Result<(), NoMem>
         ensures ok { OnOk result (IsSkip self.old self.new) }
         ensures err { OnErr result (self.new ≡ self.old) }
     {
+        // For the prover: the contract of `line` says that the recording is well formed.
         let _ = self.line();
         let settled = self.choices.len();
         let count = unmet_lines(self.recording, settled, &self.cancelled, &self.uses);
@@ -227,7 +234,7 @@ impl<'a> Progress<'a> {
         Ok(())
     }
 
-    /// Lends what guesses are made on. `history` is the recording's.
+    /// Lends what guesses need. `history` is the recording's.
     pub(crate) fn ground<'g>(&'g self, history: &'g History<'a>) -> Ground<'g, 'a>
         requires { history.now ≡ self.now.recording }
         ensures recording { result.recording ≡ self.now.recording }
@@ -238,14 +245,14 @@ impl<'a> Progress<'a> {
         Ground::new(self.recording, &self.cancelled, history, &self.overlay)
     }
 
-    /// Returns whether the line with a number is cancelled.
+    /// Returns whether the line with the given number is cancelled.
     pub(crate) fn is_cancelled(&self, number: u32) -> bool
         ensures { result ≡ cancelled_in self.now number }
     {
         has_number(&self.cancelled, number)
     }
 
-    /// Returns the repair, once all lines are settled.
+    /// Returns the repair. All lines must be settled.
     pub(crate) fn finish(self, alloc: Global, tally: Tally) -> Result<Repair, NoMem>
         requires { next_line self ≡ None }
         ensures tally { IfOk result (λ repair. repair.tally ≡ tally) }
@@ -283,7 +290,9 @@ impl<'a> Progress<'a> {
     }
 }
 
-/// Returns what the type of runs keeps of the run that a step takes, if it takes one.
+/// Tells the prover that a step's run has what its type guarantees: its notes certify its line. The
+/// function changes nothing. The contract of `Run::sid` states the guarantee, so the call is
+/// enough.
 fn check_run(step: &Step)
     ensures { IsRunTaken step.now }
 {
@@ -292,15 +301,16 @@ fn check_run(step: &Step)
     }
 }
 
-/// Returns whether the line with a number is met, for which a step was chosen. A cancelled line
-/// isn't met.
+/// Returns whether the next line counts as met if it is settled by `step`. `number` is its number.
+/// A cancelled line doesn't count.
 fn is_step_met(step: &Step, number: u32, uses: &NextUses) -> bool
     ensures { result ≡ (not (is_cancel step.now) && starts_at number uses.now) }
 {
     !step.is_cancel() && uses.has_use_at(number)
 }
 
-/// Advances an exact overlay by a line, for which a step was chosen.
+/// Advances an exact overlay over a line that is settled by `step`. `recorded` has the values of
+/// the recorded state before the line. If allocation fails, the overlay is unchanged.
 fn advance_by<C: Cells>(
     alloc: Global,
     overlay: &mut Overlay,

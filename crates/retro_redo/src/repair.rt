@@ -5,23 +5,23 @@ use crate::verdict::Verdict;
 use retro_keep::Recording;
 use retro_tree::{Bytes, State};
 
-/// A repaired machine: what running all lines but the cancelled ones gives, and what became of each
+/// A repaired machine: what running all lines but the cancelled ones gives, and the verdict on each
 /// line.
 #[derive(Drop)]
 pub struct Repair {
     /// The state after the lines that aren't cancelled.
     pub state: State,
-    /// What each of these lines prints, in order.
+    /// What each line prints that isn't cancelled, with its number, in order.
     pub outputs: Vec<(u32, Bytes)>,
-    /// What became of each line, in order.
+    /// The verdict on each line, with its number, in order.
     pub verdicts: Vec<(u32, Verdict)>,
     /// The numbers of the lines that read or write a cell in which the repaired state differs from
     /// the recorded one. They rise.
     pub met: Vec<u32>,
-    /// The lines that print something else than was recorded, in order.
+    /// The lines that print something else than was recorded, in order, with both outputs.
     pub compensations: Vec<Compensation>,
-    /// What became of guesses.
+    /// How many guesses were made, and how they ended.
     pub tally: Tally,
-    /// The lines that aren't cancelled, recorded again.
+    /// The recording of the lines that aren't cancelled.
     pub recording: Recording,
 }

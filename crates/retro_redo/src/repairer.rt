@@ -33,9 +33,11 @@ use std::marker::Model;
 
 /// A repair of a recording, line by line: each line is cancelled, kept or run again.
 ///
-/// Its contracts compare two states before the next line: the recorded one, and the repaired one,
-/// which the lines as chosen make of the first state. The overlay has exactly the cells in which
-/// they differ.
+/// Its contracts compare two states before the next line. One is the recorded state. The other is
+/// the repaired state, which the settled lines make of the first state by their steps. The overlay
+/// has entries for exactly the cells in which these states differ.
+///
+/// Several calls take the number of the next line, as [`Repairer::next`] returns it.
 #[derive(Drop)]
 pub struct Repairer<'h, 'a> {
     progress: Progress<'a>,
@@ -57,8 +59,8 @@ impl<'h, 'a> Model for Repairer<'h, 'a> {
 }
 
 impl<'h, 'a> Repairer<'h, 'a> {
-    /// Starts the repair of a recording without the lines that have some numbers. Doubles count
-    /// once.
+    /// Starts the repair of a recording without the lines whose numbers are in `cancel`. A number
+    /// may be there twice.
     ///
     /// # Errors
     ///
@@ -101,16 +103,18 @@ impl<'h, 'a> Repairer<'h, 'a> {
         self.progress.overlay()
     }
 
-    /// Returns the recorded state before the next line.
+    /// Returns the recorded state before the next line, whose number is `number`. It is a function
+    /// of its own for the prover: its contract names the state in the words of the other contracts.
     fn recorded(&self, number: u32) -> At<'_, 'a>
         requires { next_number self.now ≡ Some number }
         ensures { result ≡ recorded_now self.now }
     {
+        // For the prover: the contract of `line` says that the recording is well formed.
         let _ = self.progress.line();
         self.history.at(number)
     }
 
-    /// Returns whether the line with a number is cancelled.
+    /// Returns whether the line with the given number is cancelled.
     pub fn is_cancelled(&self, number: u32) -> bool
         ensures { result ≡ cancelled_in self.now number }
     {
@@ -118,8 +122,10 @@ impl<'h, 'a> Repairer<'h, 'a> {
     }
 
     /// Returns whether the next line is met: whether it reads or writes a cell in which the states
-    /// differ. If the recording is one of its lines, an unmet line's notes hold in the repaired
-    /// state.
+    /// differ.
+    ///
+    /// If the recording is what running its lines gives, the notes of a line that isn't met hold in
+    /// the repaired state. Only the contract uses `number`.
     pub fn is_met(&self, number: u32) -> bool
         requires { next_number self.now ≡ Some number }
         ensures met { (l : ℕ × NotedValue) → next_line self.now ≡ Some l
@@ -141,7 +147,8 @@ impl<'h, 'a> Repairer<'h, 'a> {
         self.progress.equiv(alloc, &self.recorded(number))
     }
 
-    /// Runs the next line again, in the repaired state. Calls the observer around the execution.
+    /// Runs the next line again, in the repaired state. Calls the observer before and after the
+    /// execution.
     pub fn redo<G: Gate>(&self, alloc: Global, number: u32, gate: &G) -> Result<Run, NoMem>
         requires { next_number self.now ≡ Some number }
         ensures sid { (l : ℕ × NotedValue) → next_line self.now ≡ Some l
@@ -153,8 +160,11 @@ impl<'h, 'a> Repairer<'h, 'a> {
         self.progress.redo(alloc, &self.recorded(number), gate)
     }
 
-    /// Settles the next line. A cancelled line is cancelled. A line is kept if it isn't met or its
-    /// notes hold in the repaired state, and else a run of it is taken whose notes hold there.
+    /// Settles the next line by `step`. If allocation fails, the repair is unchanged.
+    ///
+    /// The step must be one that the line allows. A cancelled line allows `Cancel` alone. Any other
+    /// line allows `Keep` if it isn't met or if its notes hold in the repaired state. If its notes
+    /// don't hold there, it allows `Take` of a run of its text whose notes do.
     pub fn step(&mut self, alloc: Global, number: u32, step: Step) -> Result<(), NoMem>
         requires next { next_number self.old ≡ Some number }
         requires may { (l : ℕ × NotedValue) → next_line self.old ≡ Some l
@@ -164,13 +174,14 @@ impl<'h, 'a> Repairer<'h, 'a> {
             (self.new ≡ record self.old { choices = self.old.choices ++ step ∷ [] }) }
         ensures err { OnErr result (self.new ≡ self.old) }
     {
+        // For the prover: the contract of `line` says that the recording is well formed.
         let _ = self.progress.line();
         let recorded = self.history.at(number);
         self.progress.step(alloc, self.history, &recorded, step)
     }
 
-    /// Settles the next line: cancels it if it is cancelled, keeps it if it isn't met or its notes
-    /// hold, and else runs it again.
+    /// Settles the next line. Cancels it if its number is cancelled, keeps it if it isn't met or if
+    /// its notes hold in the repaired state, and otherwise runs it again.
     pub(crate) fn settle<G: Gate>(
         &mut self,
         alloc: Global,
@@ -196,9 +207,10 @@ impl<'h, 'a> Repairer<'h, 'a> {
         self.step(alloc, number, Step::Take(run))
     }
 
-    /// Keeps the next lines that are neither cancelled nor met, without looking at them, and
-    /// returns the number of the next line to settle, or `None` if all lines are settled. That line
-    /// is cancelled or met, and is found by its number.
+    /// Keeps the next lines that are neither cancelled nor met, and returns the number of the line
+    /// after them, or `None` if all lines are settled. The kept lines aren't read, since the next
+    /// line that is cancelled or met is found by its number. If allocation fails, the repair is
+    /// unchanged.
     pub fn skip_unmet(&mut self) -> Result<Option<u32>, NoMem>
         ensures next { IfOk result (λ number. number ≡ next_number self.new) }
         ensures ok { OnOk result (IsSkip self.old self.new) }
@@ -209,7 +221,7 @@ impl<'h, 'a> Repairer<'h, 'a> {
     }
 
     /// Lends the recording, the cancelled numbers, the history and the overlay, for guesses of
-    /// later lines. Its view of the next line is the repaired state.
+    /// later lines. The ground's view before the next line is the repaired state.
     pub fn ground(&self) -> Ground<'_, 'a>
         ensures recording { result.recording ≡ self.now.recording }
         ensures cancel { result.cancel ≡ self.now.cancel }
@@ -217,15 +229,17 @@ impl<'h, 'a> Repairer<'h, 'a> {
         ensures shows { (number : ℕ) → next_number self.now ≡ Some number
             → shown_at number result ≡ repaired_now self.now }
     {
+        // For the prover: the contract of `line` says that the recording is well formed.
         let _ = self.progress.line();
         self.progress.ground(self.history)
     }
 
-    /// Returns the repair, once all lines are settled.
+    /// Returns the repair. All lines must be settled.
     ///
-    /// If the recording is one of its lines, state and outputs are those of running the other
-    /// lines. For any other recording the answer is what the choices come to. If the lines as
-    /// chosen make no recording, which happens only there, all other lines are run again.
+    /// If the recording is what running its lines gives, the repair's state and outputs are those
+    /// of running the other lines. For any other recording, the repair is what the steps make of
+    /// the recorded notes. If the changes of the lines as chosen aren't lawful, all other lines are
+    /// run again instead.
     pub fn finish(self, alloc: Global, tally: Tally) -> Result<Repair, RepairFault>
         requires { next_line self ≡ None }
         ensures tally { IfOk result (λ repair. repair.tally ≡ tally) }
@@ -239,7 +253,7 @@ impl<'h, 'a> Repairer<'h, 'a> {
         Ok(self.into_progress().finish(alloc, tally)?)
     }
 
-    /// Returns the choices and what they come to, without the history.
+    /// Returns the progress, without the history.
     pub(crate) fn into_progress(self) -> Progress<'a>
         ensures { result ≡ self.entry }
     {

@@ -17,12 +17,14 @@ use retro_history::History;
 use retro_keep::Recording;
 use std::alloc::Global;
 
-/// Repairs a recording on one thread: returns what it would be without the lines that have some
-/// numbers. Only lines whose notes don't hold any more are run again. Doubles count once.
+/// Repairs a recording on one thread: returns what it would be without the lines whose numbers are
+/// in `cancel`. A number may be there twice. Only lines whose notes no longer hold are run again.
 ///
-/// If the recording is one of its lines, state and outputs are those of running the other lines.
-/// For any other recording the answer is what some choices for its lines come to, each one that its
-/// line allows. If the lines as chosen make no recording, all other lines are run again.
+/// If the recording is what running its lines gives, the repair's state and outputs are those of
+/// running the other lines. A recording from elsewhere needn't be that. Then the repair settles
+/// each line by a step that the line allows, as [`Repairer::step`] says, and returns what these
+/// steps make of the recorded notes. If the resulting changes aren't lawful, it runs all other
+/// lines again instead.
 ///
 /// # Errors
 ///
@@ -43,8 +45,9 @@ pub fn repair_alone(
     repair_watched(alloc, recording, cancel, &Quiet)
 }
 
-/// Repairs a recording on one thread, as [`repair_alone`] does, and calls an observer around each
-/// execution of a line.
+/// Repairs a recording on one thread, as [`repair_alone`] does. Calls an observer before and after
+/// each execution of a stale line. If all other lines are run again at the end, their executions
+/// aren't observed.
 pub fn repair_watched<G: Gate>(
     alloc: Global,
     recording: &Recording,
@@ -64,8 +67,8 @@ pub fn repair_watched<G: Gate>(
     Ok(repair)
 }
 
-/// Settles all lines of a recording on one thread. The history is dropped at the end, so that it
-/// takes no memory beside the repaired recording.
+/// Settles all lines of a recording on one thread. The history is dropped before the repaired
+/// recording is made, so the two don't take memory at the same time.
 fn settle_all<'a, G: Gate>(
     alloc: Global,
     recording: &'a Recording,

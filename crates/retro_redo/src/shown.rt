@@ -1,4 +1,4 @@
-//! Recorded states with an overlay laid over them.
+//! Combined states: an overlay on a recorded state.
 ghost use Rattle.std.specs.Prelude.{◌≡◌};
 ghost use Rattle.retro_tree.specs.Overlay.{Fits, Overlays};
 ghost use Rattle.retro_tree.specs.Commit.{committed};
@@ -8,8 +8,8 @@ use retro_tree::{Answer, Ask, Listing, NoMem, Overlay, Path, View};
 use std::alloc::Global;
 use std::marker::Model;
 
-/// A view of the recorded state before a line, with an overlay laid over it: a cell with an entry
-/// has the entry's value, and every other cell has the recorded value.
+/// A view of a combined state: an overlay on the recorded state before a line. A cell with an entry
+/// in the overlay has the entry's value, and every other cell has the recorded value.
 #[derive(Drop)]
 pub struct Shown<'g, 'a> {
     recorded: At<'g, 'a>,
@@ -32,7 +32,7 @@ impl<'g, 'a> Model for Shown<'g, 'a> {
 }
 
 impl<'g, 'a> Shown<'g, 'a> {
-    /// Lays an overlay over a recorded state. Takes no memory.
+    /// Combines a recorded state with an overlay. Takes no memory.
     #[tactic(auto, using(retro_tree::proofs::Fitting::fits_overlays))]
     pub(crate) fn new(recorded: At<'g, 'a>, overlay: &'g Overlay) -> Shown<'g, 'a>
         requires { Fits overlay.now }

@@ -1,4 +1,4 @@
-//! Lines that a repair keeps without looking at them.
+//! Lines that a repair keeps without reading them.
 ghost use Rattle.std.specs.Prelude.{◌≡◌, ◌<◌, ◌≤◌, ◌++◌, drop, IfSome, length};
 ghost use Rattle.std.specs.Prelude.{OnErr, OnOk, replicate};
 ghost use Rattle.std.specs.List.{slice_get};
@@ -20,10 +20,10 @@ use retro_keep::{Noted, Recording};
 use retro_tree::NoMem;
 use std::collections::BTreeSet;
 
-/// Returns how many lines of a recording, from a place on, are neither cancelled nor met. `uses`
-/// has the next uses, from the place on, of the cells in which the states differ.
+/// Returns how many lines in a row are neither cancelled nor met, from the index `from` on. `uses`
+/// has the next uses of the cells in which the states differ, among the lines from `from` on.
 ///
-/// No line is looked at: the next one that is cancelled or met is found by its number.
+/// No line's notes are read. The next line that is cancelled or met is found by its number.
 pub(crate) fn unmet_lines(
     recording: &Recording,
     from: usize,
@@ -48,7 +48,7 @@ pub(crate) fn unmet_lines(
     }
 }
 
-/// Returns the lesser of two numbers, or the one that there is.
+/// Returns the lesser of two numbers. If only one is there, returns that one.
 fn sooner(one: Option<u32>, two: Option<u32>) -> Option<u32>
     ensures { result ≡ sooner one two }
 {
@@ -59,7 +59,8 @@ fn sooner(one: Option<u32>, two: Option<u32>) -> Option<u32>
     }
 }
 
-/// Returns the line at a place, or `None` if there are fewer lines.
+/// Returns the line at an index, or `None` if there are fewer lines. It is a function of its own
+/// for the prover: its contract also says that the index of a line is within the lines.
 fn line_at(lines: &[(u32, Noted)], place: usize) -> Option<&(u32, Noted)>
     ensures line { option_copied result ≡ slice_get lines.now place }
     ensures place { IfSome result (λ _. place < length lines.now) }
@@ -67,7 +68,8 @@ fn line_at(lines: &[(u32, Noted)], place: usize) -> Option<&(u32, Noted)>
     lines.get(place)
 }
 
-/// Returns the lines from a place on.
+/// Returns the lines from an index on. It is a function of its own for the prover: its contract
+/// says so by `drop`, as the definitions do.
 fn lines_from(lines: &[(u32, Noted)], place: usize) -> &[(u32, Noted)]
     requires { place ≤ length lines.now }
     ensures { result.now ≡ drop place lines.now }
@@ -75,7 +77,7 @@ fn lines_from(lines: &[(u32, Noted)], place: usize) -> &[(u32, Noted)]
     &lines[place..]
 }
 
-/// Appends choices to keep some more lines.
+/// Appends `count` choices to keep a line. If allocation fails, the choices are unchanged.
 pub(crate) fn push_kept(choices: &mut Vec<Step>, count: usize) -> Result<(), NoMem>
     ensures ok { OnOk result (choices.new.items
         ≡ choices.old.items ++ replicate count steps.Keep) }

@@ -1,18 +1,18 @@
 //! Counts of guesses.
 
-/// How many guesses a repair made ahead of their turns, and what became of them. A repair on one
-/// thread makes none.
+/// How many guesses a repair made, and how they ended. A guess is a run of a line ahead of its
+/// turn. A repair on one thread makes none.
 #[derive(Clone, Copy, PartialEq, Eq, Debug)]
 pub struct Tally {
-    /// The lines for which a guess was asked.
+    /// The lines for which a guess was requested.
     pub jobs: usize,
-    /// The guesses that were taken.
+    /// The guesses that were taken as the new run of their line.
     pub taken_up: usize,
-    /// The guesses of lines that were kept.
+    /// The guesses of lines that were then kept.
     pub unused: usize,
-    /// The guesses that didn't hold at their turn.
+    /// The guesses whose notes didn't hold at their turn.
     pub wrong: usize,
-    /// The lines without a guess, that were run at their turn.
+    /// The lines without a guess, which were run at their turn.
     pub given_up: usize,
 }
 

@@ -1,12 +1,12 @@
 //! Verdicts on lines.
 
-/// What became of a line in a repair.
+/// How a repair settled a line.
 #[derive(Clone, Copy, PartialEq, Eq, Debug)]
 pub enum Verdict {
     /// The line is cancelled.
     Cancelled,
-    /// The line was run again, since its notes don't hold any more.
+    /// The line was run again, since its notes no longer hold.
     Redone,
-    /// The line's notes still hold, so it prints and changes what was recorded.
+    /// The line is kept: its notes still hold, so it prints and changes what was recorded.
     Kept,
 }
