@@ -22,7 +22,7 @@ use retro_tree::{
 use std::alloc::Global;
 use std::marker::Model;
 
-/// The recorded state before a line: after all lines with numbers below its number.
+/// The recorded state before a line: the state after all lines with lesser numbers.
 #[derive(Drop)]
 pub struct At<'h, 'a> {
     history: &'h History<'a>,
@@ -44,7 +44,7 @@ impl<'h, 'a> Model for At<'h, 'a> {
 impl<'h, 'a> At<'h, 'a> {
     ghost use Rattle.retro_history.specs.Recorded.{recorded_before};
 
-    /// Returns the recorded state before a line. Takes no memory.
+    /// Returns the recorded state before the line with the given number. Takes no memory.
     pub(crate) fn new(history: &'h History<'a>, number: u32) -> At<'h, 'a>
         ensures { result ≡ recorded_before number history.now }
     {
@@ -66,7 +66,7 @@ impl<'h, 'a> At<'h, 'a> {
         Ok(self.cell(&Cell::At(path.copy()?)))
     }
 
-    /// Returns whether `more` bytes can be written to the file at a path.
+    /// Returns whether `more` bytes can be appended to the file at a path.
     fn permit(&self, alloc: Global, path: &Path, more: u32) -> Result<Permit, NoMem>
         ensures { IfOk result (λ permit. permit ≡ permit_of path.now more self.now) }
     {
@@ -75,7 +75,7 @@ impl<'h, 'a> At<'h, 'a> {
         Ok(permit(self.node(path)?, above, u64::from(more)))
     }
 
-    /// Returns the children of a directory, or `None` for another node.
+    /// Returns the names of the children of a directory, or `None` if the path isn't a directory.
     pub(crate) fn listing(&self, alloc: Global, path: &Path) -> Result<Option<Listing>, NoMem>
         ensures { IfOk result (λ names.
             names ≡ listing (node_in path.now self.now.tree) (names_in path.now self.now.tree)) }
@@ -86,7 +86,7 @@ impl<'h, 'a> At<'h, 'a> {
         }
     }
 
-    /// Returns the user with a login name.
+    /// Returns the user with a login name, or `None` if there is none.
     pub(crate) fn user(&self, alloc: Global, name: &Text) -> Result<Option<User>, NoMem>
         ensures { IfOk result (λ user. user
             ≡ user_in name.now (node_in passwd self.now.tree)) }
@@ -187,7 +187,7 @@ fn to_node(alloc: Global, node: ValueRef<'_>) -> Result<Node, NoMem>
     }
 }
 
-/// Returns whether `more` bytes can be appended to a node, by the kind of its parent.
+/// Returns whether `more` bytes can be appended to a node whose parent has the given kind.
 fn permit(node: ValueRef<'_>, parent: Kind, more: u64) -> Permit
     ensures { (n above : NodeValue) → ref_value node.entry ≡ OfNode n → parent ≡ kind_of above
         → result ≡ permit_at n above more }
@@ -210,8 +210,8 @@ fn permit(node: ValueRef<'_>, parent: Kind, more: u64) -> Permit
     }
 }
 
-/// Returns the user with a login name, if the node is the password file. Asks a state that has
-/// nothing else.
+/// Returns the user with a login name, if `file` is the password file. Puts the file into an
+/// otherwise empty state and queries that, since the parser of the file is private to states.
 #[tactic(auto, unfolding(retro_tree::specs::Ask::answer))]
 fn user_of(alloc: Global, name: &Text, file: Node) -> Result<Option<User>, NoMem>
     ensures { IfOk result (λ user. user ≡ user_in name.now file) }

@@ -1,4 +1,4 @@
-//! Histories of cells in boxes.
+//! Boxed histories of cells.
 ghost use Rattle.std.specs.Prelude.{◌≡◌, IfOk, OnOk};
 ghost use Rattle.retro_history.specs.CellHistory.{history_used};
 
@@ -8,7 +8,8 @@ use retro_tree::NoMem;
 use std::alloc::Global;
 use std::marker::Model;
 
-/// The history of a cell, in a box. The nodes of a map have room to spare, so its values are small.
+/// The history of a cell, in a box. A node of a `BTreeMap` allocates space for more entries than it
+/// has, so a map of boxes wastes less memory than a map of histories.
 #[derive(Drop)]
 pub(crate) struct BoxedHistory<'a> {
     history: Box<CellHistory<'a>>,
@@ -26,7 +27,7 @@ impl<'a> Model for BoxedHistory<'a> {
 }
 
 impl<'a> BoxedHistory<'a> {
-    /// Puts a history into a box.
+    /// Moves a history into a box.
     pub(crate) fn new(alloc: Global, history: CellHistory<'a>) -> Result<BoxedHistory<'a>, NoMem>
         ensures { IfOk result (λ boxed. boxed ≡ history.entry) }
     {
@@ -42,7 +43,8 @@ impl<'a> BoxedHistory<'a> {
         &self.history
     }
 
-    /// Adds how a line uses the cell. All lines before are below it.
+    /// Adds how a line uses the cell. The line's number must be above those of the lines added
+    /// before.
     pub(crate) fn add(&mut self, used: &LineUse<'a>) -> Result<(), NoMem>
         ensures { OnOk result (self.new ≡ history_used used.now self.old) }
     {

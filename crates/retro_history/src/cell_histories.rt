@@ -58,8 +58,8 @@ impl<'a> CellHistories<'a> {
         }
     }
 
-    /// Adds the notes of a line. `first` is the state before the first line. All lines before are
-    /// below this one.
+    /// Adds the notes of a line. `first` is the state before the first line. The line's number must
+    /// be above those of the lines added before.
     pub(crate) fn add_notes(
         &mut self,
         alloc: Global,
@@ -77,7 +77,7 @@ impl<'a> CellHistories<'a> {
         Ok(())
     }
 
-    /// Adds how a line uses a cell.
+    /// Adds how a line uses a cell. `first` is the state before the first line.
     fn add_use(
         &mut self,
         alloc: Global,
@@ -97,8 +97,13 @@ impl<'a> CellHistories<'a> {
         Ok(())
     }
 
-    /// Returns an overlay with an entry for each child of a path that has a version below a number:
-    /// a directory if the child exists, whatever it is, and else that it is missing.
+    /// Returns an overlay that tells which children of a path exist before the line with the given
+    /// number. It has an entry for each child whose cell has a version below that number. The entry
+    /// is a directory if the child exists, whether it is a file or a directory, and otherwise that
+    /// it is missing.
+    ///
+    /// Combined with the first state, the overlay gives the names of the children in the recorded
+    /// state.
     pub(crate) fn marks_below(
         &self,
         alloc: Global,
@@ -134,7 +139,7 @@ impl<'a> CellHistories<'a> {
     }
 }
 
-/// Returns a directory for each node that isn't missing.
+/// Returns a directory for a node that exists, and otherwise a missing node.
 fn mark(value: ValueRef<'_>) -> Node
     ensures { result ≡ mark_of_value (ref_value value.entry) }
 {

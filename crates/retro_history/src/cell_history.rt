@@ -18,7 +18,8 @@ pub(crate) struct CellHistory<'a> {
 }
 
 impl<'a> CellHistory<'a> {
-    /// Returns the history of a cell that no line uses, with its first value. Takes no memory.
+    /// Returns the history of a cell that no line uses. `first` is its value before the first line.
+    /// Takes no memory.
     pub(crate) fn new(alloc: Global, first: ValueRef<'a>) -> CellHistory<'a>
         ensures { result ≡ new_history (ref_value first.entry) }
     {
@@ -28,7 +29,8 @@ impl<'a> CellHistory<'a> {
         }
     }
 
-    /// Adds how a line uses the cell. All lines before are below it.
+    /// Adds how a line uses the cell. The line's number must be above those of the lines added
+    /// before.
     pub(crate) fn add(&mut self, used: &LineUse<'a>) -> Result<(), NoMem>
         ensures { OnOk result (self.new ≡ history_used used.now self.old) }
     {

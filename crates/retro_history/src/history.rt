@@ -1,4 +1,4 @@
-//! Histories.
+//! Histories of recordings.
 ghost use Rattle.std.specs.Prelude.{◌≡◌, IfOk};
 ghost use Rattle.retro_tree.specs.Ask.{answer, names_in};
 ghost use Rattle.retro_tree.specs.Cell.{value};
@@ -26,7 +26,7 @@ use std::marker::Model;
 
 /// What was in each cell of the machine before each line of a recording.
 ///
-/// A history borrows its recording. Making it takes one pass over the notes; no state is copied.
+/// A history borrows its recording. Making it takes one pass over the notes, and copies no state.
 #[derive(Drop)]
 pub struct History<'a> {
     recording: &'a Recording,
@@ -67,23 +67,23 @@ impl<'a> History<'a> {
         self.recording
     }
 
-    /// Returns the value of a cell before the line with a number, which is after all lines with
-    /// numbers below it. No line needs to have the number.
+    /// Returns the value of a cell before the line with the given number: its value after all lines
+    /// with lesser numbers. No line needs to have the number.
     pub fn value_at(&self, alloc: Global, cell: &Cell, number: u32) -> Result<Value, NoMem>
         ensures { IfOk result (λ v. v ≡ value cell.now (recorded_before number self.now)) }
     {
         self.get(cell, number).to_value(alloc)
     }
 
-    /// Borrows the value of a cell before the line with a number. Takes no memory. Searches by
-    /// halves in the versions of the cell.
+    /// Borrows the value of a cell before the line with the given number. Takes no memory. Finds it
+    /// by a binary search in the versions of the cell.
     pub fn get(&self, cell: &Cell, number: u32) -> ValueRef<'_>
         ensures { ref_value result ≡ value cell.now (recorded_before number self.now) }
     {
         self.version_before(cell, number).value
     }
 
-    /// Returns the numbers of the checkpoints of a cell, which rise. The first one is 0.
+    /// Returns the numbers of the checkpoints of a cell, in rising order. The first one is 0.
     pub fn checkpoints(&self, alloc: Global, cell: &Cell) -> Result<Vec<u32>, NoMem>
         ensures { IfOk result (λ numbers. numbers.items ≡ checkpoints cell.now self.now) }
     {
@@ -93,8 +93,9 @@ impl<'a> History<'a> {
         }
     }
 
-    /// Rolls a cell back to before the line with a number: to the last checkpoint below the number,
-    /// with the growths after it that are below the number.
+    /// Rolls a cell back to before the line with the given number. Returns the last checkpoint
+    /// below that number, and the checkpoint's value with the growths after it that are below the
+    /// number.
     pub fn rollback(&self, alloc: Global, cell: &Cell, number: u32) -> Result<Rolled, NoMem>
         ensures rule { IfOk result (λ r. r ≡ rolled_back cell.now number self.now) }
         ensures from { IfOk result (λ r.
@@ -109,8 +110,8 @@ impl<'a> History<'a> {
         })
     }
 
-    /// Returns the password entry of a login name before the line with a number, or `None` if there
-    /// is none: the recorded answer to [`Ask::User`](retro_tree::Ask::User).
+    /// Returns the password entry of a login name before the line with the given number, or `None`
+    /// if there is none. This is the recorded answer to [`Ask::User`](retro_tree::Ask::User).
     #[tactic(auto, unfolding(retro_tree::specs::Ask::answer))]
     pub fn entry_at(&self, alloc: Global, name: &Text, number: u32) -> Result<Option<User>, NoMem>
         ensures { IfOk result (λ user.
@@ -119,8 +120,9 @@ impl<'a> History<'a> {
         Ok(self.at(number).user(alloc, name)?)
     }
 
-    /// Returns the names in a directory before the line with a number, or `None` if no directory is
-    /// there: the recorded answer to [`Ask::Names`](retro_tree::Ask::Names).
+    /// Returns the names in a directory before the line with the given number, or `None` if the
+    /// path isn't a directory then. This is the recorded answer to
+    /// [`Ask::Names`](retro_tree::Ask::Names).
     #[tactic(auto, unfolding(retro_tree::specs::Ask::answer))]
     pub fn names_at(
         &self,
@@ -134,32 +136,32 @@ impl<'a> History<'a> {
         Ok(self.at(number).listing(alloc, path)?)
     }
 
-    /// Returns the numbers of the lines that write a cell, which rise. A line writes a cell if its
-    /// notes have a change of it, even one that leaves its value.
+    /// Returns the numbers of the lines that write a cell, in rising order. A line writes a cell if
+    /// its notes have a change of it, even a change to the same value.
     pub fn writers(&self, alloc: Global, cell: &Cell) -> Result<Vec<u32>, NoMem>
         ensures { IfOk result (λ numbers. numbers.items ≡ written_at cell.now self.now.lines) }
     {
         self.index.writers(alloc, cell)
     }
 
-    /// Returns the numbers of the lines that read a cell, which rise. A line reads a cell if the
-    /// answer to one of its queries can depend on it, so a listing reads the cells of all children,
-    /// existing or not.
+    /// Returns the numbers of the lines that read a cell, in rising order. A line reads a cell if
+    /// the answer to one of its queries can depend on it. So a listing reads the cells of all
+    /// children, existing or not.
     pub fn readers(&self, alloc: Global, cell: &Cell) -> Result<Vec<u32>, NoMem>
         ensures { IfOk result (λ numbers. numbers.items ≡ read_at cell.now self.now.lines) }
     {
         self.index.readers(alloc, cell)
     }
 
-    /// Borrows the numbers of the lines that write a cell, which rise. Takes no memory.
+    /// Borrows the numbers of the lines that write a cell, in rising order. Takes no memory.
     pub fn written_by(&self, cell: &Cell) -> &[u32]
         ensures { result.now ≡ written_at cell.now self.now.lines }
     {
         self.index.written_by(cell)
     }
 
-    /// Borrows the numbers of the lines that query the names in a directory, which rise. Takes no
-    /// memory.
+    /// Borrows the numbers of the lines that query the names in a directory, in rising order. Takes
+    /// no memory.
     pub fn listed_by(&self, path: &Path) -> &[u32]
         ensures { result.now ≡ listed_at path.now self.now.lines }
     {
@@ -202,8 +204,8 @@ impl<'a> History<'a> {
         self.index.next_meeting_in(alloc, overlay, after)
     }
 
-    /// Returns the names of the children of a path before the line with a number, whatever node is
-    /// at the path itself. Takes time in proportion to the paths below it.
+    /// Returns the names of the children of a path before the line with the given number, whatever
+    /// the path itself holds. Takes time in proportion to the number of paths below it.
     pub(crate) fn children(&self, alloc: Global, path: &Path, number: u32) -> Result<Listing, NoMem>
         ensures { IfOk result (λ names.
             names ≡ names_in path.now (recorded_before number self.now).tree) }
@@ -212,14 +214,16 @@ impl<'a> History<'a> {
         marks.children(alloc, self.recording.first(), path)
     }
 
-    /// Returns the recorded state before the line with a number, as a view. Takes no memory.
+    /// Returns the recorded state before the line with the given number, as a view. Takes no
+    /// memory.
     pub fn at(&self, number: u32) -> At<'_, 'a>
         ensures { result ≡ recorded_before number self.now }
     {
         At::new(self, number)
     }
 
-    /// Returns the checkpoint and the value of a cell before the line with a number.
+    /// Returns the value of a cell before the line with the given number, and the number of the
+    /// checkpoint that the value starts from.
     fn version_before(&self, cell: &Cell, number: u32) -> VersionRef<'_>
         ensures value { version_ref_parts result ≡ parts_before cell.now number self.now }
         ensures well_formed { IsWellFormed self.now }

@@ -17,11 +17,12 @@ use std::alloc::Global;
 use std::collections::BTreeSet;
 
 /// For each cell its versions, the lines that write it and the lines that read it, and for each
-/// directory the lines that list it. A look-up never passes over the lines.
+/// directory the lines that list it. Look-ups don't scan the lines.
 ///
-/// A line writes a cell if its notes have a change of it, and reads it if the answer to one of its
-/// queries can depend on it. So a listing of a directory reads the cells of the directory and of
-/// each child path, existing or not: those readers are found by the listings of a path's parent.
+/// A line writes a cell if its notes have a change of it. It reads a cell if the answer to one of
+/// its queries can depend on the cell. So a listing of a directory reads the cells of the directory
+/// and of each child path, existing or not. The lines that read a child's cell by a listing are
+/// found among those that list its parent.
 #[derive(Drop)]
 pub(crate) struct Index<'a> {
     pub(crate) cells: CellHistories<'a>,
@@ -39,9 +40,9 @@ impl<'a> Index<'a> {
         }
     }
 
-    /// Adds a line, whose number is above those of all lines before. `first` is the state before
-    /// the first line. Takes time and memory in proportion to the notes, times the logarithm of the
-    /// number of cells.
+    /// Adds a line. `first` is the state before the first line. The line's number must be above
+    /// those of the lines added before. Takes time and memory in proportion to the notes, times the
+    /// logarithm of the number of cells.
     pub(crate) fn add_line(
         &mut self,
         alloc: Global,
@@ -58,7 +59,7 @@ impl<'a> Index<'a> {
         self.listed.add_notes(alloc, number, notes)
     }
 
-    /// Returns the numbers of the lines that write a cell. They rise.
+    /// Returns the numbers of the lines that write a cell, in rising order.
     pub(crate) fn writers(&self, alloc: Global, cell: &Cell) -> Result<Vec<u32>, NoMem>
         ensures { IfOk result (λ numbers. (lines : List Line)
             → Indexes self.now lines → numbers.items ≡ written_at cell.now lines) }
@@ -66,7 +67,7 @@ impl<'a> Index<'a> {
         Vec::from_slice(alloc, self.written_by(cell))
     }
 
-    /// Returns the numbers of the lines that read a cell. They rise.
+    /// Returns the numbers of the lines that read a cell, in rising order.
     pub(crate) fn readers(&self, alloc: Global, cell: &Cell) -> Result<Vec<u32>, NoMem>
         ensures { IfOk result (λ numbers. (lines : List Line)
             → Indexes self.now lines → numbers.items ≡ read_at cell.now lines) }
@@ -76,7 +77,7 @@ impl<'a> Index<'a> {
         merge(alloc, read, listed)
     }
 
-    /// Returns the numbers of the lines that write a cell. They rise. Takes no memory.
+    /// Borrows the numbers of the lines that write a cell, in rising order. Takes no memory.
     pub(crate) fn written_by(&self, cell: &Cell) -> &[u32]
         ensures { (lines : List Line)
             → Indexes self.now lines → result.now ≡ written_at cell.now lines }
@@ -87,8 +88,8 @@ impl<'a> Index<'a> {
         }
     }
 
-    /// Returns the numbers of the lines that query the names in a directory. They rise. Takes no
-    /// memory.
+    /// Borrows the numbers of the lines that query the names in a directory, in rising order. Takes
+    /// no memory.
     pub(crate) fn listed_by(&self, path: &Path) -> &[u32]
         ensures { (lines : List Line)
             → Indexes self.now lines → result.now ≡ listed_at path.now lines }
@@ -150,8 +151,8 @@ impl<'a> Index<'a> {
         }
     }
 
-    /// Returns the numbers of the lines that read a cell otherwise than by a listing of the parent
-    /// of its path. They rise.
+    /// Returns the numbers of the lines that read a cell, in rising order. A line that reads the
+    /// cell of a path only by listing the path's parent isn't among them.
     fn read_directly(&self, cell: &Cell) -> &[u32]
         ensures value { result.now ≡ (uses_at self.now.cells cell.now).read }
         ensures rise { IsTrue (rise result.now) }
@@ -162,8 +163,8 @@ impl<'a> Index<'a> {
         }
     }
 
-    /// Returns the numbers of the lines that list the parent of a cell's path, which rise. A cell
-    /// of a session has none.
+    /// Returns the numbers of the lines that list the parent of a path, in rising order, if the
+    /// cell is that of a path. For other cells returns no lines.
     fn parent_listings(&self, alloc: Global, cell: &Cell) -> Result<&[u32], NoMem>
         ensures value { IfOk result (λ numbers.
             numbers.now ≡ parent_listings cell.now self.now.listed) }

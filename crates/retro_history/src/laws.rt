@@ -1,4 +1,5 @@
-//! Laws of histories, as contracts of functions that do nothing.
+//! Laws about histories, for the proofs of crates above. A law is a function without a body whose
+//! contract is the law.
 ghost use Rattle.std.specs.Prelude.{◌≡◌, ℕ, List, ◌∷◌, ◌++◌, IsTrue, nat_lt};
 ghost use Rattle.std.specs.List.{list_all};
 ghost use Rattle.retro_tree.specs.Cell.{value};
@@ -9,8 +10,8 @@ ghost use Rattle.retro_keep.specs.declared.noted.Noted.{Noted};
 ghost use Rattle.retro_history.specs.Recorded.{recorded_before};
 ghost use Rattle.retro_history.specs.Versions.{checkpoints, greatest_below, rolled_back};
 
-/// The recorded state before a line is that after the lines before it. Above all numbers, it is the
-/// last state.
+/// States that the recorded state before a line is the state after the lines before it. Before a
+/// number above all lines, it is the last state.
 #[tactic(auto, using(crate::proofs::RecordedVersions::states))]
 pub fn recorded_states_follow_the_lines()
     ensures line { (r : RecordingValue) (done rest : List (ℕ × Noted)) (l : ℕ × Noted)
@@ -21,8 +22,8 @@ pub fn recorded_states_follow_the_lines()
         → recorded_before n r ≡ last_state r.lines r.first }
 {}
 
-/// Rolled back to a number, a cell has the last checkpoint below the number, and the recorded value
-/// before it.
+/// States that a rollback of a cell to a number starts from the last checkpoint below the number,
+/// and gives the recorded value before it.
 #[tactic(auto, using(crate::proofs::RecordedVersions::rolling_back))]
 pub fn versions_give_the_recorded_values()
     ensures value { (c : Cell) (n : ℕ) (r : RecordingValue)
@@ -31,7 +32,7 @@ pub fn versions_give_the_recorded_values()
         → IsWellFormed r → (rolled_back c n r).from ≡ greatest_below n (checkpoints c r) }
 {}
 
-/// The checkpoints of a cell begin with 0, and rise.
+/// States that the checkpoints of a cell begin with 0, and rise.
 #[tactic(auto, using(crate::proofs::RecordedVersions::checkpoints_rise))]
 pub fn checkpoints_rise()
     ensures { (c : Cell) (r : RecordingValue) → IsWellFormed r

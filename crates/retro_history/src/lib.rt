@@ -2,18 +2,19 @@
 //! lines wrote, read and listed what.
 //!
 //! A [`History`] borrows a recording and keeps the versions of each cell that its lines change.
-//! [`History::value_at`] and [`History::rollback`] give the value of a cell before a line, and
-//! [`History::at`] the whole recorded state before a line: as a view that answers queries, and as
-//! a source of borrowed values.
+//! [`History::value_at`] and [`History::rollback`] give the value of a cell before a line.
+//! [`History::at`] gives the whole recorded state before a line: as a view that answers queries,
+//! and as a source of borrowed values.
 //!
-//! A version is a checkpoint if it is a whole value. Else it is a growth of the version before it.
-//! Checkpoints aren't copied: values are borrowed from the recording, and all versions of a file
-//! that grows share one buffer.
+//! A version is a checkpoint or a growth. A checkpoint is a whole value, and a growth appends bytes
+//! to the version before it. Checkpoints aren't copied: their values are borrowed from the
+//! recording. All versions of a file that grows share one buffer.
 //!
-//! [`History::writers`] and [`History::readers`] give the lines that write or read a cell,
-//! [`History::next_use`] the next line that reads or writes a cell, and [`History::next_meeting`]
-//! the next one that does so with one of some cells, by look-ups in an index. A listing of a
-//! directory reads the cell of each child, also of children that never existed.
+//! [`History::writers`] and [`History::readers`] give the lines that write or read a cell.
+//! [`History::next_use`] gives the next line that reads or writes a cell, and
+//! [`History::next_meeting`] the next one that does so with one of some cells. These are look-ups
+//! in an index. A listing of a directory reads the cell of each child, also of children that never
+//! existed.
 //!
 //! If allocation fails, calls return `NoMem` and leave their arguments unchanged.
 #![tactic(auto)]

@@ -11,10 +11,10 @@ use std::collections::BTreeMap;
 use std::collections::btree_map::Iter;
 use std::marker::Model;
 
-/// How a line uses each cell that it uses.
+/// The cells that a line uses, each with how the line uses it.
 ///
-/// The notes of a line often name a cell many times. Gathered here, they take one look-up of it
-/// among the cells of all lines.
+/// The notes of a line often name a cell many times. They are gathered here first, so each cell
+/// takes one look-up among the cells of all lines.
 #[derive(Drop)]
 pub(crate) struct LineCells<'a> {
     uses: BTreeMap<Cell, LineUse<'a>>,
@@ -56,7 +56,7 @@ impl<'a> LineCells<'a> {
         self.uses.iter()
     }
 
-    /// Adds a query.
+    /// Adds the reads of a query. The children that a listing reads aren't added.
     fn add_query(&mut self, alloc: Global, number: u32, ask: &Ask) -> Result<(), NoMem>
         ensures { OnOk result (self.new ≡ with_query number ask.now self.old) }
     {

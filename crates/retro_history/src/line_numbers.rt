@@ -1,4 +1,4 @@
-//! Lists of line numbers.
+//! Rising lists of line numbers.
 ghost use Rattle.std.specs.Prelude.{◌≡◌, [], OnOk, OnErr, IsTrue};
 ghost use Rattle.retro_history.specs.Numbers.{are_below, rise, with_number};
 
@@ -6,7 +6,7 @@ use retro_tree::NoMem;
 use std::alloc::Global;
 use std::marker::Model;
 
-/// Line numbers, each above the one before it.
+/// Line numbers in rising order, each once.
 #[derive(Drop)]
 pub(crate) struct LineNumbers {
     numbers: Vec<u32>,
@@ -41,7 +41,9 @@ impl LineNumbers {
         self.numbers.as_slice()
     }
 
-    /// Appends a number, if all others are below it.
+    /// Appends a number if it is above all others, and otherwise changes nothing. Lines are added
+    /// in rising order, so a line that is added twice is kept once. If allocation fails, the list
+    /// is unchanged.
     pub(crate) fn add(&mut self, number: u32) -> Result<(), NoMem>
         ensures ok { OnOk result (self.new ≡ with_number number self.old) }
         ensures err { OnErr result (self.new ≡ self.old) }
@@ -52,7 +54,7 @@ impl LineNumbers {
         Ok(())
     }
 
-    /// Returns whether all numbers are below another. Looks at the last one.
+    /// Returns whether all numbers are below another. Compares it with the last one alone.
     fn are_below(&self, number: u32) -> bool
         ensures { result ≡ are_below number self.now }
     {

@@ -11,7 +11,8 @@ use std::marker::Model;
 pub(crate) struct LineUse<'a> {
     /// The number of the line.
     pub(crate) number: u32,
-    /// Whether a query of the line reads the cell otherwise than by a listing of the cell's parent.
+    /// Whether a query of the line reads the cell. A listing of the parent of the cell's path
+    /// doesn't count.
     pub(crate) reads: bool,
     /// The line's changes of the cell, in order.
     pub(crate) changes: Vec<&'a Change>,
@@ -33,7 +34,7 @@ impl<'a> Model for LineUse<'a> {
 }
 
 impl<'a> LineUse<'a> {
-    /// Returns that a line doesn't use a cell. Takes no memory.
+    /// Returns a use without reads and changes, of the line with the given number. Takes no memory.
     pub(crate) fn new(alloc: Global, number: u32) -> LineUse<'a>
         ensures { result ≡ no_use number }
     {
@@ -44,14 +45,14 @@ impl<'a> LineUse<'a> {
         }
     }
 
-    /// Notes that the line reads the cell.
+    /// Sets that the line reads the cell.
     pub(crate) fn add_read(&mut self)
         ensures { self.new ≡ record self.old { reads = true } }
     {
         self.reads = true;
     }
 
-    /// Appends a change of the cell.
+    /// Appends a change of the cell. If allocation fails, the use is unchanged.
     pub(crate) fn add_change(&mut self, change: &'a Change) -> Result<(), NoMem>
         ensures ok { OnOk result
             (self.new ≡ record self.old { changes = self.old.changes ++ change.now ∷ [] }) }

@@ -18,8 +18,9 @@ pub fn changed_cell(change: &Change) -> Result<Cell, NoMem>
     }
 }
 
-/// Returns the cell that a query names: the only one that its answer depends on, or that of the
-/// path that it is about.
+/// Returns the cell that a query is about. A query about a path is about the path's cell, also if
+/// its answer depends on other cells too. A query for a user is about the cell of the password
+/// file.
 pub(crate) fn queried_cell(alloc: Global, ask: &Ask) -> Result<Cell, NoMem>
     ensures { IfOk result (λ cell. cell ≡ queried_cell ask.now) }
 {

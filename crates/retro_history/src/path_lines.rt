@@ -1,4 +1,4 @@
-//! Lines by the directories that they list.
+//! The lines that list each directory.
 ghost use Rattle.std.specs.Prelude.{◌≡◌, OnOk, OnErr, IsTrue};
 ghost use Rattle.std.specs.FinMap as map;
 ghost use Rattle.retro_history.specs.Numbers.{rise};
@@ -10,7 +10,7 @@ use std::alloc::Global;
 use std::collections::BTreeMap;
 use std::marker::Model;
 
-/// For some directories the numbers of the lines that list them.
+/// For each listed directory, the numbers of the lines that list it.
 #[derive(Drop)]
 pub(crate) struct PathLines {
     lines: BTreeMap<Path, LineNumbers>,
@@ -39,7 +39,7 @@ impl PathLines {
         }
     }
 
-    /// Returns the numbers of the lines that list a directory, which rise.
+    /// Returns the numbers of the lines that list a directory, in rising order.
     pub(crate) fn numbers(&self, path: &Path) -> &[u32]
         ensures value { result.now ≡ numbers_at self.now path.now }
         ensures rise { IsTrue (rise result.now) }
@@ -50,7 +50,7 @@ impl PathLines {
         }
     }
 
-    /// Adds the notes of a line.
+    /// Adds the listings in the notes of a line.
     pub(crate) fn add_notes(
         &mut self,
         alloc: Global,
@@ -67,7 +67,8 @@ impl PathLines {
         Ok(())
     }
 
-    /// Appends a line at a path, if all others there are below it.
+    /// Adds a line that lists a path. Lines are added in rising order. A line that lists the path
+    /// twice is kept once. If allocation fails, nothing changes.
     fn add(&mut self, alloc: Global, path: Path, number: u32) -> Result<(), NoMem>
         ensures ok { OnOk result (self.new ≡ with_line path number self.old) }
         ensures err { OnErr result (self.new ≡ self.old) }

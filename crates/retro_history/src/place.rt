@@ -1,4 +1,4 @@
-//! Places of values.
+//! Where the values of versions are stored.
 ghost use Rattle.std.specs.Prelude.{◌≡◌, IfOk, OnErr, length, take};
 ghost use Rattle.retro_tree.specs.Change.{value_grown};
 ghost use Rattle.retro_history.specs.Version.{EndsAt, place_value};
@@ -6,12 +6,12 @@ ghost use Rattle.retro_history.specs.Version.{EndsAt, place_value};
 use retro_effects::ValueRef;
 use retro_tree::NoMem;
 
-/// Where the value of a version is.
+/// Where the value of a version is stored.
 #[derive(Clone, Copy)]
 pub(crate) enum Place<'a> {
     /// In the recording.
     Borrowed(ValueRef<'a>),
-    /// A file that has grown, in the buffer of its track.
+    /// In the buffer of the track: a file that has grown.
     Buffer(Span),
 }
 
@@ -25,8 +25,10 @@ pub(crate) struct Span {
 }
 
 impl<'a> Place<'a> {
-    /// Appends bytes to the value and returns its new place. The buffer keeps its bytes and may get
-    /// more. A file in the recording is copied into it. A file in the buffer must be at its end.
+    /// Appends bytes to the value and returns its new place. A file in the recording is first
+    /// copied to the end of the buffer. A file in the buffer must end where the buffer ends. A
+    /// value that can't grow is returned unchanged. The buffer keeps the bytes that it has, also if
+    /// allocation fails.
     pub(crate) fn extend(self, buffer: &mut Vec<u8>, more: &[u8]) -> Result<Place<'a>, NoMem>
         requires { EndsAt (length buffer.old.items) self }
         ensures value { IfOk result (λ new. place_value buffer.new.items new

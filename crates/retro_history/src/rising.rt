@@ -1,11 +1,11 @@
-//! Searches and unions of line numbers that rise.
+//! Searches and unions of rising lists of line numbers.
 ghost use Rattle.std.specs.Prelude.{◌≡◌, IfOk, IsTrue};
 ghost use Rattle.retro_history.specs.Numbers.{earliest, first_above, rise, union};
 
 use retro_tree::NoMem;
 use std::alloc::Global;
 
-/// Returns the first number above another, or `None` if there is none. Searches by halves.
+/// Returns the first number above `after`, or `None` if there is none. Finds it by a binary search.
 pub(crate) fn first_above(numbers: &[u32], after: u32) -> Option<u32>
     requires { IsTrue (rise numbers.now) }
     ensures { result ≡ first_above after numbers.now }
@@ -14,7 +14,7 @@ pub(crate) fn first_above(numbers: &[u32], after: u32) -> Option<u32>
     numbers.get(index).copied()
 }
 
-/// Returns the lesser of two numbers, or the one that there is.
+/// Returns the lesser of two numbers. If only one is there, returns that one.
 pub(crate) fn earliest(one: Option<u32>, two: Option<u32>) -> Option<u32>
     ensures { result ≡ earliest one two }
 {
@@ -25,7 +25,7 @@ pub(crate) fn earliest(one: Option<u32>, two: Option<u32>) -> Option<u32>
     }
 }
 
-/// Returns the numbers of two lists, in order, without doubles.
+/// Returns the numbers of two lists, in rising order, each once.
 pub(crate) fn merge(alloc: Global, one: &[u32], two: &[u32]) -> Result<Vec<u32>, NoMem>
     requires one { IsTrue (rise one.now) }
     requires two { IsTrue (rise two.now) }

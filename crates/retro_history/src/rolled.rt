@@ -1,7 +1,8 @@
-//! Values that are rolled back to.
+//! Results of rollbacks.
 use retro_tree::Value;
 
-/// What was in a cell before a line, by its versions.
+/// The result of a rollback: what was in a cell before a line, and the checkpoint that it starts
+/// from.
 #[derive(Drop)]
 pub struct Rolled {
     /// The number of the last checkpoint before the line, or 0 if there is none.

@@ -17,7 +17,7 @@ use retro_tree::{Change, NoMem, Node};
 use std::alloc::Global;
 use std::marker::Model;
 
-/// The versions of one cell, in order, of which the first has the number 0.
+/// The versions of one cell, in order. The first one has the number 0.
 ///
 /// Values are borrowed from the recording. Only a file that grows is copied, into a buffer in which
 /// it grows. Each of its versions is a range of the buffer.
@@ -48,7 +48,7 @@ impl<'a> Model for Track<'a> {
 }
 
 impl<'a> Track<'a> {
-    /// Returns the first version alone. Takes no memory.
+    /// Returns a track with the first version alone. Takes no memory.
     pub(crate) fn new(alloc: Global, first: ValueRef<'a>) -> Track<'a>
         ensures { result ≡ new_track (ref_value first.entry) }
     {
@@ -64,8 +64,8 @@ impl<'a> Track<'a> {
         }
     }
 
-    /// Makes changes of the cell by a line, in order. The number is that of the last version or
-    /// above.
+    /// Applies the changes of the cell by a line, in order. `number` is the line's, and at least
+    /// that of the last version.
     pub(crate) fn apply_all(&mut self, number: u32, changes: &[&'a Change]) -> Result<(), NoMem>
         ensures { OnOk result (self.new
             ≡ track_by number (map (λ change. change.now) changes.now) self.old) }
@@ -76,7 +76,8 @@ impl<'a> Track<'a> {
         Ok(())
     }
 
-    /// Makes a change of the cell by a line. The number is that of the last version or above.
+    /// Applies a change of the cell by a line. `number` is the line's, and at least that of the
+    /// last version.
     fn apply(&mut self, number: u32, change: &'a Change) -> Result<(), NoMem>
         ensures { OnOk result (self.new ≡ track_changed number change.now self.old) }
     {
@@ -89,7 +90,7 @@ impl<'a> Track<'a> {
         }
     }
 
-    /// Makes a whole value the version of a line.
+    /// Makes a whole value the version of the line with the given number. It is a checkpoint.
     fn put(&mut self, number: u32, value: ValueRef<'a>) -> Result<(), NoMem>
         ensures { OnOk result (self.new ≡ record {
           earlier = before_line number self.old;
@@ -108,7 +109,8 @@ impl<'a> Track<'a> {
         Ok(())
     }
 
-    /// Grows the version of a line, which is made of the last version if there is none yet.
+    /// Appends bytes to the version of the line with the given number. If the line has no version
+    /// yet, its version starts with the value of the last one.
     fn grow(&mut self, number: u32, more: &[u8]) -> Result<(), NoMem>
         ensures { OnOk result (self.new ≡ record {
           earlier = before_line number self.old;
@@ -119,8 +121,8 @@ impl<'a> Track<'a> {
         self.extend_last(more)
     }
 
-    /// Makes a version of a line that starts with a growth, unless the line has one. It has the
-    /// value of the last version.
+    /// Starts the version of a line that grows the cell, if the line has no version yet. The new
+    /// version has the value of the last one.
     fn open_version(&mut self, number: u32) -> Result<(), NoMem>
         ensures { OnOk result (self.new ≡ record {
           earlier = before_line number self.old;
@@ -143,8 +145,8 @@ impl<'a> Track<'a> {
         Ok(())
     }
 
-    /// Returns the last version with a number below another, or `None` if there is none. Searches
-    /// by halves.
+    /// Returns the last version with a number below `number`, or `None` if there is none. Finds it
+    /// by a binary search.
     pub(crate) fn version_below(&self, number: u32) -> Option<VersionRef<'_>>
         requires { RiseFrom 0 (all_versions self.now) }
         ensures { option_map version_ref_parts result
@@ -165,7 +167,7 @@ impl<'a> Track<'a> {
         Some(earlier[count - 1].to_ref(&self.buffer))
     }
 
-    /// Returns the numbers of the checkpoints.
+    /// Returns the numbers of the checkpoints, in rising order.
     pub(crate) fn checkpoints(&self, alloc: Global) -> Result<Vec<u32>, NoMem>
         ensures { IfOk result (λ numbers.
             numbers.items ≡ checkpoint_numbers (all_versions self.now)) }
@@ -183,7 +185,7 @@ impl<'a> Track<'a> {
     }
 }
 
-/// Appends a version. Most cells have few versions, so a list of one has no room to spare.
+/// Appends a version. The first one is allocated exactly, since most cells have few versions.
 fn push<'a>(versions: &mut Vec<Version<'a>>, version: Version<'a>) -> Result<(), NoMem>
     ensures ok { OnOk result (versions.new.items ≡ versions.old.items ++ version.entry ∷ []) }
     ensures err { OnErr result (versions.new.items ≡ versions.old.items) }

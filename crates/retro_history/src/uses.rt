@@ -27,8 +27,8 @@ impl Uses {
         }
     }
 
-    /// Appends a line to those that write the cell and to those that read it, as it does, if all
-    /// others there are below it.
+    /// Adds a line to the writers if it changes the cell, and to the readers if it reads the cell.
+    /// The line's number must be above those of the lines added before.
     pub(crate) fn add(&mut self, used: &LineUse<'_>) -> Result<(), NoMem>
         ensures { OnOk result (self.new ≡ uses_with used.now self.old) }
     {
@@ -41,7 +41,8 @@ impl Uses {
         Ok(())
     }
 
-    /// Returns the first line above a number that writes or reads the cell.
+    /// Returns the first line after `after` that writes or reads the cell, or `None` if there is
+    /// none.
     pub(crate) fn next(&self, after: u32) -> Option<u32>
         ensures { result ≡ earliest (first_above after self.now.written)
             (first_above after self.now.read) }

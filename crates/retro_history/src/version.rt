@@ -1,4 +1,4 @@
-//! Versions.
+//! Versions of cells.
 ghost use Rattle.std.specs.Prelude.{◌≡◌, ℕ, List, length};
 ghost use Rattle.retro_history.specs.Tracks.{next_version};
 ghost use Rattle.retro_history.specs.Version.{IsWithin, version_value};
@@ -8,7 +8,7 @@ use crate::place::Place;
 use crate::version_ref::VersionRef;
 use retro_effects::ValueRef;
 
-/// So many growths in a row are followed by a checkpoint.
+/// The longest run of growths between two checkpoints. The growth after it makes a checkpoint.
 const GROWTH_LIMIT: u8 = 16;
 
 /// A version of a cell: what the cell holds after a line that changes it.
@@ -18,15 +18,16 @@ pub(crate) struct Version<'a> {
     pub(crate) number: u32,
     /// The number of the last checkpoint up to this version.
     pub(crate) checkpoint: u32,
-    /// The number of growths from that checkpoint to this version. A checkpoint has 0.
+    /// How many growths lead from that checkpoint to this version. A checkpoint has 0.
     pub(crate) growths: u8,
-    /// Where the value is.
+    /// Where the value is stored.
     pub(crate) place: Place<'a>,
 }
 
 impl<'a> Version<'a> {
-    /// Returns the next version, of a line that starts with a growth. It has the value of this one,
-    /// which is yet to grow. It is a checkpoint if the limit of growths is reached.
+    /// Returns the version of a line that grows this one. Its value is this one's until bytes are
+    /// appended to it. It is a checkpoint if this version is already the last growth that
+    /// `GROWTH_LIMIT` allows.
     pub(crate) fn next(self, number: u32) -> Version<'a>
         ensures value { (buffer : List ℕ) → version_value buffer result
             ≡ next_version number (version_value buffer self.entry) }
