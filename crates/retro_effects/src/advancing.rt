@@ -1,4 +1,4 @@
-//! Advances of an exact overlay by a line.
+//! How an exact overlay advances over a line.
 ghost use Rattle.std.specs.Prelude.{◌≡◌, OnOk, OnErr};
 ghost use Rattle.retro_tree.specs.Notes.{after};
 ghost use Rattle.retro_tree.specs.Exact.{IsExact, IsTight};
@@ -9,12 +9,15 @@ use crate::planner::Planner;
 use retro_tree::{Notes, Overlay};
 use std::alloc::{AllocError, Global};
 
-/// Advances an exact overlay by a line, over which the recorded state goes on by the recorded notes
-/// and the repaired state by the chosen notes. The overlay is exact again: an entry grows in place,
-/// and is removed if the states agree in its cell. `cells` is the recorded state before the line.
+/// Advances an exact overlay over a line, so that it is exact again after the line. In the recorded
+/// state the line does what the notes `recorded` do, and in the repaired state what the notes
+/// `chosen` do. `cells` has the values of the recorded state before the line. If allocation fails,
+/// the overlay is unchanged.
 ///
-/// Only cells that the notes change are read. Files that only grow in both states are neither
-/// copied nor, as far as their lengths decide, read.
+/// An entry grows in place. It is removed if the states agree in its cell after the line. Only
+/// cells that the notes change are read. A file is copied only when it first differs. If a file
+/// only grows in both states, its two versions are compared only if their lengths don't tell
+/// whether they are equal.
 pub fn advance<C: Cells>(
     alloc: Global,
     overlay: &mut Overlay,
@@ -31,12 +34,13 @@ pub fn advance<C: Cells>(
     plan.carry_out(alloc, overlay)
 }
 
-/// Advances an exact overlay by a line, over which both states go on by the same notes. The overlay
-/// is exact again: an entry grows in place, and is removed if the states agree in its cell. `cells`
-/// is the recorded state before the line.
+/// Advances an exact overlay over a line that does the same in both states, so that it is exact
+/// again after the line. `cells` has the values of the recorded state before the line. If
+/// allocation fails, the overlay is unchanged.
 ///
-/// Cells without an entry get none, since what notes do to a cell depends on its value alone. A
-/// cell is read only if bytes are appended to its entry, which is a missing or an empty file.
+/// An entry grows in place. It is removed if the states agree in its cell after the line. Cells
+/// without an entry get none, since what notes do to a cell depends on its value alone. A recorded
+/// value is read only if bytes are appended to an entry that is a missing or an empty file.
 pub fn advance_both<C: Cells>(
     alloc: Global,
     overlay: &mut Overlay,

@@ -1,7 +1,8 @@
-//! Comparison of bytes in two parts each, of which no copy is made.
+//! Comparisons of texts that are given as two parts each. No copy is made.
 ghost use Rattle.std.specs.Prelude.{◌≡◌, ◌↔◌, ◌++◌, ◌≤◌, IsTrue, length};
 
-/// Returns whether bytes are the same.
+/// Returns whether the bytes are equal. This is `==`, as a function of its own for the prover, with
+/// the contract that `true` means equality.
 #[tactic(auto, using(retro_tree::proofs::Sames::sames))]
 pub(crate) fn same_bytes(one: &[u8], other: &[u8]) -> bool
     ensures { IsTrue result ↔ (one.now ≡ other.now) }
@@ -9,7 +10,7 @@ pub(crate) fn same_bytes(one: &[u8], other: &[u8]) -> bool
     one == other
 }
 
-/// Returns whether bytes are two parts, one after the other.
+/// Returns whether `whole` is `front` followed by `end`.
 #[tactic(auto, using(crate::proofs::TwoParts::joining))]
 fn is_joined(whole: &[u8], front: &[u8], end: &[u8]) -> bool
     ensures { IsTrue result ↔ (whole.now ≡ front.now ++ end.now) }
@@ -25,8 +26,8 @@ fn is_joined(whole: &[u8], front: &[u8], end: &[u8]) -> bool
     same_bytes(start, front)
 }
 
-/// Returns whether `front` and `end` are the same bytes as `other` and `other_end`, where `front`
-/// is no longer than `other`. Compares the lengths first and the last parts next.
+/// Returns whether `front` followed by `end` equals `other` followed by `other_end`. `front` must
+/// be no longer than `other`. Compares the lengths first, and the last parts next.
 #[tactic(auto, using(crate::proofs::TwoParts::ending))]
 fn same_after_front(front: &[u8], end: &[u8], other: &[u8], other_end: &[u8]) -> bool
     requires { length front.now ≤ length other.now }
@@ -39,7 +40,7 @@ fn same_after_front(front: &[u8], end: &[u8], other: &[u8], other_end: &[u8]) ->
     same_bytes(start, front)
 }
 
-/// Returns whether `front` and `end` are the same bytes as `other` and `other_end`.
+/// Returns whether `front` followed by `end` equals `other` followed by `other_end`.
 pub(crate) fn same_in_parts(front: &[u8], end: &[u8], other: &[u8], other_end: &[u8]) -> bool
     ensures { IsTrue result ↔ (front.now ++ end.now ≡ other.now ++ other_end.now) }
 {

@@ -7,7 +7,8 @@ ghost use Rattle.retro_effects.specs.ValueRef.{ref_value};
 use crate::value_ref::ValueRef;
 use retro_tree::{Cell, Entry, State};
 
-/// A source that knows the value of each cell of one state. `State` is one of itself.
+/// A source of values: it lends the value of each cell of one state. A `State` is a source of its
+/// own values.
 pub trait Cells {
     /// The state.
     ghost state: { Self → StateValue };

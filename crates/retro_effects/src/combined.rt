@@ -1,4 +1,4 @@
-//! Views of the combined state of a view and an overlay.
+//! Views of combined states: an overlay on the state of a view.
 ghost use Rattle.std.specs.Prelude.{◌≡◌, ◌↔◌, IfOk, IsTrue};
 ghost use Rattle.retro_tree.specs.Notes.{Holds};
 ghost use Rattle.retro_tree.specs.Overlay.{Fits};
@@ -12,8 +12,8 @@ use retro_tree::{Answer, Ask, Listing, Notes, Overlay, Path, View};
 use std::alloc::{AllocError, Global};
 use std::marker::Model;
 
-/// A view of the combined state of another view and an overlay. Each entry of the overlay fits its
-/// cell, so the combined state is the one that a commit makes.
+/// A view of a combined state: an overlay on the state of another view. Each entry of the overlay
+/// fits its cell, so the combined state is the one that a commit of the overlay makes.
 #[derive(Drop)]
 pub struct Combined<'a, V: View> {
     view: &'a V,
@@ -59,8 +59,8 @@ impl<'a, V: View> View for Combined<'a, V> {
     }
 }
 
-/// Returns whether notes hold in the repaired state, which an exact overlay makes of the state of a
-/// view.
+/// Returns whether notes hold in the repaired state. This is the combined state of a view of the
+/// recorded state and the exact overlay.
 pub fn equiv<V: View>(
     alloc: Global,
     notes: &Notes,

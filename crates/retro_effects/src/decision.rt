@@ -1,4 +1,4 @@
-//! How a line changes one cell's entry of an exact overlay.
+//! What happens to one cell's entry of an exact overlay over a line.
 ghost use Rattle.std.specs.Prelude.{◌≡◌, ◌≢◌, ◌↔◌, ◌++◌, ℕ, List, Some, IfOk, IsTrue};
 ghost use Rattle.std.specs.Option.{option_copied};
 ghost use Rattle.retro_tree.specs.Cell.{value as value_at};
@@ -17,7 +17,8 @@ use crate::write::Write;
 use retro_tree::{Cell, Node, OverlayEntry, Value};
 use std::alloc::{AllocError, Global};
 
-/// Returns the bytes that an effect appends to a file, or `None` if it sets a value.
+/// Returns the bytes that an effect appends to a file, or `None` if it sets a value. No effect
+/// appends no bytes.
 fn appended<'a>(effect: Option<&'a OverlayEntry>) -> Option<&'a [u8]>
     ensures { Appends (option_copied result) (option_copied effect.entry) }
 {
@@ -28,15 +29,16 @@ fn appended<'a>(effect: Option<&'a OverlayEntry>) -> Option<&'a [u8]>
     }
 }
 
-/// Returns whether a file is the same with either end appended. The file isn't read.
+/// Returns whether a file stays the same file whichever of two ends is appended to it. The file
+/// isn't read, since it is enough to compare the ends.
 fn same_ends(end: &[u8], other: &[u8]) -> bool
     ensures { (file : List ℕ) → IsTrue result ↔ (file ++ end.now ≡ file ++ other.now) }
 {
     same_bytes(end, other)
 }
 
-/// Returns whether two files that differ are the same with an end appended to each. If they have
-/// the same length, they aren't, and nothing of them is read.
+/// Returns whether two files that differ become equal when an end is appended to each. Files of the
+/// same length never do, and then nothing is read.
 #[tactic(auto, using(crate::proofs::TwoParts::apart))]
 fn become_same(file: &[u8], end: &[u8], other: &[u8], other_end: &[u8]) -> bool
     requires { file.now ≢ other.now }
@@ -45,7 +47,7 @@ fn become_same(file: &[u8], end: &[u8], other: &[u8], other_end: &[u8]) -> bool
     file.len() != other.len() && same_in_parts(file, end, other, other_end)
 }
 
-/// Returns whether two values are the same after an effect on each.
+/// Returns whether two values are equal after an effect on each.
 fn same_after(
     value: ValueRef<'_>,
     effect: Option<&OverlayEntry>,
@@ -59,7 +61,9 @@ fn same_after(
     GrownRef::combine(value, effect).is_same(GrownRef::combine(other, other_effect))
 }
 
-/// Returns whether a cell has the same value in both states after a line. Files that only grow are
+/// Returns whether a cell has the same value in both states after a line. `value` is its recorded
+/// value before the line, `entry` its entry in the overlay, and `recorded` and `chosen` are the
+/// effects of the line on it in the recorded and in the repaired state. Files that only grow are
 /// read as little as possible.
 #[tactic(auto, using(crate::proofs::Decisions::growths))]
 fn agree(
@@ -96,7 +100,8 @@ fn agree(
     }
 }
 
-/// Returns the write that makes a cell's entry the value of the repaired state after a line.
+/// Returns the write after which a cell's entry is the cell's value in the repaired state after a
+/// line.
 fn write_of(
     alloc: Global,
     value: ValueRef<'_>,
@@ -122,10 +127,12 @@ fn write_of(
     }
 }
 
-/// Returns what is done to a cell's entry of an exact overlay over a line, so that the overlay is
-/// exact again: a write, or `None` to remove it. The cell's value in the recorded state is `value`
-/// and its entry `entry`. The effects on the cell are `recorded` in the recorded state and `chosen`
-/// in the repaired one.
+/// Decides what happens to a cell's entry of an exact overlay over a line, so that the overlay is
+/// exact again. Returns the write to make, or `None` if the entry is to be removed because the
+/// states agree in the cell after the line.
+///
+/// `value` is the cell's recorded value before the line, and `entry` its entry. The line has the
+/// effect `recorded` on the cell in the recorded state, and `chosen` in the repaired one.
 #[tactic(auto, using(crate::proofs::Decisions::deciding))]
 pub(crate) fn decide(
     alloc: Global,
@@ -147,8 +154,8 @@ pub(crate) fn decide(
     Ok(Some(write_of(alloc, value, entry, chosen)?))
 }
 
-/// Returns whether one of a cell's entry and its recorded value is missing, and the other is an
-/// empty file. The recorded value is looked up only if the entry is one of these.
+/// Returns whether a cell's entry and its recorded value are a missing node and an empty file, in
+/// either order. The recorded value is looked up only if the entry is one of these.
 fn differ_by_empty_file<C: Cells>(cells: &C, cell: &Cell, entry: &OverlayEntry) -> bool
     requires { let was = value_at cell.now (C.state cells.now) in
         IsDifference (Some entry.now) was (combined_value (Some entry.now) was) }
@@ -167,12 +174,12 @@ fn differ_by_empty_file<C: Cells>(cells: &C, cell: &Cell, entry: &OverlayEntry) 
     }
 }
 
-/// Returns what is done to a cell's entry of an exact overlay over a line that has the same effect
-/// on the cell in both states, so that the overlay is exact again: a write, or `None` to remove it.
-/// Takes no memory.
+/// Decides what happens to a cell's entry of an exact overlay over a line that has the same effect
+/// on the cell in both states. Returns the write to make, or `None` if the entry is to be removed
+/// because the states agree in the cell after the line. Takes no memory.
 ///
 /// A value that is set is the same in both states. Files that differ still differ when the same
-/// bytes are appended to them, and only an empty file and a missing one become the same.
+/// bytes are appended to them. Only an empty file and a missing one become the same.
 #[tactic(auto, using(crate::proofs::Decisions::deciding_both))]
 pub(crate) fn decide_both<C: Cells>(
     cells: &C,

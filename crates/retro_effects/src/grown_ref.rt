@@ -9,7 +9,7 @@ use crate::bytes::same_in_parts;
 use crate::value_ref::ValueRef;
 use retro_tree::OverlayEntry;
 
-/// A borrowed value. If it is a file, it has more bytes after its own.
+/// A borrowed value. If it is a file, `end` follows its bytes.
 #[derive(Clone, Copy)]
 pub(crate) struct GrownRef<'a> {
     value: ValueRef<'a>,
@@ -45,7 +45,7 @@ impl<'a> GrownRef<'a> {
         }
     }
 
-    /// Returns whether this is the same value as another.
+    /// Returns whether this value equals another.
     #[tactic(auto, using(retro_tree::proofs::Sames::sames))]
     pub(crate) fn is_same(self, other: GrownRef<'_>) -> bool
         ensures { IsTrue result ↔ (grown_ref_value self.entry ≡ grown_ref_value other.entry) }

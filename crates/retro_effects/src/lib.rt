@@ -2,16 +2,16 @@
 //!
 //! A `ValueRef` is a borrowed value of a cell, and `Cells` lends the values of one state. `touches`
 //! and `changes` say which cells notes read or write, and `effects` gives a cell's value after
-//! them. `overlay_of` gives what notes do to all cells, without a state: as an overlay that has an
-//! entry for each cell that they change.
+//! them. `overlay_of` gives what notes do to all cells, as an overlay that has an entry for each
+//! cell that they change. It takes no state.
 //!
 //! A repair compares two states: the recorded state, as the lines were run, and the repaired one.
 //! An overlay is exact if it has entries for exactly the cells in which they differ, each with the
-//! repaired value. `advance` keeps it exact over a line, whatever notes the line has in the one
-//! state and in the other, and `advance_both` does so if the line has the same notes in both.
-//! `is_met` says whether notes read or write a cell that differs.
-//! `Combined` is a view of a view with an overlay, and `equiv` says whether notes hold in the
-//! repaired state.
+//! repaired value. `advance` keeps it exact over a line that has some notes in the recorded state
+//! and perhaps others in the repaired one. `advance_both` does so over a line that has the same
+//! notes in both. `is_met` says whether notes read or write a cell in which the states differ.
+//! `Combined` is a view of a combined state: an overlay on the state of another view. `equiv` says
+//! whether notes hold in the repaired state.
 //!
 //! If allocation fails, calls return `AllocError` and leave their arguments unchanged.
 #![tactic(auto)]

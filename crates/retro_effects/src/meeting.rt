@@ -1,4 +1,4 @@
-//! Which notes meet the cells in which two states differ.
+//! Whether notes read or write a cell in which two states differ.
 ghost use Rattle.std.specs.Prelude.{◌≡◌, MatchBool};
 ghost use Rattle.std.specs.FinMap as map;
 ghost use Rattle.std.specs.List.{list_any};
@@ -10,16 +10,17 @@ ghost use Rattle.retro_effects.specs.Meeting.{Met};
 use crate::touching::touches;
 use retro_tree::{Notes, Overlay};
 
-/// Returns whether a cell with an entry is one that notes read or write.
+/// Returns whether notes read or write a cell with an entry in the overlay.
 fn touch_entry(notes: &Notes, overlay: &Overlay) -> bool
     ensures { result ≡ list_any (λ e. touches notes.now e.0) (map.entries overlay.now) }
 {
     overlay.iter().any(|(cell, _)| touches(notes, cell))
 }
 
-/// Returns whether notes read or write a cell in which the recorded and the repaired state differ,
-/// by the exact overlay of the two. If not, notes that hold in the one state hold in the other.
-/// Takes no memory, and time in proportion to the notes times the entries.
+/// Returns whether notes read or write a cell in which the recorded and the repaired state differ.
+/// `overlay` is the exact overlay of these states. If the answer is no, notes that hold in one of
+/// the states hold in the other. Takes no memory, and time in proportion to the number of notes
+/// times the number of entries.
 pub fn is_met(notes: &Notes, overlay: &Overlay) -> bool
     ensures { (s t : State) → IsExact overlay.now s t
         → MatchBool result (Met notes.now s t) (AgreeOn notes.now s t) }

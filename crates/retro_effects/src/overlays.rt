@@ -1,4 +1,4 @@
-//! Overlays of what notes do.
+//! What notes do, as an overlay.
 ghost use Rattle.std.specs.Prelude.{◌≡◌, IfOk};
 ghost use Rattle.std.specs.FinMap as map;
 ghost use Rattle.retro_tree.specs.Notes.{after, changes};
@@ -9,9 +9,9 @@ ghost use Rattle.retro_tree.specs.declared.state.State.{State};
 use retro_tree::{Note, Notes, Overlay};
 use std::alloc::{AllocError, Global};
 
-/// Returns the overlay of what notes do: over any state it gives the state after the notes. It has
-/// entries for the cells that the notes change, and no others. An entry is the value that the cell
-/// gets, or the bytes by which its file grows.
+/// Returns what notes do, as an overlay: combined with any state it gives the state after the
+/// notes. It has entries for the cells that the notes change, and no others. An entry is the value
+/// that the cell gets, or the bytes that are appended to its file.
 pub fn overlay_of(alloc: Global, notes: &Notes) -> Result<Overlay, AllocError>
     ensures overlays { IfOk result (λ o. (s : State) → Overlays o s (after notes.now s)) }
     ensures cells { IfOk result (λ o. (c : Cell)

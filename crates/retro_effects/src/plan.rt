@@ -1,4 +1,4 @@
-//! Plans of how an overlay changes.
+//! Plans of how an overlay changes over a line.
 ghost use Rattle.std.specs.Prelude.{◌≡◌, ◌||◌, OnOk, OnErr, []};
 ghost use Rattle.std.specs.FinMap as map;
 ghost use Rattle.retro_tree.specs.Notes.{cell_eq};
@@ -17,12 +17,12 @@ use crate::writing::{remove_all, undo_all, write_all};
 use retro_tree::{Cell, Overlay};
 use std::alloc::{AllocError, Global};
 
-/// How some cells' entries of an overlay change.
+/// What happens to some cells' entries of an overlay.
 #[derive(Drop)]
 pub(crate) struct Plan {
-    /// The entries that are written.
+    /// The writes to make, by cell.
     pub(crate) writes: WriteMap,
-    /// The cells whose entries are removed.
+    /// The cells whose entries are to be removed.
     pub(crate) removals: Vec<Cell>,
 }
 
@@ -38,7 +38,7 @@ impl Plan {
         }
     }
 
-    /// Adds what is done to a cell's entry: a write, or `None` to remove it.
+    /// Adds what happens to a cell's entry: a write, or `None` to remove the entry.
     #[tactic(auto, using(crate::proofs::Plans::planning))]
     pub(crate) fn add(&mut self, cell: Cell, write: Option<Write>) -> Result<(), AllocError>
         ensures plan { OnOk result ((overlay a b : OverlayMap) (s : State)
@@ -57,8 +57,8 @@ impl Plan {
         Ok(())
     }
 
-    /// Changes an overlay as planned. If allocation fails, the overlay is unchanged: writes come
-    /// first and are undone then, which takes no memory, and removals take none.
+    /// Changes an overlay as planned. If allocation fails, the overlay is unchanged: the writes
+    /// come first, and they are undone then. Undoing and removing take no memory.
     pub(crate) fn carry_out(self, alloc: Global, overlay: &mut Overlay) -> Result<(), AllocError>
         ensures ok { OnOk result
             (overlay.new ≡ carried_out self.writes self.removals.items overlay.old) }

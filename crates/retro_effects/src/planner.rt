@@ -1,4 +1,4 @@
-//! Planning of how a line changes an exact overlay.
+//! The planning of how an exact overlay changes over a line.
 ghost use Rattle.std.specs.Prelude.{◌≡◌, ◌||◌, IfOk, OnOk, None, []};
 ghost use Rattle.std.specs.Option.{option_copied};
 ghost use Rattle.std.specs.FinMap as map;
@@ -16,7 +16,8 @@ use crate::plan::Plan;
 use retro_tree::{Cell, Notes, Overlay, OverlayEntry};
 use std::alloc::{AllocError, Global};
 
-/// The recorded state before a line, and the exact overlay that makes the repaired state of it.
+/// A planner of how an exact overlay changes over a line: it has the recorded state before the
+/// line, and the overlay that makes the repaired state of it.
 #[derive(Drop)]
 pub(crate) struct Planner<'a, C: Cells> {
     alloc: Global,
@@ -113,8 +114,9 @@ impl<'a, C: Cells> Planner<'a, C> {
         Ok(())
     }
 
-    /// Plans the cells with an entry on which notes have an effect, the same in both states. A cell
-    /// without an entry has the same value in both states before the notes, and so after them.
+    /// Plans the cells with an entry on which notes have an effect, the same one in both states.
+    /// The other cells need no plan: a cell without an entry has the same value in both states
+    /// before the notes, and so after them.
     #[tactic(auto, using(crate::proofs::Covering::covering))]
     fn plan_entries(&self, plan: &mut Plan, effects: Overlay) -> Result<(), AllocError>
         requires tight { IsTight self.now.overlay.now (C.state self.now.cells.now) }
@@ -134,7 +136,8 @@ impl<'a, C: Cells> Planner<'a, C> {
         Ok(())
     }
 
-    /// Plans a line: the recorded notes in the recorded state, the chosen ones in the repaired one.
+    /// Plans a line. It has the notes `recorded` in the recorded state, and `chosen` in the
+    /// repaired one.
     #[tactic(auto, using(crate::proofs::Advanced::advancing))]
     pub(crate) fn plan(&self, recorded: &Notes, chosen: &Notes) -> Result<Plan, AllocError>
         requires { IsTight self.now.overlay.now (C.state self.now.cells.now) }
@@ -151,7 +154,7 @@ impl<'a, C: Cells> Planner<'a, C> {
         Ok(plan)
     }
 
-    /// Plans a line with the same notes in both states.
+    /// Plans a line that has the same notes in both states.
     #[tactic(auto, using(crate::proofs::Advanced::advancing))]
     pub(crate) fn plan_both(&self, notes: &Notes) -> Result<Plan, AllocError>
         requires { IsTight self.now.overlay.now (C.state self.now.cells.now) }

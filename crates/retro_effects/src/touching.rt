@@ -1,4 +1,4 @@
-//! Which cells notes read and write, and what they make of a value.
+//! Which cells notes read and write, and which values they write.
 ghost use Rattle.std.specs.Prelude.{◌≡◌, IfOk};
 ghost use Rattle.retro_tree.specs.Change.{cell_of, written};
 ghost use Rattle.retro_tree.specs.Notes.{cell_eq, touches, changes, effects};
@@ -23,8 +23,8 @@ pub fn writes(change: &Change, cell: &Cell) -> bool
     }
 }
 
-/// Returns whether a note reads or writes a cell: its answer can depend on the cell, or its change
-/// writes it.
+/// Returns whether a note reads or writes a cell: whether the answer to its query can depend on the
+/// cell, or its change writes the cell.
 pub fn note_touches(note: &Note, cell: &Cell) -> bool
     ensures { result ≡ note_touches note.now cell.now }
 {
@@ -60,7 +60,8 @@ pub fn changes(notes: &Notes, cell: &Cell) -> bool
     false
 }
 
-/// Returns the value that a change writes, by the cell's previous value. A file grows in place.
+/// Returns the value that a change writes. `value` is the cell's value before the change. A file
+/// grows in place.
 pub fn written(change: &Change, value: Value) -> Result<Value, AllocError>
     ensures { IfOk result (λ v. v ≡ written change.now value) }
 {
@@ -77,7 +78,8 @@ pub fn written(change: &Change, value: Value) -> Result<Value, AllocError>
     }
 }
 
-/// Returns the value of a cell after notes, by its value before them. A file grows in place.
+/// Returns the value of a cell after notes. `value` is its value before them. A file grows in
+/// place.
 pub fn effects(notes: &Notes, cell: &Cell, value: Value) -> Result<Value, AllocError>
     ensures { IfOk result (λ v. v ≡ effects notes.now cell.now value) }
 {

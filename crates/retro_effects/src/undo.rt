@@ -1,11 +1,11 @@
-//! Undoing of the writes of an overlay's entries.
+//! How the writes of an overlay's entries are undone.
 ghost use Rattle.std.specs.Prelude.{◌≡◌};
 ghost use Rattle.std.specs.FinMap as map;
 ghost use Rattle.retro_effects.specs.Undo.{undone, undone_cell, cut, cut_at};
 
 use retro_tree::{Cell, Node, Overlay, OverlayEntry, Value};
 
-/// How one write is undone.
+/// What it takes to undo one write of an overlay's entry: the cell, and what was there before.
 #[derive(Drop)]
 pub(crate) enum Undo {
     /// The cell had no entry.
@@ -40,7 +40,7 @@ impl Undo {
     }
 }
 
-/// Returns an entry, cut to a number of bytes if it is a file.
+/// Returns an entry, cut to `length` bytes if it is a file.
 fn cut(entry: OverlayEntry, length: usize) -> OverlayEntry
     ensures { result ≡ cut length entry }
 {
@@ -54,7 +54,7 @@ fn cut(entry: OverlayEntry, length: usize) -> OverlayEntry
     }
 }
 
-/// Cuts the file that is a cell's entry to a number of bytes. The entry is taken out, cut and put
+/// Cuts the file that is a cell's entry to `length` bytes. The entry is taken out, cut and put
 /// back, which takes no memory.
 #[tactic(auto, using(crate::proofs::Undoing::cutting))]
 fn cut_at(overlay: &mut Overlay, cell: &Cell, length: usize)

@@ -8,11 +8,11 @@ use std::alloc::{AllocError, Global};
 /// A borrowed value of a cell.
 #[derive(Clone, Copy)]
 pub enum ValueRef<'a> {
-    /// Nothing is at the path.
+    /// The path is missing.
     Missing,
-    /// A directory is at the path.
+    /// The path is a directory.
     Dir,
-    /// A file with these bytes is at the path.
+    /// The path is a file with these bytes.
     File(&'a [u8]),
     /// A session's directory.
     Cwd(&'a Path),
@@ -42,7 +42,7 @@ impl<'a> ValueRef<'a> {
         }
     }
 
-    /// Returns a copy that owns what it holds.
+    /// Returns the value as one that owns what it holds.
     pub fn to_value(self, alloc: Global) -> Result<Value, AllocError>
         ensures { IfOk result (λ value. value ≡ ref_value self.entry) }
     {

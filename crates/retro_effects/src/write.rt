@@ -1,10 +1,10 @@
 //! Writes of an overlay's entries.
 use retro_tree::{Bytes, Value};
 
-/// What is done to an overlay's entry of a cell.
+/// What a write does to a cell's entry of an overlay.
 #[derive(Drop)]
 pub(crate) enum Write {
-    /// The entry stays.
+    /// The entry stays as it is.
     Keep,
     /// The entry becomes a value.
     Set(Value),

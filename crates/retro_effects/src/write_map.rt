@@ -9,7 +9,7 @@ use std::collections::BTreeMap;
 use std::collections::btree_map::IntoIter;
 use std::marker::Model;
 
-/// The writes of some cells' entries.
+/// The writes of a plan, by cell.
 #[derive(Drop)]
 pub(crate) struct WriteMap {
     writes: BTreeMap<Cell, Write>,
@@ -46,7 +46,7 @@ impl WriteMap {
         Ok(())
     }
 
-    /// Returns the writes with their cells, in order of cells.
+    /// Returns the cells with their writes, in order.
     pub(crate) fn into_entries(self) -> IntoIter<Cell, Write>
         ensures { result ≡ map.entries self }
     {

@@ -1,4 +1,4 @@
-//! Writes made in an overlay, and undone if memory runs out.
+//! Writes of an overlay's entries, which can be undone.
 ghost use Rattle.std.specs.Prelude.{◌≡◌, IfOk, OnOk, OnErr, reverse};
 ghost use Rattle.std.specs.FinMap as map;
 ghost use Rattle.retro_tree.specs.Overlay.{grown_at};
@@ -12,7 +12,7 @@ use crate::write_map::WriteMap;
 use retro_tree::{Bytes, Cell, Node, Overlay, OverlayEntry, Value};
 use std::alloc::AllocError;
 
-/// Returns how a growth of a cell's entry is undone.
+/// Returns how to undo that a cell's entry grows by `bytes`.
 #[tactic(auto, using(crate::proofs::Undoing::growing))]
 fn undo_of_growth(overlay: &Overlay, cell: Cell, bytes: &Bytes) -> Result<Undo, AllocError>
     ensures cell { IfOk result (λ undo. undone_cell undo ≡ cell) }
@@ -32,7 +32,8 @@ fn undo_of_growth(overlay: &Overlay, cell: Cell, bytes: &Bytes) -> Result<Undo, 
     }
 }
 
-/// Makes a value a cell's entry, and returns how that is undone.
+/// Sets a cell's entry to a value, and returns how to undo that. If allocation fails, the overlay
+/// is unchanged.
 #[tactic(auto, using(crate::proofs::Undoing::setting))]
 fn set(overlay: &mut Overlay, cell: Cell, value: Value) -> Result<Undo, AllocError>
     ensures ok { OnOk result
@@ -51,7 +52,8 @@ fn set(overlay: &mut Overlay, cell: Cell, value: Value) -> Result<Undo, AllocErr
     }
 }
 
-/// Makes a write, and returns how it is undone if it changed anything.
+/// Makes a write. Returns how to undo it, or `None` if it changes nothing. If allocation fails, the
+/// overlay is unchanged.
 fn write_one(overlay: &mut Overlay, cell: Cell, write: Write) -> Result<Option<Undo>, AllocError>
     ensures ok { OnOk result (overlay.new ≡ wrote cell write overlay.old) }
     ensures undo { IfOk result (λ undo. Undoes undo overlay.new overlay.old) }
@@ -68,7 +70,7 @@ fn write_one(overlay: &mut Overlay, cell: Cell, write: Write) -> Result<Option<U
     }
 }
 
-/// Makes a write, and adds how it is undone.
+/// Makes a write, and appends how to undo it. If allocation fails, the write is not made.
 #[tactic(auto, using(crate::proofs::Undoing::undoing))]
 fn write_next(
     overlay: &mut Overlay,
@@ -90,7 +92,8 @@ fn write_next(
     Ok(())
 }
 
-/// Makes writes, and adds how they are undone.
+/// Makes writes, and appends how to undo each of them. If allocation fails, some of the writes may
+/// have been made.
 pub(crate) fn write_all(
     overlay: &mut Overlay,
     undos: &mut Vec<Undo>,
@@ -116,7 +119,7 @@ pub(crate) fn undo_all(overlay: &mut Overlay, undos: Vec<Undo>)
     }
 }
 
-/// Removes the entries of cells. Takes no memory.
+/// Removes the entries of some cells. Takes no memory.
 pub(crate) fn remove_all(overlay: &mut Overlay, cells: &[Cell])
     ensures { overlay.new ≡ without cells.now overlay.old }
 {
