@@ -1,4 +1,5 @@
-//! Laws of cells, changes and answers, as contracts of functions that do nothing.
+//! Laws about cells, changes and answers, for the proofs of crates above. A law is a function
+//! without a body whose contract is the law.
 ghost use Rattle.std.specs.Prelude.{◌≡◌, ◌≢◌, ℕ, List, [], ◌∷◌, ◌++◌, true, is_some};
 ghost use Rattle.std.specs.FinMap as map;
 ghost use Rattle.std.specs.List.{list_any};
@@ -14,8 +15,8 @@ ghost use Rattle.retro_tree.specs.declared.ask.Ask.{Ask};
 ghost use Rattle.retro_tree.specs.declared.change.Change.{Change};
 ghost use Rattle.retro_tree.specs.declared.state.State.{State};
 
-/// A change writes its own cell, by the cell's value, and leaves every other cell unchanged. This
-/// holds in every state, even if the session of the change doesn't exist.
+/// States that a change writes its own cell, by the cell's value, and leaves every other cell
+/// unchanged. This holds in every state, even if the session of the change doesn't exist.
 #[tactic(auto, using(crate::proofs::CellLaw::cell_laws))]
 pub fn changes_write_one_cell()
     ensures own { (change : Change) (s : State) → value (cell_of change) (apply change s)
@@ -24,7 +25,7 @@ pub fn changes_write_one_cell()
         → c ≢ cell_of change → value c (apply change s) ≡ value c s }
 {}
 
-/// An answer depends only on the cells that `supports` names.
+/// States that an answer depends only on the cells that `supports` names.
 #[tactic(auto, using(crate::proofs::Agree::agreeing))]
 pub fn answers_depend_on_cells()
     ensures { (ask : Ask) (s t : State)
@@ -32,7 +33,8 @@ pub fn answers_depend_on_cells()
         → answer ask s ≡ answer ask t }
 {}
 
-/// States with the same sessions and the same values of all cells are equal.
+/// States that two states are equal if they have the same sessions and the same values of all
+/// cells.
 #[tactic(auto, using(crate::proofs::Agree::same_state))]
 pub fn cells_make_the_state()
     ensures { (s t : State) → ((c : Cell) → value c s ≡ value c t)
@@ -40,8 +42,8 @@ pub fn cells_make_the_state()
         → s ≡ t }
 {}
 
-/// The names of the children of a path are in byte order, each once. They are exactly the names of
-/// the children that exist.
+/// States that the names of the children of a path are in byte order, each once, and that they are
+/// exactly the names of the children that exist.
 #[tactic(auto, using(crate::proofs::Children::listings))]
 pub fn listings_name_the_children()
     ensures sorted { (p : PathValue) (tree : Tree)

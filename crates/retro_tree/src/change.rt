@@ -13,7 +13,7 @@ use std::alloc::AllocError;
 /// A session that doesn't exist is created: at the root, without variables, with status 0.
 #[derive(Drop, Clone, PartialEq, Eq)]
 pub enum Change {
-    /// Puts a node at a path, where `Missing` removes.
+    /// Puts a node at a path. `Missing` removes what the path holds.
     Put(Path, Node),
     /// Appends bytes to the file at a path. A missing file is created, and a directory stays
     /// unchanged.
@@ -55,7 +55,7 @@ impl Change {
         }
     }
 
-    /// Returns whether the session of the change exists. A change of the tree needs none.
+    /// Returns whether the session of the change exists. Returns true for a change of the tree.
     pub(crate) fn has_its_session(&self, state: &State) -> bool
         ensures { result ≡ has_its_session self.now state.now }
     {

@@ -30,8 +30,8 @@ use crate::view::View;
 use retro_path::{Bytes, Listing, Name, Path, Text, VarName};
 use std::alloc::{AllocError, Global};
 
-/// The combined state of a view and an overlay: the state `now` with
-/// `Overlays overlay (V.state view) now`.
+/// A view with an overlay on it. Its methods answer from the combined state, which is any state
+/// `now` with `Overlays overlay (V.state view) now`.
 #[derive(Drop)]
 pub(crate) struct Combined<'a, V: View> {
     view: &'a V,
@@ -47,7 +47,7 @@ impl<'a, V: View> Combined<'a, V> {
         Combined { view, overlay }
     }
 
-    /// Returns the entry of a path's cell, or `None` if it has none.
+    /// Returns the entry of a path's cell, or `None` if the cell has no entry.
     fn entry(&self, path: &Path) -> Result<Option<&OverlayEntry>, AllocError>
         ensures { IfOk result (λ entry.
             option_copied entry ≡ map.get self.now.overlay.now (Cell.At path.now)) }
@@ -79,7 +79,7 @@ impl<'a, V: View> Combined<'a, V> {
         }
     }
 
-    /// Returns whether `more` bytes can be written to the file at a path of the view's state.
+    /// Returns whether `more` bytes can be appended to the file at a path of the view's state.
     #[tactic(auto, unfolding(crate::specs::Ask::answer))]
     fn view_permit(&self, alloc: Global, path: &Path, more: u32) -> Result<Permit, AllocError>
         ensures { IfOk result (λ permit.
@@ -91,7 +91,7 @@ impl<'a, V: View> Combined<'a, V> {
         }
     }
 
-    /// Returns the user with a login name in the view's state.
+    /// Returns the user with a login name in the view's state, or `None` if there is none.
     #[tactic(auto, unfolding(crate::specs::Ask::answer))]
     fn view_user(&self, alloc: Global, name: &Text) -> Result<Option<User>, AllocError>
         ensures { IfOk result (λ user. user
@@ -135,9 +135,9 @@ impl<'a, V: View> Combined<'a, V> {
         }
     }
 
-    /// Returns whether `more` bytes can be written to the file at a path. Asks only the kind of the
-    /// parent. An entry of the path is read in place. If it is a growth, its bytes are added to
-    /// those that are to be written.
+    /// Returns whether `more` bytes can be appended to the file at a path. Of the parent, queries
+    /// only the kind. An entry of the path is read in place. If it is a growth, its bytes count
+    /// with those that are to be appended.
     #[tactic(auto, using(crate::proofs::Answering::permits), unfolding(crate::specs::Cell::value))]
     fn permit(&self, alloc: Global, path: &Path, more: u32) -> Result<Permit, AllocError>
         ensures { IfOk result (λ permit. (now : State)
@@ -214,7 +214,7 @@ impl<'a, V: View> Combined<'a, V> {
         }
     }
 
-    /// Returns the user with a login name.
+    /// Returns the user with a login name, or `None` if there is none.
     #[tactic(auto, unfolding(crate::specs::Ask::answer, crate::specs::Cell::value))]
     fn user(&self, alloc: Global, name: &Text) -> Result<Option<User>, AllocError>
         ensures { IfOk result (λ user. (now : State)
@@ -282,7 +282,7 @@ impl<'a, V: View> Combined<'a, V> {
         Ok(children.names(alloc, path)?)
     }
 
-    /// Returns the children of a directory, or `None` for another node.
+    /// Returns the names of the children of a directory, or `None` if the path isn't a directory.
     fn listing(&self, alloc: Global, path: &Path) -> Result<Option<Listing>, AllocError>
         ensures { IfOk result (λ names. (now : State)
             → Overlays self.now.overlay.now (V.state self.now.view.now) now
@@ -294,8 +294,8 @@ impl<'a, V: View> Combined<'a, V> {
         }
     }
 
-    /// Marks the children of a path that have entries in a tree: puts a directory for those that
-    /// exist, and removes those that are missing.
+    /// Marks in a tree the children of a path that have entries: puts a directory for each one that
+    /// exists, and removes each one that is missing.
     fn mark(&self, tree: Tree, path: &Path) -> Result<Tree, AllocError>
         ensures { IfOk result (λ marked. marked ≡ mark_entries path.now
             (overlay_from (Cell.At path.now) self.now.overlay.now) tree) }

@@ -82,9 +82,9 @@ impl Commit {
         }
     }
 
-    /// Validates a state that was lawful before the commit, and remembers whether it is lawful.
-    /// Looks only at the paths that the commit wrote, and at the sessions if a setting isn't
-    /// lawful. Takes no memory.
+    /// Finds out whether a state is lawful after a commit, if it was lawful before, and remembers
+    /// the answer. Looks only at the paths that the commit wrote, and at the sessions if a setting
+    /// isn't lawful. Takes no memory.
     pub(crate) fn revalidate(self, state: &mut State)
         requires { WasLawful (written_paths self.undos.items self.removals.items) state.old.tree }
         ensures { state.new ≡ state.old }
@@ -119,7 +119,7 @@ impl Commit {
     }
 }
 
-/// Returns whether a tree keeps the law at the paths of removals. Tests them from the last to the
+/// Returns whether a tree is lawful at the paths of removals. Tests them from the last to the
 /// first.
 #[tactic(auto, using(crate::proofs::CommittedLaw::last_tested))]
 fn removals_keep_law(mut removals: Vec<(Cell, OverlayEntry)>, tree: &Tree) -> bool
@@ -133,7 +133,7 @@ fn removals_keep_law(mut removals: Vec<(Cell, OverlayEntry)>, tree: &Tree) -> bo
     true
 }
 
-/// Returns whether a tree keeps the law at the path of a cell, if the cell has one.
+/// Returns whether a tree is lawful at the path of a cell. Returns true for a cell of a session.
 fn cell_keeps_law(cell: Cell, tree: &Tree) -> bool
     ensures { result ≡ keeps_law (path_of cell) tree.now }
 {
@@ -143,14 +143,14 @@ fn cell_keeps_law(cell: Cell, tree: &Tree) -> bool
     }
 }
 
-/// Returns whether a tree keeps the law at the paths of writes.
+/// Returns whether a tree is lawful at the paths of writes.
 fn undos_keep_law(undos: Vec<Undo>, tree: &Tree) -> bool
     ensures { result ≡ list_all (λ u. keeps_law (undone_path u) tree.now) undos.items }
 {
     undos.into_iter().all(|undo| undo.keeps_law(tree))
 }
 
-/// Writes an entry that is no removal to a state, and adds how that is undone.
+/// Writes an entry that is no removal to a state, and appends how to undo that.
 #[tactic(auto, using(crate::proofs::OverlayCommit::unwinding))]
 fn write_one(
     alloc: Global,
@@ -176,8 +176,8 @@ fn write_one(
     Ok(())
 }
 
-/// Writes an entry that is no removal to a state, and returns how that is undone, or `None` if it
-/// changes nothing.
+/// Writes an entry that is no removal to a state. Returns how to undo that, or `None` if it changes
+/// nothing.
 #[tactic(auto, unfolding(crate::specs::Commit::put_cell))]
 fn write_entry(
     alloc: Global,
@@ -197,8 +197,8 @@ fn write_entry(
     }
 }
 
-/// Writes a value that is no removal to a cell, and returns how that is undone, or `None` if the
-/// value isn't of the cell's kind.
+/// Writes a value that is no removal to a cell. Returns how to undo that, or `None` if the value
+/// isn't of the cell's kind.
 #[tactic(auto, unfolding(crate::specs::Commit::put_cell))]
 fn write_value(
     alloc: Global,
@@ -238,8 +238,8 @@ fn write_value(
     }
 }
 
-/// Appends bytes to the file at a path, in place, and returns how that is undone, or `None` if
-/// nothing changes. A missing file is made of the bytes themselves. A directory stays unchanged.
+/// Appends bytes to the file at a path, in place. Returns how to undo that, or `None` if nothing
+/// changes. A missing file is made of the bytes themselves. A directory stays unchanged.
 #[tactic(auto, using(crate::proofs::Undoing::growing))]
 fn write_growth(state: &mut State, path: Path, bytes: Bytes) -> Result<Option<Undo>, AllocError>
     ensures ok { OnOk result (state.new ≡ grow_file path bytes state.old) }
@@ -257,7 +257,7 @@ fn write_growth(state: &mut State, path: Path, bytes: Bytes) -> Result<Option<Un
     }
 }
 
-/// Puts a directory or a file at a path, and returns how that is undone.
+/// Puts a directory or a file at a path, and returns how to undo that.
 fn write_node(state: &mut State, path: Path, node: Node) -> Result<Undo, AllocError>
     requires { is_present node ≡ true }
     ensures ok { OnOk result (state.new ≡ put_node path node state.old) }
@@ -269,7 +269,7 @@ fn write_node(state: &mut State, path: Path, node: Node) -> Result<Undo, AllocEr
     Ok(Undo::Entry(key, previous))
 }
 
-/// Makes a setting in a session, and returns how that is undone.
+/// Makes a setting in a session, and returns how to undo that.
 #[tactic(auto, using(crate::proofs::Undoing::undoing))]
 fn write_setting(
     alloc: Global,

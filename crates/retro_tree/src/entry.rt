@@ -8,7 +8,7 @@ use std::alloc::AllocError;
 /// The maximum size of a file, in bytes.
 pub const FILE_LIMIT: u64 = 1_048_576;
 
-/// What a tree holds at a path. It has no entry for a path at which nothing is.
+/// What a tree holds at a path. A tree has no entry for a missing path.
 #[derive(Drop, Clone)]
 pub enum Entry {
     /// A directory.

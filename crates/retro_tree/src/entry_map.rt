@@ -46,7 +46,7 @@ impl EntryMap {
         }
     }
 
-    /// Returns the entry of a path, or `None` if nothing is there.
+    /// Returns the entry of a path, or `None` if the path is missing.
     pub(crate) fn get(&self, path: &Path) -> Option<&Entry>
         ensures { option_copied result ≡ map.get self.now path.now }
     {
@@ -98,7 +98,7 @@ impl EntryMap {
         self.entries.remove(path);
     }
 
-    /// Puts a node at a path, where `Missing` removes.
+    /// Puts a node at a path. `Missing` removes what the path holds.
     pub(crate) fn put(&mut self, path: Path, node: Node) -> Result<(), AllocError>
         ensures ok { OnOk result (self.new ≡ put path node self.old) }
         ensures err { OnErr result (self.new ≡ self.old) }

@@ -5,7 +5,7 @@ ghost use Rattle.retro_tree.specs.Node.{kind_grown};
 /// The kind of the node at a path.
 #[derive(Drop, Clone, Copy, PartialEq, Eq, Debug)]
 pub enum Kind {
-    /// Nothing is at the path.
+    /// The path is missing.
     Missing,
     /// A directory.
     Dir,

@@ -1,14 +1,14 @@
-//! Values that can be known to be lawful.
+//! Values that may be known to be lawful.
 ghost use Rattle.std.specs.Prelude.{◌≡◌, false};
 ghost use Rattle.std.specs.Borrow.{sem, Lends};
 ghost use Rattle.retro_tree.specs.Known.{changed_to};
 ghost use Rattle.retro_tree.specs.contracts.known.Known.{the_row};
 
-/// A value with a mark that says that the value is known to be lawful.
+/// A value with a mark. If the mark is set, the value is known to be lawful.
 ///
-/// Reading the value leaves the mark. `change` is the only access for changes, and replaces the
-/// mark by what the caller knows of the value after the change. A type that holds a marked value
-/// has the invariant that a value with the mark is lawful.
+/// Reading the value leaves the mark unchanged. `change` is the only way to change the value, and
+/// it sets or clears the mark. A type that holds a marked value has the invariant that a value with
+/// the mark is lawful.
 #[derive(Drop, Clone)]
 pub(crate) struct Known<T> {
     value: T,
@@ -41,7 +41,7 @@ impl<T> Known<T> {
         self.known
     }
 
-    /// Sets the mark.
+    /// Sets the mark, or clears it.
     pub(crate) fn mark(&mut self, known: bool)
         ensures value { self.new.value ≡ self.old.value }
         ensures known { self.new.known ≡ known }
@@ -49,7 +49,8 @@ impl<T> Known<T> {
         self.known = known;
     }
 
-    /// Returns the value for a change. It is known to be lawful after the change if `known`.
+    /// Returns the value for a change, and sets or clears the mark: `known` says whether the value
+    /// is known to be lawful after the change.
     pub(crate) fn change(&mut self, known: bool) -> &mut T
         ensures* lends { sem 𝓛
             (Lends (the_row T.row) T.row self.entry result (changed_to known)) }

@@ -1,4 +1,5 @@
-//! Laws of lawful states, as contracts of functions that do nothing.
+//! Laws about lawful states, for the proofs of crates above. A law is a function without a body
+//! whose contract is the law.
 ghost use Rattle.std.specs.Prelude.{◌≡◌, ◌≤◌, IsTrue, true, false, ℕ, List, [], length, min};
 ghost use Rattle.retro_tree.specs.Name.{AllNames};
 ghost use Rattle.std.specs.FinMap as map;
@@ -17,30 +18,31 @@ ghost use Rattle.retro_tree.specs.declared.node.Node.TheVariants.{Missing, Dir, 
 ghost use Rattle.retro_tree.specs.declared.permit.Permit.TheVariants.{Yes};
 ghost use Rattle.retro_tree.specs.declared.state.State.{State};
 
-/// A tree is lawful exactly if its root is a directory, the parent of each other path with a node
-/// is a directory, none of these paths is at `/dev/null` or below it, their names can be names, and
-/// files are within the limit.
+/// States that a tree is lawful exactly if its root is a directory, the parent of each other path
+/// with a node is a directory, none of these paths is at `/dev/null` or below it, their names can
+/// be names, and files are within the limit.
 #[tactic(auto, using(crate::proofs::TreeLaw::tree_law))]
 pub fn lawful_trees()
     ensures sound { (tree : Tree) → IsLawfulTree tree → KeepsTreeLaw tree }
     ensures complete { (tree : Tree) → KeepsTreeLaw tree → IsLawfulTree tree }
 {}
 
-/// `is_lawful_tree` is true exactly if the tree is lawful.
+/// States that `is_lawful_tree` is true exactly if the tree is lawful.
 #[tactic(auto, using(crate::proofs::WholeLaw::whole_tree))]
 pub fn lawful_trees_pass()
     ensures sound { (tree : Tree) → IsTrue (is_lawful_tree tree) → IsLawfulTree tree }
     ensures complete { (tree : Tree) → IsLawfulTree tree → IsTrue (is_lawful_tree tree) }
 {}
 
-/// `is_lawful` is true exactly if the state is lawful.
+/// States that `is_lawful` is true exactly if the state is lawful.
 #[tactic(auto, using(crate::proofs::WholeLaw::whole_state))]
 pub fn lawful_states_pass()
     ensures sound { (s : State) → IsTrue (is_lawful s) → IsLawful s }
     ensures complete { (s : State) → IsLawful s → IsTrue (is_lawful s) }
 {}
 
-/// `within_limits` is true exactly if the state is within the limits. Every lawful state is.
+/// States that `within_limits` is true exactly if the state is within the limits, and that every
+/// lawful state is.
 #[tactic(auto, using(crate::proofs::WholeLaw::whole_limits))]
 pub fn lawful_states_are_within_limits()
     ensures sound { (s : State) → IsTrue (within_limits s) → IsWithinLimits s }
@@ -48,8 +50,8 @@ pub fn lawful_states_are_within_limits()
     ensures lawful { (s : State) → IsLawful s → IsWithinLimits s }
 {}
 
-/// A lawful state stays lawful if a file within the limit, or an empty one, is put at a path that
-/// can be written to.
+/// States that a lawful state stays lawful if a file within the limit, or an empty one, is put at a
+/// path that can be written to.
 #[tactic(auto, using(crate::proofs::Keeping::keeping))]
 pub fn lawful_files()
     ensures put { (p : PathValue) (bytes : List ℕ) (n : ℕ) (s : State)
@@ -60,7 +62,7 @@ pub fn lawful_files()
         → IsLawful (put_node p (File []) s) }
 {}
 
-/// A lawful state stays lawful if a file grows by bytes that can be written to it.
+/// States that a lawful state stays lawful if a file grows by bytes that can be appended to it.
 #[tactic(auto, using(crate::proofs::Keeping::keeping))]
 pub fn lawful_growths()
     ensures { (p : PathValue) (bytes : List ℕ) (s : State)
@@ -68,16 +70,16 @@ pub fn lawful_growths()
         → IsLawful (grow_file p bytes s) }
 {}
 
-/// A lawful state stays lawful if a session's status is set.
+/// States that a lawful state stays lawful if a session's status is set.
 #[tactic(auto, using(crate::proofs::Keeping::keeping))]
 pub fn lawful_statuses()
     ensures { (sid status : ℕ) (s : State)
         → IsLawful s → status ≤ 255 → IsLawful (put_status sid status s) }
 {}
 
-/// In a lawful state a change is lawful exactly if its session exists and `may_make` is true. The
-/// state after a lawful change is lawful, and so is the state after a change for which `may_make`
-/// is true.
+/// States that in a lawful state a change is lawful exactly if its session exists and `may_make` is
+/// true. The state after a lawful change is lawful, and so is the state after a change for which
+/// `may_make` is true.
 #[tactic(auto, using(crate::proofs::Allowed::lawful_changes))]
 pub fn lawful_changes()
     ensures sound { (c : Change) (s : State) → IsLawful s → has_its_session c s ≡ true
@@ -90,8 +92,8 @@ pub fn lawful_changes()
     ensures after { (c : Change) (s : State) → IsLawfulChange c s → IsLawful (apply c s) }
 {}
 
-/// `may_make` is true for putting a file within the limit, or an empty one, at a path that can be
-/// written to, and for a growth by bytes that can be written.
+/// States that `may_make` is true for putting a file within the limit, or an empty one, at a path
+/// that can be written to, and for a growth by bytes that can be appended.
 #[tactic(auto, using(crate::proofs::MayMake::may_making))]
 pub fn file_changes_pass()
     ensures put { (p : PathValue) (bytes : List ℕ) (n : ℕ) (s : State)
@@ -105,7 +107,8 @@ pub fn file_changes_pass()
         → may_make (Grow p bytes) s ≡ true }
 {}
 
-/// `may_make` is true for putting a directory where the parent is one, except at `/dev/null`.
+/// States that `may_make` is true for putting a directory where the parent is one, except at
+/// `/dev/null`.
 #[tactic(auto, using(crate::proofs::MayMake::may_making))]
 pub fn directory_changes_pass()
     ensures { (p : PathValue) (s : State)
@@ -113,8 +116,8 @@ pub fn directory_changes_pass()
         → may_make (Put p Dir) s ≡ true }
 {}
 
-/// `may_make` is true for removing a path that isn't the root and has no children. In a lawful
-/// state only directories have children.
+/// States that `may_make` is true for removing a path that isn't the root and has no children. In a
+/// lawful state only directories have children.
 #[tactic(auto, using(crate::proofs::MayMake::may_making))]
 pub fn removals_pass()
     ensures childless { (p : PathValue) (s : State)
@@ -124,7 +127,7 @@ pub fn removals_pass()
         → IsLawful s → is_dir (node_in p s.tree) ≡ false → names_in p s.tree ≡ [] }
 {}
 
-/// A change removes no session. One whose session exists leaves the same sessions.
+/// States that a change removes no session, and creates none if its own session exists.
 #[tactic(auto, using(crate::proofs::KeptSessions::changed_sessions))]
 pub fn changes_keep_sessions()
     ensures same { (c : Change) (s : State)
@@ -134,8 +137,8 @@ pub fn changes_keep_sessions()
         → map.contains_key (apply c s).sessions sid ≡ true }
 {}
 
-/// A permit for more than 2^32 - 1 bytes is the permit for 2^32 - 1 bytes, because both exceed the
-/// limit of a file.
+/// States that a permit for more than 2^32 - 1 bytes is the permit for 2^32 - 1 bytes, because both
+/// exceed the limit of a file.
 #[tactic(auto, using(crate::proofs::MayMake::permit_clamped))]
 pub fn permits_are_clamped()
     ensures { (p : PathValue) (n : ℕ) (s : State)

@@ -1,20 +1,22 @@
 //! The state of a machine: a tree of files, and the sessions that work in it.
 //!
-//! `State::empty`, `State::place` and `State::add_session` make a state, lawful or not. Contracts
-//! see it as two finite maps: from paths to directories and files, and from numbers to sessions.
+//! `State::empty`, `State::place` and `State::add_session` make a state, lawful or not. In
+//! contracts it is two finite maps: from paths to directories and files, and from numbers to
+//! sessions.
 //!
 //! A state is the values of its `Cell`s: the node at each path, and the directory, variables and
-//! status of each session. A `Change` writes one cell. An `Ask` is a query; its `Answer` depends
+//! status of each session. A `Change` writes one cell. An `Ask` is a query. Its `Answer` depends
 //! only on the cells that `supports` names. A `View` answers queries about one state.
 //!
 //! `Notes` are a trace of reads and writes with their values. An `Overlay` has entries for some
-//! cells and takes the other cells from a view: it answers queries about the combined state, takes
+//! cells and takes the other cells from a view. It answers queries about the combined state, takes
 //! changes, and commits to a state, all or nothing.
 //!
 //! A state is lawful if the root is a directory, as is the parent of each other path, nothing is at
 //! `/dev/null` or below it, and the state is within the limits. `State::is_lawful` decides that.
 //! `State::allows` decides whether a change is lawful, and a lawful change keeps a lawful state
-//! lawful. A write that `State::permit` allows is one, except at `/dev/null`.
+//! lawful. Any write that `State::permit` allows is lawful in a lawful state, except at
+//! `/dev/null`.
 //!
 //! The names of `retro_path` are exported here too, so that a crate that works with states needs
 //! only this one.

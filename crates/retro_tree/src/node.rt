@@ -9,7 +9,7 @@ use std::alloc::AllocError;
 /// What is at a path.
 #[derive(Drop, Clone, PartialEq, Eq)]
 pub enum Node {
-    /// Nothing.
+    /// The path is missing.
     Missing,
     /// A directory.
     Dir,

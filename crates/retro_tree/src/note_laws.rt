@@ -1,4 +1,5 @@
-//! Laws of notes, as contracts of functions that do nothing.
+//! Laws about notes, for the proofs of crates above. A law is a function without a body whose
+//! contract is the law.
 ghost use Rattle.std.specs.Prelude.{◌≡◌, ◌↔◌, ◌++◌, ◌||◌, true, false, List};
 ghost use Rattle.retro_tree.specs.Cell.{value};
 ghost use Rattle.retro_tree.specs.State.{SameSessions};
@@ -9,8 +10,8 @@ ghost use Rattle.retro_tree.specs.declared.value.Value.{Value};
 ghost use Rattle.retro_tree.specs.declared.note.Note.{Note};
 ghost use Rattle.retro_tree.specs.declared.state.State.{State};
 
-/// Notes act on each cell alone: its value after them follows from its value before them. A cell
-/// that they don't change keeps its value.
+/// States that notes act on each cell alone: a cell's value after them follows from its value
+/// before them. A cell that they don't change keeps its value.
 #[tactic(auto, using(crate::proofs::NoteLaws::one_cell))]
 pub fn notes_act_on_each_cell()
     ensures alone { (notes : List Note) (c : Cell) (s : State)
@@ -21,8 +22,8 @@ pub fn notes_act_on_each_cell()
         → changes notes c ≡ false → value c (after notes s) ≡ value c s }
 {}
 
-/// Notes that hold in a state hold in every state that agrees with it on the cells of the notes.
-/// The cells that notes change are among their cells.
+/// States that notes that hold in a state hold in every state that agrees with it on the cells of
+/// the notes. The cells that notes change are among their cells.
 #[tactic(auto, using(crate::proofs::NoteLaws::by_cells))]
 pub fn notes_hold_by_their_cells()
     ensures agreed { (notes : List Note) (s t : State)
@@ -32,21 +33,23 @@ pub fn notes_hold_by_their_cells()
         → changes notes c ≡ true → touches notes c ≡ true }
 {}
 
-/// Notes whose changes are each lawful where they are made keep a lawful state lawful.
+/// States that notes keep a lawful state lawful if each of their changes is lawful where it is
+/// made.
 #[tactic(auto, using(crate::proofs::NoteLaws::lawful_after))]
 pub fn allowed_notes_keep_the_law()
     ensures { (notes : List Note) (s : State)
         → IsLawful s → AllAllowed notes s → IsLawful (after notes s) }
 {}
 
-/// Notes whose changes are each lawful where they are made leave the same sessions.
+/// States that notes leave the same sessions if each of their changes is lawful where it is made.
 #[tactic(auto, using(crate::proofs::KeptSessions::kept_sessions))]
 pub fn allowed_notes_keep_the_sessions()
     ensures { (notes : List Note) (s : State)
         → AllAllowed notes s → SameSessions (after notes s) s }
 {}
 
-/// A trace that is two traces in turn: the second starts in the state in which the first ends.
+/// States what follows for a trace that is one trace followed by another: the second starts in the
+/// state in which the first ends.
 #[tactic(auto, using(crate::proofs::NoteLaws::in_turn))]
 pub fn notes_in_turn()
     ensures state { (xs ys : List Note) (s : State)

@@ -33,7 +33,7 @@ impl Notes {
         Notes::of(alloc, Vec::new(alloc))
     }
 
-    /// Makes notes of a vector, which isn't copied, and gives back the room that it doesn't use.
+    /// Makes notes of a vector. The vector isn't copied, and its unused capacity is freed.
     pub fn of(alloc: Global, notes: Vec<Note>) -> Result<Notes, AllocError>
         ensures { IfOk result (λ made. made ≡ notes.items) }
     {

@@ -33,11 +33,11 @@ use std::collections::btree_map::{IntoIter, Iter, Range};
 use std::marker::Model;
 use std::mem::replace;
 
-/// Entries for some cells of a state, over which a view gives the other cells.
+/// Entries for some cells of a state. The other cells are those of a view.
 ///
-/// Together they give the combined state. A cell with an entry has the entry's value, or the view's
-/// file with bytes appended. Every other cell has the view's value. An overlay holds nothing of the
-/// view's files.
+/// Overlay and view together give the combined state. A cell with an entry has the entry's value,
+/// or the view's file with bytes appended. Every other cell has the view's value. An overlay copies
+/// none of the view's files.
 #[derive(Drop)]
 pub struct Overlay {
     cells: BTreeMap<Cell, OverlayEntry>,
@@ -133,8 +133,8 @@ impl Overlay {
         self.cells.remove(cell);
     }
 
-    /// Replaces the entry of a cell and returns the previous one, or does nothing and returns
-    /// `None` if the cell has no entry. Takes no memory.
+    /// Replaces the entry of a cell and returns the previous one. If the cell has no entry, changes
+    /// nothing and returns `None`. Takes no memory.
     pub fn replace(&mut self, cell: &Cell, entry: OverlayEntry) -> Option<OverlayEntry>
         ensures previous { result ≡ map.get self.old cell.now }
         ensures new { self.new
@@ -149,7 +149,7 @@ impl Overlay {
     }
 
     /// Appends bytes to the entry of a cell, in place. A value grows as its cell does, and a growth
-    /// gets longer. Does nothing and returns false if the cell has no entry.
+    /// gets longer. If the cell has no entry, changes nothing and returns false.
     pub fn grow(&mut self, cell: &Cell, bytes: &Bytes) -> Result<bool, AllocError>
         ensures done { IfOk result (λ done. done ≡ is_some (map.get self.old cell.now)) }
         ensures ok { OnOk result
@@ -197,7 +197,8 @@ impl Overlay {
         Ok(())
     }
 
-    /// Makes a growth: appends the bytes to the entry of the path, or makes them its entry.
+    /// Makes a growth: appends the bytes to the entry of the path, or makes them its entry if it
+    /// has none.
     #[tactic(auto, using(crate::proofs::OverlayCalls::changes))]
     fn apply_growth(&mut self, path: Path, bytes: Bytes) -> Result<(), AllocError>
         ensures ok { OnOk result ((below now : StateValue)

@@ -14,7 +14,7 @@ use std::alloc::AllocError;
 pub enum OverlayEntry {
     /// The value of the cell.
     Value(Value),
-    /// Bytes that are appended to the view's file. A missing file is created, and what is no file
+    /// Bytes that are appended to the view's file. A missing file is created, and anything else
     /// stays unchanged.
     Growth(Bytes),
 }
@@ -48,8 +48,8 @@ impl OverlayEntry {
         )
     }
 
-    /// Returns what the entry of a child's cell says of the child: that it is missing, or that it
-    /// exists, which a directory stands for.
+    /// Returns what the entry of a child's cell says of the child: a directory if the child exists,
+    /// and a missing node if it doesn't. Returns `None` if the entry isn't of a path.
     pub(crate) fn mark(&self) -> Option<Node>
         ensures { result ≡ mark_of self.now }
     {

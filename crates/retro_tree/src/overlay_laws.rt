@@ -1,4 +1,5 @@
-//! Laws of overlays, as contracts of functions that do nothing.
+//! Laws about overlays, for the proofs of crates above. A law is a function without a body whose
+//! contract is the law.
 ghost use Rattle.std.specs.Prelude.{◌≡◌, ◌||◌, ℕ, Some, true, false, List};
 ghost use Rattle.std.specs.List.{list_any};
 ghost use Rattle.std.specs.FinMap as map;
@@ -13,9 +14,9 @@ ghost use Rattle.retro_tree.specs.declared.overlay_entry.OverlayEntry.{OverlayEn
 ghost use Rattle.retro_tree.specs.declared.note.Note.{Note};
 ghost use Rattle.retro_tree.specs.declared.state.State.{State};
 
-/// The committed state has the values of the combined state. Its sessions are those of the state
-/// and those that entries create, so it is the combined state with these sessions. If entries
-/// create no session, it has the sessions of the state.
+/// States that the committed state has the values of the combined state. Its sessions are those of
+/// the state and those that entries create, so it is the combined state with these sessions. If
+/// entries create no session, it has the sessions of the state.
 #[tactic(auto, using(crate::proofs::PutCells::commits))]
 pub fn committed_states()
     ensures cells { (overlay : OverlayMap) (s now : State)
@@ -37,15 +38,16 @@ pub fn committed_states()
         → committed overlay s ≡ now }
 {}
 
-/// If each entry fits its cell, the committed state is the combined state.
+/// States that the committed state is the combined state if each entry fits its cell.
 #[tactic(auto, using(crate::proofs::Fitting::fits_overlays))]
 pub fn fitting_overlays_combine()
     ensures { (overlay : OverlayMap) (s : State)
         → Fits overlay → Overlays overlay s (committed overlay s) }
 {}
 
-/// An overlay stays right while the view's state changes: in any way in cells that have values as
-/// entries, and with the combined state in cells that have no entry.
+/// States when an overlay still gives the combined state after the view's state changes. Cells
+/// whose entries are values may change in any way. Cells without an entry must change as they do in
+/// the combined state.
 #[tactic(auto, using(crate::proofs::ValueEntries::moving_below))]
 pub fn overlays_follow_the_state()
     ensures hidden { (overlay : OverlayMap) (below now next_below next : State)
@@ -59,7 +61,7 @@ pub fn overlays_follow_the_state()
         → Overlays overlay (after notes below) (after notes now) }
 {}
 
-/// Together with the recorded state an exact overlay gives the repaired state. An overlay is exact
+/// States that an exact overlay on the recorded state gives the repaired state. An overlay is exact
 /// if it is tight and gives the repaired state. All its entries are values.
 #[tactic(auto, using(crate::proofs::ExactOverlays::exactness))]
 pub fn exact_overlays()
@@ -71,9 +73,10 @@ pub fn exact_overlays()
     ensures values { (overlay : OverlayMap) (s : State) → IsTight overlay s → AllValues overlay }
 {}
 
-/// After a line an overlay is exact again if the entries of the cells that the recorded or the new
-/// notes change are set to the differences, and no other entry changes. A line whose cells agree in
-/// both states, and one that changes no cell with an entry, leaves the overlay exact.
+/// States when an overlay is exact again after a line: if the entries of the cells that the
+/// recorded or the new notes change are set to the differences, and no other entry changes. An
+/// overlay stays exact over a line whose cells agree in both states, and over a line that changes
+/// no cell with an entry.
 #[tactic(auto, using(crate::proofs::ExactOverlays::stepping))]
 pub fn lines_keep_overlays_exact()
     ensures step { (old new : OverlayMap) (s t : State) (recorded chosen : List Note)
@@ -92,8 +95,8 @@ pub fn lines_keep_overlays_exact()
         → IsExact overlay (after notes s) (after notes t) }
 {}
 
-/// In an exact overlay each entry is of its cell's kind. Committed to the recorded state, the
-/// overlay makes the repaired state, if both have the same sessions.
+/// States that in an exact overlay each entry is of its cell's kind. The overlay, committed to the
+/// recorded state, makes the repaired state, if both have the same sessions.
 #[tactic(auto, using(crate::proofs::ExactOverlays::making))]
 pub fn exact_overlays_make_the_state()
     ensures fits { (overlay : OverlayMap) (s t : State) → IsExact overlay s t → Fits overlay }

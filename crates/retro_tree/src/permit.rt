@@ -6,7 +6,7 @@ ghost use Rattle.retro_tree.specs.declared.node.Node.{Node as NodeValue};
 use crate::entry::FILE_LIMIT;
 use crate::kind::Kind;
 
-/// Whether bytes can be written to a file, and if not, why.
+/// Whether bytes can be appended to a file, and if not, why.
 #[derive(Drop, Clone, Copy, PartialEq, Eq, Debug)]
 pub enum Permit {
     /// They can be written.
@@ -22,8 +22,8 @@ pub enum Permit {
 }
 
 impl Permit {
-    /// Returns whether `more` bytes can be appended to a node of a kind and a size, by the kind of
-    /// the parent.
+    /// Returns whether `more` bytes can be appended to a node with the given kind and size, whose
+    /// parent has the kind `parent`.
     pub(crate) fn of(kind: Kind, size: usize, parent: Kind, more: u64) -> Permit
         ensures { (node above : NodeValue) → kind ≡ kind_of node → size ≡ size_of node
             → parent ≡ kind_of above → result ≡ permit_at node above more }

@@ -2,7 +2,7 @@
 use crate::setting::Setting;
 use retro_path::VarName;
 
-/// What a setting replaced.
+/// What a session had before a setting was made.
 #[derive(Drop)]
 pub(crate) enum Previous {
     /// The previous setting.

@@ -26,7 +26,8 @@ pub struct Session {
     pub status: u8,
 }
 
-/// Returns whether a status is within the limit. Every `u8` is.
+/// Returns whether a status is within the limit. Every `u8` is. Only the contract uses the
+/// parameter.
 pub(crate) fn status_fits(status: u8) -> bool
     ensures { result ≡ nat_le status status_limit }
 {

@@ -5,7 +5,7 @@ ghost use Rattle.retro_tree.specs.Setting.{setting_fits};
 use crate::session::{VALUE_LIMIT, status_fits};
 use retro_path::{Path, Text, VarName};
 
-/// What a change sets in a session.
+/// A new value for one cell of a session.
 #[derive(Drop)]
 pub(crate) enum Setting {
     /// The value of a variable.

@@ -78,7 +78,7 @@ impl State {
         &self.sessions
     }
 
-    /// Puts a node at a path, where `Missing` removes.
+    /// Puts a node at a path. `Missing` removes what the path holds.
     pub fn place(&mut self, path: Path, node: Node) -> Result<(), AllocError>
         ensures ok { OnOk result (self.new ≡ put_node path node self.old) }
         ensures err { OnErr result (self.new ≡ self.old) }
@@ -167,7 +167,7 @@ impl State {
         self.tree.node(path)
     }
 
-    /// Returns the bytes of the file at a path, or `None` if no file is there.
+    /// Returns the bytes of the file at a path, or `None` if the path isn't a file.
     pub fn file(&self, path: &Path) -> Option<&Bytes>
         ensures { option_copied result ≡ bytes_in (node_in path.now self.now.tree) }
     {
@@ -182,7 +182,7 @@ impl State {
         self.tree.names(alloc, path)
     }
 
-    /// Returns the children of a directory, or `None` for another node.
+    /// Returns the names of the children of a directory, or `None` if the path isn't a directory.
     fn listing(&self, alloc: Global, path: &Path) -> Result<Option<Listing>, AllocError>
         ensures { IfOk result (λ names. names
             ≡ listing (node_in path.now self.now.tree) (names_in path.now self.now.tree)) }
@@ -193,7 +193,7 @@ impl State {
         }
     }
 
-    /// Returns whether `more` bytes can be written to the file at a path.
+    /// Returns whether `more` bytes can be appended to the file at a path, and if not, why.
     pub fn permit(&self, alloc: Global, path: &Path, more: u64) -> Result<Permit, AllocError>
         ensures { IfOk result (λ permit. permit ≡ permit_of path.now more self.now) }
     {
@@ -201,7 +201,7 @@ impl State {
         Ok(self.tree.permit(path, &parent, more))
     }
 
-    /// Returns the user with a login name, by the password file.
+    /// Returns the user with a login name, or `None` if the password file has none.
     #[tactic(auto, unfolding(crate::specs::Tree::node_in))]
     fn user(&self, alloc: Global, name: &Text) -> Result<Option<User>, AllocError>
         ensures { IfOk result (λ user. user
@@ -299,6 +299,8 @@ impl State {
         self.passes_limits()
     }
 
+    /// Returns whether the state is within the limits, as `is_within_limits` does. It is a function
+    /// of its own for the prover, which proves its two clauses one after the other.
     #[tactic(auto, unfolding(crate::specs::Limits::within_limits))]
     fn passes_limits(&self) -> bool
         ensures { result ≡ within_limits self.now }
@@ -315,6 +317,8 @@ impl State {
         Ok(self.passes_law(alloc)?)
     }
 
+    /// Returns whether the state is lawful, as `is_lawful` does. It is a function of its own for
+    /// the prover, which proves its two clauses one after the other.
     #[tactic(auto, unfolding(crate::specs::Lawful::is_lawful))]
     fn passes_law(&self, alloc: Global) -> Result<bool, AllocError>
         ensures { IfOk result (λ lawful. lawful ≡ is_lawful self.now) }
@@ -322,9 +326,9 @@ impl State {
         Ok(self.tree.is_lawful(alloc)? && self.sessions.are_lawful())
     }
 
-    /// Returns whether the state is lawful, and remembers it as long as each change is lawful.
-    /// `allows` is cheap on a state that is known to be lawful. A state that was made from an empty
-    /// one by lawful changes is known to be lawful without this.
+    /// Returns whether the state is lawful, and remembers the answer until a change isn't known to
+    /// keep it. `allows` is cheap on a state that is known to be lawful. A state that was made from
+    /// an empty one by lawful changes is known to be lawful without this call.
     pub fn validate(&mut self, alloc: Global) -> Result<bool, AllocError>
         ensures exact { IfOk result (λ lawful. IsTrue lawful ↔ IsLawful self.old) }
         ensures unchanged { self.new ≡ self.old }
@@ -352,7 +356,8 @@ impl State {
 
     /// Returns whether a change is lawful: it grows no directory, its session exists, and the state
     /// after it is lawful. In a state that is known to be lawful, looks only at the path of the
-    /// change, its parent and the first entry below it. Otherwise makes the change in a copy.
+    /// change, its parent and the first entry below it. In any other state, makes the change in a
+    /// copy and validates that.
     #[tactic(auto, using(crate::proofs::Allowed::allowed))]
     pub fn allows(&self, alloc: Global, change: &Change) -> Result<bool, AllocError>
         ensures { IfOk result (λ may. IsTrue may ↔ IsLawfulChange change.now self.now) }

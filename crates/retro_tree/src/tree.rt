@@ -57,15 +57,15 @@ impl Tree {
         }
     }
 
-    /// Returns the entry of a path, or `None` if nothing is there.
+    /// Returns the entry of a path, or `None` if the path is missing.
     pub fn get(&self, path: &Path) -> Option<&Entry>
         ensures { option_copied result ≡ map.get self.now path.now }
     {
         self.entries.get().get(path)
     }
 
-    /// Puts a node at a path, where `Missing` removes. A tree that is known to be lawful stays so
-    /// if the node may be put there.
+    /// Puts a node at a path. `Missing` removes what the path holds. A tree that is known to be
+    /// lawful stays so if the node may be put there.
     #[tactic(auto, using(crate::proofs::LawLemmas::lawful_put))]
     pub(crate) fn put(&mut self, path: Path, node: Node) -> Result<(), AllocError>
         ensures ok { OnOk result (self.new ≡ put path node self.old) }
@@ -122,7 +122,7 @@ impl Tree {
         }
     }
 
-    /// Returns whether a directory is at a path.
+    /// Returns whether a path is a directory.
     #[tactic(auto, unfolding(crate::specs::Tree::node_in))]
     pub(crate) fn is_dir(&self, path: &Path) -> bool
         ensures { result ≡ is_dir (node_in path.now self.now) }
@@ -130,7 +130,7 @@ impl Tree {
         matches!(self.get(path), Some(Entry::Dir))
     }
 
-    /// Returns the bytes of the file at a path, or `None` if no file is there.
+    /// Returns the bytes of the file at a path, or `None` if the path isn't a file.
     #[tactic(auto, unfolding(crate::specs::Tree::node_in))]
     pub fn file(&self, path: &Path) -> Option<&Bytes>
         ensures { option_copied result ≡ bytes_in (node_in path.now self.now) }
@@ -141,7 +141,7 @@ impl Tree {
         }
     }
 
-    /// Returns the number of bytes of the file at a path, or 0 if no file is there.
+    /// Returns the number of bytes of the file at a path, or 0 if the path isn't a file.
     #[tactic(auto, unfolding(crate::specs::Tree::node_in))]
     pub(crate) fn size(&self, path: &Path) -> usize
         ensures { result ≡ size_of (node_in path.now self.now) }
@@ -152,8 +152,8 @@ impl Tree {
         }
     }
 
-    /// Returns whether `more` bytes can be written to the file at a path, by the nodes there and at
-    /// the parent.
+    /// Returns whether `more` bytes can be appended to the file at a path, and if not, why. Looks
+    /// only at the path and at its parent.
     pub(crate) fn permit(&self, path: &Path, parent: &Path, more: u64) -> Permit
         ensures { result ≡
             permit_at (node_in path.now self.now) (node_in parent.now self.now) more }
@@ -210,16 +210,16 @@ impl Tree {
     }
 
     /// Returns whether a node of a lawful size can be at a path: its parent is a directory, and it
-    /// isn't at `/dev/null` or below it. Takes the path, because the map can't look up a prefix of
-    /// its names: a look-up needs a whole key. Takes no memory.
+    /// isn't at `/dev/null` or below it. Takes no memory: it shortens the path in place to look its
+    /// parent up.
     fn has_place_for(&self, path: Path) -> bool
         ensures { result ≡ (is_dir (node_in (parent_of path) self.now) && may_exist path) }
     {
         path.may_exist() && self.is_dir(&path.into_parent())
     }
 
-    /// Returns whether the node at a path is lawful there, and nothing is below it unless it is a
-    /// directory. Takes no memory.
+    /// Returns whether the tree is lawful at a path: the node there is lawful, and nothing is below
+    /// it unless it is a directory. Takes no memory.
     #[tactic(auto, unfolding(crate::specs::Tree::node_in))]
     pub(crate) fn keeps_law_at(&self, path: Path) -> bool
         ensures { result ≡ keeps_law_at path self.now }

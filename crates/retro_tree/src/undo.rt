@@ -1,4 +1,4 @@
-//! Undoing of the writes of a commit.
+//! How the writes of a commit are undone.
 ghost use Rattle.std.specs.Prelude.{◌≡◌, true};
 ghost use Rattle.retro_tree.specs.CommitSteps.{undo, can_undo, keeps_law, undone_path};
 
@@ -8,7 +8,7 @@ use crate::state::State;
 use crate::tree::Tree;
 use retro_path::Path;
 
-/// How one write is undone.
+/// What it takes to undo one write of a commit: where it was made, and what was there before.
 #[derive(Drop)]
 pub(crate) enum Undo {
     /// The previous entry of a path.
@@ -22,8 +22,8 @@ pub(crate) enum Undo {
 }
 
 impl Undo {
-    /// Returns whether a tree keeps the law at the path of the write, if it has one. Takes no
-    /// memory.
+    /// Returns whether a tree is lawful at the path of the write. Returns true for a write to a
+    /// session. Takes no memory.
     pub(crate) fn keeps_law(self, tree: &Tree) -> bool
         ensures { result ≡ keeps_law (undone_path self) tree.now }
     {

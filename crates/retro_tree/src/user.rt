@@ -29,7 +29,7 @@ fn split(alloc: Global, bytes: &[u8], separator: u8) -> Result<Vec<&[u8]>, Alloc
     bytes.split(|byte| *byte == separator).collect(alloc)
 }
 
-/// Returns the text of bytes that are UTF-8 without NUL.
+/// Returns bytes as a text, or `None` if they aren't UTF-8 or have a NUL.
 #[tactic(auto, using(crate::proofs::Users::texts))]
 fn plain_text(bytes: &[u8]) -> Option<&str>
     ensures { option_map (λ text. text.now) result ≡ plain_text bytes.now }
@@ -50,7 +50,8 @@ fn are_digits(bytes: &[u8]) -> bool
     bytes.iter().all(|byte| byte.is_ascii_digit())
 }
 
-/// Returns the number that one to ten digits write, if it is at most 4,294,967,295.
+/// Returns the number that one to ten digits write, or `None` if the bytes aren't such digits or
+/// the number is over 4,294,967,295.
 #[tactic(auto, using(crate::proofs::Users::numbers))]
 fn user_number(digits: &[u8]) -> Option<u32>
     ensures { result ≡ user_number digits.now }
@@ -64,7 +65,8 @@ fn user_number(digits: &[u8]) -> Option<u32>
     }
 }
 
-/// Returns the user of these fields, if they are well formed and the login name is `name`.
+/// Returns the user of these fields, or `None` if they aren't well formed or the login name isn't
+/// `name`.
 fn user_of_fields(
     alloc: Global,
     name: &Text,
@@ -88,8 +90,8 @@ fn user_of_fields(
     Ok(Some(User { number, home }))
 }
 
-/// Returns the user of a line, if it is well formed and its login name is `name`. A line has seven
-/// fields, separated by colons.
+/// Returns the user of a line, or `None` if the line isn't well formed or its login name isn't
+/// `name`. A line has seven fields, separated by colons.
 #[tactic(auto, unfolding(crate::specs::User::entry_of_line))]
 fn user_of_line(alloc: Global, name: &Text, line: &[u8]) -> Result<Option<User>, AllocError>
     ensures { IfOk result (λ user. user ≡ named name.now (entry_of_line line.now)) }
@@ -101,7 +103,8 @@ fn user_of_line(alloc: Global, name: &Text, line: &[u8]) -> Result<Option<User>,
     }
 }
 
-/// Returns the user with a login name: that of the first well-formed line that has it.
+/// Returns the user with a login name, from the first well-formed line that has the name. Returns
+/// `None` if no line does.
 #[tactic(auto, unfolding(crate::specs::User::find_user))]
 pub(crate) fn find_user(
     alloc: Global,
