@@ -1,18 +1,18 @@
 //! A view of a state with the notes made over it.
 //!
-//! `Local` asks a view queries and makes changes, and notes each with its value. It answers as the
-//! state after its changes; the view itself never changes. So a computation over a `Local` runs on
-//! any view, and its notes say what it read and wrote.
+//! `Local` makes queries and changes, and notes each with its value. It answers as the state after
+//! its changes, and never changes the view itself. So a computation over a `Local` runs on any
+//! view, and its notes say what it read and wrote.
 //!
 //! What runs over a `Local` has two clauses. `means` gives the result as a function of one state:
 //! in every lawful state in which the new notes hold, the function of the state that the old notes
-//! reach gives the result and the state that the new notes reach. `extends` says that later notes
-//! are added, of one session. The words are defined in `specs/Runs.antt`.
+//! reach gives the result and the state that the new notes reach. `extends` says that notes are
+//! only added, and name no other session. The words are defined in `specs/Runs.antt`.
 //!
 //! `holds` decides whether notes hold in the state of a view. `apply_notes` makes their changes.
 //!
 //! If allocation fails, calls return `AllocError`. A `Local` then has its earlier notes and maybe
-//! some later ones, which hold; other arguments are unchanged.
+//! some later ones, which hold. Other arguments are unchanged.
 #![tactic(auto)]
 
 mod local;

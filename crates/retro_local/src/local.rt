@@ -35,7 +35,8 @@ use retro_tree::{
 use std::alloc::{AllocError, Global};
 use std::marker::Model;
 
-/// A view with the notes made over it. It answers as the view's state after the noted changes.
+/// A view with the notes made over it. It answers queries from the view's state after the noted
+/// changes.
 #[derive(Drop)]
 pub struct Local<'a, V: View> {
     view: &'a V,
@@ -62,7 +63,7 @@ impl<'a, V: View> Model for Local<'a, V> {
 }
 
 impl<'a, V: View> Local<'a, V> {
-    /// Returns a view without notes. Takes no memory.
+    /// Returns a `Local` over a view, without notes. Takes no memory.
     pub fn new(alloc: Global, view: &'a V) -> Self
         ensures { result ≡ record { start = V.state view.now; notes = [] } }
     {
@@ -73,8 +74,8 @@ impl<'a, V: View> Local<'a, V> {
         }
     }
 
-    /// Asks a query of the state after the notes, and notes the answer. If allocation fails, the
-    /// notes are unchanged.
+    /// Answers a query from the state after the notes, and notes the query with its answer. If
+    /// allocation fails, the notes are unchanged.
     #[tactic(auto, using(crate::proofs::Noting::noting))]
     pub fn ask(&mut self, alloc: Global, ask: Ask) -> Result<Answer, AllocError>
         ensures ok { IfOk result (λ r. self.new ≡ noted self.old (Asked ask r)) }
@@ -94,8 +95,8 @@ impl<'a, V: View> Local<'a, V> {
         Ok(answer)
     }
 
-    /// Makes and notes a change, which must keep a lawful state lawful wherever the notes hold. If
-    /// allocation fails, the notes are unchanged.
+    /// Makes and notes a change. The change must keep a lawful state lawful wherever the notes
+    /// hold. If allocation fails, the notes are unchanged.
     #[tactic(auto, using(crate::proofs::Noting::noting))]
     pub fn make(&mut self, alloc: Global, change: Change) -> Result<(), AllocError>
         requires { Always (λ s. may_make change s ≡ true) self.old }
@@ -120,8 +121,9 @@ impl<'a, V: View> Local<'a, V> {
         }
     }
 
-    /// The notes hold in the view's state, and in each lawful state in which they hold, the state
-    /// after them is lawful. Does nothing: callers learn these facts by the call.
+    /// Tells the prover that the notes hold in the view's state, and that in each lawful state in
+    /// which they hold, the state after them is lawful. The function does nothing: its contract is
+    /// what a caller needs.
     #[tactic(auto, using(crate::proofs::Noting::noting))]
     pub fn keeps_law(&self)
         ensures hold { AllHold self.now.notes self.now.start }
@@ -132,7 +134,7 @@ impl<'a, V: View> Local<'a, V> {
     }
 
     /// Returns the notes in the order in which they were made. They hold in the view's state. In
-    /// each lawful state in which they hold, the state after them is lawful, and if they name one
+    /// each lawful state in which they hold, the state after them is lawful. If they name one
     /// session alone, which exists, each change is lawful where it is made.
     #[tactic(auto, using(crate::proofs::Order::both_orders))]
     pub fn into_notes(self, alloc: Global) -> Result<Notes, AllocError>
@@ -159,7 +161,8 @@ impl<'a, V: View> Local<'a, V> {
     }
 }
 
-/// Queries. Each asks one question and returns the answer of the state after the notes.
+/// Queries. Each method makes one query, notes it, and returns the answer of the state after the
+/// notes.
 #[tactic(auto, unfolding(retro_tree::specs::Ask::answer))]
 impl<'a, V: View> Local<'a, V> {
     /// Returns the kind of the node at a path.
@@ -204,7 +207,7 @@ impl<'a, V: View> Local<'a, V> {
         }
     }
 
-    /// Returns whether so many more bytes can be written to the file at a path.
+    /// Returns whether `more` bytes can be appended to the file at a path, and if not, why.
     #[tactic(auto, unfolding(retro_tree::specs::Ask::answer), using(crate::proofs::Passing::clamp))]
     pub fn can_write(
         &mut self,
@@ -280,8 +283,8 @@ impl<'a, V: View> Local<'a, V> {
     }
 }
 
-/// Changes. Each makes one change, which keeps a lawful state lawful if its conditions hold of the
-/// state after the notes, wherever the notes hold.
+/// Changes. Each method makes one change and notes it. The change keeps a lawful state lawful, if
+/// the method's conditions hold of the state after the notes wherever the notes hold.
 #[tactic(auto, unfolding(retro_tree::specs::Change::apply), using(crate::proofs::Passing::passing))]
 impl<'a, V: View> Local<'a, V> {
     /// Puts a file with these bytes at a path that can be written to, except `/dev/null`.
@@ -359,10 +362,10 @@ impl<'a, V: View> Local<'a, V> {
     }
 }
 
-/// The paths that operands name, and what is there.
+/// Paths that operands name, and the nodes there.
 impl<'a, V: View> Local<'a, V> {
-    /// Returns the path that a text names in a session. Asks for the session's directory if the
-    /// path depends on it, and else asks nothing.
+    /// Returns the path that a text names in a session. Queries the session's directory if the path
+    /// depends on it, and otherwise queries nothing.
     #[tactic(auto, using(retro_tree::proofs::Alike::alike))]
     pub fn resolve(&mut self, alloc: Global, sid: u32, text: &str) -> Result<Resolved, AllocError>
         ensures means { IfOk result (λ resolved. Computes self.old self.new
@@ -380,8 +383,8 @@ impl<'a, V: View> Local<'a, V> {
         Ok(resolve(alloc, &cwd, text)?)
     }
 
-    /// Returns the kind of the node at a path. `/dev/null` counts as a file, and nothing is asked
-    /// of it.
+    /// Returns the kind of the node at a path. `/dev/null` counts as a file, and no query is made
+    /// for it.
     #[tactic(auto, unfolding(crate::specs::Kinds::kind_at))]
     pub fn kind_at(&mut self, alloc: Global, path: &Path) -> Result<Kind, AllocError>
         ensures means { IfOk result (λ kind. Computes self.old self.new
@@ -395,7 +398,7 @@ impl<'a, V: View> Local<'a, V> {
     }
 }
 
-/// Returns a number of bytes, or the greatest that a query can have.
+/// Returns a number of bytes, or the greatest number that a query can have if it is greater.
 fn clamp(more: usize) -> u32
     ensures { result ≡ min more 4294967295 }
 {

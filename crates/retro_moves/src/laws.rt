@@ -1,4 +1,5 @@
-//! Laws of removals and moves, as contracts of functions that do nothing.
+//! Laws about removals and moves, for the proofs of crates above. A law is a function without a
+//! body whose contract is the law.
 ghost use Rattle.std.specs.Prelude.{◌≡◌, ℕ, List, false};
 ghost use Rattle.retro_tree.specs.Lawful.{IsLawfulTree};
 ghost use Rattle.retro_tree.specs.Node.{is_dir};
@@ -7,8 +8,8 @@ ghost use Rattle.retro_tree.specs.Tree.{Tree, node_in, put};
 ghost use Rattle.retro_tree.specs.declared.node.Node.TheVariants.{Missing, File};
 ghost use Rattle.retro_moves.specs.Trees.{Apart, moved, without};
 
-/// In a lawful tree, to remove a path that isn't a directory with everything below it is to remove
-/// that path, and to remove a missing path changes nothing.
+/// States that in a lawful tree, removing a path that isn't a directory and everything below it
+/// removes that path alone. Removing a missing path changes nothing.
 #[tactic(auto, using(crate::proofs::MovedFiles::single))]
 pub fn removals_of_files()
     ensures file { (p : PathValue) (tree : Tree)
@@ -18,8 +19,8 @@ pub fn removals_of_files()
         → IsLawfulTree tree → node_in p tree ≡ Missing → without p tree ≡ tree }
 {}
 
-/// In a lawful tree, to move a file to a path that isn't a directory is to put its bytes there and
-/// to remove its old path.
+/// States that in a lawful tree, moving a file to a path that isn't a directory puts its bytes
+/// there and removes its old path.
 #[tactic(auto, using(crate::proofs::MovedFiles::single))]
 pub fn moves_of_files()
     ensures { (p q : PathValue) (bytes : List ℕ) (tree : Tree)

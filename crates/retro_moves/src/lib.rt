@@ -1,7 +1,7 @@
 //! Removing and moving directories with everything below them, over a `Local`.
 //!
 //! `remove` is `rm` of one path, with `-r` or without. `move_dir` is `mv` of a directory, once its
-//! tests have passed. Each asks about one path at a time and puts one node at a time; its clause
+//! tests have passed. Each queries one path at a time and puts one node at a time. Its clause
 //! `means` gives the whole tree after it: without a path, or with a path moved
 //! (`specs/Trees.antt`). `removals_of_files` and `moves_of_files` say what that is for a file.
 //!

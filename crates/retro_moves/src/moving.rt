@@ -16,12 +16,12 @@ use retro_local::Local;
 use retro_tree::{Change, Node, Path, View};
 use std::alloc::{AllocError, Global};
 
-/// Moves a directory with everything below it to another path, in place of what is there: nothing,
-/// or an empty directory.
+/// Moves a directory with everything below it to another path. That path must be missing or an
+/// empty directory, which is replaced.
 ///
-/// Asks the names of the directory and puts it at its new path. Then does so with each path below
-/// it, in the order of names, after asking what it is. Then removes the old paths, from the last to
-/// the first. Asks nothing else.
+/// Queries the names of the directory and puts it at its new path. Then does the same with each
+/// path below it, in the order of names, after querying what it is. Then removes the old paths,
+/// from the last to the first. Makes no other queries.
 pub fn move_dir<V: View>(
     alloc: Global,
     from: &Path,
@@ -35,7 +35,8 @@ pub fn move_dir<V: View>(
         → MoveNotes from.now to.now local.old.notes local.new.notes) }
     ensures extends { ExtendsTree local.old local.new }
 {
-    // `names` says that the names of the new path can be names of files.
+    // For the prover: the contract of `names` says that the names of the new path can be names of
+    // files.
     let _names = to.names();
     let mut paths = copy_tree(alloc, from, to, Node::Dir, local)?;
     while let Some(path) = paths.pop() {
@@ -44,8 +45,8 @@ pub fn move_dir<V: View>(
     Ok(())
 }
 
-/// Puts a node and everything below it at another path, and returns the old paths, each after the
-/// one above it.
+/// Puts a node and everything below it at another path. Returns the old paths, each directory
+/// before the paths below it.
 fn copy_tree<V: View>(
     alloc: Global,
     from: &Path,
@@ -66,7 +67,7 @@ fn copy_tree<V: View>(
     match node {
         Node::Dir => {
             let Some(names) = local.names(alloc, from)? else {
-                // Not in a lawful state, in which a directory has names.
+                // Never reached in a lawful state: a directory has names there.
                 local.keeps_law();
                 return Ok(paths);
             };
@@ -89,7 +90,7 @@ fn copy_tree<V: View>(
     }
 }
 
-/// Puts a node at a path, where `Missing` removes.
+/// Puts a node at a path. `Missing` removes what the path holds.
 #[tactic(auto, unfolding(retro_tree::specs::Change::may_make, retro_tree::specs::Change::apply))]
 fn put<V: View>(
     alloc: Global,

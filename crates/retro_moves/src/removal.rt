@@ -12,10 +12,11 @@ use retro_tree::{Kind, Path, View};
 use std::alloc::{AllocError, Global};
 
 /// Removes what is at a path, and returns the kind of what was there. A directory is removed with
-/// everything below it if `recursive`, and else left unchanged.
+/// everything below it if `recursive` is true, and stays unchanged otherwise.
 ///
-/// Asks the kind of the path. If it is a directory and `recursive`, asks its names, removes each
-/// child likewise in the order of names, and then the directory. Asks nothing else.
+/// Queries the kind of the path. If it is a directory and `recursive` is true, queries its names,
+/// removes each child in the same way in the order of names, and then removes the directory. Makes
+/// no other queries.
 pub fn remove<V: View>(
     alloc: Global,
     recursive: bool,
@@ -36,7 +37,7 @@ pub fn remove<V: View>(
     }
 }
 
-/// Removes the file at a path, and returns the kind of what was there. A directory stays.
+/// Removes the file at a path, and returns the kind of what was there. A directory stays unchanged.
 fn remove_file<V: View>(
     alloc: Global,
     path: &Path,
@@ -60,8 +61,8 @@ fn remove_file<V: View>(
 
 /// Removes a path and everything below it, and returns the kind of what was there.
 ///
-/// Asks the kind of the path. If it is a directory, asks its names, removes each child likewise in
-/// the order of names, and then the directory. Asks nothing else.
+/// Queries the kind of the path. If it is a directory, queries its names, removes each child in the
+/// same way in the order of names, and then removes the directory. Makes no other queries.
 fn remove_tree<V: View>(
     alloc: Global,
     path: &Path,

@@ -115,7 +115,7 @@ impl Path {
         Ok(())
     }
 
-    /// Returns the prefixes of this path but the root, from the shortest to the path itself.
+    /// Returns the prefixes of this path without the root, from the shortest to the path itself.
     pub fn prefixes(&self, alloc: Global) -> Result<Vec<Path>, AllocError>
         ensures { IfOk result (λ prefixes. prefixes.items ≡ prefixes_of self.now) }
     {
@@ -145,7 +145,7 @@ impl Path {
         }
     }
 
-    /// Returns whether this path is `parent` and one more name.
+    /// Returns whether this path is `parent` followed by one more name.
     pub fn is_child_of(&self, parent: &Path) -> bool
         ensures { result ≡ is_child parent.now self.now }
     {

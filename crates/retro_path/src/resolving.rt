@@ -39,7 +39,8 @@ fn has_long(parts: &[&str]) -> bool
     false
 }
 
-/// Returns where resolution starts: the root if the text begins with a slash, else the directory.
+/// Returns where resolution starts: at the root if the text begins with a slash, and at `cwd`
+/// otherwise.
 fn start_of(alloc: Global, cwd: &Path, text: &str) -> Result<Path, AllocError>
     ensures { IfOk result (λ start. start ≡ start_of cwd.now text.now) }
 {
@@ -49,7 +50,7 @@ fn start_of(alloc: Global, cwd: &Path, text: &str) -> Result<Path, AllocError>
     }
 }
 
-/// Returns the path that is reached from `start` by the parts.
+/// Returns the path that is reached from `start` by following the parts of a text.
 fn walk(alloc: Global, start: Path, parts: &[&str]) -> Result<Path, AllocError>
     ensures { IfOk result (λ path. path ≡ walk start (map (λ part. part.now) parts.now)) }
 {
@@ -95,7 +96,7 @@ pub fn is_relative(alloc: Global, text: &str) -> Result<bool, AllocError>
     }
 }
 
-/// A text that isn't relative resolves alike in every directory.
+/// States that a text that isn't relative resolves to the same path in every directory.
 #[tactic(auto, using(crate::proofs::Alike::resolve_alike))]
 pub fn resolve_ignores_the_directory()
     ensures { (p q : PathValue) (text : List ℕ)

@@ -1,4 +1,4 @@
-//! Texts, which contracts see as lists of bytes.
+//! Texts.
 ghost use Rattle.std.specs.Prelude.{◌≡◌, IfOk, string_bytes};
 
 use std::alloc::AllocError;

@@ -30,7 +30,7 @@ impl Model for VarName {
     ghost inverse = { λ v. record { text = v } };
 }
 
-/// Returns whether each byte can follow in a name.
+/// Returns whether each byte can follow the first one in a name.
 fn all_continue(bytes: &[u8]) -> bool
     ensures { result ≡ list_all continues_name bytes.now }
 {

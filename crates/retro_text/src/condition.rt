@@ -14,16 +14,17 @@ pub enum PathTest {
     IsDir,
 }
 
-/// The condition that the operands of `test` are.
+/// A condition that the operands of `test` make.
 #[derive(Clone, Copy, Debug, Drop)]
 pub enum Condition<'a> {
-    /// It holds, or it doesn't, whatever files exist.
+    /// A condition that doesn't depend on files, and whether it holds.
     Known(bool),
-    /// It holds if the path that a text names passes a test.
+    /// A condition that holds if the path that a text names passes a test.
     Path(PathTest, &'a str),
 }
 
-/// Returns the condition of an operator and its operand.
+/// Returns the condition that an operator and its operand make, or `None` if the operator isn't
+/// one.
 #[tactic(auto, unfolding(crate::specs::Condition::unary))]
 fn unary<'a>(operator: &str, operand: &'a str) -> Option<Condition<'a>>
     ensures { option_map condition_view result ≡ unary operator.now operand.entry.now }
@@ -51,7 +52,7 @@ fn binary(left: &str, operator: &str, right: &str) -> Option<bool>
 }
 
 impl<'a> Condition<'a> {
-    /// Returns the condition that the operands of `test` are, or `None` if they aren't one.
+    /// Returns the condition that the operands of `test` make, or `None` if they don't make one.
     #[tactic(auto, unfolding(crate::specs::Condition::condition_in))]
     pub fn of(operands: &'a [String]) -> Option<Condition<'a>>
         ensures { option_map condition_view result
@@ -70,7 +71,7 @@ impl<'a> Condition<'a> {
     }
 }
 
-/// Returns the operands before a last operand `]`, or `None` if the last one is another.
+/// Returns the operands before the last one if that is `]`, and `None` otherwise.
 #[tactic(auto, unfolding(crate::specs::Condition::before_bracket))]
 pub fn before_bracket(operands: &[String]) -> Option<&[String]>
     ensures { option_map (λ r. map string_bytes r.now) result

@@ -30,7 +30,7 @@ pub enum Cut {
         spans: Spans,
         /// The byte that separates fields.
         delimiter: u8,
-        /// Whether lines without the delimiter are dropped. If not, they are left whole.
+        /// Whether lines without the delimiter are dropped. Otherwise they are left whole.
         only_delimited: bool,
     },
 }
@@ -62,7 +62,7 @@ fn push_bytes(out: &mut Vec<u8>, spans: &Spans, line: &[u8]) -> Result<(), Alloc
     Ok(())
 }
 
-/// Appends a field, and before it a delimiter if it isn't the first.
+/// Appends a field, after a delimiter if it isn't the first one.
 fn push_field(
     out: &mut Vec<u8>,
     delimiter: u8,

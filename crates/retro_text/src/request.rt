@@ -29,8 +29,8 @@ impl<'a> Model for Request<'a> {
     ghost view = { λ a. request a.options.items (map string_bytes a.operands.now) };
 }
 
-/// Appends the options of the letters that follow a dash. Returns the letter whose argument is the
-/// next field, if there is one.
+/// Appends the options of the letters that follow a dash. Returns the last letter if its argument
+/// is the next field, and `None` otherwise.
 #[tactic(auto, using(crate::proofs::GroupLemmas::group_steps))]
 fn push_group<'a>(
     known: &KnownLetters,

@@ -57,7 +57,7 @@ fn is_part(pattern: &[u8], line: &[u8]) -> bool
     memmem::find(line, pattern).is_some()
 }
 
-/// Returns whether a pattern is part of a line, or under `-x` equals it.
+/// Returns whether a line has a pattern as a part, or if `whole` (`-x`) equals it.
 fn is_match(whole: bool, pattern: &[u8], line: &[u8]) -> bool
     ensures { result ≡ is_match whole line.now pattern.now }
 {
@@ -68,7 +68,7 @@ fn is_match(whole: bool, pattern: &[u8], line: &[u8]) -> bool
     }
 }
 
-/// Returns a number after a label, and a newline.
+/// Returns a label followed by a number and a newline.
 fn count_text(alloc: Global, label: &[u8], count: usize) -> Result<Bytes, AllocError>
     ensures { IfOk result (λ text. text ≡ label.now ++ decimal count ++ newline ∷ []) }
 {
@@ -112,7 +112,7 @@ impl<'a> Search<'a> {
         self.quiet
     }
 
-    /// Returns whether one of the patterns is part of a line, or under `-x` equals it.
+    /// Returns whether a line has one of the patterns as a part, or under `-x` equals one.
     fn matches(&self, line: &[u8]) -> bool
         ensures { result ≡ matches self.now line.now }
     {
@@ -154,7 +154,7 @@ impl<'a> Search<'a> {
         count
     }
 
-    /// Returns the selected lines of a text, each after the label and with a newline.
+    /// Returns the selected lines of a text. Each follows the label and ends with a newline.
     #[tactic(auto, using(crate::proofs::SearchLemmas::labelling))]
     fn selected_text(&self, alloc: Global, label: &[u8], text: &[u8]) -> Result<Bytes, AllocError>
         ensures { IfOk result (λ out. out
@@ -213,8 +213,8 @@ impl<'a> Search<'a> {
     }
 }
 
-/// Returns what precedes each line of an operand's output, if there are at least two operands: the
-/// operand and a colon. The operand `-` is called `(standard input)`.
+/// Returns the label that precedes each line of an operand's output: the operand and a colon. The
+/// operand `-` is called `(standard input)`. The label is empty if there is only one operand.
 pub fn label(alloc: Global, several: bool, operand: &str) -> Result<Bytes, AllocError>
     ensures { IfOk result (λ label. label ≡ label_of several operand.now) }
 {

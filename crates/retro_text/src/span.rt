@@ -23,7 +23,8 @@ fn are_digits(bytes: &[u8]) -> bool
     bytes.iter().all(|byte| byte.is_ascii_digit())
 }
 
-/// Returns the index of the position that one to nine digits write, if it is at least 1.
+/// Returns the index of the position that one to nine digits write, or `None` if the text isn't
+/// such digits or the position is 0.
 #[tactic(auto, using(crate::proofs::NumberLemmas::numbers))]
 fn index_of(text: &[u8]) -> Option<u32>
     ensures { result ≡ index_in text.now }
@@ -35,7 +36,7 @@ fn index_of(text: &[u8]) -> Option<u32>
     position.checked_sub(1)
 }
 
-/// Returns the span of the texts before and after a dash.
+/// Returns the span of the texts before and after a dash, or `None` if they make none.
 #[tactic(auto, unfolding(crate::specs::Spans::span_between))]
 fn span_between(from: &[u8], to: &[u8]) -> Option<Span>
     ensures { result ≡ span_between from.now to.now }
@@ -65,7 +66,7 @@ fn span_between(from: &[u8], to: &[u8]) -> Option<Span>
     }
 }
 
-/// Returns the index of the first dash in a text.
+/// Returns the index of the first dash in a text, or `None` if it has none.
 fn dash_in(text: &[u8]) -> Option<usize>
     ensures { result ≡ position (λ b. b == dash) text.now }
 {
@@ -74,7 +75,7 @@ fn dash_in(text: &[u8]) -> Option<usize>
 
 impl Span {
     /// Reads a span that is written as `N`, `N-M`, `N-` or `-M`. `N` and `M` are positions, counted
-    /// from 1, of one to nine digits, and `N` is at most `M`.
+    /// from 1, of one to nine digits, and `N` is at most `M`. Returns `None` for another text.
     #[tactic(auto, unfolding(crate::specs::Spans::span_in))]
     pub(crate) fn of(text: &[u8]) -> Option<Span>
         ensures { result ≡ span_in text.now }
