@@ -13,7 +13,7 @@ use retro_tree::{NoMem, Text, VALUE_LIMIT, VarName, View};
 use retro_utils::{Done, Local, Place};
 use std::alloc::Global;
 
-/// Sets a variable to a value within the limit, unless in a subshell.
+/// Sets a variable to a value within the limit. Changes nothing in a subshell.
 fn set<V: View>(
     alloc: Global,
     place: Place,
@@ -32,7 +32,7 @@ fn set<V: View>(
     local.set_var(alloc, place.sid, name.copy()?, value)
 }
 
-/// Makes assignments from left to right. A value over the limit ends them.
+/// Makes assignments from left to right, up to the first value over the limit.
 pub(crate) fn assign<V: View>(
     alloc: Global,
     context: Context,

@@ -9,7 +9,7 @@ use retro_tree::{NoMem, View};
 use retro_utils::{Done, Input, Local, Place, utility};
 use std::alloc::Global;
 
-/// Returns the result of a name that is no utility's.
+/// Returns the result of a command whose name is not that of a utility.
 fn not_found(alloc: Global, name: &str) -> Result<Done, NoMem>
     ensures { IfOk result (λ done.
         done ≡ Outcomes.refusal (name.now ++ codes ": not found") 127) }

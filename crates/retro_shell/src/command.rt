@@ -37,7 +37,7 @@ pub(crate) fn run_commands<V: View>(
     Ok(run_and_or(alloc, sid, &commands.last, execution)?)
 }
 
-/// Runs an and-or list: the status so far says whether the next pipeline runs.
+/// Runs an and-or list. The status so far decides whether the next pipeline runs.
 #[cycle(run)]
 fn run_and_or<V: View>(
     alloc: Global,
@@ -105,8 +105,7 @@ fn run_command<V: View>(
     }
 }
 
-/// Runs an `if`, with the list after its `else`, if it has one. Without a branch that runs, the
-/// status is 0.
+/// Runs an `if`, with the list after its `else`, if it has one. If no branch runs, the status is 0.
 #[cycle(run)]
 fn run_if<V: View>(
     alloc: Global,
@@ -166,7 +165,7 @@ fn run_for<V: View>(
     Ok(run_turns(alloc, sid, parts, &fields, execution)?)
 }
 
-/// Runs the body of a `for` for each field. A field over the limit of values ends the loop.
+/// Runs the body of a `for` for each field, up to the first field over the limit of values.
 #[cycle(run)]
 fn run_turns<V: View>(
     alloc: Global,

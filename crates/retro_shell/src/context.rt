@@ -1,8 +1,8 @@
-//! What a command's words and utility depend on, beside the state.
+//! What a command depends on beside the state.
 
 use retro_utils::Place;
 
-/// What a command's words and utility depend on, beside the state.
+/// What the words and the utility of a command depend on beside the state.
 #[derive(Clone, Copy, Debug, PartialEq, Eq)]
 pub(crate) struct Context {
     /// The session, and whether the command runs in a subshell.

@@ -16,7 +16,8 @@ use retro_tree::{NoMem, Text, VarName, View};
 use retro_utils::Local;
 use std::alloc::Global;
 
-/// Returns the home directory that a tilde prefix names: the value of HOME for an empty login name.
+/// Returns the home directory that a tilde prefix names. For an empty login name this is the value
+/// of HOME.
 #[tactic(auto, unfolding(crate::specs::Expansion::home))]
 fn home<V: View>(
     alloc: Global,
@@ -233,7 +234,7 @@ fn push_pieces<V: View>(
     Ok(())
 }
 
-/// Returns the one text of pieces with a tilde prefix, if they have one.
+/// Returns the one text of pieces, which may have a tilde prefix.
 fn single<V: View>(
     alloc: Global,
     context: Context,

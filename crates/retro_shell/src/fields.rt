@@ -1,4 +1,4 @@
-//! Fields in the making (XCU 2.6.5).
+//! Fields while words are expanded (XCU 2.6.5).
 ghost use Rattle.std.specs.Prelude.{◌≡◌, ◌≢◌, ◌+◌, OnOk, length, map, option_map, string_bytes};
 ghost use Rattle.std.specs.Str.{IsCharBoundary};
 ghost use Rattle.retro_shell.specs.Fields as Making;
@@ -11,7 +11,7 @@ use std::marker::Model;
 /// The maximum size of a command's fields together, in bytes.
 const FIELDS_LIMIT: usize = 131_072;
 
-/// The fields that have ended, and the one that is still open, if there is one.
+/// The fields that have ended, and the open field, if there is one.
 #[derive(Drop)]
 pub(crate) struct Fields {
     ended: Vec<String>,
@@ -78,7 +78,7 @@ impl Fields {
         Ok(())
     }
 
-    /// Appends a text of which each run of blanks ends the open field.
+    /// Appends a text. Each run of blanks in it ends the open field.
     #[tactic(auto, using(crate::proofs::FieldLemmas::splitting))]
     pub(crate) fn add_split(&mut self, alloc: Global, text: &str) -> Result<(), NoMem>
         ensures { OnOk result (self.new ≡ Making.add_split text.now self.old) }
@@ -145,7 +145,7 @@ fn split_at_blank(text: &str) -> (&str, Option<&str>)
     (text.split_at(length).0, Some(text.split_at(length + 1).1))
 }
 
-/// Returns whether fields keep the limit on their size.
+/// Returns whether the size of fields is within the limit.
 #[tactic(auto, using(crate::proofs::FieldLemmas::sizes))]
 pub(crate) fn fields_fit(fields: &[String]) -> bool
     ensures { result ≡ fields_fit (map string_bytes fields.now) }

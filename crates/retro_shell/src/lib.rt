@@ -2,11 +2,11 @@
 //!
 //! The meaning of a line is a definition on whole states (`specs/Line.antt`). [`run_line`] runs a
 //! line over a view and returns a [`Run`]: the line, the notes of what it read and changed, and its
-//! output. The type keeps that the notes certify the line: in every lawful state with the session
-//! in which they hold, the line means just their changes and that output. So a run over any view
-//! counts wherever its notes hold.
+//! output. The type guarantees that the notes certify the line. In every lawful state that has the
+//! session and in which the notes hold, the line makes just their changes and prints that output.
+//! So a run over any view counts wherever its notes hold.
 //!
-//! [`play`] runs a line on a copy of a state, and [`step`] changes a state in place.
+//! [`step`] runs a line and changes a state in place. [`play`] does so on a copy of a state.
 //!
 //! The only error is a failed allocation, `NoMem`. Arguments are then unchanged.
 #![tactic(auto)]

@@ -16,7 +16,7 @@ use retro_tree::{Bytes, NoMem, State, Text, View};
 use retro_utils::{Local, apply_notes};
 use std::alloc::Global;
 
-/// Executes a line, which is `None` for a text outside the grammar.
+/// Executes a line. `None` stands for a text outside the grammar.
 fn execute<'a, V: View>(
     alloc: Global,
     view: &'a V,
@@ -71,10 +71,6 @@ pub fn run_parsed<V: View>(alloc: Global, view: &V, sid: u32, parsed: &Parsed) -
 ///
 /// A text outside the grammar prints `sh: unsupported line` and has status 2. A blank line reads
 /// and changes nothing. The last note of every other line sets the session's status.
-///
-/// # Errors
-///
-/// `NoMem` if allocation fails.
 pub fn run_line<V: View>(alloc: Global, view: &V, sid: u32, text: &str) -> Result<Run, NoMem>
     ensures sid { IfOk result (λ run. run.sid ≡ sid) }
     ensures text { IfOk result (λ run. run.text ≡ text.now) }
@@ -90,10 +86,6 @@ pub fn run_line<V: View>(alloc: Global, view: &V, sid: u32, text: &str) -> Resul
 
 /// Runs a line of a session in a state, and returns the text that the terminal gets. Copies only
 /// what the line changes.
-///
-/// # Errors
-///
-/// `NoMem` if allocation fails. The state is then unchanged.
 #[tactic(auto, using(crate::proofs::Sessions::after_notes))]
 pub fn step(alloc: Global, state: &mut State, sid: u32, text: &str) -> Result<Bytes, NoMem>
     requires lawful { IsLawful state.old }
@@ -111,10 +103,6 @@ pub fn step(alloc: Global, state: &mut State, sid: u32, text: &str) -> Result<By
 
 /// Runs a line of a session as [`step`] does, on a copy of the state. Returns the state after it,
 /// and the text that the terminal gets.
-///
-/// # Errors
-///
-/// `NoMem` if allocation fails.
 pub fn play(alloc: Global, state: &State, sid: u32, text: &str) -> Result<(State, Bytes), NoMem>
     requires lawful { IsLawful state.now }
     requires session { IsTrue (map.contains_key state.now.sessions sid) }

@@ -49,7 +49,7 @@ fn is_several(commands: &[Simple]) -> bool
     }
 }
 
-/// Runs a pipe. Each of two commands or more runs in a subshell.
+/// Runs a pipe. If it has two commands or more, each runs in a subshell.
 #[tactic(auto, unfolding(crate::specs::Commands::pipe))]
 pub(crate) fn run_pipe<V: View>(
     alloc: Global,

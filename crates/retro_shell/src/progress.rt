@@ -1,4 +1,4 @@
-//! What a line has printed so far, and the status of its last pipeline.
+//! The progress of a line.
 ghost use Rattle.std.specs.Prelude.{◌≡◌, if◌then◌else◌, OnOk};
 ghost use Rattle.retro_shell.specs.Commands as Commands;
 
@@ -28,7 +28,7 @@ impl Progress {
         }
     }
 
-    /// Returns the status of the last pipeline, or 0.
+    /// Returns the status of the last pipeline, or 0 if none has completed.
     pub(crate) fn status(&self) -> u8
         ensures { result ≡ Commands.status_of self.now }
     {
@@ -59,7 +59,7 @@ impl Progress {
         self.last = Some(status);
     }
 
-    /// Sets the status to 1 if it is 0, and else to 0.
+    /// Sets the status to 1 if it is 0, and to 0 otherwise.
     pub(crate) fn negate(&mut self)
         ensures { self.new
             ≡ Commands.with_status (if Commands.succeeded self.old then 1 else 0) self.old }
@@ -83,7 +83,7 @@ impl Progress {
         Ok(())
     }
 
-    /// Prints what the last command of a pipe left, and sets its status.
+    /// Prints what the last command of a pipe left, and sets the status to the command's.
     pub(crate) fn complete(&mut self, done: Done) -> Result<(), NoMem>
         ensures { OnOk result (self.new ≡ Commands.completed done self.old) }
     {

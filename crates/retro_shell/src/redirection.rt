@@ -23,7 +23,8 @@ struct Redirection {
     word: Text,
 }
 
-/// Reads from the file at a path, which a word named, if a file is there.
+/// Makes the file at a path the input, if the path is a file. Otherwise returns the result of a
+/// command that doesn't run.
 fn read_from(
     alloc: Global,
     word: &Text,

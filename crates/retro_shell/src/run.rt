@@ -7,9 +7,10 @@ use std::marker::Model;
 
 /// A line of a session, with the notes and the output of its execution.
 ///
-/// In every lawful state that has the session and in which the notes hold, each noted change is
-/// lawful where it is made, and the line gives the state after the notes and this output. The notes
-/// name no session but the line's. The type keeps this, and each reader ensures it.
+/// The type guarantees that the notes certify the line. In every lawful state that has the session
+/// and in which the notes hold, each noted change is lawful where it is made, and the line makes
+/// the noted changes and prints this output. The notes name no session but the line's. Each method
+/// that reads a part states this guarantee.
 #[derive(Drop)]
 pub struct Run {
     sid: u32,
@@ -56,7 +57,7 @@ impl Run {
         }
     }
 
-    /// The number of the session.
+    /// Returns the number of the session.
     pub fn sid(&self) -> u32
         ensures value { result ≡ self.now.sid }
         ensures run { IsRun self.now }
@@ -64,7 +65,7 @@ impl Run {
         self.sid
     }
 
-    /// The line.
+    /// Returns the line.
     pub fn text(&self) -> &str
         ensures value { result.now ≡ self.now.text }
         ensures run { IsRun self.now }
@@ -72,7 +73,7 @@ impl Run {
         self.text.as_str()
     }
 
-    /// What the execution read and changed.
+    /// Returns what the execution read and changed.
     pub fn notes(&self) -> &Notes
         ensures value { result.now ≡ self.now.notes }
         ensures run { IsRun self.now }
@@ -80,7 +81,7 @@ impl Run {
         &self.notes
     }
 
-    /// What the line printed.
+    /// Returns what the line printed.
     pub fn output(&self) -> &Bytes
         ensures value { result.now ≡ self.now.output }
         ensures run { IsRun self.now }
@@ -88,7 +89,7 @@ impl Run {
         &self.output
     }
 
-    /// The line, the notes and the output. Takes no memory.
+    /// Returns the line, the notes and the output. Takes no memory.
     pub fn into_parts(self) -> (Text, Notes, Bytes)
         ensures text { result.0 ≡ self.text }
         ensures notes { result.1 ≡ self.notes }

@@ -51,7 +51,7 @@ fn run_items<V: View>(
     }
 }
 
-/// Runs a simple command with its input. The output of the result is what isn't redirected.
+/// Runs a simple command with its input. The output in the result is what isn't redirected.
 #[tactic(auto, unfolding(crate::specs::Simple::simple))]
 pub(crate) fn run_simple<V: View>(
     alloc: Global,

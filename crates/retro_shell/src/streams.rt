@@ -1,4 +1,4 @@
-//! Where a command reads and writes.
+//! The streams of a command.
 
 use crate::target::Target;
 use retro_utils::Input;

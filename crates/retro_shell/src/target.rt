@@ -17,8 +17,8 @@ pub(crate) enum Target {
 }
 
 impl Target {
-    /// Delivers the output of a command to its file, if it has one. What is left of the output is
-    /// for the pipe or the terminal.
+    /// Delivers the output of a command to its file, if it has one. The output that is left is for
+    /// the pipe or the terminal.
     #[tactic(auto, unfolding(crate::specs::Redirections::delivery))]
     pub(crate) fn deliver<V: View>(
         self,

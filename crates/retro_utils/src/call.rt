@@ -65,8 +65,8 @@ fn run<V: View>(
     }
 }
 
-/// Runs the utility with this name on the fields after it. Returns `None` if no utility has the
-/// name, and then the notes are unchanged.
+/// Runs the utility with the given name on the fields after the name. Returns `None` if no utility
+/// has the name, and then the notes are unchanged.
 #[tactic(auto, unfolding(crate::specs::Utility::utility))]
 pub fn utility<V: View>(
     alloc: Global,

@@ -1,4 +1,4 @@
-//! What utilities leave.
+//! Results of utilities.
 ghost use Rattle.std.specs.Prelude.{◌≡◌, IfOk, OnOk};
 ghost use Rattle.retro_utils.specs.Outcomes.{nothing_done, usage, with_fault, with_outcome};
 ghost use Rattle.retro_utils.specs.Outcomes.{with_output, with_reading};
@@ -10,7 +10,7 @@ use retro_text::usage_text;
 use retro_tree::Bytes;
 use std::alloc::{AllocError, Global};
 
-/// What a utility leaves.
+/// The result of a utility.
 #[derive(Drop)]
 pub struct Done {
     /// The output.
@@ -33,7 +33,7 @@ impl Done {
         }
     }
 
-    /// Returns the result of a use outside a utility's forms.
+    /// Returns the result of a utility whose fields aren't a form of its synopsis.
     pub(crate) fn usage(alloc: Global, name: &str) -> Result<Done, AllocError>
         ensures { IfOk result (λ done. done ≡ usage name.now) }
     {

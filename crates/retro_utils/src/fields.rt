@@ -1,4 +1,4 @@
-//! Utilities on the fields after their names.
+//! The utilities, run on the fields after their names.
 ghost use Rattle.std.specs.Prelude.{◌≡◌, IfOk, map, option_map, string_bytes};
 ghost use Rattle.retro_local.specs.Runs.{Computes, Extends, ExtendsTree};
 ghost use Rattle.retro_utils.specs.Calls.{cat_call, cd_call, cp_call, echo, id_call, mkdir_call};
@@ -26,7 +26,7 @@ use retro_text::{Request, echo_text};
 use retro_tree::View;
 use std::alloc::{AllocError, Global};
 
-/// `echo [-n] [text..]`: the fields, with a space between each two, and a newline.
+/// Runs `echo [-n] [text..]`: prints the fields, with a space between each two, and a newline.
 pub(crate) fn run_echo(alloc: Global, fields: &[String]) -> Result<Done, AllocError>
     ensures { IfOk result (λ done. done ≡ echo (map string_bytes fields.now)) }
 {
@@ -35,7 +35,7 @@ pub(crate) fn run_echo(alloc: Global, fields: &[String]) -> Result<Done, AllocEr
     Ok(done)
 }
 
-/// `pwd`.
+/// Runs `pwd`.
 #[tactic(auto, unfolding(crate::specs::Calls::pwd_call))]
 pub(crate) fn run_pwd<V: View>(
     alloc: Global,
@@ -53,7 +53,7 @@ pub(crate) fn run_pwd<V: View>(
     }
 }
 
-/// `cd [dir]`.
+/// Runs `cd [dir]`.
 #[tactic(auto, unfolding(crate::specs::Calls::cd_call))]
 pub(crate) fn run_cd<V: View>(
     alloc: Global,
@@ -71,7 +71,7 @@ pub(crate) fn run_cd<V: View>(
     }
 }
 
-/// `id -u name`.
+/// Runs `id -u name`.
 #[tactic(auto, unfolding(crate::specs::Calls::id_call))]
 pub(crate) fn run_id<V: View>(
     alloc: Global,
@@ -88,7 +88,7 @@ pub(crate) fn run_id<V: View>(
     }
 }
 
-/// `cat [-u] [file..]`. `-u` changes nothing.
+/// Runs `cat [-u] [file..]`. `-u` changes nothing.
 #[tactic(auto, unfolding(crate::specs::Calls::cat_call))]
 pub(crate) fn run_cat<V: View>(
     alloc: Global,
@@ -118,7 +118,7 @@ fn tee_mode(request: &Request) -> Mode
     }
 }
 
-/// `tee [-a] [file..]`.
+/// Runs `tee [-a] [file..]`.
 #[tactic(auto, unfolding(crate::specs::Calls::tee_call))]
 pub(crate) fn run_tee<V: View>(
     alloc: Global,
@@ -143,7 +143,7 @@ pub(crate) fn run_tee<V: View>(
     }
 }
 
-/// `mkdir [-p] dir..`.
+/// Runs `mkdir [-p] dir..`.
 #[tactic(auto, unfolding(crate::specs::Calls::mkdir_call))]
 pub(crate) fn run_mkdir<V: View>(
     alloc: Global,
@@ -167,7 +167,7 @@ pub(crate) fn run_mkdir<V: View>(
     }
 }
 
-/// Returns how `rm` removes.
+/// Returns how `rm` removes, by its options.
 fn removal(request: &Request) -> Removal
     ensures { result ≡ removal request.now.options }
 {
@@ -177,7 +177,7 @@ fn removal(request: &Request) -> Removal
     }
 }
 
-/// `rm [-frR] file..`.
+/// Runs `rm [-frR] file..`.
 #[tactic(auto, unfolding(crate::specs::Calls::rm_call))]
 pub(crate) fn run_rm<V: View>(
     alloc: Global,
@@ -198,7 +198,7 @@ pub(crate) fn run_rm<V: View>(
     }
 }
 
-/// Returns the last operand, and those before it.
+/// Returns the last operand and those before it, or `None` if there is no operand.
 #[tactic(auto, using(crate::proofs::Splitting::splitting))]
 fn split_last(operands: &[String]) -> Option<(&str, &[String])>
     ensures { option_map (λ r. (r.0.now, map string_bytes r.1.now)) result
@@ -210,7 +210,7 @@ fn split_last(operands: &[String]) -> Option<(&str, &[String])>
     }
 }
 
-/// `cp source target` and `cp source.. dir`.
+/// Runs `cp source target` or `cp source.. dir`.
 #[tactic(auto, unfolding(crate::specs::Calls::cp_call))]
 pub(crate) fn run_cp<V: View>(
     alloc: Global,
@@ -231,7 +231,7 @@ pub(crate) fn run_cp<V: View>(
     }
 }
 
-/// `mv [-f] source target` and `mv [-f] source.. dir`. `-f` changes nothing.
+/// Runs `mv [-f] source target` or `mv [-f] source.. dir`. `-f` changes nothing.
 #[tactic(auto, unfolding(crate::specs::Calls::mv_call))]
 pub(crate) fn run_mv<V: View>(
     alloc: Global,

@@ -16,7 +16,8 @@ pub enum Input {
     Empty,
     /// These bytes.
     Bytes(Bytes),
-    /// The file at a path when it is read, or nothing if it is no file then.
+    /// The file at a path at the time of reading. If the path isn't a file then, the input is
+    /// empty.
     File(Path),
 }
 

@@ -5,6 +5,6 @@
 pub enum Mode {
     /// Empties it (`>`).
     Truncate,
-    /// Leaves it (`>>`).
+    /// Leaves it unchanged (`>>`).
     Append,
 }

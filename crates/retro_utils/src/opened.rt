@@ -8,7 +8,7 @@ use crate::reason::Reason;
 use retro_tree::Path;
 use std::alloc::{AllocError, Global};
 
-/// The files that are open, and the faults on the other operands.
+/// The files that are open, and the faults of the other operands.
 #[derive(Drop)]
 pub(crate) struct Opened<'a> {
     /// Each operand with its path.
@@ -28,7 +28,7 @@ impl<'a> Opened<'a> {
         }
     }
 
-    /// Adds the file that an operand names, or the fault on the operand.
+    /// Adds the file that an operand names, or the fault of the operand.
     pub(crate) fn add(
         &mut self,
         operand: &'a str,

@@ -1,4 +1,4 @@
-//! The paths that operands name, and what they give to read.
+//! The paths that operands name, and the bytes that are read from there.
 ghost use Rattle.std.specs.Prelude.{◌≡◌, IfOk};
 ghost use Rattle.retro_local.specs.Runs.{Computes, Extends, ExtendsTree};
 ghost use Rattle.retro_utils.specs.Operands.{located};
@@ -29,7 +29,8 @@ pub fn locate<V: View>(
     }
 }
 
-/// Returns the bytes of the file at a path. `/dev/null` is empty, and nothing is asked of it.
+/// Returns the bytes of the file at a path, or the reason why it can't be read. `/dev/null` is
+/// empty, and no query is made for it.
 #[tactic(auto, unfolding(crate::specs::Reading::path_reading))]
 pub(crate) fn read_path<V: View>(
     alloc: Global,
@@ -50,7 +51,7 @@ pub(crate) fn read_path<V: View>(
     }
 }
 
-/// Returns the bytes of the file that an operand names.
+/// Returns the bytes of the file that an operand names, or the reason why it can't be read.
 #[tactic(auto, unfolding(crate::specs::Reading::reading))]
 pub(crate) fn read_operand<V: View>(
     alloc: Global,
@@ -68,7 +69,8 @@ pub(crate) fn read_operand<V: View>(
     }
 }
 
-/// Returns the bytes of the file that an operand names, or of standard input for `-`.
+/// Returns the bytes of the file that an operand names, or the reason why it can't be read. For `-`
+/// reads standard input.
 #[tactic(auto, unfolding(crate::specs::Reading::source, crate::specs::Reading::input_after))]
 pub(crate) fn read_source<V: View>(
     alloc: Global,

@@ -12,7 +12,7 @@ use retro_local::Local;
 use retro_tree::{Bytes, Path, View};
 use std::alloc::{AllocError, Global};
 
-/// Creates a file if it is missing. `Truncate` empties it.
+/// Creates a file if it is missing. Empties it in the mode `Truncate`.
 fn prepare<V: View>(
     alloc: Global,
     mode: Mode,
@@ -30,7 +30,7 @@ fn prepare<V: View>(
     }
 }
 
-/// Opens a file for output, as `>` and `>>` do. Nothing is asked of `/dev/null`.
+/// Opens a file for output, as `>` and `>>` do. Makes no query for `/dev/null`.
 #[tactic(auto, unfolding(crate::specs::Output::opened), using(crate::proofs::Facts::granted))]
 pub fn open<V: View>(
     alloc: Global,
@@ -54,7 +54,7 @@ pub fn open<V: View>(
     }
 }
 
-/// Appends bytes to an open file. `/dev/null` discards them, and nothing is asked of it.
+/// Appends bytes to an open file. `/dev/null` discards them, and no query is made for it.
 #[tactic(auto, unfolding(crate::specs::Output::appended), using(crate::proofs::Facts::granted))]
 pub fn append<V: View>(
     alloc: Global,

@@ -10,7 +10,7 @@ use retro_text::PathTest;
 use retro_tree::{Kind, Path, View};
 use std::alloc::{AllocError, Global};
 
-/// Returns whether a node of a kind passes.
+/// Returns whether a node of the given kind passes.
 fn kind_passes(test: PathTest, kind: Kind) -> bool
     ensures { result ≡ kind_passes test kind }
 {
@@ -34,7 +34,7 @@ fn null_passes(test: PathTest) -> bool
     }
 }
 
-/// Returns whether what is at a path passes. Nothing is asked of `/dev/null`.
+/// Returns whether the node at a path passes. Makes no query for `/dev/null`.
 #[tactic(auto, unfolding(crate::specs::PathTests::path_passes))]
 fn path_passes<V: View>(
     alloc: Global,
@@ -53,7 +53,8 @@ fn path_passes<V: View>(
     Ok(kind_passes(test, kind))
 }
 
-/// Returns whether what an operand names passes. An operand that names no path doesn't.
+/// Returns whether the node at the path that an operand names passes. An operand that names no path
+/// doesn't pass.
 #[tactic(auto, unfolding(crate::specs::PathTests::operand_passes))]
 pub(crate) fn operand_passes<V: View>(
     alloc: Global,

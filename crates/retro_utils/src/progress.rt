@@ -9,7 +9,8 @@ use retro_text::{Found, Search};
 use retro_tree::Bytes;
 use std::alloc::{AllocError, Global};
 
-/// What a search has printed so far, and what it has met.
+/// What a search has printed so far, whether it has selected a line, and whether it has failed on
+/// an operand.
 #[derive(Drop)]
 pub(crate) struct Progress {
     pub out: Bytes,
@@ -54,7 +55,7 @@ impl Progress {
         Ok(())
     }
 
-    /// Returns what the search leaves at its end.
+    /// Returns the result of the search.
     pub(crate) fn into_done(self, search: &Search) -> Done
         ensures { result ≡ search_done search.now self }
     {

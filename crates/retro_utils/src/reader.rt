@@ -18,7 +18,8 @@ pub(crate) struct Reader {
 }
 
 impl Reader {
-    /// Returns the bytes of the file that an operand names, or of standard input for `-`.
+    /// Returns the bytes of the file that an operand names, or the reason why it can't be read. For
+    /// `-` reads standard input.
     pub(crate) fn read<V: View>(
         &mut self,
         alloc: Global,

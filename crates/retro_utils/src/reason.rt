@@ -18,7 +18,7 @@ pub enum Reason {
     TooLarge,
     /// A name is over the limit.
     NameTooLong,
-    /// Something is where a directory should be created.
+    /// A directory should be created at a path that isn't missing.
     FileExists,
     /// The path is one that is never removed or replaced.
     NotPermitted,
@@ -63,7 +63,7 @@ impl Reason {
     }
 }
 
-/// Returns the reason why a write isn't permitted, or `None`.
+/// Returns the reason why a write isn't permitted, or `None` if it is.
 pub(crate) fn refusal(permit: Permit) -> Option<Reason>
     ensures { result ≡ refusal permit }
 {
@@ -76,7 +76,8 @@ pub(crate) fn refusal(permit: Permit) -> Option<Reason>
     }
 }
 
-/// Returns the reason why a node of a kind can't be used as a directory, or `None`.
+/// Returns the reason why a node of the given kind can't be used as a directory, or `None` if it
+/// can.
 pub(crate) fn no_directory(kind: Kind) -> Option<Reason>
     ensures { result ≡ no_directory kind }
 {

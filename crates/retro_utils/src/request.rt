@@ -1,12 +1,13 @@
-//! The requests in the fields of utilities.
+//! How the fields of utilities are read.
 ghost use Rattle.std.specs.Prelude.{◌≡◌, IfOk, map, string_bytes};
 ghost use Rattle.retro_text.specs.Request.{known_letters, request_in};
 
 use retro_text::{KnownLetters, Request, UsageError};
 use std::alloc::{AllocError, Global};
 
-/// Returns the options and operands in the fields of a utility that knows these letters: those of
-/// options without and with an argument. Returns `None` if the fields can't be read.
+/// Returns the options and operands in the fields of a utility, or `None` if they can't be read.
+/// The utility knows the given letters: those of options without an argument, and those of options
+/// with one.
 pub(crate) fn request_of<'a>(
     alloc: Global,
     flags: &[u8],

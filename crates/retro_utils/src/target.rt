@@ -33,7 +33,7 @@ impl Target {
         }
     }
 
-    /// Returns the target at a path. Several sources need a directory.
+    /// Returns the target at a path. If there are several sources, it must be a directory.
     fn at<V: View>(
         alloc: Global,
         several: bool,

@@ -38,7 +38,8 @@ fn concatenate<V: View>(
     Ok(done)
 }
 
-/// `cat`: the bytes of each operand in turn, or of standard input if there is no operand.
+/// Runs `cat`: prints the bytes of each operand in turn, or of standard input if there is no
+/// operand.
 #[tactic(auto, unfolding(crate::specs::Cat::cat))]
 pub(crate) fn cat<V: View>(
     alloc: Global,

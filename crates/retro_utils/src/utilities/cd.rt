@@ -50,7 +50,7 @@ fn enter_operand<V: View>(
     }
 }
 
-/// Goes to the directory that an operand names.
+/// Changes to the directory that an operand names.
 #[tactic(auto, unfolding(crate::specs::Directories::cd_to))]
 fn cd_to<V: View>(
     alloc: Global,
@@ -78,7 +78,7 @@ fn home_not_set(alloc: Global) -> Result<Done, AllocError>
     Ok(done)
 }
 
-/// Goes to the directory that HOME names.
+/// Changes to the directory that HOME names.
 fn cd_home<V: View>(alloc: Global, place: Place, local: &mut Local<V>) -> Result<Done, AllocError>
     ensures means { IfOk result (λ done. Computes local.old local.new
         (λ s. cd_home place (home_in place.sid s) s) done) }
@@ -94,7 +94,7 @@ fn cd_home<V: View>(alloc: Global, place: Place, local: &mut Local<V>) -> Result
     Ok(cd_to(alloc, place, home.as_str(), local)?)
 }
 
-/// `cd`: goes to the directory that the operand names, or HOME.
+/// Runs `cd`: changes to the directory that the operand names, or to HOME if there is none.
 #[tactic(auto, unfolding(crate::specs::Directories::cd))]
 pub(crate) fn cd<V: View>(
     alloc: Global,

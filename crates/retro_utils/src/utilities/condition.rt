@@ -28,7 +28,7 @@ fn condition_holds<V: View>(
     }
 }
 
-/// Tests the condition that operands are, for the utility with this name.
+/// Tests the condition that operands make, for the utility with the given name.
 #[tactic(auto, unfolding(crate::specs::Conditions::condition_call))]
 pub(crate) fn run_condition<V: View>(
     alloc: Global,
@@ -50,7 +50,8 @@ pub(crate) fn run_condition<V: View>(
     }
 }
 
-/// `[`: tests the condition that the fields before the last one are. The last one is `]`.
+/// Runs `[`: tests the condition that the fields before the last one make. The last one must be
+/// `]`.
 #[tactic(auto, unfolding(crate::specs::Conditions::bracket_call))]
 pub(crate) fn run_bracket<V: View>(
     alloc: Global,

@@ -14,7 +14,7 @@ use retro_local::Local;
 use retro_tree::{Bytes, Path, View};
 use std::alloc::{AllocError, Global};
 
-/// Puts bytes at a path. `/dev/null` discards them, and nothing is asked of it.
+/// Puts bytes at a path. `/dev/null` discards them, and no query is made for it.
 #[tactic(auto, unfolding(crate::specs::Cp::write_copy), using(crate::proofs::Facts::granted))]
 fn write_copy<V: View>(
     alloc: Global,
@@ -104,7 +104,7 @@ fn copy_all<V: View>(
     Ok(done)
 }
 
-/// `cp`: copies each source to the target that the last operand names.
+/// Runs `cp`: copies each source to the target that the last operand names.
 #[tactic(auto, unfolding(crate::specs::Cp::cp))]
 pub(crate) fn cp<V: View>(
     alloc: Global,

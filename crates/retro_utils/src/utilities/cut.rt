@@ -18,7 +18,7 @@ use retro_tree::{Bytes, View};
 use std::alloc::{AllocError, Global};
 use std::slice::from_ref;
 
-/// Returns what is left of the bytes that were read, or the reason why there are none.
+/// Returns what is left of the bytes that were read. Returns the reason if reading them failed.
 fn cut_reading(
     alloc: Global,
     how: &Cut,
@@ -91,7 +91,7 @@ fn cut_of(alloc: Global, request: &Request) -> Result<Option<Cut>, AllocError>
     }
 }
 
-/// `cut -b list [file..]` and `cut -f list [-d c] [-s] [file..]`.
+/// Runs `cut -b list [file..]` or `cut -f list [-d c] [-s] [file..]`.
 #[tactic(auto, unfolding(crate::specs::Calls::cut_call))]
 pub(crate) fn run_cut<V: View>(
     alloc: Global,

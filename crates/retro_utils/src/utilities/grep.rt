@@ -73,7 +73,7 @@ fn grep<V: View>(
     }
 }
 
-/// `grep -F [-vxcq] patterns [file..]`.
+/// Runs `grep -F [-vxcq] patterns [file..]`.
 #[tactic(auto, unfolding(crate::specs::Calls::grep_call))]
 pub(crate) fn run_grep<V: View>(
     alloc: Global,

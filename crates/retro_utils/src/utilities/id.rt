@@ -30,7 +30,7 @@ fn user_done(alloc: Global, name: &str, user: Option<User>) -> Result<Done, Allo
     }
 }
 
-/// `id -u name`: the number of the user with a login name.
+/// Runs `id -u name`: prints the number of the user with a login name.
 #[tactic(auto, unfolding(crate::specs::Users::id))]
 pub(crate) fn id<V: View>(
     alloc: Global,

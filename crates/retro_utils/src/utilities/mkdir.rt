@@ -42,7 +42,7 @@ fn put_in_parent<V: View>(
     }
 }
 
-/// Makes a directory where nothing is, in a directory.
+/// Makes a directory at a missing path whose parent is a directory.
 #[tactic(auto, unfolding(crate::specs::Mkdir::make_dir, retro_local::specs::Kinds::kind_at))]
 fn make_dir<V: View>(
     alloc: Global,
@@ -98,7 +98,7 @@ fn make_dirs<V: View>(
     Ok(done)
 }
 
-/// `mkdir`: makes a directory for each operand.
+/// Runs `mkdir`: makes a directory for each operand.
 #[tactic(auto, unfolding(crate::specs::Mkdir::mkdir))]
 pub(crate) fn mkdir<V: View>(
     alloc: Global,

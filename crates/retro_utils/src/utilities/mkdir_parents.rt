@@ -16,7 +16,7 @@ use retro_local::Local;
 use retro_tree::{Kind, Path, View};
 use std::alloc::{AllocError, Global};
 
-/// Returns the reason by the prefix of a path at which a file is.
+/// Returns the reason why a path can't be made, because its prefix `prefix` is a file.
 fn blocked_at(path: &Path, prefix: &Path) -> Reason
     ensures { result ≡ blocked_at path.now prefix.now }
 {
@@ -27,7 +27,7 @@ fn blocked_at(path: &Path, prefix: &Path) -> Reason
     }
 }
 
-/// Makes a prefix of a path, if it is missing. Its parent is a directory.
+/// Makes a prefix of a path, if it is missing. Its parent must be a directory.
 #[tactic(auto, unfolding(crate::specs::MkdirSteps::make_step, retro_local::specs::Kinds::kind_at))]
 fn make_step<V: View>(
     alloc: Global,
@@ -53,7 +53,7 @@ fn make_step<V: View>(
     }
 }
 
-/// Makes each prefix of a path in turn, up to the first at which a file is.
+/// Makes each prefix of a path in turn, up to the first one that is a file.
 #[tactic(auto, using(crate::proofs::Parents::making))]
 fn make_each<V: View>(
     alloc: Global,
@@ -113,7 +113,7 @@ fn make_paths<V: View>(
     Ok(done)
 }
 
-/// `mkdir -p`: makes each path that an operand names, with its missing parents.
+/// Runs `mkdir -p`: makes each path that an operand names, with its missing parents.
 #[tactic(auto, unfolding(crate::specs::MkdirParents::mkdir_parents))]
 pub(crate) fn mkdir_parents<V: View>(
     alloc: Global,

@@ -42,8 +42,8 @@ fn overlap(from: &Path, to: &Path) -> Option<Reason>
     }
 }
 
-/// Returns the reason why a directory can't be put at a path, or `None`. Only an empty directory
-/// gives way to it.
+/// Returns the reason why a directory can't be put at a path, or `None` if it can. It can replace
+/// only an empty directory.
 #[tactic(auto, using(crate::proofs::Moving::listings))]
 fn no_dir_place<V: View>(
     alloc: Global,
@@ -119,7 +119,7 @@ fn move_file<V: View>(
     }
 }
 
-/// Moves what is at a path to another one.
+/// Moves what is at a path to another path.
 #[tactic(auto, unfolding(crate::specs::Mv::move_path))]
 fn move_path<V: View>(
     alloc: Global,
@@ -210,7 +210,7 @@ fn move_all<V: View>(
     Ok(done)
 }
 
-/// `mv`: moves each source to the target that the last operand names.
+/// Runs `mv`: moves each source to the target that the last operand names.
 #[tactic(auto, unfolding(crate::specs::Mv::mv))]
 pub(crate) fn mv<V: View>(
     alloc: Global,

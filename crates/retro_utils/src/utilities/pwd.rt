@@ -34,7 +34,7 @@ fn path_text(alloc: Global, path: &Path) -> Result<Bytes, AllocError>
     }
 }
 
-/// `pwd`: the directory of the session and a newline.
+/// Runs `pwd`: prints the directory of the session and a newline.
 #[tactic(auto, unfolding(crate::specs::Directories::pwd))]
 pub(crate) fn pwd<V: View>(
     alloc: Global,

@@ -24,7 +24,8 @@ fn parts_of(alloc: Global, text: &str) -> Result<Vec<&str>, AllocError>
     text.split('/').collect(alloc)
 }
 
-/// Returns a part, or the last one before it if it is empty.
+/// Returns `part`, or `last` if `part` is empty. `last` is the last part before it that isn't
+/// empty.
 fn part_or<'a>(part: &'a str, last: &'a [u8]) -> &'a [u8]
     ensures { result.now ≡ part_or part.entry.now last.entry.now }
 {
@@ -34,7 +35,7 @@ fn part_or<'a>(part: &'a str, last: &'a [u8]) -> &'a [u8]
     }
 }
 
-/// Returns the last part that isn't empty, or an empty one.
+/// Returns the last part that isn't empty, or an empty one if there is none.
 fn last_part<'a>(parts: &[&'a str]) -> &'a [u8]
     ensures { result.now ≡ last_part [] (map (λ part. part.now) parts.now) }
 {
@@ -55,7 +56,7 @@ fn ends_in_dots(alloc: Global, text: &str) -> Result<bool, AllocError>
     Ok(last == b".".as_slice() || last == b"..".as_slice())
 }
 
-/// Returns whether neither `rm` nor `mv` takes away what an operand names.
+/// Returns whether an operand names a path that neither `rm` nor `mv` takes away.
 #[tactic(auto, unfolding(crate::specs::Rm::is_protected))]
 pub(crate) fn is_protected(alloc: Global, operand: &str, path: &Path) -> Result<bool, AllocError>
     ensures { IfOk result (λ protected. protected ≡ is_protected operand.now path.now) }
@@ -64,7 +65,7 @@ pub(crate) fn is_protected(alloc: Global, operand: &str, path: &Path) -> Result<
     Ok(dots || path.names().is_empty() || path.is_null())
 }
 
-/// Returns the reason why what has a kind isn't removed, or `None`.
+/// Returns the reason why a node of the given kind isn't removed, or `None` if it is.
 fn not_removed(how: Removal, kind: Kind) -> Option<Reason>
     ensures { result ≡ not_removed how kind }
 {
@@ -155,7 +156,7 @@ fn remove_all<V: View>(
     Ok(done)
 }
 
-/// `rm`: removes what each operand names.
+/// Runs `rm`: removes what each operand names.
 #[tactic(auto, unfolding(crate::specs::Rm::rm))]
 pub(crate) fn rm<V: View>(
     alloc: Global,

@@ -125,7 +125,7 @@ fn write_all<V: View>(
     }
 }
 
-/// `tee`: writes standard input to the output and to each file.
+/// Runs `tee`: writes standard input to the output and to each file.
 #[tactic(auto, unfolding(crate::specs::Tee::tee))]
 pub(crate) fn tee<V: View>(
     alloc: Global,
