@@ -6,7 +6,7 @@ use Rattle.retro_tree.specs.declared.value.Value.TheVariants as values
 use Rattle.retro_tree.specs.declared.node.Node.TheVariants as nodes
 use Rattle.retro_tree.specs.declared.overlay_entry.OverlayEntry.{OverlayEntry}
 
--- an effect appends these bytes to any file; None says nothing
+-- the effect appends these bytes to every file; None claims nothing
 abbrev pub Appends : Option (List ℕ) → Option OverlayEntry → Type 0
 Appends None effect = Unit {0}
 Appends (Some bytes) effect =

@@ -1,4 +1,4 @@
--- Notes that meet a difference of two states.
+-- Notes that read or write a cell in which two states differ.
 use Rattle.std.specs.Prelude.{◌≡◌, ◌≢◌, true, List}
 use Rattle.retro_tree.specs.Cell.{value}
 use Rattle.retro_tree.specs.Notes.{touches}

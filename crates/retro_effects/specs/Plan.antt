@@ -43,8 +43,8 @@ is_planned writes removals c = map.contains_key writes c || list_any (cell_eq c)
 abbrev pub is_listed : Cell → List (Cell × OverlayEntry) → Bool
 is_listed c es = list_any (λ e. cell_eq e.0 c) es
 
--- A cell that is neither in the plan nor among the entries that are left, of the one map or of the other,
--- has the difference after the line as its entry before it.
+-- For each cell that is neither in the plan nor among the remaining entries of the two maps, its
+-- entry before the line is the difference after the line.
 unfoldable pub Covers : OverlayMap → OverlayMap → OverlayMap → State → WriteMap → List Cell
     → List (Cell × OverlayEntry) → List (Cell × OverlayEntry) → Type 0
 Covers overlay recorded chosen s writes removals left later =

@@ -1,4 +1,5 @@
--- Writes of an overlay's entries, undone. Only private contracts and proofs cite this file.
+-- How the writes of an overlay's entries are undone. Only private contracts and proofs cite this
+-- file.
 use Rattle.std.specs.Prelude.{◌≡◌, ℕ, List, [], ◌∷◌, Option, Some, None, take}
 use Rattle.std.specs.FinMap as map
 use Rattle.retro_tree.specs.Overlay.{OverlayMap, replaced_at}
@@ -38,7 +39,7 @@ abbrev pub undone_all : List Undo → OverlayMap → OverlayMap
 undone_all [] overlay = overlay
 undone_all (u ∷ us) overlay = undone_all us (undone u overlay)
 
--- a write is undone; without an undo it changed nothing
+-- undoing a write gives the previous overlay; a write without an undo changed nothing
 abbrev pub Undoes : Option Undo → OverlayMap → OverlayMap → Type 0
 Undoes None new old = new ≡ old
 Undoes (Some u) new old = undone u new ≡ old

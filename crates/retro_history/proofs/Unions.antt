@@ -152,7 +152,8 @@ module _ (xs ys : List ℕ) (i j x y : ℕ) (one : rise xs ≡ true) (two : rise
       (ap (λ b. j + from_bool b) (sym (le-leb y x (omega (arith, less))))) (at_more less)))
       (cases_order x y)
 
--- what is merged so far, with what is left of both lists, goes on by the lesser of the first numbers
+-- what is merged so far, with what is left of both lists, goes on by the lesser of the first
+-- numbers
 pub merge_goes_on : (xs ys so_far total : List ℕ) (i j x y : ℕ) → rise xs ≡ true → rise ys ≡ true → i < length xs
     → j < length ys → x ≡ get_or xs i 0 → y ≡ get_or ys j 0
     → so_far ++ union (drop i xs) (drop j ys) ≡ total

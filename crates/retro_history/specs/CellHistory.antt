@@ -18,15 +18,15 @@ use Rattle.retro_history.specs.Uses.{no_uses, uses_with}
 use Rattle.retro_history.specs.declared.cell_history.CellHistory.{CellHistory}
 use Rattle.retro_history.specs.declared.uses.Uses.{Uses}
 
--- a cell that no line uses, with its first value
+-- the history of a cell that no line uses, with its first value
 abbrev pub new_history : Value → CellHistory
 new_history v = record { track = new_track v; uses = no_uses }
 
--- a cell that one more line uses
+-- the history of a cell after one more line uses it
 abbrev pub history_used : UseValue → CellHistory → CellHistory
 history_used u h = record { track = track_by u.number u.changes h.track; uses = uses_with u h.uses }
 
--- likewise, by the notes of line n
+-- the history of a cell after the notes of line n
 abbrev pub history_noted : Cell → ℕ → List Note → CellHistory → CellHistory
 history_noted c n notes h = record {
   track = track_noted c n notes h.track;

@@ -1,5 +1,5 @@
--- Which lines of a recording write or read a cell or list a directory, and which line is the next to use a
--- cell, or one of some cells.
+-- Which lines of a recording write or read a cell or list a directory, and which line is the next
+-- to use a cell, or one of some cells.
 use Rattle.std.specs.Prelude.{◌≡◌, ℕ, ◌<◌, ◌==◌, nat_lt, Bool, false, ◌&&◌, ◌||◌, List, [], ◌∷◌, map, filter}
 use Rattle.std.specs.Prelude.{Option, Some, None, IsTrue}
 use Rattle.std.specs.List.{All, find, list_any}
@@ -61,7 +61,8 @@ listed_at p lines = numbers_of (λ l. lists l.1.notes p) lines
 abbrev pub touched_at : Cell → List Line → List ℕ
 touched_at c lines = numbers_of (λ l. touches l.1.notes c) lines
 
--- the first number above another of a line that reads or changes a cell, or None if there is no such line
+-- the first number above another of a line that reads or changes a cell, or None if there is no
+-- such line
 abbrev pub next_use : ℕ → Cell → List Line → Option ℕ
 next_use after c lines = find (λ n. nat_lt after n) (touched_at c lines)
 
@@ -69,8 +70,8 @@ next_use after c lines = find (λ n. nat_lt after n) (touched_at c lines)
 abbrev pub meets : List Cell → Line → Bool
 meets cells l = list_any (touches l.1.notes) cells
 
--- The least number above another of a line that reads or changes one of some cells, or None if there is no
--- such line.
+-- The least number above another of a line that reads or changes one of some cells, or None if
+-- there is no such line.
 abbrev pub IsNextMeeting : List Cell → ℕ → List Line → Option ℕ → Type 0
 IsNextMeeting cells after lines None = All (λ l. after < l.0 → meets cells l ≡ false) lines
 IsNextMeeting cells after lines (Some n) =

@@ -24,7 +24,7 @@ ListedMap = map.FinMap path_cmp (List ℕ)
 abbrev pub numbers_at : ListedMap → PathValue → List ℕ
 numbers_at m p = unwrap_or (map.get m p) []
 
--- a map with a line appended at a path, if all others there are below it
+-- a map with a line appended at a path, if the path's other lines are below it
 abbrev pub with_line : PathValue → ℕ → ListedMap → ListedMap
 with_line p n m = update m p [] (with_number n)
 
@@ -38,8 +38,9 @@ abbrev pub listed_by : List Line → ListedMap → ListedMap
 listed_by [] m = m
 listed_by (l ∷ lines) m = listed_by lines (listed_noted l.0 l.1.notes m)
 
--- An index is that of lines if it has for each cell the lines that write it and those that read it otherwise
--- than by a listing of its parent, and for each directory the lines that list it.
+-- An index is that of lines if it has for each cell the lines that write it and those that read it
+-- directly, and for each directory the lines that list it. A line that reads a cell only by listing
+-- its parent doesn't read it directly.
 pub record Indexes (index : Index) (lines : List Line) : Type 0 where
   pub numbered : AreNumbered lines
   pub written : (c : Cell) → (uses_at index.cells c).written ≡ written_at c lines

@@ -1,4 +1,4 @@
--- Only for invariants and proofs: what a history keeps of a recording.
+-- Only for invariants and proofs: the invariant of histories.
 use Rattle.std.specs.Prelude.{◌≡◌}
 use Rattle.retro_tree.specs.Cell.{value}
 use Rattle.retro_tree.specs.declared.cell.Cell.{Cell}

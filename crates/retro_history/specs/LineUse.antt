@@ -18,7 +18,7 @@ use Rattle.retro_tree.specs.declared.note.Note.{Note}
 use Rattle.retro_tree.specs.declared.note.Note.TheVariants.{Asked, Made}
 use Rattle.retro_tree.specs.contracts.change.Change as change_type
 
--- the cell that a query names: the one that it depends on, or the first of those
+-- the cell that a query is about: the one that its answer depends on, or the first of those
 abbrev pub queried_cell : Ask → Cell
 queried_cell (asks.Kind p) = cells.At p
 queried_cell (asks.Bytes p) = cells.At p
@@ -29,19 +29,20 @@ queried_cell (asks.VarOf sid name) = cells.Var sid name
 queried_cell (asks.CwdOf sid) = cells.Cwd sid
 queried_cell (asks.StatusOf sid) = cells.Status sid
 
--- whether a query depends on a cell otherwise than by a listing of the cell's parent
+-- whether the answer to a query depends on a cell; that a listing depends on the cells of the
+-- children doesn't count
 abbrev pub depends : Ask → Cell → Bool
 depends (asks.CanWrite p more) c = cell_eq (cells.At p) c || cell_eq (cells.At (parent_of p)) c
 depends a c = cell_eq (queried_cell a) c
 
--- whether notes read a cell otherwise than by a listing of the cell's parent
+-- whether notes read a cell directly, not by a listing of the cell's parent
 abbrev pub reads_directly : List Note → Cell → Bool
 reads_directly [] c = false
 reads_directly (Asked a r ∷ notes) c = depends a c || reads_directly notes c
 reads_directly (Made change ∷ notes) c = reads_directly notes c
 
--- how a line uses a cell: the line's number, whether its queries read the cell otherwise than by a
--- listing of the cell's parent, and its changes of the cell, in order
+-- how a line uses a cell: the line's number, whether its queries read the cell directly, and its
+-- changes of the cell, in order
 pub record UseValue : Type 0 where
   pub number : ℕ
   pub reads : Bool
@@ -53,7 +54,7 @@ coded_use =
     (coded× coded_ℕ (coded× coded_bool (coded_list (change_type.the_row).coded)))
     (λ u. (u.number, (u.reads, u.changes))) (λ p. record { number = p.0; reads = p.1.0; changes = p.1.1 }) (λ _. refl)
 
--- a cell that the line doesn't use
+-- a use by line n, without reads and changes
 abbrev pub no_use : ℕ → UseValue
 no_use n = record { number = n; reads = false; changes = [] }
 
@@ -70,7 +71,7 @@ UseMap = map.FinMap cell_cmp UseValue
 abbrev pub use_at : ℕ → UseMap → Cell → UseValue
 use_at n m c = unwrap_or (map.get m c) (no_use n)
 
--- with one more read, change, query or list of notes of line n
+-- the uses of cells with a read, a change, a query or a list of notes of line n added
 abbrev pub with_read : ℕ → Cell → UseMap → UseMap
 with_read n c m = update m c (no_use n) use_read
 
@@ -94,7 +95,7 @@ abbrev pub has_changes : List Change → Bool
 has_changes [] = false
 has_changes (change ∷ changes) = true
 
--- the same for one cell
+-- the use of one cell after notes
 abbrev pub use_noted : Cell → List Note → UseValue → UseValue
 use_noted c [] u = u
 use_noted c (Asked a r ∷ notes) u = use_noted c notes (if depends a c then use_read u else u)

@@ -17,7 +17,7 @@ are_below n numbers = list_all (λ m. nat_lt m n) numbers
 abbrev pub with_number : ℕ → List ℕ → List ℕ
 with_number n numbers = if are_below n numbers then numbers ++ n ∷ [] else numbers
 
--- likewise, if a line has something to note
+-- a list with a number appended, if there is something to note and all others are below it
 abbrev pub noted : Bool → ℕ → List ℕ → List ℕ
 noted true n numbers = with_number n numbers
 noted false n numbers = numbers
@@ -32,7 +32,7 @@ earliest None n = n
 earliest (Some m) None = Some m
 earliest (Some m) (Some n) = Some (min m n)
 
--- the numbers of two lists that rise, in order, without doubles
+-- the numbers of two rising lists, in rising order, each once
 unfoldable pub union : List ℕ → List ℕ → List ℕ
 union [] others = others
 union (n ∷ numbers) others =

@@ -1,6 +1,6 @@
--- The versions of each cell as the history keeps them: with the whole value of each version, and with
--- the checkpoint that it can be rolled back to. Only private contracts, invariants and proofs cite
--- this file.
+-- The versions of each cell as the history keeps them: with the whole value of each version, and
+-- with the checkpoint that it can be rolled back to. Only private contracts, invariants and proofs
+-- cite this file.
 use Rattle.std.specs.Prelude.{ℕ, ◌+◌, ◌≤◌, ◌==◌, nat_lt, Bool, if◌then◌else◌, List, [], ◌∷◌, ◌++◌, Option, Some}
 use Rattle.std.specs.Prelude.{None, map}
 use Rattle.std.specs.List.{filter}
@@ -34,7 +34,7 @@ pub record TrackValue : Type 0 where
 abbrev pub whole_version : ℕ → Value → VersionValue
 whole_version n v = record { number = n; checkpoint = n; growths = 0; value = v }
 
--- the next version after one, with the same value, if the line starts with a growth
+-- the version after one, of a line that grows it, before the line's bytes are appended
 abbrev pub next_version : ℕ → VersionValue → VersionValue
 next_version n v = record {
   number = n;
@@ -43,7 +43,8 @@ next_version n v = record {
   value = v.value;
 }
 
--- the version of line n, which may be this one already, if the line starts with a growth
+-- the version of line n, if the line grows the cell: the last version if it is the line's already,
+-- and otherwise the next one
 abbrev pub version_of_line : ℕ → VersionValue → VersionValue
 version_of_line n v = if v.number == n then v else next_version n v
 
@@ -127,7 +128,7 @@ version_chain c (l ∷ lines) v =
 abbrev pub all_versions : TrackValue → List VersionValue
 all_versions t = t.earlier ++ t.last ∷ []
 
--- the last version with a number below n, or what was found before
+-- the last version with a number below n, or else what was found before
 abbrev pub last_below : ℕ → Option VersionValue → List VersionValue → Option VersionValue
 last_below n found [] = found
 last_below n found (v ∷ vs) = last_below n (if nat_lt v.number n then Some v else found) vs

@@ -8,7 +8,8 @@ use Rattle.retro_history.specs.declared.uses.Uses.{Uses}
 abbrev pub no_uses : Uses
 no_uses = record { written = []; read = [] }
 
--- a line appended to those that write the cell and to those that read it, as it does
+-- a line added to those that write the cell if it changes the cell, and to those that read it if it
+-- reads it
 abbrev pub uses_with : UseValue → Uses → Uses
 uses_with u uses = record {
   written = noted (has_changes u.changes) u.number uses.written;

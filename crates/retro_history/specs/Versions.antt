@@ -1,7 +1,7 @@
--- The versions of a cell, by the lines of a recording. The first version, with number 0, is the cell's
--- first value. Each line that changes the cell makes a version with the line's number: a growth if the
--- line's changes of the cell are all growths, or else a whole value. After sixteen growths in a row
--- the next version is whole. The whole versions are the checkpoints.
+-- The versions of a cell, by the lines of a recording. The first version, with number 0, is the
+-- cell's first value. Each line that changes the cell makes a version with the line's number: a
+-- growth if the line's changes of the cell are all growths, or else a whole value. After sixteen
+-- growths in a row the next version is whole. The whole versions are the checkpoints.
 use Rattle.std.specs.Prelude.{ℕ, ◌+◌, nat_lt, Bool, true, false, ◌&&◌, if◌then◌else◌, List, [], ◌∷◌, ◌++◌, map, max}
 use Rattle.std.specs.Prelude.{Option, Some, None, option_map, unwrap_or, is_some}
 use Rattle.std.specs.List.{filter}
@@ -27,11 +27,11 @@ pub data Content : Type 0 where
 abbrev pub Version : Type 0
 Version = ℕ × Content
 
--- so many growths in a row are followed by a whole version
+-- the longest run of growths; the version after it is a whole value
 abbrev pub growth_limit : ℕ
 growth_limit = 16
 
--- the bytes of a growth before other bytes; there are none if the change isn't a growth
+-- the bytes of a growth followed by other bytes, or None if the change isn't a growth
 abbrev pub with_growth : Change → Option (List ℕ) → Option (List ℕ)
 with_growth (Grow p bytes) more = option_map (λ rest. bytes ++ rest) more
 with_growth (Put p node) more = None
@@ -92,8 +92,8 @@ abbrev pub greatest_below : ℕ → List ℕ → ℕ
 greatest_below number [] = 0
 greatest_below number (n ∷ ns) = max (if nat_lt n number then n else 0) (greatest_below number ns)
 
--- a value that is rolled back to, after one more version: a whole one is a checkpoint to start from,
--- and a growth appends to the value
+-- the rollback after one more version: a whole value is a checkpoint to start from, and a growth
+-- appends to the value
 abbrev pub rolled_on : Version → Rolled → Rolled
 rolled_on (number, whole v) rolled = record { from = number; value = v }
 rolled_on (number, growth bytes) rolled =

@@ -36,7 +36,7 @@ names_at p s = (s, listing (node_in p s.tree) (names_in p s.tree))
 listed : (ns ms : List (List ℕ)) → listing Dir ns ≡ Some ms → ns ≡ ms
 listed ns ms e = cc
 
--- a question changes no state
+-- a query changes no state
 pub always_asked : {X : Type 0} (P : State → Type 0) (f : State → X) (old mid : Trace) (x : X)
     → Computes old mid (λ s. (s, f s)) x → Always P old → Always P mid
 always_asked P f old mid x asked all s l h law =

@@ -1,5 +1,5 @@
--- A move in progress: the nodes below p are put below q one by one, and then the old paths go from the
--- last to the first. Only private contracts and proofs cite this file.
+-- A move in progress: the nodes below p are put below q one by one, and then the old paths go from
+-- the last to the first. Only private contracts and proofs cite this file.
 use Rattle.std.specs.Prelude.{◌≡◌, ◌≢◌, ℕ, Bool, true, false, not, ◌&&◌, if◌then◌else◌, List, [], ◌∷◌, ◌++◌, Option}
 use Rattle.std.specs.Prelude.{Some, None, is_some}
 use Rattle.std.specs.List.{list_any, list_all}
@@ -25,7 +25,8 @@ pub record CanCopy (p q : PathValue) (t : Tree) : Type 0 where
   pub bare : (n : List ℕ) (rest : PathValue) → node_in (q ++ n ∷ rest) t ≡ Missing
   pub above : node_in (parent_of q) t ≡ Dir
 
--- the node at a path, by the names that follow q: p's node, unless the first of them is one of those left
+-- the node at a path, by the names that follow q: p's node, unless the first of them is one of
+-- those left
 abbrev pub node_copied : PathValue → Tree → List (List ℕ) → Option PathValue → Node → Node
 node_copied p t left None node = node
 node_copied p t left (Some rest) node = if starts left rest then Missing else node_in (p ++ rest) t
@@ -41,8 +42,8 @@ pub record IsCopied (p : PathValue) (left : List (List ℕ)) (r : PathValue) : T
   pub is : r ≡ p ++ rest
   pub done : starts left rest ≡ false
 
--- u is t with p's nodes put at and below q, except at and below p's children with the names left; `paths`
--- are the old paths of the nodes that were put
+-- u is t with p's nodes put at and below q, except at and below p's children with the names left;
+-- `paths` are the old paths of the nodes that were put
 pub record IsCopy (p q : PathValue) (left : List (List ℕ)) (paths : List PathValue) (t u : Tree) : Type 0 where
   pub nodes : (r : PathValue) → node_in r u ≡ node_copied p t left (below q r) (node_in r t)
   pub covers : (rest : PathValue) → node_in (p ++ rest) t ≢ Missing → starts left rest ≡ false

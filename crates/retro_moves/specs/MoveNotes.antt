@@ -1,4 +1,4 @@
--- The notes of a move, the newest first: which questions are asked, and in which order.
+-- The notes of a move, the newest first: which queries are made, and in which order.
 use Rattle.std.specs.Prelude.{◌≡◌, ℕ, false, List, [], ◌∷◌, ◌++◌, map, Some}
 use Rattle.retro_tree.specs.Path.{PathValue}
 use Rattle.retro_tree.specs.Node.{is_dir}
@@ -14,9 +14,9 @@ use Rattle.retro_tree.specs.declared.note.Note.TheVariants.{Asked, Made}
 abbrev pub child_pairs : PathValue → PathValue → List (List ℕ) → List (PathValue × PathValue)
 child_pairs p q names = map (λ n. (p ++ n ∷ [], q ++ n ∷ [])) names
 
--- Notes to which the copies of some paths to others, in order, were added, with the old paths of all that was
--- put. A path is asked what it is, and is put. If it is a directory, its names are asked before it is put, and
--- its children are copied after it.
+-- Notes to which the copies of some paths to others, in order, were added, with the old paths of
+-- all that was put. The node of a path is queried, and is put. If it is a directory, its names are
+-- queried before it is put, and its children are copied after it.
 pub data CopyNotes : List (PathValue × PathValue) → List PathValue → List Note → List Note → Type 0 where
   done : {notes : List Note} → CopyNotes [] [] notes notes
   leaf : {p q : PathValue} {todo : List (PathValue × PathValue)} {paths : List PathValue} {old new : List Note}
@@ -30,7 +30,7 @@ pub data CopyNotes : List (PathValue × PathValue) → List PathValue → List N
       → CopyNotes todo paths mid new → all ≡ more ++ paths
       → CopyNotes ((p, q) ∷ todo) (p ∷ all) old new
 
--- The notes of the copy of a directory, after it was asked what it is.
+-- The notes of the copy of a directory, after its node was queried.
 pub record DirNotes (p q : PathValue) (paths : List PathValue) (old new : List Note) : Type 0 where
   pub names : List (List ℕ)
   pub more : List PathValue
@@ -38,7 +38,7 @@ pub record DirNotes (p q : PathValue) (paths : List PathValue) (old new : List N
   pub copies : CopyNotes (child_pairs p q names) more
       (Made (Put q Dir) ∷ Asked (asks.Names p) (answers.Names (Some names)) ∷ old) new
 
--- The notes of the copy of a node, after it was asked what it is.
+-- The notes of the copy of a node, after the node was queried.
 abbrev pub NodeNotes : PathValue → PathValue → Node → List PathValue → List Note → List Note → Type 0
 NodeNotes p q Dir paths old new = DirNotes p q paths old new
 NodeNotes p q Missing paths old new = (paths ≡ p ∷ []) × (new ≡ Made (Put q Missing) ∷ old)

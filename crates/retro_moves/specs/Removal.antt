@@ -13,14 +13,15 @@ abbrev pub Distinct : List (List ℕ) → Type 0
 Distinct [] = Unit {0}
 Distinct (n ∷ ns) = (list_any (text_eq n) ns ≡ false) × Distinct ns
 
--- the node at a path, by the names that follow p: missing unless the first of them is one of those left
+-- the node at a path, by the names that follow p: missing unless the first of them is one of those
+-- left
 abbrev pub node_left : List (List ℕ) → Option PathValue → Node → Node
 node_left left None node = node
 node_left left (Some []) node = node
 node_left left (Some (n ∷ rest)) node = if list_any (text_eq n) left then node else Missing
 
--- p is a directory of t, and u is t without what is below p, except at and below the children of p with
--- the names left
+-- p is a directory of t, and u is t without what is below p, except at and below the children of p
+-- with the names left
 pub record IsThinned (p : PathValue) (left : List (List ℕ)) (t u : Tree) : Type 0 where
   pub dir : node_in p t ≡ Dir
   pub nodes : (r : PathValue) → node_in r u ≡ node_left left (below p r) (node_in r t)

@@ -1,4 +1,4 @@
--- The notes of a removal, the newest first: which questions are asked, and in which order.
+-- The notes of a removal, the newest first: which queries are made, and in which order.
 use Rattle.std.specs.Prelude.{ℕ, List, [], ◌∷◌, ◌++◌, map, Some}
 use Rattle.retro_tree.specs.Path.{PathValue}
 use Rattle.retro_tree.specs.declared.answer.Answer.TheVariants as answers
@@ -13,9 +13,9 @@ use Rattle.retro_tree.specs.declared.note.Note.TheVariants.{Asked, Made}
 abbrev pub children : PathValue → List (List ℕ) → List PathValue
 children p names = map (λ n. p ++ n ∷ []) names
 
--- Notes to which the removals of some paths, in order, were added. A missing path is only asked its kind. A
--- file is removed after its kind was asked. Of a directory the kind and the names are asked, its children are
--- removed, and then it is.
+-- Notes to which the removals of some paths, in order, were added. Of a missing path only the kind
+-- is queried. A file is removed after its kind was queried. Of a directory the kind and the names
+-- are queried, its children are removed, and then the directory is removed.
 pub data RemovalNotes : List PathValue → List Note → List Note → Type 0 where
   done : {notes : List Note} → RemovalNotes [] notes notes
   missing : {p : PathValue} {paths : List PathValue} {old new : List Note}

@@ -1,5 +1,5 @@
--- Trees that change at many paths at once: without a path, and with a path moved (POSIX.1-2017 XCU rm,
--- mv).
+-- Trees that change at many paths at once: without a path, and with a path moved (POSIX.1-2017 XCU
+-- rm, mv).
 use Rattle.std.specs.Prelude.{◌≡◌, Bool, false, not, ◌||◌, if◌then◌else◌, [], ◌++◌, map, Option}
 use Rattle.std.specs.Prelude.{Some, None, is_some}
 use Rattle.std.specs.FinMap as finmap
@@ -40,8 +40,8 @@ pub record Apart (p q : PathValue) : Type 0 where
   pub left : is_some (below p q) ≡ false
   pub right : is_some (below q p) ≡ false
 
--- The directory p can be moved to q: q isn't p or below it, its parent is a directory, it has no children,
--- and it is neither at /dev/null, nor below or above it.
+-- The directory p can be moved to q: q isn't p or below it, its parent is a directory, it has no
+-- children, and it is neither at /dev/null, nor below or above it.
 pub record CanMove (p q : PathValue) (tree : Tree) : Type 0 where
   pub dir : node_in p tree ≡ Dir
   pub outside : is_some (below p q) ≡ false

@@ -7,7 +7,7 @@ IsMeant None meant = Unit {0}
 IsMeant (Some refused) meant = meant ≡ refused
 
 -- The result is what its definition says, unless memory ran out. `value` is what an Ok means, and
--- `fault` what an error means: None for the error that says that memory ran out.
+-- `fault` is what an error means. It is None for the error that says that memory ran out.
 abbrev pub UnlessOutOfMemory : {X E M : Type 0} → (X → M) → (E → Option M) → Result X E → M → Type 0
 UnlessOutOfMemory value fault (Ok x) meant = meant ≡ value x
 UnlessOutOfMemory value fault (Err e) meant = IsMeant (fault e) meant

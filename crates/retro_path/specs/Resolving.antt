@@ -44,8 +44,8 @@ abbrev pub resolve : PathValue → List ℕ → Resolved
 resolve cwd [] = Empty
 resolve cwd (b ∷ text) = resolve_parts (start_of cwd (b ∷ text)) (parts_of (b ∷ text))
 
--- whether the path that a text names depends on the directory: not if the text is empty, begins with
--- a slash, or has a part that is too long
+-- whether the path that a text names depends on the directory: not if the text is empty, begins
+-- with a slash, or has a part that is too long
 unfoldable pub is_relative : List ℕ → Bool
 is_relative [] = false
 is_relative (b ∷ text) = not (b == slash) && not (list_any is_long (parts_of (b ∷ text)))

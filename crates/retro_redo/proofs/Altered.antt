@@ -1,5 +1,5 @@
--- If a kept line changes no path near an altered one, its changes are lawful in the repaired state, as they were in
--- the recorded one.
+-- If a kept line changes no path near an altered one, its changes are lawful in the repaired state,
+-- as they were in the recorded one.
 use Rattle.std.proofs.Common.{◌≡◌, ◌∙◌, ℕ, Bool, true, false, not, ◌&&◌, ◌||◌, List, [], ◌∷◌, ◌++◌, Option, Some, None}
 use Rattle.std.proofs.Common.{refl, sym, ap}
 use Rattle.std.specs.BTreeMap.{is_at}

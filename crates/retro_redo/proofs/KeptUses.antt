@@ -1,4 +1,5 @@
--- The next uses of cells, line by line: over a line that no entry is at, and over one that is settled.
+-- The next uses of cells, line by line: over a line that no entry is at, and over one that is
+-- settled.
 use Rattle.std.proofs.Common.{◌≡◌, ◌≢◌, ◌∙◌, ◌⊎◌, inl, inr, ℕ, suc, ◌<◌, ◌≤◌, ◌==◌, Bool, true, false, ◌||◌}
 use Rattle.std.proofs.Common.{nat_lt, List, [], ◌∷◌, drop, Option, Some, None, refl, sym, ap, arith, subst}
 use Rattle.std.proofs.Common.{MatchBool}
@@ -72,7 +73,8 @@ made_differ Keep noted s t c same apart =
     absurd (apart (value_after noted.notes c s ∙ ap (effects noted.notes c) same ∙ sym (value_after noted.notes c t)))
 made_differ (Take run) noted s t c same apart = changed noted.notes run.notes s t c same apart
 
--- a cell with an entry after a line has one before it, or is one in which the line may make the states differ
+-- a cell with an entry after a line has one before it, or is one in which the line may make the
+-- states differ
 pub entry_from : (old new : OverlayMap) (s t : State) (noted : Noted) (step : Step) → IsExact old s t
     → IsExact new (after noted.notes s) (after (chosen step noted) t) → (c : Cell) → finmap.contains_key new c ≡ true
     → (finmap.contains_key old c ≡ true) ⊎ (may_differ step noted c ≡ true)

@@ -1,4 +1,5 @@
--- The next uses of cells at a step of a repair, where q is the progress as its fields are, and p as contracts see it.
+-- The next uses of cells at a step of a repair, where q is the progress as its fields are, and p as
+-- contracts see it.
 use Rattle.std.proofs.Common.{◌≡◌, ◌∙◌, ℕ, suc, Bool, true, false, ◌&&◌, not, List, [], ◌∷◌, ◌++◌, drop, length}
 use Rattle.std.proofs.Common.{◌+◌, replicate, Some, MatchBool, inl, inr, refl, sym, ap, subst}
 use Rattle.std.specs.List.{slice_get}

@@ -96,7 +96,8 @@ pub past_line : (s : ℕ) (x : Line) (lines : List Line) → x.0 < s → is_some
     → is_some (noted_at s lines) ≡ true
 past_line s x lines lt has = sym (ap (λ b. is_some (cond b (Some x.1) (noted_at s lines))) (apart x.0 s lt)) ∙ has
 
--- a line with a number has it also among the lines from a place on, if the one there has no greater number
+-- a line with a number has it also among the lines from a place on, if the one there has no greater
+-- number
 pub line_from : (m s : ℕ) (lines : List Line) (k : ℕ) (l : Line) → RiseFrom m lines → slice_get lines k ≡ Some l
     → l.0 ≤ s → is_some (noted_at s lines) ≡ true → is_some (noted_at s (drop k lines)) ≡ true
 line_from m s [] k l rise e le has = absurd (not_none l e)

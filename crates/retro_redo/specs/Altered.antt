@@ -1,5 +1,5 @@
--- Which paths a repair alters, and which kept lines change a path near one of them. Only private contracts and
--- proofs cite this file.
+-- Which paths a repair alters, and which kept lines change a path near one of them. Only private
+-- contracts and proofs cite this file.
 use Rattle.std.specs.Prelude.{ℕ, Bool, ◌||◌, List, [], ◌++◌, Option, Some, None, is_some}
 use Rattle.std.specs.List.{filter_map, list_any}
 use Rattle.std.specs.BTreeMap.{is_at}
@@ -23,17 +23,18 @@ changed_path _ = None
 abbrev pub changed_paths : List Note → List PathValue
 changed_paths = filter_map changed_path
 
--- whether a path is among some
+-- whether a list has a path
 abbrev pub has_path : PathValue → List PathValue → Bool
 has_path p paths = list_any (is_at (path_cmp p)) paths
 
--- Whether a path is near some: its parent is among them, or a path that it is a prefix of, as the path itself.
+-- Whether a path is near some paths: they have it, its parent or a path below it.
 abbrev pub is_near : List PathValue → PathValue → Bool
 is_near paths p = has_path (parent_of p) paths || list_any (λ q. is_some (below p q)) paths
 
 -- ---- the lines as chosen
 
--- the paths that a line changes if it isn't kept: by its recorded notes, and by those of its new run
+-- the paths that a line changes if it isn't kept: by its recorded notes, and by those of its new
+-- run
 abbrev pub altered_by : ℕ × Noted → Step → List PathValue
 altered_by l Cancel = changed_paths l.1.notes
 altered_by l Keep = []

@@ -21,7 +21,7 @@ IsLeastMissing cancel r n =
     (is_among cancel n ≡ true) × (is_line r n ≡ false)
     × ((m : ℕ) → is_among cancel m ≡ true → is_line r m ≡ false → n ≤ m)
 
--- A repair is refused for the least number that no line has, or if memory ran out.
+-- A repair is refused with the least number that no line has, or because memory ran out.
 abbrev pub Refuses : List ℕ → RecordingValue → RepairFault → Type 0
 Refuses cancel r (NoSuchLine n) = IsLeastMissing cancel r n
 Refuses cancel r NoCut = ⊥

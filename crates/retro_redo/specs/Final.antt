@@ -1,4 +1,4 @@
--- What the choices for all lines of a recording come to.
+-- What the choices for all lines of a recording give.
 use Rattle.std.specs.Prelude.{◌≡◌, ℕ, Bool, List, map}
 use Rattle.retro_tree.specs.declared.state.State.{State}
 use Rattle.retro_keep.specs.Recording.{AllRecorded, output_in, script_line}
@@ -8,9 +8,9 @@ use Rattle.retro_redo.specs.Moments.{AreVerdicts, compensations, moments, others
 use Rattle.retro_redo.specs.Progress.{compensations_chosen, lines_chosen, repaired_after, settled, verdicts_chosen}
 use Rattle.retro_redo.specs.declared.step.Step.{Step}
 
--- The choices come to what running all other lines one by one gives: its last state, its outputs, the
--- outputs that differ, the verdicts, and the states on the way. The lines as chosen are a recording of
--- the others.
+-- The choices give what running all other lines one by one gives: its last state, its outputs, the
+-- outputs that differ, the verdicts, and the states on the way. The lines as chosen are a recording
+-- of the other lines.
 pub record IsFinal (cancelled : ℕ → Bool) (lines : List (ℕ × Noted)) (steps : List Step) (s t : State) : Type 0 where
   pub outcome_is : outcome (others cancelled (map script_line lines)) t
       ≡ (repaired_after lines steps t, map output_in (lines_chosen lines steps))

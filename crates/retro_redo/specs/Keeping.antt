@@ -1,4 +1,4 @@
--- What the type of a repair's progress keeps. Only private contracts and proofs cite this file.
+-- The invariant of a repair's progress. Only private contracts and proofs cite this file.
 use Rattle.std.specs.Prelude.{◌≡◌, ℕ, true, List, Some}
 use Rattle.std.specs.FinMap as map
 use Rattle.retro_tree.specs.Exact.{IsExact}
@@ -11,9 +11,9 @@ use Rattle.retro_redo.specs.Moments.{IsMet, Picks}
 use Rattle.retro_redo.specs.NextUses.{AreSorted, IsFirstIn, Use, first_use, has_use, is_use}
 use Rattle.retro_redo.specs.Progress.{ProgressValue, Settles, cancelled_in, recorded_now, repaired_now, settled_now}
 
--- Each choice is one that its line allows. The overlay has the cells in which the recorded and the
--- repaired state differ, and the numbers are those of the met lines, among the settled ones. Both states
--- have the sessions of the first. Each cancelled number is a line's.
+-- Each choice is one that its line allows. The overlay has entries for exactly the cells in which
+-- the recorded and the repaired state differ. The met numbers are those of the settled lines that
+-- are met. Both states have the sessions of the first. Each cancelled number is a line's.
 pub record Keeps (p : ProgressValue) (overlay : OverlayMap) (met : List ℕ) : Type 0 where
   pub settles :
       Settles (cancelled_in p) p.recording.lines p.choices p.recording.first p.recording.first
@@ -23,8 +23,9 @@ pub record Keeps (p : ProgressValue) (overlay : OverlayMap) (met : List ℕ) : T
   pub repaired_sessions : SameSessions (repaired_now p) p.recording.first
   pub known : AreLines p.cancel p.recording
 
--- Each cell with an entry in the overlay has an entry at the first of the lines to settle that uses it. Each
--- entry is at one of these lines, which uses its cell. The first entry is of a cell in the overlay.
+-- Each cell with an entry in the overlay has an entry at the first of the lines to settle that uses
+-- it. Each entry is at one of these lines, which uses its cell. The first entry's cell has an entry
+-- in the overlay.
 pub record KeepsUses (overlay : OverlayMap) (lines : List Line) (uses : List Use) : Type 0 where
   pub complete : (c : Cell) (n : ℕ) → map.contains_key overlay c ≡ true → first_use c lines ≡ Some n
       → has_use n c uses ≡ true

@@ -1,5 +1,5 @@
--- Two runs side by side: of all lines of a recording, and of the lines that aren't cancelled. Which lines
--- are cancelled is a test on line numbers.
+-- Two runs side by side: of all lines of a recording, and of the lines that aren't cancelled. Which
+-- lines are cancelled is a test on line numbers.
 use Rattle.std.specs.Prelude.{◌≡◌, ◌⊎◌, ℕ, Bool, true, false, not, List, [], ◌∷◌, if◌then◌else◌}
 use Rattle.std.specs.List.{filter, flat_map}
 use Rattle.retro_tree.specs.Order.{text_eq}
@@ -17,14 +17,14 @@ use Rattle.retro_redo.specs.declared.verdict.Verdict.TheVariants.{Cancelled, Red
 abbrev pub others : (ℕ → Bool) → List ScriptLine → List ScriptLine
 others cancelled lines = filter (λ line. not (cancelled line.number)) lines
 
--- a recorded line, with the states that it meets: in the run of all lines, and in the repaired run
+-- a recorded line, with the states before it in the run of all lines and in the repaired run
 pub record Moment : Type 0 where
   pub number : ℕ
   pub noted : Noted
   pub recorded : State
   pub repaired : State
 
--- the state after a line of the repaired run: a cancelled line leaves it
+-- the state after a line of the repaired run; a cancelled line leaves the state unchanged
 abbrev pub next_repaired : (ℕ → Bool) → ℕ × Noted → State → State
 next_repaired cancelled l t = if cancelled l.0 then t else (line l.1.sid l.1.text t).0
 

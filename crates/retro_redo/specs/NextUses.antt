@@ -1,5 +1,5 @@
--- Which lines use which cells next, as a repair notes it. Only private contracts, invariants and proofs cite
--- this file.
+-- Which lines use which cells next, as the code of a repair stores it. Only private contracts,
+-- invariants and proofs cite this file.
 use Rattle.std.specs.Prelude.{◌≡◌, ◌⊎◌, ℕ, ◌<◌, ◌==◌, nat_lt, Bool, true, false, ◌&&◌, ◌||◌, if◌then◌else◌}
 use Rattle.std.specs.Prelude.{List, [], ◌∷◌, Option, Some, None}
 use Rattle.std.specs.List.{list_any}
@@ -60,7 +60,7 @@ is_use n c lines = list_any (λ l. (l.0 == n) && touches l.1.notes c) lines
 abbrev pub HasNext : ℕ → List Line → Cell → List Use → Type 0
 HasNext after lines c uses = (n : ℕ) → next_use after c lines ≡ Some n → has_use n c uses ≡ true
 
--- whether two states that agree in a cell may differ in it after a line, for which a step was chosen
+-- whether two states that agree in a cell may differ in it after a line that is settled by the step
 abbrev pub may_differ : Step → Noted → Cell → Bool
 may_differ Cancel noted c = changes noted.notes c
 may_differ Keep noted c = false
@@ -80,13 +80,14 @@ abbrev pub IsFirstIn : OverlayMap → List Use → Type 0
 IsFirstIn overlay [] = Unit {0}
 IsFirstIn overlay (u ∷ uses) = map.contains_key overlay u.1 ≡ true
 
--- there are no entries, or the first one is at a greater number, and of such a cell
+-- there are no entries, or the first one is at a greater number and its cell has an entry in the
+-- overlay
 abbrev pub is_first_over : ℕ → OverlayMap → List Use → Bool
 is_first_over after overlay [] = true
 is_first_over after overlay (u ∷ uses) = nat_lt after u.0 && map.contains_key overlay u.1
 
--- Entries were removed, none of which is both at a greater number and of a cell with an entry in the overlay.
--- The first one left is both.
+-- Entries were removed. None of them was both at a greater number and of a cell with an entry in
+-- the overlay. The first entry that is left is both.
 pub record Prunes (after : ℕ) (overlay : OverlayMap) (old new : List Use) : Type 0 where
   pub only : (n : ℕ) (c : Cell) → has_use n c new ≡ true → has_use n c old ≡ true
   pub kept : (n : ℕ) (c : Cell) → after < n → map.contains_key overlay c ≡ true → has_use n c old ≡ true

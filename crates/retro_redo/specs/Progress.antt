@@ -15,7 +15,7 @@ use Rattle.retro_redo.specs.declared.step.Step.TheVariants.{Cancel, Keep, Take}
 use Rattle.retro_redo.specs.declared.verdict.Verdict.{Verdict}
 use Rattle.retro_redo.specs.declared.verdict.Verdict.TheVariants.{Cancelled, Redone, Kept}
 
--- what is repaired, which lines are cancelled, and the choices for its first lines
+-- the recording, the cancelled numbers, and the choices for the first lines
 pub record ProgressValue : Type 0 where
   pub recording : RecordingValue
   pub cancel : List ℕ
@@ -26,7 +26,7 @@ is_cancel Cancel = true
 is_cancel Keep = false
 is_cancel (Take run) = false
 
--- the notes by which the repaired state goes on over a line
+-- the notes that a line has in the repaired state, by its choice
 abbrev pub chosen : Step → Noted → List Note
 chosen Cancel noted = []
 chosen Keep noted = noted.notes
@@ -74,8 +74,9 @@ next_number p = option_map (λ l. l.0) (next_line p)
 
 -- ---- which choices a line allows
 
--- A cancelled line is cancelled. A line is kept if its notes agree with both states or hold in the
--- repaired one, and else a run of its session and its text is taken whose notes hold there.
+-- A line whose number is cancelled is cancelled. Any other line is kept if its notes agree with
+-- both states or hold in the repaired one. If they don't hold there, a run of its session and its
+-- text may be taken whose notes do.
 abbrev pub MayStep : (ℕ → Bool) → State → State → ℕ × Noted → Step → Type 0
 MayStep cancelled s t l Cancel = cancelled l.0 ≡ true
 MayStep cancelled s t l Keep = (cancelled l.0 ≡ false) × (AgreeOn l.1.notes s t ⊎ Holds l.1.notes t)
@@ -83,7 +84,7 @@ MayStep cancelled s t l (Take run) =
     (cancelled l.0 ≡ false) × (¬ (Holds l.1.notes t)) × (run.sid ≡ l.1.sid) × (run.text ≡ l.1.text)
     × Holds run.notes t
 
--- what the type of runs keeps of a taken one
+-- the guarantee of the type of runs for a taken run
 abbrev pub IsRunTaken : Step → Type 0
 IsRunTaken Cancel = Unit {0}
 IsRunTaken Keep = Unit {0}
@@ -97,7 +98,7 @@ Settles cancelled (l ∷ lines) (step ∷ steps) s t =
     MayStep cancelled s t l step × IsRunTaken step
     × Settles cancelled lines steps (after l.1.notes s) (after (chosen step l.1) t)
 
--- ---- what the choices come to
+-- ---- what the choices give
 
 -- what each settled line with its choice gives, in order
 abbrev pub by_choices : {A : Type 0} → (ℕ × Noted → Step → List A) → List (ℕ × Noted) → List Step → List A

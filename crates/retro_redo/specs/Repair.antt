@@ -20,9 +20,9 @@ moments_of cancelled r = moments cancelled r.lines r.first r.first
 abbrev pub script_of_others : (ℕ → Bool) → RecordingValue → ScriptValue
 script_of_others cancelled r = record { first = r.first; lines = others cancelled (map script_line r.lines) }
 
--- State and outputs are those of running the other lines one by one from the first state. The lines whose
--- output differs are compensated, with both texts. The verdicts are those of the lines, and the met lines
--- are listed. The repaired recording is one of the other lines.
+-- State and outputs are those of running the other lines one by one from the first state. The lines
+-- whose output differs are compensated, with both texts. The verdicts are those of the lines, and
+-- the met lines are listed. The repaired recording is one of the other lines.
 pub record IsRepair (cancelled : ℕ → Bool) (r : RecordingValue) (repair : Repair) : Type 0 where
   pub outcome_is : (repair.state, repair.outputs.items) ≡ outcome (others cancelled (map script_line r.lines)) r.first
   pub compensated : repair.compensations.items ≡ compensations cancelled (moments_of cancelled r)
@@ -30,8 +30,8 @@ pub record IsRepair (cancelled : ℕ → Bool) (r : RecordingValue) (repair : Re
   pub met_are : Picks (IsMet cancelled) (moments_of cancelled r) repair.met.items
   pub recording_is : IsRecordingOf (script_of_others cancelled r) repair.recording
 
--- The part that doesn't compare with what was recorded: the state and the outputs are those of running
--- the other lines, and the recording is one of these lines.
+-- The part of a repair that doesn't compare with what was recorded: the state and the outputs are
+-- those of running the other lines, and the recording is one of these lines.
 pub record IsRepairOf (cancelled : ℕ → Bool) (r : RecordingValue) (repair : Repair) : Type 0 where
   pub outcome_is : (repair.state, repair.outputs.items) ≡ outcome (others cancelled (map script_line r.lines)) r.first
   pub recording_is : IsRecordingOf (script_of_others cancelled r) repair.recording

@@ -1,5 +1,5 @@
--- What the choices for all lines come to, for any recording: also for one whose notes aren't those of its
--- lines.
+-- What the choices for all lines give, for any recording: also for one whose notes aren't those of
+-- running its lines.
 use Rattle.std.specs.Prelude.{◌≡◌, ℕ, Bool, List, length, map}
 use Rattle.retro_keep.specs.Recording.{IsWellFormed, RecordingValue, output_in}
 use Rattle.retro_redo.specs.Moments.{IsMet, Picks}
@@ -13,8 +13,9 @@ use Rattle.retro_redo.specs.declared.step.Step.{Step}
 abbrev pub recording_chosen : RecordingValue → List Step → RecordingValue
 recording_chosen r steps = record { first = r.first; lines = lines_chosen r.lines steps }
 
--- The repaired recording has the lines as chosen. State and outputs are those of its notes, and the met
--- lines are those that read or write a cell in which the recorded and the repaired state differ.
+-- The repaired recording has the lines as chosen. State and outputs are those of its notes, and the
+-- met lines are those that read or write a cell in which the recorded and the repaired state
+-- differ.
 pub record IsByChoices (cancelled : ℕ → Bool) (r : RecordingValue) (steps : List Step) (repair : Repair)
     : Type 0 where
   pub recording_is : repair.recording ≡ recording_chosen r steps
@@ -24,8 +25,8 @@ pub record IsByChoices (cancelled : ℕ → Bool) (r : RecordingValue) (steps : 
   pub verdicts_are : repair.verdicts.items ≡ verdicts_chosen r.lines steps
   pub met_are : Picks (IsMet cancelled) (settled r.lines steps r.first r.first) repair.met.items
 
--- Each line has a choice that it allows. The repair is what the choices come to, if the lines as chosen make
--- a recording. Else all other lines are run again.
+-- Each line has a choice that it allows. The repair is what the choices give, if the lines as
+-- chosen make a recording. Otherwise all other lines are run again.
 pub record IsSettled (cancelled : ℕ → Bool) (r : RecordingValue) (steps : List Step) (repair : Repair)
     : Type 0 where
   pub settles : Settles cancelled r.lines steps r.first r.first
@@ -33,6 +34,6 @@ pub record IsSettled (cancelled : ℕ → Bool) (r : RecordingValue) (steps : Li
   pub chosen : IsWellFormed (recording_chosen r steps) → IsByChoices cancelled r steps repair
   pub again : ¬ (IsWellFormed (recording_chosen r steps)) → IsRunAgain cancelled r repair
 
--- some choices settle the lines, and come to the repair
+-- some choices settle the lines and give the repair
 abbrev pub AreSettled : (ℕ → Bool) → RecordingValue → Repair → Type 0
 AreSettled cancelled r repair = (steps : List Step) × IsSettled cancelled r steps repair

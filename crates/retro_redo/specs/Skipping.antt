@@ -1,4 +1,4 @@
--- Lines that a repair keeps without looking at them.
+-- Lines that a repair keeps without reading them.
 use Rattle.std.specs.Prelude.{◌≡◌, ◌⊎◌, ℕ, zero, suc, Bool, true, false, List, [], ◌∷◌, ◌++◌, drop, length, replicate}
 use Rattle.retro_tree.specs.Exact.{IsExact}
 use Rattle.retro_tree.specs.Notes.{after, AgreeOn}
@@ -9,8 +9,8 @@ use Rattle.retro_effects.specs.Meeting.{Met}
 use Rattle.retro_redo.specs.Progress.{ProgressValue, cancelled_in, recorded_now, repaired_now}
 use Rattle.retro_redo.specs.declared.step.Step.TheVariants.{Keep}
 
--- The first n lines are neither cancelled nor met, each in the states before it. The next one, if there is
--- one, is cancelled or met.
+-- The first n lines are neither cancelled nor met, each in the states before it. The next one, if
+-- there is one, is cancelled or met.
 abbrev pub AreUnmet : (ℕ → Bool) → ℕ → List (ℕ × Noted) → State → State → Type 0
 AreUnmet cancelled zero [] s t = Unit {0}
 AreUnmet cancelled zero (l ∷ lines) s t = (cancelled l.0 ≡ true) ⊎ Met l.1.notes s t
@@ -19,7 +19,8 @@ AreUnmet cancelled (suc n) (l ∷ lines) s t =
     (cancelled l.0 ≡ false) × AgreeOn l.1.notes s t
     × AreUnmet cancelled n lines (after l.1.notes s) (after l.1.notes t)
 
--- The next lines are kept, up to one that is cancelled or met. An overlay that was exact still is.
+-- The next lines are kept, up to the first one that is cancelled or met. An overlay that was exact
+-- still is.
 pub record IsSkip (p q : ProgressValue) : Type 0 where
   pub count : ℕ
   pub recording : q.recording ≡ p.recording

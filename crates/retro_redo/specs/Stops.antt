@@ -1,9 +1,9 @@
--- Only for private contracts and proofs: the number of the next line at which a repair can't pass on.
+-- Only for private contracts and proofs: the number of the next line that a repair doesn't skip.
 use Rattle.std.specs.Prelude.{◌≡◌, ℕ, ◌<◌, ◌≤◌, true, false, List, Option, Some, None}
 use Rattle.std.specs.Prelude.{nat_lt, if◌then◌else◌}
 use Rattle.retro_keep.specs.Edit.{is_among}
 
--- the least of the numbers from another on, or None if there is none
+-- the least of some numbers that is at least another number, or None if there is none
 abbrev pub IsNextAmong : List ℕ → ℕ → Option ℕ → Type 0
 IsNextAmong numbers from None = (n : ℕ) → from ≤ n → is_among numbers n ≡ false
 IsNextAmong numbers from (Some n) =

@@ -164,7 +164,8 @@ impl<'h, 'a> Repairer<'h, 'a> {
     ///
     /// The step must be one that the line allows. A cancelled line allows `Cancel` alone. Any other
     /// line allows `Keep` if it isn't met or if its notes hold in the repaired state. If its notes
-    /// don't hold there, it allows `Take` of a run of its text whose notes do.
+    /// don't hold there, it allows `Take` of a run of its text in its session, whose notes hold
+    /// there.
     pub fn step(&mut self, alloc: Global, number: u32, step: Step) -> Result<(), NoMem>
         requires next { next_number self.old ≡ Some number }
         requires may { (l : ℕ × NotedValue) → next_line self.old ≡ Some l

@@ -54,16 +54,16 @@ context_of sid x = record { place = record { sid = sid; sub = false }; last = x.
 
 -- ---- pipes (XCU 2.9.2)
 
--- The output of a pipe's last command goes to the terminal, and its diagnostics after it. Its status is
--- the pipeline's.
+-- The output of a pipe's last command goes to the terminal, and its diagnostics after it. Its
+-- status is the pipeline's.
 abbrev pub completed : Done → Progress → Progress
 completed done x = with_status done.status (printed (done.out ++ done.err) x)
 
 abbrev pub next_stage : State × Done → Progress → (Done → Step) → State × Progress
 next_stage (s, done) x rest = rest done x s
 
--- From left to right, each command as a whole, after a command that left `done`. Each reads the output
--- of the one before it, whose diagnostics go to the terminal.
+-- From left to right, each command as a whole, after a command that left `done`. Each reads the
+-- output of the one before it, whose diagnostics go to the terminal.
 abbrev pub stages : Context → List Simple → Done → Step
 stages context [] done x s = (s, completed done x)
 stages context (c ∷ cs) done x s =
@@ -134,8 +134,8 @@ module _ (sid : ℕ) where
     run_commands (last a closed) x s = run_and_or true a x s
     run_commands (more a c) x s = and_then (run_and_or true a x s) (run_commands c)
 
-    -- From left to right: the status so far says whether the next pipeline runs. The flag says whether
-    -- the first one does.
+    -- From left to right: the status so far says whether the next pipeline runs. The flag says
+    -- whether the first one does.
     pub run_and_or : Bool → AndOr → Step
     run_and_or runs (end p) x s = run_if runs (run_pipeline p) x s
     run_and_or runs (chain p op a) x s =

@@ -1,7 +1,7 @@
 -- What words become (XCU 2.6): fields, or one text.
 --
--- Tilde prefixes and parameters are replaced, the values of unquoted parameters are split into fields,
--- and quotes are removed. There is no pathname expansion. No state is changed.
+-- Tilde prefixes and parameters are replaced, the values of unquoted parameters are split into
+-- fields, and quotes are removed. There is no pathname expansion. No state is changed.
 use Rattle.std.specs.Prelude.{ℕ, Bool, false, if◌then◌else◌, List, [], ◌∷◌, ◌++◌, length, drop, codes, decimal}
 use Rattle.std.specs.Prelude.{Option, Some, None, option_map, unwrap_or}
 use Rattle.std.specs.List.{filter_map}
@@ -35,14 +35,16 @@ with_prefix sid None w s = w
 with_prefix sid (Some prefix) w s = with_home (home sid prefix.login s) prefix.rest w
 
 -- A word with its tilde prefix replaced by the home directory, which counts as quoted. A prefix
--- without a home directory stays as it is (own). The flag says whether the word is an assigned value.
+-- without a home directory stays as it is (own). The flag says whether the word is an assigned
+-- value.
 abbrev pub tilde_expanded : ℕ → Bool → Word → State → Word
 tilde_expanded sid in_value w s = with_prefix sid (tilde_prefix in_value w) w s
 
 module _ (context : Context) (s : State) where
   -- ---- parameters (XCU 2.5.2, 2.6.2)
 
-  -- the status of the last pipeline in decimal, or a variable's value, which is empty if it isn't set
+  -- the status of the last pipeline in decimal, or a variable's value, which is empty if it isn't
+  -- set
   unfoldable pub parameter_value : Parameter → List ℕ
   parameter_value status = decimal (unwrap_or context.last (session_in context.place.sid s.sessions).status)
   parameter_value (variable name) = unwrap_or (map.get (session_in context.place.sid s.sessions).vars name) []

@@ -1,4 +1,4 @@
--- Fields in the making (XCU 2.6.5).
+-- Fields while words are expanded (XCU 2.6.5).
 use Rattle.std.specs.Prelude.{ℕ, ◌+◌, Bool, ◌==◌, ◌||◌, nat_le, if◌then◌else◌, List, [], ◌∷◌, ◌++◌, length}
 use Rattle.std.specs.Prelude.{Option, Some, None, unwrap_or}
 use Rattle.retro_syntax.specs.Ascii as ascii

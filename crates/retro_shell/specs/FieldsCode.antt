@@ -1,4 +1,4 @@
--- The encoding of fields in the making, which the model of `Fields` needs.
+-- The encoding of fields while words are expanded, which the model of `Fields` needs.
 use Rattle.std.specs.Prelude.{List, ℕ, Option, refl}
 use Rattle.std.specs.Coded.{Coded, code_by, coded×, coded_list, coded_ℕ, coded_option}
 use Rattle.retro_shell.specs.Fields.{Fields}

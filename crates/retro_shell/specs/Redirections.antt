@@ -73,8 +73,8 @@ after_append word done (s, Ok written) = (s, record done { out = [] })
 after_append word done (s, Err reason) =
     (s, record { out = []; err = done.err ++ fault_text (codes "sh") word reason; status = 1 })
 
--- Output is appended to its file as a whole, or lost as a whole. What is left of it goes to the pipe or
--- the terminal.
+-- Output is appended to its file as a whole, or lost as a whole. What is left of it goes to the
+-- pipe or the terminal.
 unfoldable pub delivery : Target → Done → State → State × Done
 delivery targets.Standard done s = (s, done)
 delivery (targets.File word p) done s =

@@ -15,15 +15,15 @@ pub record RunValue : Type 0 where
   pub notes : List Note
   pub output : List ℕ
 
--- In every lawful state that has the session and in which the notes hold, each change is lawful where it
--- is made, and the line gives the state after the notes and the output.
+-- In every lawful state that has the session and in which the notes hold, each change is lawful
+-- where it is made, and the line gives the state after the notes and the output.
 pub record Certifies (run : RunValue) : Type 0 where
   pub allowed : (s : State) → IsLawful s → IsTrue (map.contains_key s.sessions run.sid)
       → Holds run.notes s → AllAllowed run.notes s
   pub means : (s : State) → IsLawful s → IsTrue (map.contains_key s.sessions run.sid)
       → Holds run.notes s → line run.sid run.text s ≡ (after run.notes s, run.output)
 
--- what the type of runs keeps: the notes certify the line, and name no session but its own
+-- the guarantee of the type of runs: the notes certify the line, and name no session but its own
 pub record IsRun (run : RunValue) : Type 0 where
   pub certified : Certifies run
   pub own : IsOwn run.sid run.notes

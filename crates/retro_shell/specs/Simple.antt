@@ -31,7 +31,8 @@ then_assign place name value rest s =
     if nat_le (length value) value_limit then rest (assigned_in place name value s)
     else (s, refusal (codes "value too long") 1)
 
--- From left to right. Each value is expanded in the state that the assignments before it left (own).
+-- From left to right. Each value is expanded in the state that the assignments before it left
+-- (own).
 abbrev pub assign : Context → List Assignment → State → State × Done
 assign context [] s = (s, nothing_done 0)
 assign context (a ∷ rest) s =
@@ -51,7 +52,8 @@ call place (name ∷ operands) input s = or_not_found name (utility name operand
 abbrev pub then_delivered : Target → State × Done → State × Done
 then_delivered target (s, done) = delivery target done s
 
--- the call and the delivery of its output after the redirections, or the diagnostic of the one that failed
+-- the call and the delivery of its output after the redirections, or the diagnostic of the one that
+-- failed
 abbrev pub execution : Place → List (List ℕ) → State × Result Streams Done → State × Done
 execution place fs (s, Ok io) = then_delivered io.output (call place fs io.input s)
 execution place fs (s, Err failed) = (s, failed)
@@ -62,8 +64,8 @@ command_of context fs items input s =
     then execution context.place fs (redirections context items (record { input = input; output = Standard }) s)
     else (s, refusal (codes "argument list too long") 126)
 
--- A simple command with its input. The words are expanded first, then the redirections are made, and
--- then the utility runs. Its output is what isn't redirected.
+-- A simple command with its input. The words are expanded first, then the redirections are made,
+-- and then the utility runs. Its output is what isn't redirected.
 unfoldable pub simple : Context → Simple → Input → State → State × Done
 simple context (assignments all) input s = assign context all s
 simple context (command items) input s =

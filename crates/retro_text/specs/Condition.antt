@@ -8,7 +8,8 @@ use Rattle.retro_text.specs.declared.condition.PathTest.TheVariants.{Exists, IsF
 use Rattle.retro_text.specs.declared.condition.Condition.{Condition}
 use Rattle.retro_text.specs.declared.condition.Condition.TheVariants.{Known, Path}
 
--- a condition: it holds or not whatever files exist, or it asks for the path that a text names
+-- a condition: one that doesn't depend on files, with whether it holds, or a test of the path that
+-- a text names
 pub data ConditionValue : Type 0 where
   known : Bool → ConditionValue
   path : PathTest → List ℕ → ConditionValue
@@ -37,7 +38,7 @@ binary a operator b =
     else if text_eq operator (codes "!=") then Some (not (text_eq a b))
     else None
 
--- the condition that the operands are, by their number, or None if they aren't one
+-- the condition that the operands make, by their number, or None if they make none
 unfoldable pub condition_in : List (List ℕ) → Option ConditionValue
 condition_in [] = Some (known false)
 condition_in (t ∷ []) = Some (known (not (is_empty t)))

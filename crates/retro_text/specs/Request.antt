@@ -63,8 +63,8 @@ abbrev pub after_group : Option Group → (List Given → Option ℕ → Option 
 after_group None next = None
 after_group (Some g) next = next g.0 g.1
 
--- The request in the fields, after the options so far. `waiting` is the letter whose argument is the
--- next field. `--` ends the options, and so does the first operand.
+-- The request in the fields, after the options so far. `waiting` is the letter whose argument is
+-- the next field. `--` ends the options, and so does the first operand.
 abbrev pub request_after : KnownValue → List Given → Option ℕ → List (List ℕ) → Option RequestValue
 request_after known given None [] = Some (request given [])
 request_after known given (Some letter) [] = None
@@ -80,7 +80,7 @@ request_after known given None (field ∷ fields) =
 unfoldable pub request_in : KnownValue → List (List ℕ) → Option RequestValue
 request_in known fields = request_after known [] None fields
 
--- ---- questions about a request
+-- ---- what a request has
 
 -- whether an option was given
 unfoldable pub has_option : ℕ → List Given → Bool

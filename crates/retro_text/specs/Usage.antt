@@ -4,7 +4,7 @@ use Rattle.retro_path.specs.OutOfMemory.{UnlessOutOfMemory}
 use Rattle.retro_text.specs.declared.usage.UsageError.{UsageError}
 use Rattle.retro_text.specs.declared.usage.UsageError.TheVariants.{Usage, NoMem}
 
--- an error as the definitions say it: nothing is said if memory ran out
+-- the meaning of an error in definitions: an error that says that memory ran out means nothing
 abbrev pub refused : {M : Type 0} → UsageError → Option (Option M)
 refused Usage = Some None
 refused NoMem = None

@@ -77,7 +77,8 @@ abbrev pub grows_dir : Change → State → Bool
 grows_dir (changes.Grow p bytes) s = is_dir (node_in p s.tree)
 grows_dir _ s = false
 
--- A change is lawful if it grows no directory, its session exists, and the state after it is lawful.
+-- A change is lawful if it grows no directory, its session exists, and the state after it is
+-- lawful.
 pub record IsLawfulChange (c : Change) (s : State) : Type 0 where
   pub growth : grows_dir c s ≡ false
   pub session : has_its_session c s ≡ true

@@ -19,9 +19,9 @@ put_text sid name (Some text) s = put_var sid name text s
 put_text sid name None s =
     record s { sessions = unset (map.get s.sessions sid) sid name s.sessions }
 
--- An entry written to a cell. A session that doesn't exist is created, unless only a variable of it is
--- unset. A value of another kind than the cell's changes nothing, nor does a growth of a cell that
--- holds no node.
+-- An entry written to a cell. A session that doesn't exist is created, unless only a variable of it
+-- is unset. A value of another kind than the cell's changes nothing, nor does a growth of a cell
+-- that holds no node.
 unfoldable pub put_cell : Cell → OverlayEntry → State → State
 put_cell (cells.At p) (entries.Value (values.Node node)) s = put_node p node s
 put_cell (cells.At p) (entries.Growth bytes) s = grow_file p bytes s

@@ -25,7 +25,7 @@ law_at (name ∷ rest) (File bytes) above =
 unfoldable pub IsLawfulTree : Tree → Type 0
 IsLawfulTree tree = (p : PathValue) → law_at p (node_in p tree) (node_in (parent_of p) tree) ≡ true
 
--- the same as five separate conditions
+-- the lawfulness of a tree as five separate conditions
 pub record KeepsTreeLaw (tree : Tree) : Type 0 where
   pub root : node_in [] tree ≡ Dir
   pub parents : (p : PathValue) → node_in p tree ≢ Missing → node_in (parent_of p) tree ≡ Dir

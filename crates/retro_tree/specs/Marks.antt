@@ -32,7 +32,7 @@ abbrev pub children_tree : PathValue → List (List ℕ) → Tree → Tree
 children_tree p [] tree = tree
 children_tree p (n ∷ ns) tree = children_tree p ns (put (p ++ n ∷ []) Dir tree)
 
--- a node as a mark: a directory stands for each node that isn't missing
+-- a node as a mark: a directory for each node that isn't missing
 abbrev pub mark : Node → Node
 mark Missing = Missing
 mark Dir = Dir

@@ -1,4 +1,4 @@
--- Overlays: entries for some cells of a state, over which a view gives the other cells.
+-- Overlays: entries for some cells of a state. The other cells are those of a view.
 use Rattle.std.specs.Prelude.{◌≡◌, ℕ, Bool, true, false, List, ◌++◌, Option, Some, None}
 use Rattle.std.specs.FinMap as map
 use Rattle.retro_tree.specs.CellOrder.{cell_cmp}

@@ -16,7 +16,7 @@ use Rattle.retro_tree.specs.declared.state.State.{State}
 unfoldable pub empty_state : State
 empty_state = record { tree = map.insert map.empty [] DirEntry; sessions = map.empty }
 
--- a node put at a path, where Missing removes
+-- a node put at a path; Missing removes what the path holds
 abbrev pub put_node : PathValue → Node → State → State
 put_node p node s = record s { tree = put p node s.tree }
 
@@ -33,7 +33,7 @@ abbrev pub put_status : ℕ → ℕ → State → State
 put_status sid status s =
     record s { sessions = update s.sessions sid default_session (with_status status) }
 
--- whether n more bytes can be written to a path
+-- whether n more bytes can be appended to the file at a path
 abbrev pub permit_of : PathValue → ℕ → State → Permit
 permit_of p n s = permit_at (node_in p s.tree) (node_in (parent_of p) s.tree) n
 

@@ -1,5 +1,5 @@
--- The password file: the number and the home directory of a login name. The form is the file's usual
--- one, which no standard defines.
+-- The password file: the number and the home directory of a login name. The form is the file's
+-- usual one, which no standard defines.
 use Rattle.std.specs.Prelude.{ℕ, ◌==◌, Bool, not, ◌&&◌, nat_le, List, [], ◌∷◌, length, Option, Some, None, option_map}
 use Rattle.std.specs.Prelude.{if◌then◌else◌}
 use Rattle.std.specs.List.{list_any, slice_split, filter_map}

@@ -1,4 +1,4 @@
--- What answers to questions say of the node at a path.
+-- What answers to queries say of the node at a path.
 use Rattle.std.proofs.Common.{◌≡◌, ◌≤◌, Bool, true, false, ◌||◌, ℕ, List, []}
 use Rattle.std.proofs.Common.{length, None, Result, Ok, refl, subst, arith}
 use Rattle.std.specs.Bool.{if◌then◌else◌}

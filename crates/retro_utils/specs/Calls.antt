@@ -1,5 +1,5 @@
--- What each utility does with the fields after its name: options by one rule (XBD 12.2), and the forms
--- of its synopsis (XCU chapter 4).
+-- What each utility does with the fields after its name: options by one rule (XBD 12.2), and the
+-- forms of its synopsis (XCU chapter 4).
 use Rattle.std.specs.Prelude.{ℕ, ◌-◌, ◌||◌, List, [], take, length, Option, option_map, slice_get}
 use Rattle.std.specs.Prelude.{codes, if◌then◌else◌}
 use Rattle.retro_text.specs.Ascii.{letter}

@@ -49,7 +49,8 @@ abbrev pub not_empty : List (List ℕ) → Option Reason
 not_empty [] = None
 not_empty (name ∷ names) = Some NotEmpty
 
--- the reason why a directory can't be put at a path, by the kind there: only an empty directory gives way
+-- the reason why a directory can't be put at a path, by the kind there: it can replace only an
+-- empty directory
 abbrev pub no_dir_place : Kind → PathValue → State → Option Reason
 no_dir_place kinds.Missing q s = no_directory (kind_at (parent_of q) s)
 no_dir_place kinds.Dir q s = not_empty (names_in q s.tree)

@@ -1,4 +1,4 @@
--- What utilities leave: output, diagnostics and a status.
+-- The results of utilities: output, diagnostics and a status.
 use Rattle.std.specs.Prelude.{ℕ, List, [], ◌++◌, Option, Some, None, Result, Ok, Err}
 use Rattle.retro_text.specs.Output.{usage_text}
 use Rattle.retro_tree.specs.declared.state.State.{State}

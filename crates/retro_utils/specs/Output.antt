@@ -10,7 +10,8 @@ use Rattle.retro_utils.specs.Reasons.{refusal}
 use Rattle.retro_utils.specs.declared.mode.Mode.{Mode}
 use Rattle.retro_utils.specs.declared.mode.Mode.TheVariants.{Truncate, Append}
 
--- the state after a file is opened: `>` empties it, `>>` leaves it, and either creates a missing one
+-- the state after a file is opened: `>` empties it, `>>` leaves it, and either creates a missing
+-- one
 abbrev pub prepared : Mode → PathValue → State → State
 prepared Truncate p s = put_node p (File []) s
 prepared Append p s = grow_file p [] s

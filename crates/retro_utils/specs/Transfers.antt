@@ -1,4 +1,5 @@
--- What `cp` and `mv` share: the target of each source, and the operand that a fault is on (XCU cp, mv).
+-- What `cp` and `mv` share: the target of each source, and the operand that a fault is on (XCU cp,
+-- mv).
 use Rattle.std.specs.Prelude.{ℕ, Bool, List, ◌++◌, option_to_list, Result, Ok, Err, if◌then◌else◌}
 use Rattle.retro_tree.specs.Path.{PathValue, last_of}
 use Rattle.retro_tree.specs.declared.kind.Kind.{Kind}
