@@ -11,8 +11,7 @@ use std::alloc::{AllocError, Global};
 
 /// Advances an exact overlay over a line, so that it is exact again after the line. In the recorded
 /// state the line does what the notes `recorded` do, and in the repaired state what the notes
-/// `chosen` do. `cells` has the values of the recorded state before the line. If allocation fails,
-/// the overlay is unchanged.
+/// `chosen` do. `cells` has the values of the recorded state before the line.
 ///
 /// An entry grows in place. It is removed if the states agree in its cell after the line. Only
 /// cells that the notes change are read. A file is copied only when it first differs. If a file
@@ -35,8 +34,7 @@ pub fn advance<C: Cells>(
 }
 
 /// Advances an exact overlay over a line that does the same in both states, so that it is exact
-/// again after the line. `cells` has the values of the recorded state before the line. If
-/// allocation fails, the overlay is unchanged.
+/// again after the line. `cells` has the values of the recorded state before the line.
 ///
 /// An entry grows in place. It is removed if the states agree in its cell after the line. Cells
 /// without an entry get none, since what notes do to a cell depends on its value alone. A recorded

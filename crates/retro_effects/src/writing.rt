@@ -32,8 +32,7 @@ fn undo_of_growth(overlay: &Overlay, cell: Cell, bytes: &Bytes) -> Result<Undo, 
     }
 }
 
-/// Sets a cell's entry to a value, and returns how to undo that. If allocation fails, the overlay
-/// is unchanged.
+/// Sets a cell's entry to a value, and returns how to undo that.
 #[tactic(auto, using(crate::proofs::Undoing::setting))]
 fn set(overlay: &mut Overlay, cell: Cell, value: Value) -> Result<Undo, AllocError>
     ensures ok { OnOk result
@@ -52,8 +51,7 @@ fn set(overlay: &mut Overlay, cell: Cell, value: Value) -> Result<Undo, AllocErr
     }
 }
 
-/// Makes a write. Returns how to undo it, or `None` if it changes nothing. If allocation fails, the
-/// overlay is unchanged.
+/// Makes a write. Returns how to undo it, or `None` if it changes nothing.
 fn write_one(overlay: &mut Overlay, cell: Cell, write: Write) -> Result<Option<Undo>, AllocError>
     ensures ok { OnOk result (overlay.new ≡ wrote cell write overlay.old) }
     ensures undo { IfOk result (λ undo. Undoes undo overlay.new overlay.old) }
@@ -70,7 +68,7 @@ fn write_one(overlay: &mut Overlay, cell: Cell, write: Write) -> Result<Option<U
     }
 }
 
-/// Makes a write, and appends how to undo it. If allocation fails, the write is not made.
+/// Makes a write, and appends how to undo it.
 #[tactic(auto, using(crate::proofs::Undoing::undoing))]
 fn write_next(
     overlay: &mut Overlay,

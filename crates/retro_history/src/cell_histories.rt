@@ -99,8 +99,8 @@ impl<'a> CellHistories<'a> {
 
     /// Returns an overlay that tells which children of a path exist before the line with the given
     /// number. It has an entry for each child whose cell has a version below that number. The entry
-    /// is a directory if the child exists, whether it is a file or a directory, and otherwise that
-    /// it is missing.
+    /// is a directory if the child exists, as a file or as a directory, and otherwise a missing
+    /// node.
     ///
     /// Combined with the first state, the overlay gives the names of the children in the recorded
     /// state.

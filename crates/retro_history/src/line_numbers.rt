@@ -42,8 +42,7 @@ impl LineNumbers {
     }
 
     /// Appends a number if it is above all others, and otherwise changes nothing. Lines are added
-    /// in rising order, so a line that is added twice is kept once. If allocation fails, the list
-    /// is unchanged.
+    /// in rising order, so a line that is added twice is kept once.
     pub(crate) fn add(&mut self, number: u32) -> Result<(), NoMem>
         ensures ok { OnOk result (self.new ≡ with_number number self.old) }
         ensures err { OnErr result (self.new ≡ self.old) }

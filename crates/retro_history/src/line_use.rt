@@ -52,7 +52,7 @@ impl<'a> LineUse<'a> {
         self.reads = true;
     }
 
-    /// Appends a change of the cell. If allocation fails, the use is unchanged.
+    /// Appends a change of the cell.
     pub(crate) fn add_change(&mut self, change: &'a Change) -> Result<(), NoMem>
         ensures ok { OnOk result
             (self.new ≡ record self.old { changes = self.old.changes ++ change.now ∷ [] }) }

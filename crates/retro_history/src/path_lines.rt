@@ -68,7 +68,7 @@ impl PathLines {
     }
 
     /// Adds a line that lists a path. Lines are added in rising order. A line that lists the path
-    /// twice is kept once. If allocation fails, nothing changes.
+    /// twice is kept once.
     fn add(&mut self, alloc: Global, path: Path, number: u32) -> Result<(), NoMem>
         ensures ok { OnOk result (self.new ≡ with_line path number self.old) }
         ensures err { OnErr result (self.new ≡ self.old) }

@@ -24,8 +24,7 @@ pub fn holds<V: View>(alloc: Global, notes: &Notes, view: &V) -> Result<bool, Al
     Ok(true)
 }
 
-/// Makes the changes of notes in a state. If allocation fails, the state is unchanged. Copies only
-/// what the changes write.
+/// Makes the changes of notes in a state. Copies only what the changes write.
 pub fn apply_notes(alloc: Global, notes: &Notes, state: &mut State) -> Result<(), AllocError>
     ensures ok { OnOk result (state.new ≡ after notes.now state.old) }
     ensures err { OnErr result (state.new ≡ state.old) }

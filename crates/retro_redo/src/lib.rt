@@ -18,7 +18,8 @@
 //! those of running all other lines one by one. Where an output differs from the recorded one, the
 //! repair has a [`Compensation`]. Its recording is one of the other lines.
 //!
-//! If allocation fails, calls return `NoMem`, or `OutOfMemory` if they have other refusals.
+//! If allocation fails, calls return `NoMem`, or `OutOfMemory` if they have other refusals. Their
+//! arguments are then unchanged.
 #![tactic(auto)]
 
 mod altered_paths;

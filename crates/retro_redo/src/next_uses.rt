@@ -21,7 +21,7 @@ use std::marker::Model;
 ///
 /// An entry is outdated if the states no longer differ in its cell. Outdated entries may stay in
 /// the set for a while. They aren't renewed when their line is settled, and [`NextUses::prune`]
-/// removes them when they come first. So the first entry is never outdated.
+/// removes them when they come first. So after each step the first entry isn't outdated.
 #[derive(Drop)]
 pub(crate) struct NextUses {
     uses: BTreeSet<(u32, Cell)>,

@@ -177,7 +177,7 @@ impl<'a> Progress<'a> {
     }
 
     /// Settles the next line by `step`. `history` is the recording's, and `recorded` has the values
-    /// of the recorded state before the line. If allocation fails, the progress is unchanged.
+    /// of the recorded state before the line.
     pub(crate) fn step<C: Cells>(
         &mut self,
         alloc: Global,
@@ -220,8 +220,7 @@ impl<'a> Progress<'a> {
         Ok(())
     }
 
-    /// Settles the next lines by keeping them, up to the first one that is cancelled or met. If
-    /// allocation fails, the progress is unchanged.
+    /// Settles the next lines by keeping them, up to the first one that is cancelled or met.
     pub(crate) fn skip_unmet(&mut self) -> Result<(), NoMem>
         ensures ok { OnOk result (IsSkip self.old self.new) }
         ensures err { OnErr result (self.new ≡ self.old) }
@@ -310,7 +309,7 @@ fn is_step_met(step: &Step, number: u32, uses: &NextUses) -> bool
 }
 
 /// Advances an exact overlay over a line that is settled by `step`. `recorded` has the values of
-/// the recorded state before the line. If allocation fails, the overlay is unchanged.
+/// the recorded state before the line.
 fn advance_by<C: Cells>(
     alloc: Global,
     overlay: &mut Overlay,

@@ -11,9 +11,9 @@ use retro_tree::{Bytes, State};
 pub struct Repair {
     /// The state after the lines that aren't cancelled.
     pub state: State,
-    /// What each line prints that isn't cancelled, with its number, in order.
+    /// For each line that isn't cancelled, its number and what it prints, in order.
     pub outputs: Vec<(u32, Bytes)>,
-    /// The verdict on each line, with its number, in order.
+    /// For each line, its number and the verdict on it, in order.
     pub verdicts: Vec<(u32, Verdict)>,
     /// The numbers of the lines that read or write a cell in which the repaired state differs from
     /// the recorded one. They rise.

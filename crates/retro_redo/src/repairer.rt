@@ -160,7 +160,7 @@ impl<'h, 'a> Repairer<'h, 'a> {
         self.progress.redo(alloc, &self.recorded(number), gate)
     }
 
-    /// Settles the next line by `step`. If allocation fails, the repair is unchanged.
+    /// Settles the next line by `step`.
     ///
     /// The step must be one that the line allows. A cancelled line allows `Cancel` alone. Any other
     /// line allows `Keep` if it isn't met or if its notes hold in the repaired state. If its notes
@@ -210,8 +210,7 @@ impl<'h, 'a> Repairer<'h, 'a> {
 
     /// Keeps the next lines that are neither cancelled nor met, and returns the number of the line
     /// after them, or `None` if all lines are settled. The kept lines aren't read, since the next
-    /// line that is cancelled or met is found by its number. If allocation fails, the repair is
-    /// unchanged.
+    /// line that is cancelled or met is found by its number.
     pub fn skip_unmet(&mut self) -> Result<Option<u32>, NoMem>
         ensures next { IfOk result (λ number. number ≡ next_number self.new) }
         ensures ok { OnOk result (IsSkip self.old self.new) }

@@ -77,7 +77,7 @@ fn lines_from(lines: &[(u32, Noted)], place: usize) -> &[(u32, Noted)]
     &lines[place..]
 }
 
-/// Appends `count` choices to keep a line. If allocation fails, the choices are unchanged.
+/// Appends `count` choices to keep a line.
 pub(crate) fn push_kept(choices: &mut Vec<Step>, count: usize) -> Result<(), NoMem>
     ensures ok { OnOk result (choices.new.items
         ≡ choices.old.items ++ replicate count steps.Keep) }

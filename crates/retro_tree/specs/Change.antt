@@ -26,7 +26,7 @@ put_var sid name text s =
 abbrev pub put_cwd : ℕ → PathValue → State → State
 put_cwd sid p s = record s { sessions = update s.sessions sid default_session (with_cwd p) }
 
--- any setting of a session made, likewise
+-- any setting of a session made; the session is created if it doesn't exist
 abbrev pub put_setting : ℕ → Setting → State → State
 put_setting sid setting s =
     record s { sessions = update s.sessions sid default_session (with_setting setting) }

@@ -23,7 +23,7 @@ tree_of a = a.entries.value
 abbrev pub TreeIsKnown : trees.Inside → Type 0
 TreeIsKnown a = IsTrue a.entries.known → IsLawfulTree (tree_of a)
 
--- likewise sessions
+-- contracts see sessions without the mark, and sessions with the mark are lawful
 abbrev pub sessions_of : sessions.Inside → map.FinMap nat_cmp Session
 sessions_of a = a.sessions.value
 

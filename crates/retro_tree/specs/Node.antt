@@ -53,7 +53,7 @@ grown bytes Missing = File bytes
 grown bytes Dir = Dir
 grown bytes (File old) = File (old ++ bytes)
 
--- likewise an entry of a tree
+-- an entry of a tree with bytes appended; a directory stays unchanged
 abbrev pub entry_grown : List ℕ → Entry → Entry
 entry_grown bytes DirEntry = DirEntry
 entry_grown bytes (FileEntry old) = FileEntry (old ++ bytes)
