@@ -1,8 +1,8 @@
 //! Comparisons of texts that are given as two parts each. No copy is made.
 ghost use Rattle.std.specs.Prelude.{◌≡◌, ◌↔◌, ◌++◌, ◌≤◌, IsTrue, length};
 
-/// Returns whether the bytes are equal. This is `==`, as a function of its own for the prover, with
-/// the contract that `true` means equality.
+/// Returns whether the bytes are equal. This is `==`, as a function of its own for the prover: its
+/// contract says that the result is `true` exactly if the bytes are equal.
 #[tactic(auto, using(retro_tree::proofs::Sames::sames))]
 pub(crate) fn same_bytes(one: &[u8], other: &[u8]) -> bool
     ensures { IsTrue result ↔ (one.now ≡ other.now) }

@@ -59,8 +59,8 @@ impl<'a, V: View> View for Combined<'a, V> {
     }
 }
 
-/// Returns whether notes hold in the repaired state. This is the combined state of a view of the
-/// recorded state and the exact overlay.
+/// Returns whether notes hold in the repaired state. `view` is a view of the recorded state, and
+/// `overlay` is the exact overlay, so their combined state is the repaired one.
 pub fn equiv<V: View>(
     alloc: Global,
     notes: &Notes,

@@ -17,8 +17,8 @@ use crate::write::Write;
 use retro_tree::{Cell, Node, OverlayEntry, Value};
 use std::alloc::{AllocError, Global};
 
-/// Returns the bytes that an effect appends to a file, or `None` if it sets a value. No effect
-/// appends no bytes.
+/// Returns the bytes that an effect appends to a file, or `None` if it sets a value. If there is no
+/// effect, returns no bytes.
 fn appended<'a>(effect: Option<&'a OverlayEntry>) -> Option<&'a [u8]>
     ensures { Appends (option_copied result) (option_copied effect.entry) }
 {
