@@ -12,7 +12,7 @@ use Rattle.retro_redo.specs.declared.repair_fault.RepairFault.TheVariants.{NoSuc
 use Rattle.retro_redo.specs.declared.repair_fault.RepairFault.TheVariants.{OutOfMemory}
 use Rattle.retro_redo.proofs.Numbers.{all_known}
 use Rattle.retro_cli.specs.Program.{repair_refusal}
-use Rattle.retro_cli.specs.Stop.{Refuses, stop_of_repair}
+use Rattle.retro_cli.specs.inner.Stop.{Refuses, stop_of_repair}
 use Rattle.retro_cli.specs.declared.stop.Stop.{Stop}
 use Rattle.retro_cli.specs.declared.stop.TheConstants.{UNKNOWN_LINE}
 

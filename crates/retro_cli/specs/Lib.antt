@@ -5,5 +5,5 @@ pub mod Output
 pub mod Program
 pub mod RepairReport
 pub mod Report
-pub mod Stop
 pub mod Words
+pub mod inner

@@ -4,7 +4,7 @@ ghost use Rattle.retro_cli.specs.Exit.{exit_of};
 ghost use Rattle.retro_cli.specs.Program.{Answered, IsLogOf, IsRepairReport, IsRepairedLog};
 ghost use Rattle.retro_cli.specs.Program.{IsVerdict, document_refusal, repair_refusal};
 ghost use Rattle.retro_cli.specs.Program.{replay_answer, request_refusal};
-ghost use Rattle.retro_cli.specs.Stop.{Refuses, ReturnsAs};
+ghost use Rattle.retro_cli.specs.inner.Stop.{Refuses, ReturnsAs};
 ghost use Rattle.retro_cli.specs.Words.{request_view};
 ghost use Rattle.retro_log.specs.Document.{log_in, script_in};
 

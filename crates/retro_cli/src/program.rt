@@ -5,7 +5,7 @@ ghost use Rattle.retro_cli.specs.Exit.{exit_of, writes_nothing};
 ghost use Rattle.retro_cli.specs.Input.{is_broken};
 ghost use Rattle.retro_cli.specs.Program.{Answered, Runs, WordsAllow, replay_answer};
 ghost use Rattle.retro_cli.specs.Program.{request_refusal};
-ghost use Rattle.retro_cli.specs.Stop.{Refuses, ReturnsAs};
+ghost use Rattle.retro_cli.specs.inner.Stop.{Refuses, ReturnsAs};
 ghost use Rattle.retro_cli.specs.Words.{request_view, request_in};
 ghost use Rattle.retro_cli.specs.declared.exit.Exit.TheVariants as exits;
 ghost use Rattle.retro_cli.specs.declared.stop.Stop.TheVariants as stops;

@@ -1,8 +1,8 @@
 //! Errors that stop a run.
 ghost use Rattle.std.specs.Prelude.{◌≡◌};
 ghost use Rattle.retro_cli.specs.declared.stop.Stop.TheVariants as stops;
-ghost use Rattle.retro_cli.specs.Stop.{stop_of_words, stop_of_document, stop_of_edit};
-ghost use Rattle.retro_cli.specs.Stop.{stop_of_repair};
+ghost use Rattle.retro_cli.specs.inner.Stop.{stop_of_words, stop_of_document, stop_of_edit};
+ghost use Rattle.retro_cli.specs.inner.Stop.{stop_of_repair};
 
 use crate::words::WordsFault;
 use retro_keep::EditFault;

@@ -23,8 +23,10 @@ use Rattle.retro_tree.proofs.Small.{less, both_fst, both_snd}
 use Rattle.retro_tree.proofs.NoteLaws.{same_cells}
 use Rattle.retro_tree.proofs.OverlayChanges.{get_set, get_erased}
 use Rattle.retro_tree.proofs.ExactOverlays.{exact_overlays}
-use Rattle.retro_effects.specs.Write.{WriteMap, entry_after, entry_written, wrote, wrote_all, without}
-use Rattle.retro_effects.specs.Plan.{IsPlan, is_planned, recorded_value, repaired_value, carried_out, Covers}
+use Rattle.retro_effects.specs.inner.Write.{WriteMap, entry_after, entry_written, wrote, wrote_all}
+use Rattle.retro_effects.specs.inner.Write.{without}
+use Rattle.retro_effects.specs.inner.Plan.{IsPlan, is_planned, recorded_value, repaired_value}
+use Rattle.retro_effects.specs.inner.Plan.{carried_out, Covers}
 use Rattle.retro_effects.specs.declared.write.Write.{Write}
 use Rattle.retro_effects.specs.declared.write.Write.TheVariants.{Keep, Set, Grow}
 use Rattle.retro_effects.proofs.Covering.{covered}

@@ -20,8 +20,9 @@ use Rattle.retro_tree.proofs.Small.{both_fst, both_snd, none_some}
 use Rattle.retro_tree.proofs.NoteLaws.{same_cells}
 use Rattle.retro_tree.proofs.OverlayLemmas.{none_found}
 use Rattle.retro_tree.proofs.PutCells.{found_first, found_later}
-use Rattle.retro_effects.specs.Write.{WriteMap}
-use Rattle.retro_effects.specs.Plan.{is_planned, is_listed, recorded_value, repaired_value, Covers, AreEntries}
+use Rattle.retro_effects.specs.inner.Write.{WriteMap}
+use Rattle.retro_effects.specs.inner.Plan.{is_planned, is_listed, recorded_value, repaired_value}
+use Rattle.retro_effects.specs.inner.Plan.{Covers, AreEntries}
 use Rattle.retro_effects.proofs.Plans.{none_planned}
 
 -- ---- the entries of a map

@@ -12,8 +12,8 @@ use Rattle.retro_tree.specs.declared.value.Value.TheVariants as values
 use Rattle.retro_tree.specs.declared.node.Node.TheVariants as nodes
 use Rattle.retro_tree.specs.declared.overlay_entry.OverlayEntry.{OverlayEntry}
 use Rattle.retro_tree.specs.declared.overlay_entry.OverlayEntry.TheVariants as entries
-use Rattle.retro_effects.specs.Write.{entry_after, decided_entry}
-use Rattle.retro_effects.specs.Decision.{Appends, differ_by_empty_file}
+use Rattle.retro_effects.specs.inner.Write.{entry_after, decided_entry}
+use Rattle.retro_effects.specs.inner.Decision.{Appends, differ_by_empty_file}
 use Rattle.retro_effects.specs.declared.write.Write.{Write}
 use Rattle.retro_effects.specs.declared.write.Write.TheVariants.{Grow}
 

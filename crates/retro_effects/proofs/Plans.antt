@@ -15,8 +15,8 @@ use Rattle.retro_tree.specs.declared.cell.Cell.{Cell}
 use Rattle.retro_tree.specs.declared.state.State.{State}
 use Rattle.retro_tree.proofs.Small.{some_same}
 use Rattle.retro_tree.proofs.NoteLaws.{same_cells}
-use Rattle.retro_effects.specs.Write.{WriteMap, entry_after, decided_entry}
-use Rattle.retro_effects.specs.Plan.{IsPlan, is_planned, recorded_value, repaired_value}
+use Rattle.retro_effects.specs.inner.Write.{WriteMap, entry_after, decided_entry}
+use Rattle.retro_effects.specs.inner.Plan.{IsPlan, is_planned, recorded_value, repaired_value}
 use Rattle.retro_effects.specs.declared.write.Write.{Write}
 
 get_planned : (writes : WriteMap) (k : Cell) (w : Write) (c : Cell)

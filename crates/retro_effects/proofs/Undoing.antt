@@ -19,7 +19,7 @@ use Rattle.retro_tree.proofs.Lookups.{get_inserted}
 use Rattle.retro_tree.proofs.NoteLaws.{same_cells}
 use Rattle.retro_tree.proofs.OverlayChanges.{get_erased}
 use Rattle.retro_tree.proofs.PreviousSettings.{inserted_twice, removed_again, put_back}
-use Rattle.retro_effects.specs.Undo.{undone, undone_all, cut, cut_at}
+use Rattle.retro_effects.specs.inner.Undo.{undone, undone_all, cut, cut_at}
 use Rattle.retro_effects.specs.declared.undo.Undo.{Undo}
 use Rattle.retro_effects.specs.declared.undo.Undo.TheVariants as undos
 

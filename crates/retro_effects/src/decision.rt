@@ -6,8 +6,8 @@ ghost use Rattle.retro_tree.specs.Overlay.{combined_value};
 ghost use Rattle.retro_tree.specs.Exact.{IsDifference};
 ghost use Rattle.retro_tree.specs.declared.overlay_entry.OverlayEntry.TheVariants as OverlayEntry;
 ghost use Rattle.retro_effects.specs.ValueRef.{ref_value};
-ghost use Rattle.retro_effects.specs.Write.{entry_after, decided_entry};
-ghost use Rattle.retro_effects.specs.Decision.{Appends, differ_by_empty_file};
+ghost use Rattle.retro_effects.specs.inner.Write.{entry_after, decided_entry};
+ghost use Rattle.retro_effects.specs.inner.Decision.{Appends, differ_by_empty_file};
 
 use crate::bytes::{same_bytes, same_in_parts};
 use crate::cells::Cells;

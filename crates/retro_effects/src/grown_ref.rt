@@ -3,7 +3,7 @@ ghost use Rattle.std.specs.Prelude.{◌≡◌, ◌↔◌, IsTrue};
 ghost use Rattle.std.specs.Option.{option_copied};
 ghost use Rattle.retro_tree.specs.Overlay.{combined_value};
 ghost use Rattle.retro_effects.specs.ValueRef.{ref_value};
-ghost use Rattle.retro_effects.specs.GrownRef.{grown_ref_value};
+ghost use Rattle.retro_effects.specs.inner.GrownRef.{grown_ref_value};
 
 use crate::bytes::same_in_parts;
 use crate::value_ref::ValueRef;

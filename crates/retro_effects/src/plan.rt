@@ -6,9 +6,9 @@ ghost use Rattle.retro_tree.specs.Overlay.{OverlayMap};
 ghost use Rattle.retro_tree.specs.Exact.{IsDifference};
 ghost use Rattle.retro_tree.specs.declared.cell.Cell.{Cell as StateCell};
 ghost use Rattle.retro_tree.specs.declared.state.State.{State};
-ghost use Rattle.retro_effects.specs.Write.{decided_entry};
-ghost use Rattle.retro_effects.specs.Plan.{carried_out, IsPlan, is_planned};
-ghost use Rattle.retro_effects.specs.Plan.{recorded_value, repaired_value};
+ghost use Rattle.retro_effects.specs.inner.Write.{decided_entry};
+ghost use Rattle.retro_effects.specs.inner.Plan.{carried_out, IsPlan, is_planned};
+ghost use Rattle.retro_effects.specs.inner.Plan.{recorded_value, repaired_value};
 
 use crate::undo::Undo;
 use crate::write::Write;

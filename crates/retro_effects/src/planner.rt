@@ -7,7 +7,7 @@ ghost use Rattle.retro_tree.specs.Overlay.{OverlayMap};
 ghost use Rattle.retro_tree.specs.Exact.{IsExact, IsTight};
 ghost use Rattle.retro_tree.specs.declared.cell.Cell.{Cell as StateCell};
 ghost use Rattle.retro_tree.specs.declared.state.State.{State};
-ghost use Rattle.retro_effects.specs.Plan.{carried_out, IsPlan, is_planned, Covers};
+ghost use Rattle.retro_effects.specs.inner.Plan.{carried_out, IsPlan, is_planned, Covers};
 
 use crate::cells::Cells;
 use crate::decision::{decide, decide_both};

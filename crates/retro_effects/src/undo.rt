@@ -1,7 +1,7 @@
 //! How the writes of an overlay's entries are undone.
 ghost use Rattle.std.specs.Prelude.{◌≡◌};
 ghost use Rattle.std.specs.FinMap as map;
-ghost use Rattle.retro_effects.specs.Undo.{undone, undone_cell, cut, cut_at};
+ghost use Rattle.retro_effects.specs.inner.Undo.{undone, undone_cell, cut, cut_at};
 
 use retro_tree::{Cell, Node, Overlay, OverlayEntry, Value};
 

@@ -18,7 +18,7 @@ pub(crate) struct WriteMap {
 impl Model for WriteMap {
     ghost use Rattle.std.specs.FinMap as map;
     ghost use Rattle.retro_tree.specs.CellOrder.{cell_cmp, coded_cell};
-    ghost use Rattle.retro_effects.specs.Write.{coded_write};
+    ghost use Rattle.retro_effects.specs.inner.Write.{coded_write};
     ghost use Rattle.retro_effects.specs.declared.write.Write.{Write};
 
     ghost Value = { map.FinMap cell_cmp Write };

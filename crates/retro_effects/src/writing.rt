@@ -3,8 +3,8 @@ ghost use Rattle.std.specs.Prelude.{◌≡◌, IfOk, OnOk, OnErr, reverse};
 ghost use Rattle.std.specs.FinMap as map;
 ghost use Rattle.retro_tree.specs.Overlay.{grown_at};
 ghost use Rattle.retro_tree.specs.declared.overlay_entry.OverlayEntry.TheVariants as OverlayEntry;
-ghost use Rattle.retro_effects.specs.Write.{wrote, wrote_all, without};
-ghost use Rattle.retro_effects.specs.Undo.{undone, undone_all, undone_cell, Undoes};
+ghost use Rattle.retro_effects.specs.inner.Write.{wrote, wrote_all, without};
+ghost use Rattle.retro_effects.specs.inner.Undo.{undone, undone_all, undone_cell, Undoes};
 
 use crate::undo::Undo;
 use crate::write::Write;

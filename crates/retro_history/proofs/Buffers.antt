@@ -8,8 +8,9 @@ use Rattle.retro_tree.specs.declared.value.Value.TheVariants as values
 use Rattle.retro_tree.specs.declared.node.Node.TheVariants as nodes
 use Rattle.retro_tree.specs.Change.{value_grown}
 use Rattle.retro_effects.specs.declared.value_ref.ValueRef.{ValueRef}
-use Rattle.retro_history.specs.Tracks.{TrackValue, version_grown}
-use Rattle.retro_history.specs.Version.{place_value, version_value, IsWithin, EndsAt, AreWithin, RangesFit}
+use Rattle.retro_history.specs.inner.Tracks.{TrackValue, version_grown}
+use Rattle.retro_history.specs.inner.Version.{place_value, version_value, IsWithin, EndsAt}
+use Rattle.retro_history.specs.inner.Version.{AreWithin, RangesFit}
 use Rattle.retro_history.specs.declared.place.Place.{Place}
 use Rattle.retro_history.specs.declared.place.Place.TheVariants.{Borrowed, Buffer}
 use Rattle.retro_history.specs.declared.version.Version.{Version}

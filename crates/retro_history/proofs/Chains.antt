@@ -13,9 +13,11 @@ use Rattle.retro_keep.specs.Recording.{number_in}
 use Rattle.retro_keep.specs.declared.noted.Noted.{Noted}
 use Rattle.retro_history.specs.Recorded.{lines_below}
 use Rattle.retro_history.specs.Versions.{is_growth}
-use Rattle.retro_history.specs.Tracks.{TrackValue, VersionValue, whole_version, tracked, version_made}
-use Rattle.retro_history.specs.Tracks.{version_after, current, version_chain, all_versions, last_below}
-use Rattle.retro_history.specs.Tracks.{RiseFrom}
+use Rattle.retro_history.specs.inner.Tracks.{TrackValue, VersionValue, whole_version, tracked}
+use Rattle.retro_history.specs.inner.Tracks.{version_made}
+use Rattle.retro_history.specs.inner.Tracks.{version_after, current, version_chain, all_versions}
+use Rattle.retro_history.specs.inner.Tracks.{last_below}
+use Rattle.retro_history.specs.inner.Tracks.{RiseFrom}
 use Rattle.retro_history.proofs.LineVersions.{track_of_line, line_noted}
 
 abbrev pub Lines : Type 0

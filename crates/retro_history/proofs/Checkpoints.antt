@@ -14,8 +14,8 @@ use Rattle.retro_history.specs.Recorded.{lines_below}
 use Rattle.retro_history.specs.Versions.{Version, Content, whole, growth, growth_in, is_growth}
 use Rattle.retro_history.specs.Versions.{content_by, is_checkpoint}
 use Rattle.retro_history.specs.Versions.{greatest_below}
-use Rattle.retro_history.specs.Tracks.{VersionValue, whole_version, version_made, current}
-use Rattle.retro_history.specs.Tracks.{version_chain, is_whole_version, checkpoint_numbers}
+use Rattle.retro_history.specs.inner.Tracks.{VersionValue, whole_version, version_made, current}
+use Rattle.retro_history.specs.inner.Tracks.{version_chain, is_whole_version, checkpoint_numbers}
 use Rattle.retro_history.proofs.Chains.{Lines, Rise, above, later, not_below, none_below}
 use Rattle.retro_history.proofs.Rule.{versions_from, versions_split}
 

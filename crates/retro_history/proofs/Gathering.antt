@@ -13,8 +13,9 @@ use Rattle.retro_tree.specs.declared.note.Note.{Note}
 use Rattle.retro_tree.specs.declared.note.Note.TheVariants.{Asked, Made}
 use Rattle.retro_tree.proofs.Small.{tied, first_true, both_true, and_true}
 use Rattle.retro_history.specs.Index.{AreNumbered, Line, listed_at, lists, numbers_of}
-use Rattle.retro_history.specs.IndexSteps.{ListedMap, listed_by, listed_noted, numbers_at, with_line}
-use Rattle.retro_history.specs.Numbers.{are_below, noted, with_number}
+use Rattle.retro_history.specs.inner.IndexSteps.{ListedMap, listed_by, listed_noted, numbers_at}
+use Rattle.retro_history.specs.inner.IndexSteps.{with_line}
+use Rattle.retro_history.specs.inner.Numbers.{are_below, noted, with_number}
 use Rattle.retro_history.proofs.Lines.{RiseFrom, above, later, numbers_of_more, one_more}
 
 -- ---- one number appended twice

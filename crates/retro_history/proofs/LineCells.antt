@@ -22,12 +22,15 @@ use Rattle.retro_tree.specs.declared.note.Note.{Note}
 use Rattle.retro_tree.specs.declared.note.Note.TheVariants.{Asked, Made}
 use Rattle.retro_tree.specs.declared.state.State.{State}
 use Rattle.retro_tree.proofs.Small.{less, tied, both_fst, both_snd}
-use Rattle.retro_history.specs.CellHistory.{HistoryMap, history_in, history_noted, history_used, new_history, with_use}
-use Rattle.retro_history.specs.LineUse.{UseMap, UseValue, cells_noted, depends, has_changes, no_use, queried_cell}
-use Rattle.retro_history.specs.LineUse.{reads_directly, use_at, use_changed, use_noted, use_read, with_query}
-use Rattle.retro_history.specs.LineUse.{with_change, with_read}
-use Rattle.retro_history.specs.Numbers.{noted}
-use Rattle.retro_history.specs.Tracks.{TrackValue, track_by, track_changed, track_noted}
+use Rattle.retro_history.specs.inner.CellHistory.{HistoryMap, history_in, history_noted}
+use Rattle.retro_history.specs.inner.CellHistory.{history_used, new_history, with_use}
+use Rattle.retro_history.specs.inner.LineUse.{UseMap, UseValue, cells_noted, depends, has_changes}
+use Rattle.retro_history.specs.inner.LineUse.{no_use, queried_cell}
+use Rattle.retro_history.specs.inner.LineUse.{reads_directly, use_at, use_changed, use_noted}
+use Rattle.retro_history.specs.inner.LineUse.{use_read, with_query}
+use Rattle.retro_history.specs.inner.LineUse.{with_change, with_read}
+use Rattle.retro_history.specs.inner.Numbers.{noted}
+use Rattle.retro_history.specs.inner.Tracks.{TrackValue, track_by, track_changed, track_noted}
 use Rattle.retro_history.specs.declared.cell_history.CellHistory.{CellHistory}
 
 -- a look-up in a map of which one cell is updated

@@ -12,9 +12,10 @@ use Rattle.retro_tree.specs.declared.change.Change.TheVariants.{Put, Grow, SetVa
 use Rattle.retro_tree.specs.declared.note.Note.{Note}
 use Rattle.retro_tree.specs.declared.note.Note.TheVariants.{Asked, Made}
 use Rattle.retro_history.specs.Versions.{growth_in, growth_limit, with_growth}
-use Rattle.retro_history.specs.Tracks.{TrackValue, VersionValue, whole_version, next_version, version_of_line}
-use Rattle.retro_history.specs.Tracks.{version_grown, version_changed, track_changed}
-use Rattle.retro_history.specs.Tracks.{track_noted, version_made}
+use Rattle.retro_history.specs.inner.Tracks.{TrackValue, VersionValue, whole_version, next_version}
+use Rattle.retro_history.specs.inner.Tracks.{version_of_line}
+use Rattle.retro_history.specs.inner.Tracks.{version_grown, version_changed, track_changed}
+use Rattle.retro_history.specs.inner.Tracks.{track_noted, version_made}
 
 -- the version of line n, after the rest of its notes: whole if they change the cell in another way
 abbrev settled : Option (List ℕ) → ℕ → ℕ → ℕ → Value → VersionValue

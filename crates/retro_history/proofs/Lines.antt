@@ -6,7 +6,7 @@ use Rattle.retro_tree.proofs.Small.{first_true, both_true, and_true}
 use Rattle.retro_keep.specs.Recording.{number_in}
 use Rattle.retro_keep.specs.Script.{rises_from}
 use Rattle.retro_history.specs.Index.{Line, numbers_of}
-use Rattle.retro_history.specs.Numbers.{earliest, first_above, union}
+use Rattle.retro_history.specs.inner.Numbers.{earliest, first_above, union}
 use Rattle.retro_history.proofs.Unions.{all_over, over_less, union_both, union_left, union_none, union_over}
 
 -- the lines' numbers rise from a number on

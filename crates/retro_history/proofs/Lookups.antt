@@ -3,8 +3,9 @@ use Rattle.std.proofs.Common.{◌≡◌, ℕ, Bool, true, false, ◌-◌, ◌<�
 use Rattle.std.proofs.Common.{nat_lt, refl, ap, ◌∙◌, if◌then◌else◌, arith, length, get_or, zero, suc}
 use Rattle.std.specs.List.Sorted.{IsPartitionedBy, IsPartitionPoint}
 use Rattle.std.proofs.lemmas.Bool.Decides.{nat_tests}
-use Rattle.retro_history.specs.Tracks.{VersionValue, TrackValue, RiseFrom, last_below, version_below}
-use Rattle.retro_history.specs.Version.{version_value}
+use Rattle.retro_history.specs.inner.Tracks.{VersionValue, TrackValue, RiseFrom, last_below}
+use Rattle.retro_history.specs.inner.Tracks.{version_below}
+use Rattle.retro_history.specs.inner.Version.{version_value}
 use Rattle.retro_history.specs.declared.version.Version.{Version}
 
 pub below_append : (n : ℕ) (found : Option VersionValue) (vs : List VersionValue) (v : VersionValue)

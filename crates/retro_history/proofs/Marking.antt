@@ -13,7 +13,7 @@ use Rattle.std.specs.FinMap.Entries.{find, is_sorted, below_all, where_key, is_s
 use Rattle.std.proofs.lemmas.Bool.{false≢true}
 use Rattle.retro_tree.specs.CellOrder.{cell_cmp, cell_total, cell_exact}
 use Rattle.retro_tree.specs.Path.{PathValue, below, is_child, only_name}
-use Rattle.retro_tree.specs.Marks.{cell_below}
+use Rattle.retro_tree.specs.inner.Marks.{cell_below}
 use Rattle.retro_tree.specs.Overlay.{OverlayMap, Fits}
 use Rattle.retro_tree.specs.declared.cell.Cell.{Cell}
 use Rattle.retro_tree.specs.declared.cell.Cell.TheVariants as cells
@@ -23,10 +23,11 @@ use Rattle.retro_tree.specs.declared.overlay_entry.OverlayEntry.TheVariants as e
 use Rattle.retro_tree.proofs.Small.{tied, less, both_fst, both_snd}
 use Rattle.retro_tree.proofs.Together.{path_after, apart_from}
 use Rattle.retro_tree.proofs.Fitting.{fits_none, fits_set}
-use Rattle.retro_history.specs.CellHistory.{HistoryMap}
-use Rattle.retro_history.specs.Tracks.{VersionValue, version_below}
+use Rattle.retro_history.specs.inner.CellHistory.{HistoryMap}
+use Rattle.retro_history.specs.inner.Tracks.{VersionValue, version_below}
 use Rattle.retro_history.specs.declared.cell_history.CellHistory.{CellHistory}
-use Rattle.retro_history.specs.TrackMarks.{histories_from, mark_of_value, mark_version, is_child_cell, mark_tracks}
+use Rattle.retro_history.specs.inner.TrackMarks.{histories_from, mark_of_value, mark_version}
+use Rattle.retro_history.specs.inner.TrackMarks.{is_child_cell, mark_tracks}
 
 abbrev Entries : Type 0
 Entries = List (Cell × CellHistory)

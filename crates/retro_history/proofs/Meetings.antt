@@ -8,8 +8,8 @@ use Rattle.retro_tree.specs.Notes.{touches}
 use Rattle.retro_tree.specs.declared.cell.Cell.{Cell}
 use Rattle.retro_tree.proofs.Small.{and_true, or_first, or_last}
 use Rattle.retro_history.specs.Index.{AreNumbered, IsNextMeeting, Line, meets, next_use, numbers_of}
-use Rattle.retro_history.specs.IndexSteps.{next_of}
-use Rattle.retro_history.specs.Numbers.{earliest, first_above}
+use Rattle.retro_history.specs.inner.IndexSteps.{next_of}
+use Rattle.retro_history.specs.inner.Numbers.{earliest, first_above}
 use Rattle.retro_history.proofs.Lines.{RiseFrom, above, earliest_assoc, earliest_none, first_more, first_of_more}
 use Rattle.retro_history.proofs.Lines.{first_of_tests, later, numbers_of_more}
 

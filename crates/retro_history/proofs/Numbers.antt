@@ -9,7 +9,7 @@ use Rattle.std.proofs.lemmas.Bool.{ltb-true, leb-true, leb-false, lt-ltb, le-ltb
 use Rattle.std.proofs.lemmas.Option.{slice_get_past, slice_get_read}
 use Rattle.retro_tree.proofs.Small.{first_true, both_true, and_true, some_same, none_some}
 use Rattle.retro_keep.specs.Script.{rises_from}
-use Rattle.retro_history.specs.Numbers.{are_below, first_above, rise}
+use Rattle.retro_history.specs.inner.Numbers.{are_below, first_above, rise}
 
 -- ---- appending
 

@@ -19,10 +19,10 @@ use Rattle.retro_tree.specs.declared.note.Note.TheVariants.{Asked, Made}
 use Rattle.retro_tree.proofs.LawLemmas.{child_of_parent, parent_of_child}
 use Rattle.retro_tree.proofs.Small.{tied}
 use Rattle.retro_history.specs.Index.{Line, is_listing_of, lists, next_use, numbers_of, read_at, reads}
-use Rattle.retro_history.specs.IndexSteps.{Indexes, parent_listings}
-use Rattle.retro_history.specs.LineUse.{depends, reads_directly}
-use Rattle.retro_history.specs.Numbers.{earliest, first_above, union}
-use Rattle.retro_history.specs.CellHistory.{uses_at}
+use Rattle.retro_history.specs.inner.IndexSteps.{Indexes, parent_listings}
+use Rattle.retro_history.specs.inner.LineUse.{depends, reads_directly}
+use Rattle.retro_history.specs.inner.Numbers.{earliest, first_above, union}
+use Rattle.retro_history.specs.inner.CellHistory.{uses_at}
 use Rattle.retro_history.specs.declared.index.Index.{Index}
 use Rattle.retro_history.proofs.Lines.{earliest_assoc, earliest_none, first_of_tests, same_tests, union_of_tests}
 use Rattle.retro_history.proofs.Unions.{none_union}

@@ -14,7 +14,7 @@ use Rattle.retro_tree.specs.Node.{is_present}
 use Rattle.retro_tree.specs.Tree.{node_in}
 use Rattle.retro_tree.specs.Ask.{names_in}
 use Rattle.retro_tree.specs.Cell.{value}
-use Rattle.retro_tree.specs.Marks.{mark}
+use Rattle.retro_tree.specs.inner.Marks.{mark}
 use Rattle.retro_tree.specs.Overlay.{OverlayMap, Overlays, combined_value}
 use Rattle.retro_tree.specs.Commit.{committed}
 use Rattle.retro_tree.specs.declared.node.Node.{Node}
@@ -30,14 +30,15 @@ use Rattle.retro_tree.proofs.Fitting.{fits_overlays}
 use Rattle.retro_keep.specs.Recording.{RecordingValue}
 use Rattle.retro_history.specs.Recorded.{recorded_before}
 use Rattle.retro_history.specs.Versions.{checkpoints}
-use Rattle.retro_history.specs.History.{parts_before, version_parts}
-use Rattle.retro_history.specs.CellHistory.{AllRise, HistoryMap, new_history, track_in}
-use Rattle.retro_history.specs.IsHistory.{IsTracked}
-use Rattle.retro_history.specs.Tracks.{VersionValue, whole_version, new_track}
-use Rattle.retro_history.specs.Tracks.{all_versions, version_chain, version_below, last_below, RiseFrom}
-use Rattle.retro_history.specs.Tracks.{checkpoint_numbers}
+use Rattle.retro_history.specs.inner.History.{parts_before, version_parts}
+use Rattle.retro_history.specs.inner.CellHistory.{AllRise, HistoryMap, new_history, track_in}
+use Rattle.retro_history.specs.inner.IsHistory.{IsTracked}
+use Rattle.retro_history.specs.inner.Tracks.{VersionValue, whole_version, new_track}
+use Rattle.retro_history.specs.inner.Tracks.{all_versions, version_chain, version_below, last_below}
+use Rattle.retro_history.specs.inner.Tracks.{RiseFrom}
+use Rattle.retro_history.specs.inner.Tracks.{checkpoint_numbers}
 use Rattle.retro_history.specs.declared.cell_history.CellHistory.{CellHistory}
-use Rattle.retro_history.specs.TrackMarks.{histories_from, mark_of_value, mark_tracks}
+use Rattle.retro_history.specs.inner.TrackMarks.{histories_from, mark_of_value, mark_tracks}
 use Rattle.retro_history.proofs.Chains.{Rise, chained, chain_rises, looked_up}
 use Rattle.retro_history.proofs.RecordedVersions.{version_at, recorded_value, recorded_checkpoints}
 use Rattle.retro_history.proofs.Marking.{entry_by, entry_of, child_marked, marks_fit, no_entry}

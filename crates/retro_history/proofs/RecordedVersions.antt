@@ -13,8 +13,8 @@ use Rattle.retro_history.specs.Recorded.{lines_below, recorded_before}
 use Rattle.retro_history.specs.declared.rolled.Rolled.{Rolled}
 use Rattle.retro_history.specs.Versions.{versions_by, versions}
 use Rattle.retro_history.specs.Versions.{checkpoints, greatest_below, roll, rolled_back}
-use Rattle.retro_history.specs.Tracks.{VersionValue, whole_version, current}
-use Rattle.retro_history.specs.Tracks.{version_chain, checkpoint_numbers}
+use Rattle.retro_history.specs.inner.Tracks.{VersionValue, whole_version, current}
+use Rattle.retro_history.specs.inner.Tracks.{version_chain, checkpoint_numbers}
 use Rattle.retro_history.proofs.Chains.{Lines, Rise, above, later, not_below, none_below}
 use Rattle.retro_history.proofs.Rule.{current_value, rolls}
 use Rattle.retro_history.proofs.Checkpoints.{numbers_of, greatest_current, chain_checkpoints, numbers_rise}

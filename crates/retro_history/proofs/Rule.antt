@@ -25,7 +25,8 @@ use Rattle.retro_history.specs.declared.rolled.Rolled.{Rolled}
 use Rattle.retro_history.specs.Versions.{Version, whole, growth, growth_limit, growth_in, is_growth, with_growth}
 use Rattle.retro_history.specs.Versions.{content_by, versions_by}
 use Rattle.retro_history.specs.Versions.{rolled_on, roll}
-use Rattle.retro_history.specs.Tracks.{VersionValue, whole_version, version_made, version_after, current}
+use Rattle.retro_history.specs.inner.Tracks.{VersionValue, whole_version, version_made}
+use Rattle.retro_history.specs.inner.Tracks.{version_after, current}
 use Rattle.retro_history.proofs.Chains.{Lines, Rise, above, later, not_below, none_below}
 
 -- ---- the growths of one line

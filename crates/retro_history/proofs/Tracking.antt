@@ -13,12 +13,13 @@ use Rattle.retro_tree.specs.declared.cell.Cell.{Cell}
 use Rattle.retro_tree.specs.declared.state.State.{State}
 use Rattle.retro_keep.specs.Recording.{RecordingValue}
 use Rattle.retro_history.specs.Index.{AreNumbered, Line}
-use Rattle.retro_history.specs.CellHistory.{AllRise, HistoryMap, history_in, history_noted, new_history, uses_at}
-use Rattle.retro_history.specs.IndexSteps.{Indexes, listed_by}
-use Rattle.retro_history.specs.IsHistory.{IsTracked}
-use Rattle.retro_history.specs.LineUse.{reads_directly}
-use Rattle.retro_history.specs.Tracks.{new_track, tracked}
-use Rattle.retro_history.specs.Uses.{no_uses}
+use Rattle.retro_history.specs.inner.CellHistory.{AllRise, HistoryMap, history_in, history_noted}
+use Rattle.retro_history.specs.inner.CellHistory.{new_history, uses_at}
+use Rattle.retro_history.specs.inner.IndexSteps.{Indexes, listed_by}
+use Rattle.retro_history.specs.inner.IsHistory.{IsTracked}
+use Rattle.retro_history.specs.inner.LineUse.{reads_directly}
+use Rattle.retro_history.specs.inner.Tracks.{new_track, tracked}
+use Rattle.retro_history.specs.inner.Uses.{no_uses}
 use Rattle.retro_history.specs.declared.cell_history.CellHistory.{CellHistory}
 use Rattle.retro_history.specs.declared.index.Index.{Index}
 use Rattle.retro_history.specs.declared.uses.Uses.{Uses}

@@ -9,7 +9,7 @@ use Rattle.std.specs.List.{list_all}
 use Rattle.std.proofs.lemmas.Bool.{cases_order, le-leb, lt-leb, ltb-true, lt-ltb, le-ltb}
 use Rattle.retro_tree.proofs.Small.{first_true, both_true, and_true}
 use Rattle.retro_keep.specs.Script.{rises_from}
-use Rattle.retro_history.specs.Numbers.{rise, union}
+use Rattle.retro_history.specs.inner.Numbers.{rise, union}
 
 -- whether each number of a list is above another
 abbrev pub all_over : ℕ → List ℕ → Bool

@@ -1,15 +1,4 @@
 pub mod Index
-pub mod Numbers
-pub mod LineUse
-pub mod Uses
-pub mod IndexSteps
 pub mod Recorded
 pub mod Versions
-pub mod Tracks
-pub mod CellHistory
-pub mod CellHistoryCode
-pub mod IsHistory
-pub mod TrackCode
-pub mod Version
-pub mod History
-pub mod TrackMarks
+pub mod inner

@@ -31,7 +31,7 @@ pub struct At<'h, 'a> {
 
 impl<'h, 'a> Model for At<'h, 'a> {
     ghost use Rattle.retro_tree.specs.declared.state.State.{State};
-    ghost use Rattle.retro_keep.specs.ScriptCode.{coded_state};
+    ghost use Rattle.retro_keep.specs.inner.ScriptCode.{coded_state};
     ghost use Rattle.retro_history.specs.Recorded.{recorded_before};
 
     ghost Value = { State };

@@ -1,6 +1,6 @@
 //! Boxed histories of cells.
 ghost use Rattle.std.specs.Prelude.{◌≡◌, IfOk, OnOk};
-ghost use Rattle.retro_history.specs.CellHistory.{history_used};
+ghost use Rattle.retro_history.specs.inner.CellHistory.{history_used};
 
 use crate::cell_history::CellHistory;
 use crate::line_use::LineUse;
@@ -16,7 +16,7 @@ pub(crate) struct BoxedHistory<'a> {
 }
 
 impl<'a> Model for BoxedHistory<'a> {
-    ghost use Rattle.retro_history.specs.CellHistoryCode.{coded_history};
+    ghost use Rattle.retro_history.specs.inner.CellHistoryCode.{coded_history};
     ghost use Rattle.retro_history.specs.declared.cell_history.CellHistory.{CellHistory};
 
     ghost Value = { CellHistory };

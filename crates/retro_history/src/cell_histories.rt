@@ -5,8 +5,9 @@ ghost use Rattle.std.specs.FinMap as map;
 ghost use Rattle.retro_tree.specs.declared.cell.Cell.{Cell as CellValue};
 ghost use Rattle.retro_tree.specs.declared.cell.Cell.TheVariants as StateCell;
 ghost use Rattle.retro_effects.specs.ValueRef.{ref_value};
-ghost use Rattle.retro_history.specs.CellHistory.{AllRise, history_in, history_noted, with_use};
-ghost use Rattle.retro_history.specs.TrackMarks.{histories_from, mark_of_value, mark_tracks};
+ghost use Rattle.retro_history.specs.inner.CellHistory.{AllRise, history_in, history_noted};
+ghost use Rattle.retro_history.specs.inner.CellHistory.{with_use};
+ghost use Rattle.retro_history.specs.inner.TrackMarks.{histories_from, mark_of_value, mark_tracks};
 
 use crate::boxed_history::BoxedHistory;
 use crate::cell_history::CellHistory;
@@ -28,7 +29,7 @@ pub(crate) struct CellHistories<'a> {
 impl<'a> Model for CellHistories<'a> {
     ghost use Rattle.std.specs.FinMap as map;
     ghost use Rattle.retro_tree.specs.CellOrder.{cell_cmp, coded_cell};
-    ghost use Rattle.retro_history.specs.CellHistoryCode.{coded_history};
+    ghost use Rattle.retro_history.specs.inner.CellHistoryCode.{coded_history};
     ghost use Rattle.retro_history.specs.declared.cell_history.CellHistory.{CellHistory};
 
     ghost Value = { map.FinMap cell_cmp CellHistory };

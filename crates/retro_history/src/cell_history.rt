@@ -1,7 +1,7 @@
 //! The history of one cell.
 ghost use Rattle.std.specs.Prelude.{◌≡◌, OnOk};
 ghost use Rattle.retro_effects.specs.ValueRef.{ref_value};
-ghost use Rattle.retro_history.specs.CellHistory.{history_used, new_history};
+ghost use Rattle.retro_history.specs.inner.CellHistory.{history_used, new_history};
 
 use crate::line_use::LineUse;
 use crate::track::Track;

@@ -6,7 +6,7 @@ ghost use Rattle.retro_tree.specs.declared.ask.Ask.TheVariants as Ask;
 ghost use Rattle.retro_tree.specs.declared.answer.Answer.TheVariants as Answer;
 ghost use Rattle.retro_effects.specs.ValueRef.{ref_value};
 ghost use Rattle.std.specs.FinMap as map;
-ghost use Rattle.retro_history.specs.History.{parts_before, version_ref_parts};
+ghost use Rattle.retro_history.specs.inner.History.{parts_before, version_ref_parts};
 ghost use Rattle.retro_history.specs.Index.{IsNextMeeting, listed_at, next_use, read_at};
 ghost use Rattle.retro_history.specs.Index.{written_at};
 ghost use Rattle.retro_keep.specs.Recording.{IsWellFormed};
@@ -35,8 +35,8 @@ pub struct History<'a> {
 
 impl<'a> Model for History<'a> {
     ghost use Rattle.retro_keep.specs.Recording.{RecordingValue};
-    ghost use Rattle.retro_keep.specs.RecordingCode.{coded_recording};
-    ghost use Rattle.retro_history.specs.IsHistory.{IsHistory};
+    ghost use Rattle.retro_keep.specs.inner.RecordingCode.{coded_recording};
+    ghost use Rattle.retro_history.specs.inner.IsHistory.{IsHistory};
 
     ghost Value = { RecordingValue };
 

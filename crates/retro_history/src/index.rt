@@ -2,12 +2,12 @@
 ghost use Rattle.std.specs.Prelude.{◌≡◌, List, IfOk, IsTrue, OnOk};
 ghost use Rattle.std.specs.FinMap as map;
 ghost use Rattle.retro_tree.specs.declared.cell.Cell.{Cell as CellValue};
-ghost use Rattle.retro_history.specs.CellHistory.{history_in, history_noted, uses_at};
+ghost use Rattle.retro_history.specs.inner.CellHistory.{history_in, history_noted, uses_at};
 ghost use Rattle.retro_history.specs.Index.{IsNextMeeting, Line};
 ghost use Rattle.retro_history.specs.Index.{listed_at, next_use, read_at, written_at};
-ghost use Rattle.retro_history.specs.Numbers.{rise};
-ghost use Rattle.retro_history.specs.IndexSteps.{Indexes, listed_noted, no_lines};
-ghost use Rattle.retro_history.specs.IndexSteps.{parent_listings};
+ghost use Rattle.retro_history.specs.inner.Numbers.{rise};
+ghost use Rattle.retro_history.specs.inner.IndexSteps.{Indexes, listed_noted, no_lines};
+ghost use Rattle.retro_history.specs.inner.IndexSteps.{parent_listings};
 
 use crate::cell_histories::CellHistories;
 use crate::path_lines::PathLines;

@@ -1,7 +1,8 @@
 //! The cells that a line uses.
 ghost use Rattle.std.specs.Prelude.{◌≡◌, IfOk, OnOk};
 ghost use Rattle.std.specs.FinMap as map;
-ghost use Rattle.retro_history.specs.LineUse.{cells_noted, with_change, with_query, with_read};
+ghost use Rattle.retro_history.specs.inner.LineUse.{cells_noted, with_change, with_query};
+ghost use Rattle.retro_history.specs.inner.LineUse.{with_read};
 
 use crate::line_use::LineUse;
 use crate::note_cells::{changed_cell, queried_cell};
@@ -23,7 +24,7 @@ pub(crate) struct LineCells<'a> {
 impl<'a> Model for LineCells<'a> {
     ghost use Rattle.std.specs.FinMap as map;
     ghost use Rattle.retro_tree.specs.CellOrder.{cell_cmp, coded_cell};
-    ghost use Rattle.retro_history.specs.LineUse.{UseValue, coded_use};
+    ghost use Rattle.retro_history.specs.inner.LineUse.{UseValue, coded_use};
 
     ghost Value = { map.FinMap cell_cmp UseValue };
 

@@ -1,6 +1,6 @@
 //! Rising lists of line numbers.
 ghost use Rattle.std.specs.Prelude.{◌≡◌, [], OnOk, OnErr, IsTrue};
-ghost use Rattle.retro_history.specs.Numbers.{are_below, rise, with_number};
+ghost use Rattle.retro_history.specs.inner.Numbers.{are_below, rise, with_number};
 
 use retro_tree::NoMem;
 use std::alloc::Global;
@@ -14,7 +14,7 @@ pub(crate) struct LineNumbers {
 
 impl Model for LineNumbers {
     ghost use Rattle.std.specs.Prelude.{List, ℕ, IsTrue};
-    ghost use Rattle.retro_history.specs.Numbers.{rise};
+    ghost use Rattle.retro_history.specs.inner.Numbers.{rise};
 
     ghost Value = { List ℕ };
 

@@ -1,6 +1,6 @@
 //! How a line uses a cell.
 ghost use Rattle.std.specs.Prelude.{◌≡◌, ◌++◌, ◌∷◌, [], true, OnOk, OnErr};
-ghost use Rattle.retro_history.specs.LineUse.{no_use};
+ghost use Rattle.retro_history.specs.inner.LineUse.{no_use};
 
 use retro_tree::{Change, NoMem};
 use std::alloc::Global;
@@ -20,7 +20,7 @@ pub(crate) struct LineUse<'a> {
 
 impl<'a> Model for LineUse<'a> {
     ghost use Rattle.std.specs.Prelude.{map};
-    ghost use Rattle.retro_history.specs.LineUse.{UseValue, coded_use};
+    ghost use Rattle.retro_history.specs.inner.LineUse.{UseValue, coded_use};
 
     ghost Value = { UseValue };
 

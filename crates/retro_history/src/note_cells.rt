@@ -1,7 +1,7 @@
 //! The cells that notes name.
 ghost use Rattle.std.specs.Prelude.{◌≡◌, IfOk};
 ghost use Rattle.retro_tree.specs.Change.{cell_of};
-ghost use Rattle.retro_history.specs.LineUse.{queried_cell};
+ghost use Rattle.retro_history.specs.inner.LineUse.{queried_cell};
 
 use retro_tree::{Ask, Cell, Change, NoMem, Path};
 use std::alloc::Global;

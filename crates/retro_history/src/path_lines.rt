@@ -1,8 +1,8 @@
 //! The lines that list each directory.
 ghost use Rattle.std.specs.Prelude.{◌≡◌, OnOk, OnErr, IsTrue};
 ghost use Rattle.std.specs.FinMap as map;
-ghost use Rattle.retro_history.specs.Numbers.{rise};
-ghost use Rattle.retro_history.specs.IndexSteps.{listed_noted, numbers_at, with_line};
+ghost use Rattle.retro_history.specs.inner.Numbers.{rise};
+ghost use Rattle.retro_history.specs.inner.IndexSteps.{listed_noted, numbers_at, with_line};
 
 use crate::line_numbers::LineNumbers;
 use retro_tree::{Ask, NoMem, Note, Notes, Path};

@@ -1,7 +1,7 @@
 //! Where the values of versions are stored.
 ghost use Rattle.std.specs.Prelude.{◌≡◌, IfOk, OnErr, length, take};
 ghost use Rattle.retro_tree.specs.Change.{value_grown};
-ghost use Rattle.retro_history.specs.Version.{EndsAt, place_value};
+ghost use Rattle.retro_history.specs.inner.Version.{EndsAt, place_value};
 
 use retro_effects::ValueRef;
 use retro_tree::NoMem;

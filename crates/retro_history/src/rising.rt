@@ -1,6 +1,6 @@
 //! Searches and unions of rising lists of line numbers.
 ghost use Rattle.std.specs.Prelude.{◌≡◌, IfOk, IsTrue};
-ghost use Rattle.retro_history.specs.Numbers.{earliest, first_above, rise, union};
+ghost use Rattle.retro_history.specs.inner.Numbers.{earliest, first_above, rise, union};
 
 use retro_tree::NoMem;
 use std::alloc::Global;

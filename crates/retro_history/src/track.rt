@@ -2,12 +2,13 @@
 ghost use Rattle.std.specs.Prelude.{◌≡◌, ◌++◌, ◌∷◌, [], IfOk, OnOk, OnErr, map, nat_lt};
 ghost use Rattle.std.specs.Prelude.{option_map};
 ghost use Rattle.retro_effects.specs.ValueRef.{ref_value};
-ghost use Rattle.retro_history.specs.Tracks.{RiseFrom, all_versions, checkpoint_numbers, new_track};
-ghost use Rattle.retro_history.specs.Tracks.{track_changed, version_below, before_line};
-ghost use Rattle.retro_history.specs.Tracks.{track_by, whole_version};
-ghost use Rattle.retro_history.specs.Tracks.{version_grown, version_of_line};
+ghost use Rattle.retro_history.specs.inner.Tracks.{RiseFrom, all_versions, checkpoint_numbers};
+ghost use Rattle.retro_history.specs.inner.Tracks.{new_track};
+ghost use Rattle.retro_history.specs.inner.Tracks.{track_changed, version_below, before_line};
+ghost use Rattle.retro_history.specs.inner.Tracks.{track_by, whole_version};
+ghost use Rattle.retro_history.specs.inner.Tracks.{version_grown, version_of_line};
 ghost use Rattle.retro_tree.specs.declared.value.Value.TheVariants.{Node as NodeValue};
-ghost use Rattle.retro_history.specs.History.{version_parts, version_ref_parts};
+ghost use Rattle.retro_history.specs.inner.History.{version_parts, version_ref_parts};
 
 use crate::place::Place;
 use crate::version::Version;
@@ -30,14 +31,14 @@ pub(crate) struct Track<'a> {
 
 impl<'a> Model for Track<'a> {
     ghost use Rattle.std.specs.Prelude.{map};
-    ghost use Rattle.retro_history.specs.Tracks.{TrackValue};
-    ghost use Rattle.retro_history.specs.TrackCode.{coded_track};
+    ghost use Rattle.retro_history.specs.inner.Tracks.{TrackValue};
+    ghost use Rattle.retro_history.specs.inner.TrackCode.{coded_track};
 
     ghost Value = { TrackValue };
 
     ghost coded = { coded_track };
 
-    ghost use Rattle.retro_history.specs.Version.{RangesFit, version_value};
+    ghost use Rattle.retro_history.specs.inner.Version.{RangesFit, version_value};
 
     ghost view = { λ a. record {
       earlier = map (version_value a.buffer.items) a.earlier.items;

@@ -1,7 +1,7 @@
 //! The lines that write or read a cell.
 ghost use Rattle.std.specs.Prelude.{◌≡◌, OnOk};
-ghost use Rattle.retro_history.specs.Numbers.{earliest, first_above};
-ghost use Rattle.retro_history.specs.Uses.{no_uses, uses_with};
+ghost use Rattle.retro_history.specs.inner.Numbers.{earliest, first_above};
+ghost use Rattle.retro_history.specs.inner.Uses.{no_uses, uses_with};
 
 use crate::line_numbers::LineNumbers;
 use crate::line_use::LineUse;

@@ -1,8 +1,8 @@
 //! Versions of cells.
 ghost use Rattle.std.specs.Prelude.{◌≡◌, ℕ, List, length};
-ghost use Rattle.retro_history.specs.Tracks.{next_version};
-ghost use Rattle.retro_history.specs.Version.{IsWithin, version_value};
-ghost use Rattle.retro_history.specs.History.{version_parts, version_ref_parts};
+ghost use Rattle.retro_history.specs.inner.Tracks.{next_version};
+ghost use Rattle.retro_history.specs.inner.Version.{IsWithin, version_value};
+ghost use Rattle.retro_history.specs.inner.History.{version_parts, version_ref_parts};
 
 use crate::place::Place;
 use crate::version_ref::VersionRef;

@@ -34,7 +34,8 @@ use Rattle.retro_keep.specs.Recording.{RecordingValue, AllLinesAllowed, AllRecor
 use Rattle.retro_keep.specs.Recording.{script_in}
 use Rattle.retro_keep.specs.declared.noted.Noted.{Noted}
 use Rattle.retro_json.specs.Shape.{Text}
-use Rattle.retro_json.specs.NoteLimits.{node_fits, found_fits, answer_fits, change_fits, note_fits, line_fits, notes_fit}
+use Rattle.retro_json.specs.inner.NoteLimits.{node_fits, found_fits, answer_fits, change_fits}
+use Rattle.retro_json.specs.inner.NoteLimits.{note_fits, line_fits, notes_fit}
 
 -- ---- answers of a lawful state
 

@@ -10,10 +10,9 @@ pub mod SessionsPart
 pub mod LogFields
 pub mod NotesPart
 pub mod RecordingFaults
-pub mod Views
 pub mod Values
 pub mod NoteValues
 pub mod Typed
 pub mod NoNul
-pub mod NoteLimits
 pub mod ReadBack
+pub mod inner

@@ -1,5 +1,4 @@
--- Values whose text is read back as the same value. Only private contracts and proofs cite this
--- file.
+-- Values whose text is read back as the same value.
 use Rattle.std.specs.Prelude.{◌≡◌, Some, IsUtf8}
 use Rattle.json.specs.Tree.{HasNumbers}
 use Rattle.serde_json.specs.Data.{Data}

@@ -2,7 +2,7 @@
 use Rattle.std.proofs.Common.{◌≡◌, ℕ, List, [], ◌∷◌, map, Ok, Err, IfOk, Result, refl, ap, ◌∙◌, subst}
 use Rattle.std.specs.Prelude.{Contains, MatchResult}
 use Rattle.std.specs.List.{AllZip}
-use Rattle.retro_keep.specs.Recorder.{text_of}
+use Rattle.retro_keep.specs.inner.Recorder.{text_of}
 use Rattle.retro_keep.specs.declared.script.ScriptLine.{ScriptLine}
 
 -- a line's text, or an error

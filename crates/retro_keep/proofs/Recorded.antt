@@ -24,7 +24,7 @@ use Rattle.retro_keep.specs.Recording.{AllLinesAllowed, AllRecorded, IsRecorded,
 use Rattle.retro_keep.specs.Recording.{RecordingValue, answers_are_of_kind, is_line_of_kind, is_of_kind, is_own_line}
 use Rattle.retro_keep.specs.Recording.{last_state, number_in, output_in, recorded_outcome, run_value, script_line}
 use Rattle.retro_keep.specs.Recording.{sid_in}
-use Rattle.retro_keep.specs.Recorder.{HasRecorded}
+use Rattle.retro_keep.specs.inner.Recorder.{HasRecorded}
 use Rattle.retro_keep.specs.declared.noted.Noted.{Noted}
 use Rattle.retro_keep.specs.declared.script.ScriptLine.{ScriptLine}
 

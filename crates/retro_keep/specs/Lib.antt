@@ -1,9 +1,6 @@
 pub mod Script
-pub mod ScriptCode
 pub mod Edit
 pub mod Runs
 pub mod Recording
-pub mod RecordingCode
 pub mod RecordingFault
-pub mod Parts
-pub mod Recorder
+pub mod inner

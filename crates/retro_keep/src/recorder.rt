@@ -5,7 +5,7 @@ ghost use Rattle.std.specs.FinMap as map_of;
 ghost use Rattle.retro_tree.specs.Lawful.{IsLawful};
 ghost use Rattle.retro_tree.specs.declared.state.State.{State as StateValue};
 ghost use Rattle.retro_keep.specs.Recording.{IsRecordingOf, recorded_outcome};
-ghost use Rattle.retro_keep.specs.Recorder.{HasRecorded, text_of};
+ghost use Rattle.retro_keep.specs.inner.Recorder.{HasRecorded, text_of};
 ghost use Rattle.retro_keep.specs.Runs.{outcome};
 ghost use Rattle.retro_keep.specs.declared.script.ScriptLine.{ScriptLine as ScriptLineValue};
 

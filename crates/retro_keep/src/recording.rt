@@ -3,7 +3,7 @@ ghost use Rattle.std.specs.Prelude.{◌≡◌, ◌↔◌, IfErr, IfOk, IfSome, I
 ghost use Rattle.std.specs.List.{list_all};
 ghost use Rattle.std.specs.Option.{option_copied};
 ghost use Rattle.retro_tree.specs.Lawful.{IsLawful};
-ghost use Rattle.retro_keep.specs.Parts.{are_parts};
+ghost use Rattle.retro_keep.specs.inner.Parts.{are_parts};
 ghost use Rattle.retro_keep.specs.Recording.{AllLinesAllowed, IsWellFormed, is_line_of_kind};
 ghost use Rattle.retro_keep.specs.Recording.{is_own_line, last_state, noted_at};
 ghost use Rattle.retro_keep.specs.RecordingFault.{IsFaultOf};
@@ -37,7 +37,7 @@ pub struct Recording {
 
 impl Model for Recording {
     ghost use Rattle.retro_keep.specs.Recording.{RecordingValue};
-    ghost use Rattle.retro_keep.specs.RecordingCode.{IsKept, coded_recording};
+    ghost use Rattle.retro_keep.specs.inner.RecordingCode.{IsKept, coded_recording};
 
     ghost Value = { RecordingValue };
 

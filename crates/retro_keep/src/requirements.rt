@@ -4,7 +4,7 @@ ghost use Rattle.std.specs.List.{list_all};
 ghost use Rattle.retro_tree.specs.Notes.{after, AllAllowed};
 ghost use Rattle.retro_keep.specs.Recording.{AllLinesAllowed, answers_are_of_kind, are_own};
 ghost use Rattle.retro_keep.specs.Recording.{is_line_of_kind, is_of_kind, is_own_line, last_state};
-ghost use Rattle.retro_keep.specs.Parts.{are_parts};
+ghost use Rattle.retro_keep.specs.inner.Parts.{are_parts};
 
 use crate::noted::Noted;
 use crate::numbered::test_lines;

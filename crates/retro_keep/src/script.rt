@@ -108,7 +108,7 @@ pub struct Script {
 
 impl Model for Script {
     ghost use Rattle.retro_keep.specs.Script.{ScriptValue, IsScript};
-    ghost use Rattle.retro_keep.specs.ScriptCode.{coded_script};
+    ghost use Rattle.retro_keep.specs.inner.ScriptCode.{coded_script};
 
     ghost Value = { ScriptValue };
 

@@ -1,4 +1,4 @@
 pub mod Trace
-pub mod TraceCode
 pub mod Runs
 pub mod Kinds
+pub mod inner

@@ -48,7 +48,7 @@ impl<'a, V: View> Model for Local<'a, V> {
     ghost use Rattle.std.specs.Prelude.{reverse};
     ghost use Rattle.retro_tree.specs.Overlay.{Overlays};
     ghost use Rattle.retro_local.specs.Trace.{AllHold, KeepsLaw, Trace, reached};
-    ghost use Rattle.retro_local.specs.TraceCode.{coded_trace};
+    ghost use Rattle.retro_local.specs.inner.TraceCode.{coded_trace};
 
     ghost Value = { Trace };
 

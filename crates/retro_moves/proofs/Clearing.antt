@@ -16,7 +16,7 @@ use Rattle.retro_tree.proofs.Small.{first_true, both_true, and_true, or_first, o
 use Rattle.retro_tree.proofs.Lookups.{node_put, node_put_apart, one_or_two}
 use Rattle.retro_tree.proofs.Below.{below_append, below_split, no_child_there}
 use Rattle.retro_moves.specs.Trees.{moved}
-use Rattle.retro_moves.specs.Move.{node_copied, are_ordered, IsCopy, IsCleared}
+use Rattle.retro_moves.specs.inner.Move.{node_copied, are_ordered, IsCopy, IsCleared}
 use Rattle.retro_moves.proofs.Without.{same_tree}
 use Rattle.retro_moves.proofs.MovedNodes.{apart_longer, beside, moved_node, node_moved}
 use Rattle.retro_moves.proofs.Copies.{same_path, or_elim, starts_none}

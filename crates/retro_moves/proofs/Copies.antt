@@ -23,7 +23,8 @@ use Rattle.retro_tree.proofs.Below.{below_append, below_split, below_child, step
 use Rattle.retro_tree.proofs.Below.{parent_of_append}
 use Rattle.retro_tree.proofs.Below.{child_is_no_root}
 use Rattle.retro_moves.specs.Trees.{Apart}
-use Rattle.retro_moves.specs.Move.{starts, node_copied, CanCopy, are_ordered, IsCopied, IsCopy}
+use Rattle.retro_moves.specs.inner.Move.{starts, node_copied, CanCopy, are_ordered, IsCopied}
+use Rattle.retro_moves.specs.inner.Move.{IsCopy}
 use Rattle.retro_moves.proofs.Without.{nothing_below}
 use Rattle.retro_moves.proofs.Thinning.{names_distinct}
 use Rattle.retro_moves.proofs.MovedNodes.{apart_longer, turned, apart_both, beside}

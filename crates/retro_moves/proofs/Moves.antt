@@ -20,8 +20,8 @@ use Rattle.retro_tree.proofs.Below.{below_split, unlisted}
 use Rattle.retro_local.specs.Trace.{Trace, reached}
 use Rattle.retro_local.specs.Runs.{Always, Computes, Transforms, Relates}
 use Rattle.retro_moves.specs.Trees.{with_tree, moved, CanMove}
-use Rattle.retro_moves.specs.Removal.{OfTrees}
-use Rattle.retro_moves.specs.Move.{CanCopy, IsCopy, IsMoving}
+use Rattle.retro_moves.specs.inner.Removal.{OfTrees}
+use Rattle.retro_moves.specs.inner.Move.{CanCopy, IsCopy, IsMoving}
 use Rattle.retro_moves.proofs.Without.{below_itself}
 use Rattle.retro_moves.proofs.Copies.{may_copy, copy_start, copy_leaf, copy_step, can_copy_child, apart_root}
 use Rattle.retro_moves.proofs.Clearing.{clear_start, clear_may, clear_step, all_moved}

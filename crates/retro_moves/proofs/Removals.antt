@@ -15,7 +15,7 @@ use Rattle.retro_local.specs.Trace.{Trace, reached, AllHold}
 use Rattle.retro_tree.proofs.MayMake.{none_in_file}
 use Rattle.retro_local.specs.Runs.{Always, Computes, Transforms, Relates, ExtendsTree}
 use Rattle.retro_moves.specs.Trees.{with_tree, without}
-use Rattle.retro_moves.specs.Removal.{IsThinned, OfTrees}
+use Rattle.retro_moves.specs.inner.Removal.{IsThinned, OfTrees}
 use Rattle.retro_moves.proofs.Without.{without_one, without_none}
 use Rattle.retro_moves.proofs.Thinning.{thinned_start, thinned_step, thinned_names, thinned_end}
 

@@ -23,7 +23,7 @@ use Rattle.retro_tree.proofs.LawLemmas.{there_of_key}
 use Rattle.retro_tree.proofs.Below.{below_append, below_split, step_in, below_child, unlisted}
 use Rattle.retro_tree.proofs.Children.{names_rise, names_listed}
 use Rattle.retro_moves.specs.Trees.{without}
-use Rattle.retro_moves.specs.Removal.{Distinct, node_left, IsThinned}
+use Rattle.retro_moves.specs.inner.Removal.{Distinct, node_left, IsThinned}
 use Rattle.retro_moves.proofs.Without.{same_tree, node_without, not_below, not_at, is_at}
 
 -- ---- names

@@ -1,5 +1,4 @@
 pub mod Trees
-pub mod Removal
-pub mod Move
 pub mod RemovalNotes
 pub mod MoveNotes
+pub mod inner

@@ -7,9 +7,9 @@ ghost use Rattle.retro_tree.specs.declared.change.Change.TheVariants.{Put};
 ghost use Rattle.retro_tree.specs.declared.note.Note.TheVariants.{Made};
 ghost use Rattle.retro_local.specs.Runs.{Always, ExtendsTree, Relates, Transforms};
 ghost use Rattle.retro_local.specs.Trace.{noted};
-ghost use Rattle.retro_moves.specs.Move.{CanCopy, IsCopy};
+ghost use Rattle.retro_moves.specs.inner.Move.{CanCopy, IsCopy};
 ghost use Rattle.retro_moves.specs.MoveNotes.{MoveNotes, NodeNotes};
-ghost use Rattle.retro_moves.specs.Removal.{OfTrees};
+ghost use Rattle.retro_moves.specs.inner.Removal.{OfTrees};
 ghost use Rattle.retro_moves.specs.Trees.{CanMove, moved, with_tree};
 
 use retro_local::Local;

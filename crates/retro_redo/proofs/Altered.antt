@@ -31,7 +31,7 @@ use Rattle.retro_tree.proofs.KeptSessions.{change_keeps_sessions}
 use Rattle.retro_tree.proofs.LawLemmas.{nothing_below}
 use Rattle.retro_tree.proofs.NoteLaws.{same_cells, value_after, value_applied, value_unchanged}
 use Rattle.retro_tree.proofs.Small.{and_true, both_true, first_true, not_true, or_first, or_last}
-use Rattle.retro_redo.specs.Altered.{changed_path, changed_paths, has_path, is_near}
+use Rattle.retro_redo.specs.inner.Altered.{changed_path, changed_paths, has_path, is_near}
 use Rattle.retro_redo.proofs.AlteredPaths.{first_none, none_of_both, not_among, path_itself, rest_none}
 
 -- ---- paths apart from altered ones

@@ -14,7 +14,7 @@ use Rattle.retro_tree.specs.Order.{path_cmp, path_exact, path_total}
 use Rattle.retro_tree.specs.Path.{PathValue, below, parent_of}
 use Rattle.retro_tree.proofs.Small.{or_first, or_last, tied}
 use Rattle.retro_tree.proofs.Together.{apart_from, path_after}
-use Rattle.retro_redo.specs.Altered.{has_path, is_near}
+use Rattle.retro_redo.specs.inner.Altered.{has_path, is_near}
 
 -- ---- tests of lists
 

@@ -15,7 +15,8 @@ use Rattle.retro_tree.specs.declared.note.Note.TheVariants.{Asked, Made}
 use Rattle.retro_tree.proofs.NoteLaws.{cell_itself, same_cells}
 use Rattle.retro_tree.proofs.Small.{or_first, or_last}
 use Rattle.retro_history.specs.Index.{Line}
-use Rattle.retro_redo.specs.NextUses.{AddsUses, AreSorted, HasNext, Use, has_cell, has_use, use_cmp}
+use Rattle.retro_redo.specs.inner.NextUses.{AddsUses, AreSorted, HasNext, Use, has_cell, has_use}
+use Rattle.retro_redo.specs.inner.NextUses.{use_cmp}
 use Rattle.retro_redo.proofs.Entries.{least, next_kept, or_rest, same_use}
 
 -- ---- next uses of cells

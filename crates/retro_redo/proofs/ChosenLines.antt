@@ -18,7 +18,8 @@ use Rattle.retro_keep.specs.Recording.{AllLinesAllowed, IsWellFormed, RecordingV
 use Rattle.retro_keep.specs.Recording.{is_line_of_kind, is_own_line, number_in, sid_in}
 use Rattle.retro_keep.specs.Script.{have_sessions, rises_from}
 use Rattle.retro_keep.proofs.Recorded.{held_of_kind, known_after}
-use Rattle.retro_redo.specs.Altered.{altered_paths, changed_paths, has_path, is_near, kept_paths, keeps_near}
+use Rattle.retro_redo.specs.inner.Altered.{altered_paths, changed_paths, has_path, is_near}
+use Rattle.retro_redo.specs.inner.Altered.{kept_paths, keeps_near}
 use Rattle.retro_redo.specs.Progress.{Settles, lines_chosen}
 use Rattle.retro_redo.specs.Settled.{recording_chosen}
 use Rattle.retro_redo.specs.declared.step.Step.{Step}

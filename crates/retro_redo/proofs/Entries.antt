@@ -18,7 +18,8 @@ use Rattle.retro_tree.specs.Overlay.{OverlayMap}
 use Rattle.retro_tree.specs.declared.cell.Cell.{Cell}
 use Rattle.retro_tree.proofs.Small.{and_true, or_first, or_last, tied}
 use Rattle.retro_history.specs.Index.{Line, next_use}
-use Rattle.retro_redo.specs.NextUses.{AddsUses, AreSorted, HasNext, Use, has_use, is_first_over, use_cmp}
+use Rattle.retro_redo.specs.inner.NextUses.{AddsUses, AreSorted, HasNext, Use, has_use}
+use Rattle.retro_redo.specs.inner.NextUses.{is_first_over, use_cmp}
 
 pub or_rest : (a b : Bool) → a ≡ false → (a || b) ≡ true → b ≡ true
 or_rest a b e h = sym (ap (λ x. x || b) e) ∙ h

@@ -20,7 +20,7 @@ use Rattle.retro_keep.specs.declared.script.LinesFault.TheVariants as lines_faul
 use Rattle.retro_keep.specs.declared.script.ScriptLine.{ScriptLine}
 use Rattle.retro_keep.proofs.Recorded.{well_formed}
 use Rattle.retro_redo.specs.Final.{IsFinal}
-use Rattle.retro_redo.specs.Keeping.{Keeps}
+use Rattle.retro_redo.specs.inner.Keeping.{Keeps}
 use Rattle.retro_redo.specs.Moments.{AreVerdicts, IsMet, Picks, others}
 use Rattle.retro_redo.specs.Progress.{ProgressValue, cancelled_in, lines_chosen, next_line, repaired_now}
 use Rattle.retro_redo.specs.Progress.{repaired_after, repaired_recording}

@@ -18,7 +18,7 @@ use Rattle.retro_keep.specs.Edit.{is_among}
 use Rattle.retro_keep.specs.Recording.{IsWellFormed, RecordingValue, are_own, is_own_line}
 use Rattle.retro_keep.specs.declared.noted.Noted.{Noted}
 use Rattle.retro_redo.specs.Cancelling.{AreLines}
-use Rattle.retro_redo.specs.Keeping.{Keeps}
+use Rattle.retro_redo.specs.inner.Keeping.{Keeps}
 use Rattle.retro_redo.specs.Moments.{IsMet, Picks}
 use Rattle.retro_redo.specs.Progress.{IsRunTaken, MayStep, ProgressValue, cancelled_in, chosen, is_cancel, next_line}
 use Rattle.retro_redo.specs.Progress.{recorded_after, recorded_now, repaired_after, repaired_now, settled_now}

@@ -8,7 +8,7 @@ use Rattle.retro_tree.specs.declared.state.State.{State}
 use Rattle.retro_tree.proofs.ExactOverlays.{unmet_step}
 use Rattle.retro_keep.specs.Edit.{is_among}
 use Rattle.retro_keep.specs.Recording.{IsWellFormed, RecordingValue}
-use Rattle.retro_redo.specs.Keeping.{Keeps}
+use Rattle.retro_redo.specs.inner.Keeping.{Keeps}
 use Rattle.retro_redo.specs.Progress.{ProgressValue, cancelled_in, next_line, next_number, recorded_now, repaired_now}
 use Rattle.retro_redo.specs.Skipping.{AreUnmet, IsSkip}
 use Rattle.retro_redo.specs.declared.step.Step.{Step}

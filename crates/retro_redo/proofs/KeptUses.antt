@@ -24,9 +24,10 @@ use Rattle.retro_effects.specs.Meeting.{Met}
 use Rattle.retro_history.specs.Index.{next_use}
 use Rattle.retro_history.proofs.Lines.{RiseFrom}
 use Rattle.retro_keep.specs.declared.noted.Noted.{Noted}
-use Rattle.retro_redo.specs.Keeping.{KeepsUses}
-use Rattle.retro_redo.specs.NextUses.{AddsUses, AreSorted, HasNext, IsFirstIn, Prunes, Use, first_use, has_use}
-use Rattle.retro_redo.specs.NextUses.{is_first_over, is_use, may_differ, starts_at}
+use Rattle.retro_redo.specs.inner.Keeping.{KeepsUses}
+use Rattle.retro_redo.specs.inner.NextUses.{AddsUses, AreSorted, HasNext, IsFirstIn, Prunes, Use}
+use Rattle.retro_redo.specs.inner.NextUses.{first_use, has_use}
+use Rattle.retro_redo.specs.inner.NextUses.{is_first_over, is_use, may_differ, starts_at}
 use Rattle.retro_redo.specs.Progress.{chosen}
 use Rattle.retro_redo.specs.declared.step.Step.{Step}
 use Rattle.retro_redo.specs.declared.step.Step.TheVariants.{Cancel, Keep, Take}

@@ -14,7 +14,7 @@ use Rattle.std.specs.Cmp.{nat_cmp_is, unsigned_ties}
 use Rattle.std.proofs.lemmas.Map.Keys.{le_from_not_gt}
 use Rattle.std.proofs.lemmas.Bool.{true≢false, cases_order, eqb-true, eq-eqb}
 use Rattle.retro_keep.specs.Edit.{first_unknown, is_among}
-use Rattle.retro_redo.specs.Stops.{IsNextAmong}
+use Rattle.retro_redo.specs.inner.Stops.{IsNextAmong}
 
 flipped : (n m : ℕ) → (n == m) ≡ (m == n)
 flipped n m = by_test (m == n) refl

@@ -20,10 +20,10 @@ use Rattle.retro_history.proofs.Lines.{RiseFrom, later}
 use Rattle.retro_keep.specs.Edit.{is_among}
 use Rattle.retro_keep.specs.Recording.{RecordingValue, noted_at}
 use Rattle.retro_redo.specs.Cancelling.{AreLines}
-use Rattle.retro_redo.specs.Keeping.{KeepsUses}
-use Rattle.retro_redo.specs.NextUses.{AreSorted, IsFirstIn, Use, first_number, has_use}
+use Rattle.retro_redo.specs.inner.Keeping.{KeepsUses}
+use Rattle.retro_redo.specs.inner.NextUses.{AreSorted, IsFirstIn, Use, first_number, has_use}
 use Rattle.retro_redo.specs.Skipping.{AreUnmet}
-use Rattle.retro_redo.specs.Stops.{IsNextAmong, sooner}
+use Rattle.retro_redo.specs.inner.Stops.{IsNextAmong, sooner}
 use Rattle.retro_redo.proofs.Entries.{has_none, head_has, least}
 use Rattle.retro_redo.proofs.KeptUses.{agree_at, keeps_past, met_at}
 use Rattle.retro_redo.proofs.Positions.{Line, not_none}

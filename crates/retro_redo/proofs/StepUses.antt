@@ -15,8 +15,9 @@ use Rattle.retro_tree.specs.declared.state.State.{State}
 use Rattle.retro_effects.specs.Meeting.{Met}
 use Rattle.retro_history.proofs.Lines.{RiseFrom}
 use Rattle.retro_keep.specs.Recording.{IsWellFormed, RecordingValue}
-use Rattle.retro_redo.specs.Keeping.{Keeps, KeepsUses}
-use Rattle.retro_redo.specs.NextUses.{AddsUses, HasNext, Prunes, Use, has_cell, has_use, may_differ, starts_at}
+use Rattle.retro_redo.specs.inner.Keeping.{Keeps, KeepsUses}
+use Rattle.retro_redo.specs.inner.NextUses.{AddsUses, HasNext, Prunes, Use, has_cell, has_use}
+use Rattle.retro_redo.specs.inner.NextUses.{may_differ, starts_at}
 use Rattle.retro_redo.specs.Progress.{ProgressValue, chosen, is_cancel, next_line, recorded_now, repaired_now}
 use Rattle.retro_redo.specs.declared.step.Step.{Step}
 use Rattle.retro_redo.specs.declared.step.Step.TheVariants.{Keep}

@@ -8,7 +8,7 @@ use Rattle.retro_tree.specs.declared.state.State.{State}
 use Rattle.retro_tree.proofs.NoteLaws.{holds_where_agreed}
 use Rattle.retro_effects.specs.Meeting.{Met}
 use Rattle.retro_keep.specs.Recording.{AllRecorded, IsRecordingOf, script_in}
-use Rattle.retro_redo.specs.Keeping.{Keeps}
+use Rattle.retro_redo.specs.inner.Keeping.{Keeps}
 use Rattle.retro_redo.specs.Progress.{ProgressValue, next_line, recorded_after, recorded_now, repaired_now}
 use Rattle.retro_redo.specs.declared.step.Step.{Step}
 use Rattle.retro_redo.proofs.Positions.{Line, not_none}

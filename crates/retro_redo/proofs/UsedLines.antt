@@ -10,9 +10,9 @@ use Rattle.retro_tree.specs.declared.cell.Cell.{Cell}
 use Rattle.retro_tree.proofs.Small.{and_true, both_true, first_true, or_first, or_last, some_same}
 use Rattle.retro_keep.specs.Recording.{noted_at}
 use Rattle.retro_history.specs.Index.{next_use, numbers_of}
-use Rattle.retro_history.specs.Numbers.{first_above}
+use Rattle.retro_history.specs.inner.Numbers.{first_above}
 use Rattle.retro_history.proofs.Lines.{RiseFrom, above, first_more, first_of_more, later, numbers_of_more}
-use Rattle.retro_redo.specs.NextUses.{first_use, is_use}
+use Rattle.retro_redo.specs.inner.NextUses.{first_use, is_use}
 use Rattle.retro_redo.proofs.Entries.{or_rest}
 use Rattle.retro_redo.proofs.Positions.{Line, not_none}
 

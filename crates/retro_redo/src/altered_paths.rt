@@ -3,9 +3,10 @@ ghost use Rattle.std.specs.Prelude.{◌≡◌, ◌||◌, ◌∷◌, [], IfOk, On
 ghost use Rattle.std.specs.List.{list_any};
 ghost use Rattle.std.specs.Option.{option_copied};
 ghost use Rattle.retro_tree.specs.Path.{PathValue, below};
-ghost use Rattle.retro_redo.specs.Altered.{altered_by, altered_paths, changed_path};
-ghost use Rattle.retro_redo.specs.Altered.{changed_paths, has_path, is_near, kept_by, kept_paths};
-ghost use Rattle.retro_redo.specs.Altered.{keeps_near};
+ghost use Rattle.retro_redo.specs.inner.Altered.{altered_by, altered_paths, changed_path};
+ghost use Rattle.retro_redo.specs.inner.Altered.{changed_paths, has_path, is_near, kept_by};
+ghost use Rattle.retro_redo.specs.inner.Altered.{kept_paths};
+ghost use Rattle.retro_redo.specs.inner.Altered.{keeps_near};
 
 use crate::step::Step;
 use retro_keep::Noted;
@@ -27,7 +28,7 @@ struct AlteredPaths {
 impl Model for AlteredPaths {
     ghost use Rattle.std.specs.Prelude.{List};
     ghost use Rattle.retro_tree.specs.Path.{PathValue};
-    ghost use Rattle.retro_redo.specs.AlteredCode.{coded_paths};
+    ghost use Rattle.retro_redo.specs.inner.AlteredCode.{coded_paths};
 
     ghost Value = { List PathValue };
 

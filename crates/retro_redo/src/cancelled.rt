@@ -5,7 +5,7 @@ ghost use Rattle.std.specs.BTreeSet.{contains};
 ghost use Rattle.std.specs.List.Sorted.{IsStrictlySortedBy};
 ghost use Rattle.std.specs.Ordering.{nat_cmp};
 ghost use Rattle.retro_keep.specs.Edit.{first_unknown, is_among};
-ghost use Rattle.retro_redo.specs.Stops.{IsNextAmong};
+ghost use Rattle.retro_redo.specs.inner.Stops.{IsNextAmong};
 
 use retro_keep::Recording;
 use retro_tree::NoMem;

@@ -29,7 +29,7 @@ impl<'g, 'a> Model for Ground<'g, 'a> {
     ghost use Rattle.std.specs.Prelude.{◌≡◌};
     ghost use Rattle.retro_tree.specs.Overlay.{Fits};
     ghost use Rattle.retro_redo.specs.Ground.{GroundValue};
-    ghost use Rattle.retro_redo.specs.GroundCode.{coded_ground};
+    ghost use Rattle.retro_redo.specs.inner.GroundCode.{coded_ground};
 
     ghost Value = { GroundValue };
 

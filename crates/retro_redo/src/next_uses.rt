@@ -3,9 +3,9 @@ ghost use Rattle.std.specs.Prelude.{◌≡◌, ◌⊎◌, ℕ, [], IfOk, OnOk, t
 ghost use Rattle.std.specs.FinMap as map;
 ghost use Rattle.retro_tree.specs.Notes.{changes};
 ghost use Rattle.retro_tree.specs.declared.cell.Cell.{Cell as CellValue};
-ghost use Rattle.retro_redo.specs.NextUses.{AddsUses, AreSorted, HasNext, Prunes};
-ghost use Rattle.retro_redo.specs.NextUses.{first_number, has_cell, has_use, is_first_over};
-ghost use Rattle.retro_redo.specs.NextUses.{may_differ, starts_at};
+ghost use Rattle.retro_redo.specs.inner.NextUses.{AddsUses, AreSorted, HasNext, Prunes};
+ghost use Rattle.retro_redo.specs.inner.NextUses.{first_number, has_cell, has_use, is_first_over};
+ghost use Rattle.retro_redo.specs.inner.NextUses.{may_differ, starts_at};
 
 use crate::step::Step;
 use retro_history::{History, changed_cell};
@@ -29,8 +29,8 @@ pub(crate) struct NextUses {
 
 impl Model for NextUses {
     ghost use Rattle.std.specs.Prelude.{List};
-    ghost use Rattle.retro_redo.specs.NextUses.{Use};
-    ghost use Rattle.retro_redo.specs.NextUsesCode.{coded_uses};
+    ghost use Rattle.retro_redo.specs.inner.NextUses.{Use};
+    ghost use Rattle.retro_redo.specs.inner.NextUsesCode.{coded_uses};
 
     ghost Value = { List Use };
 

@@ -11,7 +11,7 @@ ghost use Rattle.retro_keep.specs.Recording.{IsRecordingOf, IsWellFormed, script
 ghost use Rattle.retro_keep.specs.declared.noted.Noted.{Noted as NotedValue};
 ghost use Rattle.retro_redo.specs.Cancelling.{AreLines};
 ghost use Rattle.retro_redo.specs.Progress.{IsRunTaken, MayStep, ProgressValue};
-ghost use Rattle.retro_redo.specs.NextUses.{starts_at};
+ghost use Rattle.retro_redo.specs.inner.NextUses.{starts_at};
 ghost use Rattle.retro_redo.specs.Progress.{cancelled_in, chosen, is_cancel};
 ghost use Rattle.retro_redo.specs.Progress.{next_line, next_number};
 ghost use Rattle.retro_redo.specs.Progress.{recorded_now, repaired_now};
@@ -56,9 +56,9 @@ pub(crate) struct Progress<'a> {
 
 impl<'a> Model for Progress<'a> {
     ghost use Rattle.retro_redo.specs.Progress.{ProgressValue};
-    ghost use Rattle.retro_redo.specs.ProgressCode.{coded_progress};
+    ghost use Rattle.retro_redo.specs.inner.ProgressCode.{coded_progress};
     ghost use Rattle.std.specs.Prelude.{drop, length};
-    ghost use Rattle.retro_redo.specs.Keeping.{Keeps, KeepsUses};
+    ghost use Rattle.retro_redo.specs.inner.Keeping.{Keeps, KeepsUses};
 
     ghost Value = { ProgressValue };
 

@@ -47,7 +47,7 @@ pub struct Repairer<'h, 'a> {
 impl<'h, 'a> Model for Repairer<'h, 'a> {
     ghost use Rattle.std.specs.Prelude.{◌≡◌};
     ghost use Rattle.retro_redo.specs.Progress.{ProgressValue};
-    ghost use Rattle.retro_redo.specs.ProgressCode.{coded_progress};
+    ghost use Rattle.retro_redo.specs.inner.ProgressCode.{coded_progress};
 
     ghost Value = { ProgressValue };
 

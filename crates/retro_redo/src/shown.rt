@@ -20,7 +20,7 @@ impl<'g, 'a> Model for Shown<'g, 'a> {
     ghost use Rattle.retro_tree.specs.Overlay.{Fits};
     ghost use Rattle.retro_tree.specs.Commit.{committed};
     ghost use Rattle.retro_tree.specs.declared.state.State.{State};
-    ghost use Rattle.retro_keep.specs.ScriptCode.{coded_state};
+    ghost use Rattle.retro_keep.specs.inner.ScriptCode.{coded_state};
 
     ghost Value = { State };
 

@@ -8,9 +8,9 @@ ghost use Rattle.retro_tree.specs.Overlay.{OverlayMap};
 ghost use Rattle.retro_tree.specs.declared.state.State.{State};
 ghost use Rattle.retro_keep.specs.Edit.{is_among};
 ghost use Rattle.retro_redo.specs.Cancelling.{AreLines};
-ghost use Rattle.retro_redo.specs.Keeping.{KeepsUses};
+ghost use Rattle.retro_redo.specs.inner.Keeping.{KeepsUses};
 ghost use Rattle.retro_redo.specs.Skipping.{AreUnmet};
-ghost use Rattle.retro_redo.specs.Stops.{sooner};
+ghost use Rattle.retro_redo.specs.inner.Stops.{sooner};
 ghost use Rattle.retro_redo.specs.declared.step.Step.TheVariants as steps;
 
 use crate::cancelled::number_from;

@@ -5,7 +5,7 @@ use Rattle.retro_syntax.specs.Tree.{Commands, last, more, AndOr, end, chain, Pip
 use Rattle.retro_syntax.specs.Tree.{conditional, loop, Arms, fi, otherwise, elif}
 use Rattle.retro_syntax.specs.Parsing.{join, listed, arms_up_to}
 use Rattle.retro_syntax.specs.declared.tree.Connector.{Connector}
-use Rattle.retro_shell.specs.Trees.{last_arm}
+use Rattle.retro_shell.specs.inner.Trees.{last_arm}
 
 abbrev mutual
   pub size : Commands → ℕ

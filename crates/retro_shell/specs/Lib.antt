@@ -1,11 +1,9 @@
 pub mod Outcomes
 pub mod Fields
-pub mod FieldsCode
 pub mod Expansion
 pub mod Redirections
 pub mod Simple
 pub mod Commands
-pub mod Trees
 pub mod Line
 pub mod Runs
-pub mod RunCode
+pub mod inner

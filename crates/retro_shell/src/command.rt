@@ -6,7 +6,7 @@ ghost use Rattle.retro_tree.specs.Session.{value_limit};
 ghost use Rattle.retro_syntax.specs.Tree.{loop};
 ghost use Rattle.retro_syntax.specs.View.{and_or_of, commands_of, pipeline_of, view, word_view};
 ghost use Rattle.retro_shell.specs.Commands as Meaning;
-ghost use Rattle.retro_shell.specs.Trees.{arms_with};
+ghost use Rattle.retro_shell.specs.inner.Trees.{arms_with};
 
 use crate::context::Context;
 use crate::execution::Execution;

@@ -21,7 +21,7 @@ pub(crate) struct Fields {
 impl Model for Fields {
     ghost use Rattle.std.specs.Prelude.{map, option_map, string_bytes};
     ghost use Rattle.retro_shell.specs.Fields.{Fields};
-    ghost use Rattle.retro_shell.specs.FieldsCode.{coded_fields};
+    ghost use Rattle.retro_shell.specs.inner.FieldsCode.{coded_fields};
 
     ghost Value = { Fields };
 

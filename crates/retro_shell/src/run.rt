@@ -21,7 +21,7 @@ pub struct Run {
 
 impl Model for Run {
     ghost use Rattle.retro_shell.specs.Runs.{IsRun, RunValue};
-    ghost use Rattle.retro_shell.specs.RunCode.{coded_run};
+    ghost use Rattle.retro_shell.specs.inner.RunCode.{coded_run};
 
     ghost Value = { RunValue };
 

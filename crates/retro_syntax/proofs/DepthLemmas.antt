@@ -8,8 +8,9 @@ use Rattle.std.specs.declared.alloc.Global.{Global}
 use Rattle.retro_syntax.specs.Tree as T
 use Rattle.retro_syntax.specs.Parsing.{join, listed, arms_up_to}
 use Rattle.retro_syntax.specs.Depth as D
-use Rattle.retro_syntax.specs.Fits.{command_fits, pipelines_fit, and_or_fits, and_ors_fit, list_fits, arms_fit}
-use Rattle.retro_syntax.specs.Fits.{conditional_fits}
+use Rattle.retro_syntax.specs.inner.Fits.{command_fits, pipelines_fit, and_or_fits, and_ors_fit}
+use Rattle.retro_syntax.specs.inner.Fits.{list_fits, arms_fit}
+use Rattle.retro_syntax.specs.inner.Fits.{conditional_fits}
 use Rattle.retro_syntax.specs.View.{view, commands_of, and_or_of, pipeline_of, arms_of, arms_else_of}
 use Rattle.retro_syntax.specs.declared.tree.AndOr.{AndOr}
 use Rattle.retro_syntax.specs.declared.tree.Pipeline.{Pipeline}

@@ -2,7 +2,7 @@
 use Rattle.std.proofs.Common.{◌≡◌, Option, None, Result, Ok, Err, sym, subst}
 use Rattle.std.specs.Result.{IsErrAnd}
 use Rattle.retro_path.specs.OutOfMemory.{IsMeant}
-use Rattle.retro_syntax.specs.Failing.{Gives, fault}
+use Rattle.retro_syntax.specs.inner.Failing.{Gives, fault}
 use Rattle.retro_syntax.specs.declared.syntax_error.SyntaxError.{SyntaxError}
 use Rattle.retro_syntax.specs.declared.syntax_error.SyntaxError.TheVariants.{Unsupported, NoMem}
 

@@ -14,7 +14,7 @@ use Rattle.retro_syntax.specs.declared.lines.Refused.{Refused}
 use Rattle.retro_syntax.specs.declared.lines.Refused.TheVariants.{Unsupported, TooDeep}
 use Rattle.std.specs.Result.{IsErrAnd}
 use Rattle.retro_path.specs.OutOfMemory.{IsMeant}
-use Rattle.retro_syntax.specs.Failing.{fault}
+use Rattle.retro_syntax.specs.inner.Failing.{fault}
 use Rattle.retro_syntax.specs.declared.syntax_error.SyntaxError.{SyntaxError}
 use Rattle.retro_syntax.specs.declared.syntax_error.SyntaxError.TheVariants as e
 use Rattle.retro_syntax.proofs.Sound.{Spells-commands_of}

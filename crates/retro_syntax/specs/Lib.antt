@@ -1,16 +1,13 @@
 pub mod Ascii
 pub mod Tree
-pub mod Failing
 pub mod Words
 pub mod Parsing
 pub mod Spells
 pub mod View
 pub mod Depth
-pub mod Fits
-pub mod ParserViews
 pub mod Quoting
-pub mod QuotingViews
 pub mod Lines
 pub mod Writing
 pub mod LexerLaws
 pub mod Tildes
+pub mod inner

@@ -3,7 +3,7 @@
 
 ghost use Rattle.std.specs.Prelude.{◌≡◌, nat_le, true, false};
 ghost use Rattle.retro_syntax.specs.Depth as Depth;
-ghost use Rattle.retro_syntax.specs.Fits as Fits;
+ghost use Rattle.retro_syntax.specs.inner.Fits as Fits;
 ghost use Rattle.retro_syntax.specs.View.{commands_of, view};
 
 use crate::tree::{AndOr, Command, Commands, Conditional, Connector, Pipeline};

@@ -26,9 +26,9 @@ ghost use Rattle.std.specs.Str.{chars};
 ghost use Rattle.retro_path.specs.VarName.{is_var_name};
 ghost use Rattle.retro_syntax.specs.Quoting;
 ghost use Rattle.retro_syntax.specs.Tree;
-ghost use Rattle.retro_syntax.specs.Failing.{Gives};
+ghost use Rattle.retro_syntax.specs.inner.Failing.{Gives};
 ghost use Rattle.retro_syntax.specs.View.{parameter_view, piece_view, token_view, tokens_view};
-ghost use Rattle.retro_syntax.specs.QuotingViews.{
+ghost use Rattle.retro_syntax.specs.inner.QuotingViews.{
   Reads,
   lexer_view,
   operator_view,

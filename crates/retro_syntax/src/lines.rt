@@ -1,7 +1,7 @@
 //! Lines, and the texts that spell them.
 
 ghost use Rattle.std.specs.Prelude.{◌≡◌, Option, Some, List, ℕ, map, nat_le, true};
-ghost use Rattle.retro_syntax.specs.Failing.{Gives};
+ghost use Rattle.retro_syntax.specs.inner.Failing.{Gives};
 ghost use Rattle.retro_syntax.specs.Depth.{deepest_nesting, line_depth};
 ghost use Rattle.retro_syntax.specs.Lines as Lines;
 ghost use Rattle.retro_syntax.specs.Lines.{

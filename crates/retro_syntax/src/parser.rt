@@ -7,7 +7,7 @@
 mod open;
 
 ghost use Rattle.std.specs.Prelude.{◌≡◌, ◌∷◌, [], ◌++◌, OnOk, Some, map, true, false};
-ghost use Rattle.retro_syntax.specs.Failing.{Gives};
+ghost use Rattle.retro_syntax.specs.inner.Failing.{Gives};
 ghost use Rattle.retro_syntax.specs.Parsing;
 ghost use Rattle.retro_syntax.specs.Tree;
 ghost use Rattle.retro_syntax.specs.Words;
@@ -21,7 +21,7 @@ ghost use Rattle.retro_syntax.specs.View.{
   view,
   word_view,
 };
-ghost use Rattle.retro_syntax.specs.ParserViews.{
+ghost use Rattle.retro_syntax.specs.inner.ParserViews.{
   Parses,
   ParsesAt,
   arm_view,

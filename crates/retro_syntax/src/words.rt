@@ -11,7 +11,7 @@ ghost use Rattle.std.specs.Prelude.{
   string_bytes,
   IfOk,
 };
-ghost use Rattle.retro_syntax.specs.Failing.{Gives};
+ghost use Rattle.retro_syntax.specs.inner.Failing.{Gives};
 ghost use Rattle.retro_syntax.specs.Words;
 ghost use Rattle.retro_syntax.specs.Tree;
 ghost use Rattle.retro_syntax.specs.View.{assignment_view, piece_view, word_view};

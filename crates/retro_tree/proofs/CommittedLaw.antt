@@ -17,8 +17,9 @@ use Rattle.retro_tree.specs.Lawful.{law_at, IsLawfulTree}
 use Rattle.retro_tree.specs.Cell.{value}
 use Rattle.retro_tree.specs.Notes.{cell_eq}
 use Rattle.retro_tree.specs.Commit.{put_cell, put_cells}
-use Rattle.retro_tree.specs.CommitSteps.{keeps_law_at, keeps_law, path_of, undone_path, written_paths, WasLawful}
-use Rattle.retro_tree.specs.CommitSteps.{undo, undo_all, cut_at}
+use Rattle.retro_tree.specs.inner.CommitSteps.{keeps_law_at, keeps_law, path_of, undone_path}
+use Rattle.retro_tree.specs.inner.CommitSteps.{written_paths, WasLawful}
+use Rattle.retro_tree.specs.inner.CommitSteps.{undo, undo_all, cut_at}
 use Rattle.retro_tree.specs.declared.cell.Cell.{Cell}
 use Rattle.retro_tree.specs.declared.cell.Cell.TheVariants as cells
 use Rattle.retro_tree.specs.declared.value.Value.TheVariants as values

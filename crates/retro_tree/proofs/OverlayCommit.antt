@@ -1,7 +1,7 @@
 -- Commits: writes and their undoing, and removals.
 use Rattle.std.proofs.Common.{◌≡◌, true, List, [], ◌∷◌, ◌++◌, reverse, sym, ap, subst, ◌∙◌}
 use Rattle.std.proofs.lemmas.List.{reverse-append}
-use Rattle.retro_tree.specs.CommitSteps.{undo, can_undo, undo_all, CanUndoAll}
+use Rattle.retro_tree.specs.inner.CommitSteps.{undo, can_undo, undo_all, CanUndoAll}
 use Rattle.retro_tree.specs.declared.undo.Undo.{Undo}
 use Rattle.retro_tree.specs.declared.state.State.{State}
 

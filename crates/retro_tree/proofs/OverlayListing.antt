@@ -20,8 +20,9 @@ use Rattle.retro_tree.specs.Tree.{Tree, node_in, put}
 use Rattle.retro_tree.specs.Ask.{names_in}
 use Rattle.retro_tree.specs.Cell.{value}
 use Rattle.retro_tree.specs.Overlay.{OverlayMap, Overlays, combined_value}
-use Rattle.retro_tree.specs.Marks.{overlay_from, cell_below, starts_below, children_tree, mark, mark_of, put_mark}
-use Rattle.retro_tree.specs.Marks.{mark_entry, mark_entries}
+use Rattle.retro_tree.specs.inner.Marks.{overlay_from, cell_below, starts_below, children_tree}
+use Rattle.retro_tree.specs.inner.Marks.{mark, mark_of, put_mark}
+use Rattle.retro_tree.specs.inner.Marks.{mark_entry, mark_entries}
 use Rattle.retro_tree.specs.declared.node.Node.{Node}
 use Rattle.retro_tree.specs.declared.node.Node.TheVariants.{Missing, Dir, File}
 use Rattle.retro_tree.specs.declared.cell.Cell.{Cell}

@@ -9,7 +9,7 @@ use Rattle.std.specs.FinMap.{FinMap, IsAntisymmetric, get-insert, get-remove, sa
 use Rattle.retro_tree.specs.Order.{text_total, text_exact}
 use Rattle.retro_tree.specs.Session.{default_session, session_in}
 use Rattle.retro_tree.specs.Setting.{with_setting}
-use Rattle.retro_tree.specs.Previous.{with_previous, previous_of, previous_var}
+use Rattle.retro_tree.specs.inner.Previous.{with_previous, previous_of, previous_var}
 use Rattle.retro_tree.specs.declared.session.Session.{Session}
 use Rattle.retro_tree.specs.declared.setting.Setting.{Setting}
 use Rattle.retro_tree.specs.declared.setting.Setting.TheVariants.{Cwd, Var, Status}

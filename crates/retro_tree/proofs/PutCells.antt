@@ -19,7 +19,7 @@ use Rattle.retro_tree.specs.Change.{apply, value_grown}
 use Rattle.retro_tree.specs.Notes.{cell_eq}
 use Rattle.retro_tree.specs.Overlay.{OverlayMap, Overlays, combined_value}
 use Rattle.retro_tree.specs.Commit.{put_text, put_cell, put_cells, makes, committed}
-use Rattle.retro_tree.specs.CommitSteps.{removes, removals, writes}
+use Rattle.retro_tree.specs.inner.CommitSteps.{removes, removals, writes}
 use Rattle.retro_tree.specs.declared.cell.Cell.{Cell}
 use Rattle.retro_tree.specs.declared.cell.Cell.TheVariants as cells
 use Rattle.retro_tree.specs.declared.value.Value.{Value}

@@ -15,8 +15,8 @@ use Rattle.retro_tree.specs.Tree.{Tree, put, node_in}
 use Rattle.retro_tree.specs.Session.{default_session, session_in}
 use Rattle.retro_tree.specs.State.{put_node, grow_file}
 use Rattle.retro_tree.specs.Setting.{with_setting}
-use Rattle.retro_tree.specs.Previous.{with_previous, previous_of, previous_var, has_place}
-use Rattle.retro_tree.specs.CommitSteps.{undo, can_undo, Undoes, cut_at}
+use Rattle.retro_tree.specs.inner.Previous.{with_previous, previous_of, previous_var, has_place}
+use Rattle.retro_tree.specs.inner.CommitSteps.{undo, can_undo, Undoes, cut_at}
 use Rattle.retro_tree.specs.declared.entry.Entry.{Entry}
 use Rattle.retro_tree.specs.declared.entry.Entry.TheVariants.{Dir as DirEntry, File as FileEntry}
 use Rattle.retro_tree.specs.declared.kind.Kind.{Kind}

@@ -3,16 +3,13 @@ pub mod Name
 pub mod VarName
 pub mod Path
 pub mod Node
-pub mod Entry
 pub mod Tree
 pub mod Maps
-pub mod SessionCode
 pub mod Session
 pub mod State
 pub mod Limits
 pub mod Lawful
 pub mod Setting
-pub mod Known
 pub mod Resolving
 pub mod CellOrder
 pub mod User
@@ -22,8 +19,6 @@ pub mod Change
 pub mod Notes
 pub mod Overlay
 pub mod Exact
-pub mod Marks
-pub mod Previous
 pub mod Commit
-pub mod CommitSteps
 pub mod OutOfMemory
+pub mod inner

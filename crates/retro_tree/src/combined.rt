@@ -11,7 +11,7 @@ ghost use Rattle.retro_tree.specs.Path.{passwd};
 ghost use Rattle.retro_tree.specs.Cell.{value};
 ghost use Rattle.retro_tree.specs.Ask.{answer, listing, names_in};
 ghost use Rattle.retro_tree.specs.Overlay.{Overlays};
-ghost use Rattle.retro_tree.specs.Marks.{overlay_from, children_tree, mark_entries};
+ghost use Rattle.retro_tree.specs.inner.Marks.{overlay_from, children_tree, mark_entries};
 ghost use Rattle.retro_tree.specs.declared.cell.Cell.TheVariants as Cell;
 ghost use Rattle.retro_tree.specs.declared.state.State.{State};
 

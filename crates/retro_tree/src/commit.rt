@@ -7,9 +7,10 @@ ghost use Rattle.retro_tree.specs.Node.{is_present};
 ghost use Rattle.retro_tree.specs.State.{put_node, grow_file};
 ghost use Rattle.retro_tree.specs.Change.{put_setting};
 ghost use Rattle.retro_tree.specs.Commit.{put_cell, put_cells};
-ghost use Rattle.retro_tree.specs.CommitSteps.{removes, removals, writes, undo_all, CanUndoAll};
-ghost use Rattle.retro_tree.specs.CommitSteps.{Undoes, WasLawful, written_paths, keeps_law};
-ghost use Rattle.retro_tree.specs.CommitSteps.{path_of, undone_path};
+ghost use Rattle.retro_tree.specs.inner.CommitSteps.{removes, removals, writes, undo_all};
+ghost use Rattle.retro_tree.specs.inner.CommitSteps.{CanUndoAll};
+ghost use Rattle.retro_tree.specs.inner.CommitSteps.{Undoes, WasLawful, written_paths, keeps_law};
+ghost use Rattle.retro_tree.specs.inner.CommitSteps.{path_of, undone_path};
 ghost use Rattle.retro_tree.specs.Lawful.{IsLawfulTree};
 ghost use Rattle.retro_tree.specs.declared.overlay_entry.OverlayEntry.TheVariants as OverlayEntry;
 

@@ -6,7 +6,7 @@ ghost use Rattle.retro_tree.specs.Node.{grown, is_present};
 ghost use Rattle.retro_tree.specs.Tree.{node_in, put, has_child, entries_from};
 ghost use Rattle.retro_tree.specs.Ask.{names_in};
 ghost use Rattle.retro_tree.specs.Limits.{files_fit};
-ghost use Rattle.retro_tree.specs.CommitSteps.{cut_at};
+ghost use Rattle.retro_tree.specs.inner.CommitSteps.{cut_at};
 
 use crate::entry::Entry;
 use crate::node::Node;
@@ -27,7 +27,7 @@ impl Model for EntryMap {
     ghost use Rattle.std.specs.Coded.{coded_ℕ, coded_list};
     ghost use Rattle.retro_tree.specs.Order.{path_cmp};
     ghost use Rattle.retro_tree.specs.declared.entry.Entry.{Entry};
-    ghost use Rattle.retro_tree.specs.Entry.{coded_entry};
+    ghost use Rattle.retro_tree.specs.inner.Entry.{coded_entry};
 
     ghost Value = { map.FinMap path_cmp Entry };
 

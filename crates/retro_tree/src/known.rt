@@ -1,7 +1,7 @@
 //! Values that may be known to be lawful.
 ghost use Rattle.std.specs.Prelude.{◌≡◌, false};
 ghost use Rattle.std.specs.Borrow.{sem, Lends};
-ghost use Rattle.retro_tree.specs.Known.{changed_to};
+ghost use Rattle.retro_tree.specs.inner.Known.{changed_to};
 ghost use Rattle.retro_tree.specs.contracts.known.Known.{the_row};
 
 /// A value with a mark. If the mark is set, the value is known to be lawful.

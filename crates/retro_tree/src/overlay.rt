@@ -9,7 +9,7 @@ ghost use Rattle.retro_tree.specs.Notes.{cell_eq};
 ghost use Rattle.retro_tree.specs.Overlay.{Overlays, Fits, AllValues, fits_cell, is_value};
 ghost use Rattle.retro_tree.specs.Overlay.{grown_at, replaced_at};
 ghost use Rattle.retro_tree.specs.Commit.{committed};
-ghost use Rattle.retro_tree.specs.Marks.{overlay_from, starts_below};
+ghost use Rattle.retro_tree.specs.inner.Marks.{overlay_from, starts_below};
 ghost use Rattle.retro_tree.specs.declared.cell.Cell.{Cell as StateCell};
 ghost use Rattle.retro_tree.specs.declared.cell.Cell.TheVariants as Cell;
 ghost use Rattle.retro_tree.specs.declared.change.Change.TheVariants as Change;

@@ -1,8 +1,8 @@
 //! Entries of an overlay.
 ghost use Rattle.std.specs.Prelude.{◌≡◌, IfOk, OnOk, OnErr};
 ghost use Rattle.retro_tree.specs.Overlay.{overlay_entry_grown};
-ghost use Rattle.retro_tree.specs.CommitSteps.{removes};
-ghost use Rattle.retro_tree.specs.Marks.{mark_of};
+ghost use Rattle.retro_tree.specs.inner.CommitSteps.{removes};
+ghost use Rattle.retro_tree.specs.inner.Marks.{mark_of};
 
 use crate::node::Node;
 use crate::value::Value;

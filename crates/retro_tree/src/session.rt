@@ -2,7 +2,7 @@
 ghost use Rattle.std.specs.Prelude.{◌≡◌, ◌&&◌, nat_le, IfOk, OnOk, OnErr, true};
 ghost use Rattle.retro_tree.specs.Session.{default_session, status_limit};
 ghost use Rattle.retro_tree.specs.Setting.{with_setting};
-ghost use Rattle.retro_tree.specs.Previous.{with_previous, previous_of, has_place};
+ghost use Rattle.retro_tree.specs.inner.Previous.{with_previous, previous_of, has_place};
 ghost use Rattle.retro_tree.specs.Limits.{values_fit};
 
 use crate::previous::Previous;

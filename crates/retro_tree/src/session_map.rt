@@ -5,7 +5,7 @@ ghost use Rattle.std.specs.FinMap as map;
 ghost use Rattle.retro_tree.specs.Maps.{update};
 ghost use Rattle.retro_tree.specs.Session.{default_session, session_in, unset};
 ghost use Rattle.retro_tree.specs.Setting.{with_setting};
-ghost use Rattle.retro_tree.specs.Previous.{previous_of, with_previous, has_place};
+ghost use Rattle.retro_tree.specs.inner.Previous.{previous_of, with_previous, has_place};
 
 use crate::previous::Previous;
 use crate::session::Session;
@@ -27,7 +27,7 @@ impl Model for SessionMap {
     ghost use Rattle.std.specs.Coded.{coded_ℕ};
     ghost use Rattle.std.specs.Ordering.{nat_cmp};
     ghost use Rattle.retro_tree.specs.declared.session.Session.{Session};
-    ghost use Rattle.retro_tree.specs.SessionCode.{coded_session};
+    ghost use Rattle.retro_tree.specs.inner.SessionCode.{coded_session};
 
     ghost Value = { map.FinMap nat_cmp Session };
 

@@ -10,7 +10,7 @@ ghost use Rattle.retro_tree.specs.Ask.{names_in};
 ghost use Rattle.retro_tree.specs.Limits.{files_fit};
 ghost use Rattle.retro_tree.specs.Lawful.{IsLawfulTree, may_put, may_grow, is_lawful_tree};
 ghost use Rattle.retro_tree.specs.Lawful.{entry_passes};
-ghost use Rattle.retro_tree.specs.CommitSteps.{cut_at, keeps_law_at};
+ghost use Rattle.retro_tree.specs.inner.CommitSteps.{cut_at, keeps_law_at};
 
 use crate::entry::{Entry, FILE_LIMIT};
 use crate::entry_map::EntryMap;
@@ -34,13 +34,13 @@ impl Model for Tree {
     ghost use Rattle.std.specs.Coded.{coded_ℕ, coded_list};
     ghost use Rattle.retro_tree.specs.Order.{path_cmp};
     ghost use Rattle.retro_tree.specs.declared.entry.Entry.{Entry};
-    ghost use Rattle.retro_tree.specs.Entry.{coded_entry};
+    ghost use Rattle.retro_tree.specs.inner.Entry.{coded_entry};
 
     ghost Value = { map.FinMap path_cmp Entry };
 
     ghost coded = { map.code (coded_list (coded_list coded_ℕ)) coded_entry };
 
-    ghost use Rattle.retro_tree.specs.Known.{tree_of, TreeIsKnown};
+    ghost use Rattle.retro_tree.specs.inner.Known.{tree_of, TreeIsKnown};
 
     ghost view = { tree_of };
 

@@ -1,6 +1,6 @@
 //! How the writes of a commit are undone.
 ghost use Rattle.std.specs.Prelude.{◌≡◌, true};
-ghost use Rattle.retro_tree.specs.CommitSteps.{undo, can_undo, keeps_law, undone_path};
+ghost use Rattle.retro_tree.specs.inner.CommitSteps.{undo, can_undo, keeps_law, undone_path};
 
 use crate::entry::Entry;
 use crate::previous::Previous;

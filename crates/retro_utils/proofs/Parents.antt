@@ -24,7 +24,7 @@ use Rattle.retro_tree.proofs.TreeLaw.{told}
 use Rattle.retro_local.specs.Kinds.{kind_at}
 use Rattle.retro_utils.specs.MkdirParents.{is_blocked, is_file, blocked_at, blocked_by, with_dirs}
 use Rattle.retro_utils.specs.MkdirParents.{make_prefixes, make_parents}
-use Rattle.retro_utils.specs.MkdirSteps.{step_by, make_step, and_then, make_each}
+use Rattle.retro_utils.specs.inner.MkdirSteps.{step_by, make_step, and_then, make_each}
 use Rattle.retro_utils.specs.declared.reason.Reason.{Reason}
 use Rattle.retro_utils.proofs.Facts.{directory_at}
 

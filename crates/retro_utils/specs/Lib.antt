@@ -16,7 +16,7 @@ pub mod Transfers
 pub mod Cp
 pub mod Mv
 pub mod MkdirParents
-pub mod MkdirSteps
 pub mod Conditions
 pub mod Calls
 pub mod Utility
+pub mod inner

@@ -12,7 +12,7 @@ ghost use Rattle.retro_json.specs.ReadsAs.{ReadsAs, seen};
 ghost use Rattle.retro_json.specs.SessionsPart.{row_cells, row_of, session_in, sessions_of};
 ghost use Rattle.retro_json.specs.SessionsPart.{sessions_of_rows, var_cells, var_of, vars_of};
 ghost use Rattle.retro_json.specs.SessionsPart.{vars_of_entries};
-ghost use Rattle.retro_json.specs.Views.{row_view, session_view};
+ghost use Rattle.retro_json.specs.inner.Views.{row_view, session_view};
 ghost use Rattle.retro_json.specs.Worst.{both, every};
 
 use crate::fault::{LogFault, Part, Refusal};

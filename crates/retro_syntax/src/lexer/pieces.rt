@@ -5,7 +5,7 @@ ghost use Rattle.std.specs.Prelude.{◌≡◌, ◌∷◌, ◌++◌, OnOk};
 ghost use Rattle.std.specs.Char.{encode_utf8};
 ghost use Rattle.retro_syntax.specs.Quoting;
 ghost use Rattle.retro_syntax.specs.View.{piece_view};
-ghost use Rattle.retro_syntax.specs.QuotingViews.{pieces_view};
+ghost use Rattle.retro_syntax.specs.inner.QuotingViews.{pieces_view};
 
 use crate::tree::Piece;
 use std::alloc::{AllocError, Global};

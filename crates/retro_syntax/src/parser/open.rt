@@ -3,7 +3,7 @@
 ghost use Rattle.std.specs.Prelude.{◌≡◌, map, option_map, true, false};
 ghost use Rattle.retro_syntax.specs.Parsing;
 ghost use Rattle.retro_syntax.specs.View.{and_or_of, commands_of, view};
-ghost use Rattle.retro_syntax.specs.ParserViews.{open_view};
+ghost use Rattle.retro_syntax.specs.inner.ParserViews.{open_view};
 
 use crate::tree::{AndOr, Command, Commands, Connector, Pipeline};
 use std::alloc::Global;

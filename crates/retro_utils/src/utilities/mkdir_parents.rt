@@ -5,7 +5,7 @@ ghost use Rattle.retro_tree.specs.Tree.{node_in};
 ghost use Rattle.retro_tree.specs.declared.node.Node.TheVariants.{Dir};
 ghost use Rattle.retro_local.specs.Runs.{Always, Computes, Extends, ExtendsTree};
 ghost use Rattle.retro_utils.specs.MkdirParents.{blocked_at, make_parents, mkdir_parents};
-ghost use Rattle.retro_utils.specs.MkdirSteps.{make_each, make_step};
+ghost use Rattle.retro_utils.specs.inner.MkdirSteps.{make_each, make_step};
 ghost use Rattle.retro_utils.specs.Operands.{at_operand, in_turn};
 ghost use Rattle.retro_utils.specs.Outcomes.{nothing_done};
 
@@ -28,7 +28,7 @@ fn blocked_at(path: &Path, prefix: &Path) -> Reason
 }
 
 /// Makes a prefix of a path, if it is missing. Its parent must be a directory.
-#[tactic(auto, unfolding(crate::specs::MkdirSteps::make_step, retro_local::specs::Kinds::kind_at))]
+#[tactic(auto, unfolding(crate::specs::inner::MkdirSteps::make_step, retro_local::specs::Kinds::kind_at))]
 fn make_step<V: View>(
     alloc: Global,
     path: &Path,

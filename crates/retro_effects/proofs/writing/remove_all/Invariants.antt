@@ -1,6 +1,6 @@
 -- What the loop keeps.
 use Rattle.std.proofs.Common.{◌≡◌, drop}
-use Rattle.retro_effects.specs.Write.{without}
+use Rattle.retro_effects.specs.inner.Write.{without}
 use Rattle.retro_effects.proofs.writing.remove_all.Given as goal
 
 abbrev pub invariant-loop-cell : goal.invariant-loop-cell

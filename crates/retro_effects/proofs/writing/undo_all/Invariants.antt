@@ -1,6 +1,6 @@
 -- What the loop keeps, and its measure.
 use Rattle.std.proofs.Common.{◌≡◌, reverse, vec_len}
-use Rattle.retro_effects.specs.Undo.{undone_all}
+use Rattle.retro_effects.specs.inner.Undo.{undone_all}
 use Rattle.retro_effects.proofs.writing.undo_all.Given as goal
 
 abbrev pub invariant-loop-undo : goal.invariant-loop-undo

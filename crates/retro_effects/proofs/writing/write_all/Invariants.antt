@@ -1,8 +1,8 @@
 -- What the loop keeps.
 use Rattle.std.proofs.Common.{◌≡◌, reverse}
 use Rattle.std.specs.FinMap as map
-use Rattle.retro_effects.specs.Write.{wrote_all}
-use Rattle.retro_effects.specs.Undo.{undone_all}
+use Rattle.retro_effects.specs.inner.Write.{wrote_all}
+use Rattle.retro_effects.specs.inner.Undo.{undone_all}
 use Rattle.retro_effects.proofs.writing.write_all.Given as goal
 
 abbrev pub invariant-loop-cell : goal.invariant-loop-cell

@@ -1,6 +1,6 @@
 use Rattle.std.proofs.Common.{ap, ◌∙◌, ◌+◌, ◌++◌, ◌∷◌, [], arith, inl, inr, drop, get_or, nat_le, refl, ℕ, List}
 use Rattle.std.proofs.lemmas.List.{take_rest}
-use Rattle.retro_history.specs.Numbers.{union}
+use Rattle.retro_history.specs.inner.Numbers.{union}
 use Rattle.retro_history.proofs.Unions.{at_most_one, merge_ends, merge_goes_on}
 use Rattle.retro_history.proofs.rising.merge.Goals as goal
 use Rattle.retro_history.proofs.rising.merge.Goals.{then-loop-i-test+else-j-two, else-loop-i-test}

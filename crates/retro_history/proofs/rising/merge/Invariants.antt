@@ -1,5 +1,5 @@
 use Rattle.std.proofs.Common.{◌≡◌, ◌+◌, ◌-◌, ◌≤◌, ◌++◌, drop, length}
-use Rattle.retro_history.specs.Numbers.{union}
+use Rattle.retro_history.specs.inner.Numbers.{union}
 use Rattle.retro_history.proofs.rising.merge.Given as goal
 
 abbrev pub invariant-loop-i : goal.invariant-loop-i

@@ -1,5 +1,5 @@
 use Rattle.std.proofs.Common.{◌≤◌, ◌-◌, length, take}
-use Rattle.retro_keep.specs.Recorder.{HasRecorded}
+use Rattle.retro_keep.specs.inner.Recorder.{HasRecorded}
 use Rattle.retro_keep.proofs.recorder.keep.Given as goal
 
 abbrev pub invariant-loop-start : goal.invariant-loop-start

@@ -1,5 +1,5 @@
 use Rattle.std.proofs.Common.{take}
-use Rattle.retro_keep.specs.Recorder.{HasRecorded}
+use Rattle.retro_keep.specs.inner.Recorder.{HasRecorded}
 use Rattle.retro_keep.proofs.recorder.keep_alone.Given as goal
 
 abbrev pub invariant-loop-line : goal.invariant-loop-line

@@ -1,8 +1,8 @@
 use Rattle.std.proofs.Common.{◌-◌, ◌^◌, length, drop}
 use Rattle.retro_tree.specs.Lawful.{IsLawful}
 use Rattle.retro_local.specs.Runs.{Relates, ExtendsTree}
-use Rattle.retro_moves.specs.Removal.{OfTrees}
-use Rattle.retro_moves.specs.Move.{IsCopy}
+use Rattle.retro_moves.specs.inner.Removal.{OfTrees}
+use Rattle.retro_moves.specs.inner.Move.{IsCopy}
 use Rattle.retro_moves.proofs.MoveTrails.{Trail}
 use Rattle.retro_moves.proofs.moving.+copy_tree.Given as goal
 

@@ -1,7 +1,7 @@
 use Rattle.std.proofs.Common.{vec_len}
 use Rattle.retro_local.specs.Runs.{Relates, ExtendsTree}
-use Rattle.retro_moves.specs.Removal.{OfTrees}
-use Rattle.retro_moves.specs.Move.{IsMoving}
+use Rattle.retro_moves.specs.inner.Removal.{OfTrees}
+use Rattle.retro_moves.specs.inner.Move.{IsMoving}
 use Rattle.retro_moves.proofs.MoveTrails.{Removed}
 use Rattle.retro_moves.proofs.moving.move_dir.Given as goal
 

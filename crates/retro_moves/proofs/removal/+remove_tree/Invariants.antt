@@ -1,6 +1,6 @@
 use Rattle.std.proofs.Common.{◌-◌, ◌^◌, length, drop}
 use Rattle.retro_local.specs.Runs.{Relates, ExtendsTree}
-use Rattle.retro_moves.specs.Removal.{IsThinned, OfTrees}
+use Rattle.retro_moves.specs.inner.Removal.{IsThinned, OfTrees}
 use Rattle.retro_moves.proofs.RemovalTrails.{Trail}
 use Rattle.retro_moves.proofs.removal.+remove_tree.Given as goal
 

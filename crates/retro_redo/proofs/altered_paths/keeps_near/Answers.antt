@@ -1,7 +1,7 @@
 use Rattle.std.proofs.Common.{◌∙◌, Bool, ap}
 use Rattle.std.specs.List.{list_any}
 use Rattle.retro_tree.specs.Path.{PathValue}
-use Rattle.retro_redo.specs.Altered.{altered_paths, kept_paths}
+use Rattle.retro_redo.specs.inner.Altered.{altered_paths, kept_paths}
 use Rattle.retro_redo.proofs.AlteredPaths.{near_of_same}
 use Rattle.retro_redo.proofs.Finishing.{if_ok_map}
 use Rattle.retro_redo.proofs.altered_paths.keeps_near.Goals as goal

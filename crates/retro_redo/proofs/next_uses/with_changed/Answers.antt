@@ -4,7 +4,7 @@ use Rattle.retro_tree.specs.declared.cell.Cell.{Cell}
 use Rattle.retro_tree.specs.declared.change.Change.{Change}
 use Rattle.retro_tree.specs.declared.note.Note.{Note}
 use Rattle.retro_tree.specs.declared.note.Note.TheVariants.{Made}
-use Rattle.retro_redo.specs.NextUses.{has_cell}
+use Rattle.retro_redo.specs.inner.NextUses.{has_cell}
 use Rattle.retro_redo.proofs.CellLoops.{change_done, no_change, note_at, pushed_old}
 use Rattle.retro_redo.proofs.next_uses.with_changed.Goals as goal
 use Rattle.retro_redo.proofs.next_uses.with_changed.Goals.{in-Made+in_ok-changed_cell+in_ok-push, in_default}

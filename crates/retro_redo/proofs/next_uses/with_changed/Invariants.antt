@@ -1,7 +1,7 @@
 use Rattle.std.proofs.Common.{◌≡◌, ◌⊎◌, drop, true}
 use Rattle.retro_tree.specs.Notes.{changes}
 use Rattle.retro_tree.specs.declared.cell.Cell.{Cell}
-use Rattle.retro_redo.specs.NextUses.{has_cell}
+use Rattle.retro_redo.specs.inner.NextUses.{has_cell}
 use Rattle.retro_redo.proofs.next_uses.with_changed.Given as goal
 
 abbrev pub invariant-loop-note : goal.invariant-loop-note

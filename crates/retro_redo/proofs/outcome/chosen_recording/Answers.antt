@@ -1,7 +1,7 @@
 use Rattle.std.proofs.Common.{◌∙◌, ap, subst, sym}
 use Rattle.retro_tree.specs.Commit.{committed}
 use Rattle.retro_keep.specs.Recording.{IsWellFormed, last_state}
-use Rattle.retro_redo.specs.Altered.{keeps_near}
+use Rattle.retro_redo.specs.inner.Altered.{keeps_near}
 use Rattle.retro_redo.specs.Progress.{lines_chosen}
 use Rattle.retro_redo.proofs.Choices.{last_chosen}
 use Rattle.retro_redo.proofs.ChosenLines.{recording_far}

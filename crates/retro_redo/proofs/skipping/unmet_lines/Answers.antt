@@ -4,9 +4,9 @@ use Rattle.std.specs.List.Sorted.{IsNonDecreasingBy}
 use Rattle.std.specs.Option.{option_copied}
 use Rattle.std.proofs.lemmas.List.Sorted.{IsPartitionedBy-ltb, IsPartitionPoint-from_clause}
 use Rattle.retro_keep.specs.Edit.{is_among}
-use Rattle.retro_redo.specs.NextUses.{first_number}
+use Rattle.retro_redo.specs.inner.NextUses.{first_number}
 use Rattle.retro_redo.specs.Skipping.{AreUnmet}
-use Rattle.retro_redo.specs.Stops.{sooner}
+use Rattle.retro_redo.specs.inner.Stops.{sooner}
 use Rattle.retro_redo.proofs.Finishing.{none_is}
 use Rattle.retro_redo.proofs.Positions.{Line}
 use Rattle.retro_redo.proofs.Skipped.{AreUnder, all_under, skipped_from, some_under}

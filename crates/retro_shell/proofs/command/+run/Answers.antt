@@ -2,7 +2,7 @@
 use Rattle.std.proofs.Common.{rules, ◌≡◌, arith, ◌+◌, ◌*◌, ◌<◌, option_map, Option, Some, None}
 use Rattle.retro_syntax.specs.View.{view, pipeline_of, and_or_of, commands_of, arms_of, arms_else_of}
 use Rattle.retro_syntax.proofs.ViewLemmas.{view_if, view_if_else, view_for}
-use Rattle.retro_shell.specs.Trees.{arm_of, last_arm}
+use Rattle.retro_shell.specs.inner.Trees.{arm_of, last_arm}
 use Rattle.retro_shell.proofs.Sizes.{size, command_size, arms_size, joint_smaller, last_joint_smaller}
 use Rattle.retro_shell.proofs.Sizes.{listed_smaller, last_listed_smaller, condition_smaller, consequence_smaller}
 use Rattle.retro_shell.proofs.Sizes.{last_arm_smaller, ending_condition, ending_consequence}

@@ -5,7 +5,7 @@ use Rattle.retro_local.specs.Runs.{Continues, Extends}
 use Rattle.retro_syntax.specs.Parsing.{join, listed}
 use Rattle.retro_syntax.specs.View.{view, pipeline_of, and_or_of, commands_of}
 use Rattle.retro_shell.specs.Commands.{run_commands, run_and_or, run_arms, turns}
-use Rattle.retro_shell.specs.Trees.{arms_with}
+use Rattle.retro_shell.specs.inner.Trees.{arms_with}
 use Rattle.retro_shell.proofs.Sizes.{size, and_or_size, pipeline_size, command_size, arms_size}
 use Rattle.retro_shell.proofs.command.+run.Given as goal
 

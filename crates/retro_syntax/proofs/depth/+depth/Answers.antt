@@ -1,5 +1,5 @@
 use Rattle.std.proofs.Common.{◌≡◌, ◌-◌, ◌&&◌, true, false, sym, ap, ◌∙◌}
-use Rattle.retro_syntax.specs.Fits as X
+use Rattle.retro_syntax.specs.inner.Fits as X
 use Rattle.retro_syntax.proofs.DepthLemmas.{pipe_fits, if_deep, if_fits, if_else_deep, if_else_fits, for_deep, for_fits}
 use Rattle.retro_syntax.proofs.depth.+depth.Goals as goal
 

@@ -1,5 +1,5 @@
 use Rattle.std.proofs.Common.{◌≡◌, ◌+◌, ◌*◌, length}
-use Rattle.retro_syntax.specs.Fits.{pipelines_fit, and_ors_fit, arms_fit}
+use Rattle.retro_syntax.specs.inner.Fits.{pipelines_fit, and_ors_fit, arms_fit}
 use Rattle.retro_syntax.proofs.depth.+depth.Given as goal
 
 abbrev pub invariant-and_ors_fit-loop-rest : goal.invariant-and_ors_fit-loop-rest

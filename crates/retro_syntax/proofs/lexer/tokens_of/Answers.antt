@@ -4,7 +4,7 @@ use Rattle.std.proofs.lemmas.Iterator.Consumers.{YieldsList-turn, YieldsList-end
 use Rattle.std.proofs.lemmas.List.{at_drop_more, drop_all, length_push}
 use Rattle.std.specs.Str.{chars}
 use Rattle.retro_syntax.specs.Quoting.{Lexing, between, lex_end, lex_run, lex_step, tokens_of, with_pending}
-use Rattle.retro_syntax.specs.QuotingViews.{lexer_view}
+use Rattle.retro_syntax.specs.inner.QuotingViews.{lexer_view}
 use Rattle.retro_syntax.proofs.FailingLemmas.{gives_fault}
 use Rattle.retro_syntax.proofs.lexer.tokens_of.Goals as goal
 

@@ -2,7 +2,7 @@ use Rattle.std.proofs.Common.{◌≡◌, Some, map, []}
 use Rattle.std.specs.Vec.Iter.{into_iter_items}
 use Rattle.retro_syntax.specs.Parsing as M
 use Rattle.retro_syntax.specs.View.{token_view}
-use Rattle.retro_syntax.specs.ParserViews.{parser_view}
+use Rattle.retro_syntax.specs.inner.ParserViews.{parser_view}
 use Rattle.retro_syntax.proofs.parser.commands_of.Given as goal
 
 abbrev pub invariant-loop-token : goal.invariant-loop-token

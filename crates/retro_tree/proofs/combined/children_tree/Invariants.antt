@@ -1,6 +1,6 @@
 use Rattle.std.proofs.Common.{◌≡◌, drop}
 use Rattle.std.specs.FinMap as map
-use Rattle.retro_tree.specs.Marks.{children_tree}
+use Rattle.retro_tree.specs.inner.Marks.{children_tree}
 use Rattle.retro_tree.proofs.combined.children_tree.Given as goal
 
 abbrev pub invariant-loop-name : goal.invariant-loop-name

@@ -1,6 +1,6 @@
 use Rattle.std.proofs.Common.{◌≡◌, vec_len}
 use Rattle.std.specs.List.{list_all}
-use Rattle.retro_tree.specs.CommitSteps.{keeps_law, path_of}
+use Rattle.retro_tree.specs.inner.CommitSteps.{keeps_law, path_of}
 use Rattle.retro_tree.proofs.commit.removals_keep_law.Given as goal
 
 abbrev pub invariant-loop-cell : goal.invariant-loop-cell

@@ -1,6 +1,6 @@
 -- What the loop keeps.
 use Rattle.std.specs.FinMap as map
-use Rattle.retro_effects.specs.Plan.{IsPlan, Covers, AreEntries}
+use Rattle.retro_effects.specs.inner.Plan.{IsPlan, Covers, AreEntries}
 use Rattle.retro_effects.proofs.planner.Planner.plan_recorded.Given as goal
 
 abbrev pub invariant-loop-cell : goal.invariant-loop-cell

@@ -1,5 +1,5 @@
 use Rattle.std.proofs.Common.{ap, sym, ◌∙◌}
-use Rattle.retro_history.specs.CellHistory.{history_in}
+use Rattle.retro_history.specs.inner.CellHistory.{history_in}
 use Rattle.retro_history.proofs.LineCells.{line_used, use_added, used_by}
 use Rattle.retro_history.proofs.cell_histories.CellHistories.add_notes.Goals as goal
 

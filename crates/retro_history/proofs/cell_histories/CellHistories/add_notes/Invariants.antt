@@ -1,6 +1,6 @@
 use Rattle.std.proofs.Common.{◌≡◌}
 use Rattle.retro_tree.specs.declared.cell.Cell.{Cell}
-use Rattle.retro_history.specs.CellHistory.{history_in, history_noted}
+use Rattle.retro_history.specs.inner.CellHistory.{history_in, history_noted}
 use Rattle.retro_history.proofs.LineCells.{used_by}
 use Rattle.retro_history.proofs.cell_histories.CellHistories.add_notes.Given as goal
 

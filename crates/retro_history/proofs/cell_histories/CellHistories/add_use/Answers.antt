@@ -7,7 +7,7 @@ use Rattle.retro_tree.specs.Cell.{value}
 use Rattle.retro_tree.specs.CellOrder.{cell_cmp, cell_total, cell_exact}
 use Rattle.retro_tree.proofs.MapLemmas.{made_insert, made_written, made_new, get_made}
 use Rattle.retro_tree.proofs.Results.{on_ok}
-use Rattle.retro_history.specs.CellHistory.{history_used, new_history}
+use Rattle.retro_history.specs.inner.CellHistory.{history_used, new_history}
 use Rattle.retro_history.proofs.cell_histories.CellHistories.add_use.Goals as goal
 
 pub returns-in-Some : goal.returns-in-Some

@@ -1,8 +1,8 @@
 use Rattle.std.proofs.Common.{ap, sym, subst, ◌∙◌}
 use Rattle.std.specs.FinMap as map
 use Rattle.retro_tree.specs.declared.cell.Cell.TheVariants as cells
-use Rattle.retro_history.specs.CellHistory.{AllRise}
-use Rattle.retro_history.specs.TrackMarks.{mark_tracks, histories_from}
+use Rattle.retro_history.specs.inner.CellHistory.{AllRise}
+use Rattle.retro_history.specs.inner.TrackMarks.{mark_tracks, histories_from}
 use Rattle.retro_history.proofs.Tracking.{later_rise}
 use Rattle.retro_history.proofs.cell_histories.CellHistories.marks_below.Goals as goal
 

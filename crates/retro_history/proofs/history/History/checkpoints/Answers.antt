@@ -3,8 +3,8 @@ use Rattle.std.specs.Prelude.{IfOk}
 use Rattle.std.specs.Option.{option_copied, unwrap_or}
 use Rattle.retro_tree.specs.Cell.{value}
 use Rattle.retro_history.specs.Versions.{checkpoints}
-use Rattle.retro_history.specs.CellHistory.{new_history}
-use Rattle.retro_history.specs.Tracks.{all_versions, checkpoint_numbers}
+use Rattle.retro_history.specs.inner.CellHistory.{new_history}
+use Rattle.retro_history.specs.inner.Tracks.{all_versions, checkpoint_numbers}
 use Rattle.retro_history.specs.declared.cell_history.CellHistory.{CellHistory}
 use Rattle.retro_history.proofs.Recalled.{checkpoints_are}
 use Rattle.retro_history.proofs.history.History.checkpoints.Goals as goal

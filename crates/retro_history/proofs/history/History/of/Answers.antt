@@ -1,7 +1,7 @@
 use Rattle.std.proofs.Common.{ap, subst, sym, ◌∙◌}
-use Rattle.retro_history.specs.CellHistory.{history_in}
+use Rattle.retro_history.specs.inner.CellHistory.{history_in}
 use Rattle.retro_history.specs.Index.{AreNumbered}
-use Rattle.retro_history.specs.IndexSteps.{Indexes, listed_by}
+use Rattle.retro_history.specs.inner.IndexSteps.{Indexes, listed_by}
 use Rattle.retro_history.specs.declared.index.Index.{Index}
 use Rattle.retro_history.proofs.Tracking.{all_indexed, all_tracked, history_after, no_histories}
 use Rattle.retro_history.proofs.history.History.of.Goals as goal

@@ -1,6 +1,6 @@
 use Rattle.std.proofs.Common.{◌≡◌, drop}
 use Rattle.std.specs.FinMap as map
-use Rattle.retro_history.specs.IndexSteps.{listed_by}
+use Rattle.retro_history.specs.inner.IndexSteps.{listed_by}
 use Rattle.retro_history.proofs.Tracking.{AreAfter}
 use Rattle.retro_history.proofs.history.History.of.Given as goal
 

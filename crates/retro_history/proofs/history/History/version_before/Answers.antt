@@ -1,10 +1,10 @@
 use Rattle.std.proofs.Common.{ap, sym, subst, ◌∙◌, Option}
 use Rattle.std.specs.Option.{option_copied, option_map, unwrap_or}
 use Rattle.retro_tree.specs.Cell.{value}
-use Rattle.retro_history.specs.CellHistory.{new_history}
-use Rattle.retro_history.specs.Tracks.{RiseFrom, all_versions}
+use Rattle.retro_history.specs.inner.CellHistory.{new_history}
+use Rattle.retro_history.specs.inner.Tracks.{RiseFrom, all_versions}
 use Rattle.retro_history.specs.declared.cell_history.CellHistory.{CellHistory}
-use Rattle.retro_history.specs.History.{version_ref_parts, parts_before}
+use Rattle.retro_history.specs.inner.History.{version_ref_parts, parts_before}
 use Rattle.retro_history.proofs.Recalled.{track_rises, parts_found, parts_missing, parts_without_track}
 use Rattle.retro_history.proofs.history.History.version_before.Goals as goal
 use Rattle.retro_history.proofs.history.History.version_before.Goals.{in-Some+in_default-version_below, in_default}

@@ -2,8 +2,8 @@ use Rattle.std.proofs.Common.{List, ap, map, sym, ◌∙◌}
 use Rattle.std.specs.FinMap as finmap
 use Rattle.retro_tree.specs.declared.cell.Cell.{Cell}
 use Rattle.retro_tree.specs.declared.overlay_entry.OverlayEntry.{OverlayEntry}
-use Rattle.retro_history.specs.IndexSteps.{next_of}
-use Rattle.retro_history.specs.Numbers.{earliest}
+use Rattle.retro_history.specs.inner.IndexSteps.{next_of}
+use Rattle.retro_history.specs.inner.Numbers.{earliest}
 use Rattle.retro_history.proofs.Meetings.{next_ends, next_goes_on, next_is_meeting}
 use Rattle.retro_history.proofs.index.Index.next_meeting_in.Goals as goal
 

@@ -1,8 +1,8 @@
 use Rattle.std.proofs.Common.{◌≡◌, List, map}
 use Rattle.std.specs.FinMap as finmap
 use Rattle.retro_history.specs.Index.{Line}
-use Rattle.retro_history.specs.IndexSteps.{Indexes, next_of}
-use Rattle.retro_history.specs.Numbers.{earliest}
+use Rattle.retro_history.specs.inner.IndexSteps.{Indexes, next_of}
+use Rattle.retro_history.specs.inner.Numbers.{earliest}
 use Rattle.retro_history.proofs.index.Index.next_meeting_in.Given as goal
 
 abbrev pub invariant-loop-cell : goal.invariant-loop-cell

@@ -1,7 +1,7 @@
 use Rattle.std.proofs.Common.{Option, ap, sym, ◌∙◌}
 use Rattle.std.specs.Option.{option_copied, option_map, unwrap_or}
-use Rattle.retro_history.specs.Numbers.{earliest, first_above}
-use Rattle.retro_history.specs.Uses.{no_uses}
+use Rattle.retro_history.specs.inner.Numbers.{earliest, first_above}
+use Rattle.retro_history.specs.inner.Uses.{no_uses}
 use Rattle.retro_history.specs.declared.cell_history.CellHistory.{CellHistory}
 use Rattle.retro_history.proofs.Readers.{next_use_found}
 use Rattle.retro_history.proofs.index.Index.next_use.Goals as goal

@@ -1,5 +1,5 @@
 use Rattle.std.proofs.Common.{Result, Ok, Err, IfOk, ◌∙◌}
-use Rattle.retro_history.specs.Numbers.{union}
+use Rattle.retro_history.specs.inner.Numbers.{union}
 use Rattle.retro_history.proofs.Readers.{readers_found}
 use Rattle.retro_history.proofs.index.Index.readers.Goals as goal
 

@@ -6,7 +6,7 @@ use Rattle.retro_tree.specs.Maps.{update}
 use Rattle.retro_tree.specs.CellOrder.{cell_cmp, cell_total, cell_exact}
 use Rattle.retro_tree.proofs.MapLemmas.{made_insert, made_written, made_new, get_made}
 use Rattle.retro_tree.proofs.Results.{on_ok}
-use Rattle.retro_history.specs.LineUse.{no_use, use_changed}
+use Rattle.retro_history.specs.inner.LineUse.{no_use, use_changed}
 use Rattle.retro_history.proofs.line_cells.LineCells.add_change.Goals as goal
 
 pub returns-in-Some : goal.returns-in-Some

@@ -5,7 +5,7 @@ use Rattle.std.specs.FinMap as map
 use Rattle.retro_tree.specs.Maps.{update}
 use Rattle.retro_tree.specs.CellOrder.{cell_cmp, cell_total, cell_exact}
 use Rattle.retro_tree.proofs.MapLemmas.{made_insert, made_written, made_new, get_made}
-use Rattle.retro_history.specs.LineUse.{no_use, use_read}
+use Rattle.retro_history.specs.inner.LineUse.{no_use, use_read}
 use Rattle.retro_history.proofs.line_cells.LineCells.add_read.Goals as goal
 
 pub returns-in-Some : goal.returns-in-Some

@@ -1,6 +1,6 @@
 use Rattle.std.proofs.Common.{◌≡◌, drop}
 use Rattle.std.specs.FinMap as map
-use Rattle.retro_history.specs.LineUse.{cells_noted}
+use Rattle.retro_history.specs.inner.LineUse.{cells_noted}
 use Rattle.retro_history.proofs.line_cells.LineCells.of.Given as goal
 
 abbrev pub invariant-loop-note : goal.invariant-loop-note

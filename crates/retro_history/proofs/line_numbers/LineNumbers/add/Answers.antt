@@ -1,5 +1,5 @@
 use Rattle.std.proofs.Common.{ap, sym, ◌∙◌}
-use Rattle.retro_history.specs.Numbers.{are_below, rise}
+use Rattle.retro_history.specs.inner.Numbers.{are_below, rise}
 use Rattle.retro_history.proofs.Numbers.{rise_pushed}
 use Rattle.retro_history.proofs.line_numbers.LineNumbers.add.Goals as goal
 

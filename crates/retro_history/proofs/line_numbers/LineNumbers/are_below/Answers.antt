@@ -1,6 +1,6 @@
 use Rattle.std.proofs.Common.{ap, sym, ◌∙◌, ◌-◌, ℕ, List, length, slice_get}
 use Rattle.std.specs.Option.{option_copied}
-use Rattle.retro_history.specs.Numbers.{are_below}
+use Rattle.retro_history.specs.inner.Numbers.{are_below}
 use Rattle.retro_history.proofs.Numbers.{below_by_some}
 use Rattle.retro_history.proofs.line_numbers.LineNumbers.are_below.Goals as goal
 

@@ -6,7 +6,7 @@ use Rattle.retro_tree.specs.Maps.{update}
 use Rattle.retro_tree.specs.Order.{path_total, path_exact}
 use Rattle.retro_tree.proofs.MapLemmas.{made_insert, made_written, made_same, made_new, get_made}
 use Rattle.retro_tree.proofs.Results.{on_ok, on_err}
-use Rattle.retro_history.specs.Numbers.{with_number}
+use Rattle.retro_history.specs.inner.Numbers.{with_number}
 use Rattle.retro_history.specs.contracts.path_lines.PathLines.{the_view}
 use Rattle.retro_history.proofs.path_lines.PathLines.add.Goals as goal
 

@@ -1,5 +1,5 @@
 use Rattle.std.proofs.Common.{◌≡◌, drop}
-use Rattle.retro_history.specs.IndexSteps.{listed_noted}
+use Rattle.retro_history.specs.inner.IndexSteps.{listed_noted}
 use Rattle.retro_history.proofs.path_lines.PathLines.add_notes.Given as goal
 
 abbrev pub invariant-loop-note : goal.invariant-loop-note

@@ -1,5 +1,5 @@
 use Rattle.std.proofs.Common.{◌≡◌, drop, map}
-use Rattle.retro_history.specs.Tracks.{track_by}
+use Rattle.retro_history.specs.inner.Tracks.{track_by}
 use Rattle.retro_history.proofs.track.Track.apply_all.Given as goal
 
 abbrev pub invariant-loop-change : goal.invariant-loop-change

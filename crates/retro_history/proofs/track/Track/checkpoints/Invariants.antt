@@ -1,6 +1,6 @@
 use Rattle.std.proofs.Common.{◌≡◌, ◌++◌, drop, map}
-use Rattle.retro_history.specs.Tracks.{checkpoint_numbers}
-use Rattle.retro_history.specs.Version.{version_value}
+use Rattle.retro_history.specs.inner.Tracks.{checkpoint_numbers}
+use Rattle.retro_history.specs.inner.Version.{version_value}
 use Rattle.retro_history.proofs.track.Track.checkpoints.Given as goal
 
 abbrev pub invariant-loop-version : goal.invariant-loop-version

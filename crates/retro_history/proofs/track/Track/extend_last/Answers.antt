@@ -1,5 +1,5 @@
 use Rattle.std.proofs.Common.{ap, ◌∙◌}
-use Rattle.retro_history.specs.Tracks.{TrackValue, version_grown}
+use Rattle.retro_history.specs.inner.Tracks.{TrackValue, version_grown}
 use Rattle.retro_history.proofs.Buffers.{extended_fits, extended_track, with_place}
 use Rattle.retro_history.proofs.track.Track.extend_last.Goals as goal
 

@@ -1,6 +1,6 @@
 use Rattle.std.proofs.Common.{sym, subst}
 use Rattle.std.specs.Prelude.{length}
-use Rattle.retro_history.specs.Version.{EndsAt}
+use Rattle.retro_history.specs.inner.Version.{EndsAt}
 use Rattle.retro_history.proofs.Buffers.{pushed_fits}
 use Rattle.retro_history.proofs.track.Track.open_version.Goals as goal
 

@@ -1,5 +1,5 @@
 use Rattle.std.proofs.Common.{sym, subst}
-use Rattle.retro_history.specs.Version.{RangesFit}
+use Rattle.retro_history.specs.inner.Version.{RangesFit}
 use Rattle.retro_history.specs.declared.track.Track.TheInside.{Inside}
 use Rattle.retro_history.proofs.Buffers.{pushed_fits, whole_of, whole_fits}
 use Rattle.retro_history.proofs.track.Track.put.Goals as goal

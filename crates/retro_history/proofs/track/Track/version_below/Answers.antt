@@ -2,9 +2,9 @@ use Rattle.std.proofs.Common.{◌<◌, ◌-◌, List, rules, of_calls, Some, Non
 use Rattle.std.proofs.Common.{arith, length}
 use Rattle.std.specs.Option.{option_map}
 use Rattle.std.proofs.lemmas.Fn.{always_returns_same}
-use Rattle.retro_history.specs.Tracks.{RiseFrom, all_versions, version_below}
-use Rattle.retro_history.specs.Version.{version_value, AreWithin, IsWithin}
-use Rattle.retro_history.specs.History.{version_parts}
+use Rattle.retro_history.specs.inner.Tracks.{RiseFrom, all_versions, version_below}
+use Rattle.retro_history.specs.inner.Version.{version_value, AreWithin, IsWithin}
+use Rattle.retro_history.specs.inner.History.{version_parts}
 use Rattle.retro_history.specs.declared.version.Version.{Version}
 use Rattle.retro_history.proofs.Buffers.{within_at}
 use Rattle.retro_history.proofs.Lookups.{partitioned, last_found, earlier_found, found_after, found_at, is_below}

@@ -2,7 +2,7 @@ use Rattle.std.proofs.Common.{map}
 use Rattle.serde_json.specs.View.{view}
 use Rattle.retro_json.specs.ReadsAs.{seen}
 use Rattle.retro_json.specs.SessionsPart.{row_of}
-use Rattle.retro_json.specs.Views.{row_view}
+use Rattle.retro_json.specs.inner.Views.{row_view}
 use Rattle.retro_json.proofs.Worst.{judging_goes_on, judging_done, seen_item}
 use Rattle.retro_json.proofs.reading.sessions.read_rows.Goals as goal
 

@@ -1,5 +1,5 @@
 use Rattle.std.proofs.Common.{◌≡◌, ◌+◌, ◌<◌, arith, length, subst, take}
-use Rattle.retro_keep.specs.Recorder.{HasRecorded}
+use Rattle.retro_keep.specs.inner.Recorder.{HasRecorded}
 use Rattle.retro_keep.proofs.Recorded.{has_recorded_next, session_at}
 use Rattle.retro_keep.proofs.recorder.Recorder.record_parsed.Goals as goal
 

@@ -1,5 +1,5 @@
 use Rattle.std.proofs.Common.{◌∙◌, ◌||◌, ◌∷◌, [], ap, sym}
-use Rattle.retro_redo.specs.Altered.{has_path}
+use Rattle.retro_redo.specs.inner.Altered.{has_path}
 use Rattle.retro_redo.proofs.AlteredPaths.{path_added, path_known}
 use Rattle.retro_redo.proofs.altered_paths.AlteredPaths.add.Goals as goal
 

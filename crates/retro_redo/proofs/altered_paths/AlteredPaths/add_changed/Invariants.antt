@@ -1,6 +1,6 @@
 use Rattle.std.proofs.Common.{◌≡◌, ◌||◌, drop}
 use Rattle.retro_tree.specs.Path.{PathValue}
-use Rattle.retro_redo.specs.Altered.{changed_paths, has_path}
+use Rattle.retro_redo.specs.inner.Altered.{changed_paths, has_path}
 use Rattle.retro_redo.proofs.altered_paths.AlteredPaths.add_changed.Given as goal
 
 abbrev pub invariant-loop-note : goal.invariant-loop-note

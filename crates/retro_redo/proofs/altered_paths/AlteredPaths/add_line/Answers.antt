@@ -1,6 +1,6 @@
 use Rattle.std.proofs.Common.{◌∙◌, ◌||◌, ◌++◌, ap, sym}
 use Rattle.retro_tree.proofs.Results.{on_ok}
-use Rattle.retro_redo.specs.Altered.{altered_by, changed_paths, has_path}
+use Rattle.retro_redo.specs.inner.Altered.{altered_by, changed_paths, has_path}
 use Rattle.retro_redo.proofs.AlteredPaths.{both_added}
 use Rattle.retro_redo.proofs.altered_paths.AlteredPaths.add_line.Goals as goal
 

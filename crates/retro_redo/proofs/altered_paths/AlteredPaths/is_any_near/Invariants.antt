@@ -1,6 +1,6 @@
 use Rattle.std.proofs.Common.{◌≡◌, drop}
 use Rattle.std.specs.List.{list_any}
-use Rattle.retro_redo.specs.Altered.{changed_paths, is_near}
+use Rattle.retro_redo.specs.inner.Altered.{changed_paths, is_near}
 use Rattle.retro_redo.proofs.altered_paths.AlteredPaths.is_any_near.Given as goal
 
 abbrev pub invariant-loop-note : goal.invariant-loop-note

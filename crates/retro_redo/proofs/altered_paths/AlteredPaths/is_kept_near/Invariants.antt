@@ -1,6 +1,6 @@
 use Rattle.std.proofs.Common.{◌≡◌, drop}
 use Rattle.std.specs.List.{list_any}
-use Rattle.retro_redo.specs.Altered.{is_near, kept_paths}
+use Rattle.retro_redo.specs.inner.Altered.{is_near, kept_paths}
 use Rattle.retro_redo.proofs.altered_paths.AlteredPaths.is_kept_near.Given as goal
 
 abbrev pub invariant-loop-i : goal.invariant-loop-i

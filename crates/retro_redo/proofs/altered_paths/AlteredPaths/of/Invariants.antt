@@ -1,6 +1,6 @@
 use Rattle.std.proofs.Common.{◌≡◌, ◌||◌, drop}
 use Rattle.retro_tree.specs.Path.{PathValue}
-use Rattle.retro_redo.specs.Altered.{altered_paths, has_path}
+use Rattle.retro_redo.specs.inner.Altered.{altered_paths, has_path}
 use Rattle.retro_redo.proofs.altered_paths.AlteredPaths.of.Given as goal
 
 abbrev pub invariant-loop-i : goal.invariant-loop-i

@@ -1,5 +1,5 @@
 use Rattle.std.proofs.Common.{◌≡◌, ◌⊎◌, List, subst, sym, true}
-use Rattle.retro_redo.specs.NextUses.{Use, has_use}
+use Rattle.retro_redo.specs.inner.NextUses.{Use, has_use}
 use Rattle.retro_redo.proofs.Entries.{one_kept, one_only}
 use Rattle.retro_redo.proofs.next_uses.NextUses.add.Goals as goal
 

@@ -1,7 +1,7 @@
 use Rattle.std.proofs.Common.{◌≡◌, ◌⊎◌, true}
 use Rattle.std.specs.Vec.Iter.{into_iter_items}
 use Rattle.retro_tree.specs.declared.cell.Cell.{Cell}
-use Rattle.retro_redo.specs.NextUses.{AddsUses, HasNext, has_cell}
+use Rattle.retro_redo.specs.inner.NextUses.{AddsUses, HasNext, has_cell}
 use Rattle.retro_redo.proofs.next_uses.NextUses.add_cells.Given as goal
 
 abbrev pub invariant-loop-cell : goal.invariant-loop-cell

@@ -1,6 +1,6 @@
 use Rattle.std.proofs.Common.{◌≡◌, false, rules, subst}
 use Rattle.std.specs.FinMap as map
-use Rattle.retro_redo.specs.NextUses.{AreSorted}
+use Rattle.retro_redo.specs.inner.NextUses.{AreSorted}
 use Rattle.retro_redo.proofs.CellLoops.{entries_done, entry_done, entry_passed}
 use Rattle.retro_redo.proofs.Entries.{sorted_tail}
 use Rattle.retro_redo.proofs.next_uses.NextUses.cells_at.Goals as goal

@@ -1,7 +1,7 @@
 use Rattle.std.proofs.Common.{◌≡◌, ◌⊎◌, true}
 use Rattle.std.specs.FinMap as map
 use Rattle.retro_tree.specs.declared.cell.Cell.{Cell}
-use Rattle.retro_redo.specs.NextUses.{AreSorted, has_cell, has_use}
+use Rattle.retro_redo.specs.inner.NextUses.{AreSorted, has_cell, has_use}
 use Rattle.retro_redo.proofs.next_uses.NextUses.cells_at.Given as goal
 
 abbrev pub invariant-loop-used : goal.invariant-loop-used

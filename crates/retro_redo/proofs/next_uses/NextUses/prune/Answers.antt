@@ -1,5 +1,5 @@
 use Rattle.std.proofs.Common.{◌≡◌, ◌∙◌, List, ap, subst, sym, true}
-use Rattle.retro_redo.specs.NextUses.{Use, has_use, is_first_over}
+use Rattle.retro_redo.specs.inner.NextUses.{Use, has_use, is_first_over}
 use Rattle.retro_redo.proofs.Entries.{popped_kept, popped_only}
 use Rattle.retro_redo.proofs.next_uses.NextUses.prune.Goals as goal
 

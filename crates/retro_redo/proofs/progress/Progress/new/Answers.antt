@@ -1,5 +1,5 @@
 use Rattle.std.proofs.Common.{ℕ, List, sym, subst, []}
-use Rattle.retro_redo.specs.Keeping.{Keeps}
+use Rattle.retro_redo.specs.inner.Keeping.{Keeps}
 use Rattle.retro_redo.specs.declared.step.Step.{Step}
 use Rattle.retro_redo.proofs.Keeping.{keeps_new}
 use Rattle.retro_redo.proofs.StepUses.{keeps_no_uses}

@@ -1,5 +1,5 @@
 use Rattle.std.proofs.Common.{ap, drop, subst, sym, ◌∙◌}
-use Rattle.retro_redo.specs.Keeping.{KeepsUses}
+use Rattle.retro_redo.specs.inner.Keeping.{KeepsUses}
 use Rattle.retro_redo.specs.Progress.{ProgressValue}
 use Rattle.retro_redo.proofs.KeptLines.{keeps_skipped, skips}
 use Rattle.retro_redo.proofs.StepUses.{skipped_uses}

@@ -1,7 +1,7 @@
 use Rattle.std.proofs.Common.{ap, sym, ◌∙◌}
 use Rattle.std.specs.FinMap as map
 use Rattle.retro_tree.specs.Ask.{names_in}
-use Rattle.retro_tree.specs.Marks.{overlay_from, mark_entries, children_tree}
+use Rattle.retro_tree.specs.inner.Marks.{overlay_from, mark_entries, children_tree}
 use Rattle.retro_tree.specs.declared.cell.Cell.TheVariants as cells
 use Rattle.retro_tree.proofs.OverlayListing.{listed_over, none_listed}
 use Rattle.retro_tree.proofs.combined.Combined.children.Goals as goal

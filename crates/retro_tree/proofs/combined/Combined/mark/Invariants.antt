@@ -1,5 +1,5 @@
 use Rattle.std.proofs.Common.{◌≡◌}
-use Rattle.retro_tree.specs.Marks.{overlay_from, mark_entries}
+use Rattle.retro_tree.specs.inner.Marks.{overlay_from, mark_entries}
 use Rattle.retro_tree.specs.declared.cell.Cell.TheVariants as cells
 use Rattle.retro_tree.proofs.combined.Combined.mark.Given as goal
 

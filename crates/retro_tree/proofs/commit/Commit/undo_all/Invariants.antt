@@ -1,5 +1,5 @@
 use Rattle.std.proofs.Common.{◌≡◌, reverse, vec_len}
-use Rattle.retro_tree.specs.CommitSteps.{undo_all, CanUndoAll}
+use Rattle.retro_tree.specs.inner.CommitSteps.{undo_all, CanUndoAll}
 use Rattle.retro_tree.proofs.commit.Commit.undo_all.Given as goal
 
 abbrev pub invariant-loop-undo : goal.invariant-loop-undo

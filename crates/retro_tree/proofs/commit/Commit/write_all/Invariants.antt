@@ -1,7 +1,7 @@
 use Rattle.std.proofs.Common.{◌≡◌, ◌++◌, reverse}
 use Rattle.std.specs.FinMap as map
 use Rattle.retro_tree.specs.Commit.{put_cells}
-use Rattle.retro_tree.specs.CommitSteps.{removals, writes, undo_all, CanUndoAll}
+use Rattle.retro_tree.specs.inner.CommitSteps.{removals, writes, undo_all, CanUndoAll}
 use Rattle.retro_tree.proofs.commit.Commit.write_all.Given as goal
 
 abbrev pub invariant-loop-cell : goal.invariant-loop-cell

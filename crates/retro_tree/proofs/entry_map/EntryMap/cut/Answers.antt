@@ -3,7 +3,7 @@ use Rattle.std.specs.Prelude.{IsSome}
 use Rattle.std.specs.Option.{option_copied_mut}
 use Rattle.std.specs.FinMap as map
 use Rattle.retro_tree.specs.Order.{path_total, path_exact}
-use Rattle.retro_tree.specs.CommitSteps.{cut_at}
+use Rattle.retro_tree.specs.inner.CommitSteps.{cut_at}
 use Rattle.retro_tree.specs.contracts.entry_map.EntryMap.{the_view}
 use Rattle.retro_tree.proofs.MapLemmas.{made_insert, get_made}
 use Rattle.retro_tree.proofs.entry_map.EntryMap.cut.Goals as goal

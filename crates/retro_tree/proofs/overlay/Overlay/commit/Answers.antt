@@ -3,7 +3,7 @@ use Rattle.std.specs.List.{list_all}
 use Rattle.std.specs.FinMap as map
 use Rattle.retro_tree.specs.Cell.{value}
 use Rattle.retro_tree.specs.Commit.{put_cells, committed}
-use Rattle.retro_tree.specs.CommitSteps.{removes, removals, writes, written_paths, WasLawful}
+use Rattle.retro_tree.specs.inner.CommitSteps.{removes, removals, writes, written_paths, WasLawful}
 use Rattle.retro_tree.specs.Overlay.{OverlayMap}
 use Rattle.retro_tree.specs.declared.cell.Cell.{Cell}
 use Rattle.retro_tree.specs.declared.overlay_entry.OverlayEntry.{OverlayEntry}

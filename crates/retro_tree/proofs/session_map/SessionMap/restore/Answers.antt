@@ -7,7 +7,7 @@ use Rattle.std.specs.Cmp.{nat_cmp_total}
 use Rattle.std.specs.FinMap.{nat_cmp-IsAntisymmetric}
 use Rattle.retro_tree.specs.Maps.{update}
 use Rattle.retro_tree.specs.Session.{default_session}
-use Rattle.retro_tree.specs.Previous.{with_previous, has_place}
+use Rattle.retro_tree.specs.inner.Previous.{with_previous, has_place}
 use Rattle.retro_tree.proofs.MapLemmas.{made_written, get_made}
 use Rattle.retro_tree.proofs.PreviousSettings.{session_is}
 use Rattle.retro_tree.proofs.session_map.SessionMap.restore.Goals as goal

@@ -7,7 +7,7 @@ use Rattle.std.specs.FinMap.{nat_cmp-IsAntisymmetric}
 use Rattle.retro_tree.specs.Maps.{update}
 use Rattle.retro_tree.specs.Session.{default_session}
 use Rattle.retro_tree.specs.Setting.{with_setting}
-use Rattle.retro_tree.specs.Previous.{previous_of}
+use Rattle.retro_tree.specs.inner.Previous.{previous_of}
 use Rattle.retro_tree.specs.contracts.session_map.SessionMap.{the_view}
 use Rattle.retro_tree.proofs.MapLemmas.{made_written, made_same, made_new, get_made}
 use Rattle.retro_tree.proofs.OverlayLemmas.{any_err}

@@ -3,7 +3,7 @@ use Rattle.std.proofs.Common.{◌≡◌, [], drop}
 use Rattle.retro_tree.specs.Tree.{node_in}
 use Rattle.retro_tree.specs.declared.node.Node.TheVariants.{Dir}
 use Rattle.retro_local.specs.Runs.{Always, Continues, ExtendsTree}
-use Rattle.retro_utils.specs.MkdirSteps.{make_each}
+use Rattle.retro_utils.specs.inner.MkdirSteps.{make_each}
 use Rattle.retro_utils.proofs.utilities.mkdir_parents.make_each.Given as goal
 
 abbrev pub invariant-loop-name : goal.invariant-loop-name

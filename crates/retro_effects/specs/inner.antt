@@ -1,0 +1,6 @@
+-- Definitions that only private contracts, invariants and proofs name.
+pub mod Decision
+pub mod GrownRef
+pub mod Plan
+pub mod Undo
+pub mod Write

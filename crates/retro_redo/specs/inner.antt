@@ -1,0 +1,9 @@
+-- Definitions that only private contracts, invariants and proofs name.
+pub mod Altered
+pub mod AlteredCode
+pub mod GroundCode
+pub mod Keeping
+pub mod NextUses
+pub mod NextUsesCode
+pub mod ProgressCode
+pub mod Stops
