@@ -6,7 +6,8 @@ ghost use Rattle.retro_cli.specs.Numbers.{number_in, numbers_in, list_in};
 ghost use Rattle.retro_cli.specs.Words.{Means};
 
 use crate::words::WordsFault;
-use std::alloc::{AllocError, Global};
+use retro_tree::NoMem;
+use std::alloc::Global;
 
 /// The byte between two numbers of a list.
 const COMMA: u8 = b',';
@@ -39,7 +40,7 @@ fn number_of(text: &str) -> Option<u32>
 }
 
 /// Splits a text at its commas. Returns the parts, empty ones too.
-fn split_list(alloc: Global, text: &str) -> Result<Vec<&str>, AllocError>
+fn split_list(alloc: Global, text: &str) -> Result<Vec<&str>, NoMem>
     ensures { IfOk result (λ v.
         map (λ s. s.now) v.items ≡ slice_split (λ b. b == COMMA) text.now) }
 {

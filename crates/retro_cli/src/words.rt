@@ -6,12 +6,13 @@ ghost use Rattle.clap.specs.declared.builder.command.Command.TheViews.{out-Comma
 ghost use Rattle.retro_cli.specs.Numbers.{list_in};
 ghost use Rattle.retro_cli.specs.Words.{option, cancel, command, bare, program, call_in, call_view};
 ghost use Rattle.retro_cli.specs.Words.{request_of, request_view, request_in, Means};
-ghost use Rattle.retro_cli.specs.declared.words.WordsFault.TheVariants.{NoMem};
+ghost use Rattle.retro_cli.specs.declared.words.WordsFault.TheVariants as faults;
 
 use crate::numbers::list_of;
 use clap::error::ErrorKind;
 use clap::{Arg, ArgAction, Command};
-use std::alloc::{AllocError, AllocFailed, Global};
+use retro_tree::NoMem;
+use std::alloc::{AllocFailed, Global};
 
 /// What the program is asked to do.
 #[derive(Debug, Drop)]
@@ -38,16 +39,16 @@ pub(crate) enum WordsFault {
     BadWords,
 }
 
-impl From<AllocError> for WordsFault {
-    ghost from_gives = { λ _ e. e ≡ NoMem };
+impl From<NoMem> for WordsFault {
+    ghost from_gives = { λ _ e. e ≡ faults.NoMem };
 
-    fn from(_error: AllocError) -> WordsFault {
+    fn from(_error: NoMem) -> WordsFault {
         WordsFault::NoMem
     }
 }
 
 impl<T: Drop> From<AllocFailed<T>> for WordsFault {
-    ghost from_gives = { λ _ e. e ≡ NoMem };
+    ghost from_gives = { λ _ e. e ≡ faults.NoMem };
 
     fn from(_error: AllocFailed<T>) -> WordsFault {
         WordsFault::NoMem
@@ -73,7 +74,7 @@ fn cancel_option<'a>(alloc: Global) -> Arg<'a>
 }
 
 /// Returns a command that has the option `--cancel`.
-fn cancelling_command<'a>(alloc: Global, name: &'a str) -> Result<Command<'a>, AllocError>
+fn cancelling_command<'a>(alloc: Global, name: &'a str) -> Result<Command<'a>, NoMem>
     ensures shape { IfOk result (λ c.
         app_of c ≡ record { top = command name.entry.now (cancel ∷ []); subs = [] }) }
     ensures local { IfOk result (λ c. (fields_of c).has_globals ≡ false) }
@@ -101,7 +102,7 @@ fn bare_command<'a>(alloc: Global) -> Command<'a>
 }
 
 /// Returns the program's command line with all its commands.
-fn program_command<'a>(alloc: Global) -> Result<Command<'a>, AllocError>
+fn program_command<'a>(alloc: Global) -> Result<Command<'a>, NoMem>
     ensures { IfOk result (λ c. app_of c ≡ program) }
 {
     bare_command(alloc)

@@ -6,8 +6,8 @@ ghost use Rattle.retro_tree.specs.declared.state.State.{State};
 
 use crate::cells::Cells;
 use crate::planner::Planner;
-use retro_tree::{Notes, Overlay};
-use std::alloc::{AllocError, Global};
+use retro_tree::{NoMem, Notes, Overlay};
+use std::alloc::Global;
 
 /// Advances an exact overlay over a line, so that it is exact again after the line. In the recorded
 /// state the line does what the notes `recorded` do, and in the repaired state what the notes
@@ -23,7 +23,7 @@ pub fn advance<C: Cells>(
     cells: &C,
     recorded: &Notes,
     chosen: &Notes,
-) -> Result<(), AllocError>
+) -> Result<(), NoMem>
     requires { IsTight overlay.old (C.state cells.now) }
     ensures exact { OnOk result ((t : State) → IsExact overlay.old (C.state cells.now) t
         → IsExact overlay.new (after recorded.now (C.state cells.now)) (after chosen.now t)) }
@@ -44,7 +44,7 @@ pub fn advance_both<C: Cells>(
     overlay: &mut Overlay,
     cells: &C,
     notes: &Notes,
-) -> Result<(), AllocError>
+) -> Result<(), NoMem>
     requires { IsTight overlay.old (C.state cells.now) }
     ensures exact { OnOk result ((t : State) → IsExact overlay.old (C.state cells.now) t
         → IsExact overlay.new (after notes.now (C.state cells.now)) (after notes.now t)) }

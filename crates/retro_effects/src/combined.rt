@@ -8,8 +8,8 @@ ghost use Rattle.retro_tree.specs.Exact.{IsExact};
 ghost use Rattle.retro_tree.specs.declared.state.State.{State};
 
 use retro_local::holds;
-use retro_tree::{Answer, Ask, Listing, Notes, Overlay, Path, View};
-use std::alloc::{AllocError, Global};
+use retro_tree::{Answer, Ask, Listing, NoMem, Notes, Overlay, Path, View};
+use std::alloc::Global;
 use std::marker::Model;
 
 /// A view of a combined state: an overlay on the state of another view. Each entry of the overlay
@@ -49,12 +49,12 @@ impl<'a, V: View> View for Combined<'a, V> {
     ghost state = { λ v. v };
 
     #[tactic(auto, using(retro_tree::proofs::Fitting::fits_overlays))]
-    fn answer(&self, alloc: Global, ask: &Ask) -> Result<Answer, AllocError> {
+    fn answer(&self, alloc: Global, ask: &Ask) -> Result<Answer, NoMem> {
         self.overlay.answer(alloc, self.view, ask)
     }
 
     #[tactic(auto, using(retro_tree::proofs::Fitting::fits_overlays))]
-    fn children(&self, alloc: Global, path: &Path) -> Result<Listing, AllocError> {
+    fn children(&self, alloc: Global, path: &Path) -> Result<Listing, NoMem> {
         self.overlay.children(alloc, self.view, path)
     }
 }
@@ -66,7 +66,7 @@ pub fn equiv<V: View>(
     notes: &Notes,
     view: &V,
     overlay: &Overlay,
-) -> Result<bool, AllocError>
+) -> Result<bool, NoMem>
     requires { Fits overlay.now }
     ensures { IfOk result (λ b. (t : State) → IsExact overlay.now (V.state view.now) t
         → SameSessions (V.state view.now) t → IsTrue b ↔ Holds notes.now t) }

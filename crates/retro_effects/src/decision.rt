@@ -14,8 +14,8 @@ use crate::cells::Cells;
 use crate::grown_ref::GrownRef;
 use crate::value_ref::ValueRef;
 use crate::write::Write;
-use retro_tree::{Cell, Node, OverlayEntry, Value};
-use std::alloc::{AllocError, Global};
+use retro_tree::{Cell, NoMem, Node, OverlayEntry, Value};
+use std::alloc::Global;
 
 /// Returns the bytes that an effect appends to a file, or `None` if it sets a value. If there is no
 /// effect, returns no bytes.
@@ -107,7 +107,7 @@ fn write_of(
     value: ValueRef<'_>,
     entry: Option<&OverlayEntry>,
     chosen: Option<OverlayEntry>,
-) -> Result<Write, AllocError>
+) -> Result<Write, NoMem>
     requires { let was = ref_value value in let over = option_copied entry in
         IsDifference over was (combined_value over was) }
     ensures { let was = ref_value value.entry in let over = option_copied entry.entry in
@@ -140,7 +140,7 @@ pub(crate) fn decide(
     entry: Option<&OverlayEntry>,
     recorded: Option<&OverlayEntry>,
     chosen: Option<OverlayEntry>,
-) -> Result<Option<Write>, AllocError>
+) -> Result<Option<Write>, NoMem>
     requires { let was = ref_value value in let over = option_copied entry in
         IsDifference over was (combined_value over was) }
     ensures { let was = ref_value value.entry in let over = option_copied entry.entry in

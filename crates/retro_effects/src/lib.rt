@@ -13,7 +13,7 @@
 //! `Combined` is a view of a combined state: an overlay on the state of another view. `equiv` says
 //! whether notes hold in the repaired state.
 //!
-//! If allocation fails, calls return `AllocError` and leave their arguments unchanged.
+//! If allocation fails, calls return `NoMem` and leave their arguments unchanged.
 #![tactic(auto)]
 
 mod advancing;

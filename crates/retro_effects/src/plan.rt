@@ -14,8 +14,8 @@ use crate::undo::Undo;
 use crate::write::Write;
 use crate::write_map::WriteMap;
 use crate::writing::{remove_all, undo_all, write_all};
-use retro_tree::{Cell, Overlay};
-use std::alloc::{AllocError, Global};
+use retro_tree::{Cell, NoMem, Overlay};
+use std::alloc::Global;
 
 /// What happens to some cells' entries of an overlay.
 #[derive(Drop)]
@@ -40,7 +40,7 @@ impl Plan {
 
     /// Adds what happens to a cell's entry: a write, or `None` to remove the entry.
     #[tactic(auto, using(crate::proofs::Plans::planning))]
-    pub(crate) fn add(&mut self, cell: Cell, write: Option<Write>) -> Result<(), AllocError>
+    pub(crate) fn add(&mut self, cell: Cell, write: Option<Write>) -> Result<(), NoMem>
         ensures plan { OnOk result ((overlay a b : OverlayMap) (s : State)
             → IsDifference (decided_entry write (map.get overlay cell)) (recorded_value a s cell)
             (repaired_value overlay b s cell)
@@ -59,7 +59,7 @@ impl Plan {
 
     /// Changes an overlay as planned. If allocation fails, the overlay is unchanged: the writes
     /// come first, and they are undone then. Undoing and removing take no memory.
-    pub(crate) fn carry_out(self, alloc: Global, overlay: &mut Overlay) -> Result<(), AllocError>
+    pub(crate) fn carry_out(self, alloc: Global, overlay: &mut Overlay) -> Result<(), NoMem>
         ensures ok { OnOk result
             (overlay.new ≡ carried_out self.writes self.removals.items overlay.old) }
         ensures err { OnErr result (overlay.new ≡ overlay.old) }

@@ -13,8 +13,8 @@ use crate::cells::Cells;
 use crate::decision::{decide, decide_both};
 use crate::overlays::overlay_of;
 use crate::plan::Plan;
-use retro_tree::{Cell, Notes, Overlay, OverlayEntry};
-use std::alloc::{AllocError, Global};
+use retro_tree::{Cell, NoMem, Notes, Overlay, OverlayEntry};
+use std::alloc::Global;
 
 /// A planner of how an exact overlay changes over a line: it has the recorded state before the
 /// line, and the overlay that makes the repaired state of it.
@@ -45,7 +45,7 @@ impl<'a, C: Cells> Planner<'a, C> {
         cell: Cell,
         recorded: Option<&OverlayEntry>,
         chosen: Option<OverlayEntry>,
-    ) -> Result<(), AllocError>
+    ) -> Result<(), NoMem>
         requires { IsTight self.now.overlay.now (C.state self.now.cells.now) }
         ensures plan { OnOk result ((a b : OverlayMap)
             → map.get a cell ≡ option_copied recorded.entry
@@ -70,7 +70,7 @@ impl<'a, C: Cells> Planner<'a, C> {
         plan: &mut Plan,
         recorded: &Overlay,
         chosen: &Overlay,
-    ) -> Result<(), AllocError>
+    ) -> Result<(), NoMem>
         requires tight { IsTight self.now.overlay.now (C.state self.now.cells.now) }
         requires writes { plan.old.writes ≡ map.empty }
         requires removals { plan.old.removals.items ≡ [] }
@@ -90,12 +90,7 @@ impl<'a, C: Cells> Planner<'a, C> {
 
     /// Plans the cells on which the chosen notes have an effect.
     #[tactic(auto, using(crate::proofs::Covering::covering))]
-    fn plan_chosen(
-        &self,
-        plan: &mut Plan,
-        recorded: &Overlay,
-        chosen: Overlay,
-    ) -> Result<(), AllocError>
+    fn plan_chosen(&self, plan: &mut Plan, recorded: &Overlay, chosen: Overlay) -> Result<(), NoMem>
         requires tight { IsTight self.now.overlay.now (C.state self.now.cells.now) }
         requires plan { IsPlan self.now.overlay.now recorded.now chosen
             (C.state self.now.cells.now) plan.old.writes plan.old.removals.items }
@@ -118,7 +113,7 @@ impl<'a, C: Cells> Planner<'a, C> {
     /// The other cells need no plan: a cell without an entry has the same value in both states
     /// before the notes, and so after them.
     #[tactic(auto, using(crate::proofs::Covering::covering))]
-    fn plan_entries(&self, plan: &mut Plan, effects: Overlay) -> Result<(), AllocError>
+    fn plan_entries(&self, plan: &mut Plan, effects: Overlay) -> Result<(), NoMem>
         requires tight { IsTight self.now.overlay.now (C.state self.now.cells.now) }
         requires writes { plan.old.writes ≡ map.empty }
         requires removals { plan.old.removals.items ≡ [] }
@@ -139,7 +134,7 @@ impl<'a, C: Cells> Planner<'a, C> {
     /// Plans a line. It has the notes `recorded` in the recorded state, and `chosen` in the
     /// repaired one.
     #[tactic(auto, using(crate::proofs::Advanced::advancing))]
-    pub(crate) fn plan(&self, recorded: &Notes, chosen: &Notes) -> Result<Plan, AllocError>
+    pub(crate) fn plan(&self, recorded: &Notes, chosen: &Notes) -> Result<Plan, NoMem>
         requires { IsTight self.now.overlay.now (C.state self.now.cells.now) }
         ensures { IfOk result (λ plan. (t : State)
             → IsExact self.now.overlay.now (C.state self.now.cells.now) t
@@ -156,7 +151,7 @@ impl<'a, C: Cells> Planner<'a, C> {
 
     /// Plans a line that has the same notes in both states.
     #[tactic(auto, using(crate::proofs::Advanced::advancing))]
-    pub(crate) fn plan_both(&self, notes: &Notes) -> Result<Plan, AllocError>
+    pub(crate) fn plan_both(&self, notes: &Notes) -> Result<Plan, NoMem>
         requires { IsTight self.now.overlay.now (C.state self.now.cells.now) }
         ensures { IfOk result (λ plan. (t : State)
             → IsExact self.now.overlay.now (C.state self.now.cells.now) t

@@ -4,8 +4,7 @@ ghost use Rattle.retro_tree.specs.Change.{cell_of, written};
 ghost use Rattle.retro_tree.specs.Notes.{cell_eq, touches, changes, effects};
 ghost use Rattle.retro_effects.specs.Touching.{note_touches};
 
-use retro_tree::{Cell, Change, Note, Notes, Value, supports};
-use std::alloc::AllocError;
+use retro_tree::{Cell, Change, NoMem, Note, Notes, Value, supports};
 
 /// Returns whether a change writes a cell.
 #[tactic(auto, using(crate::proofs::SameCells::same_cells))]
@@ -62,7 +61,7 @@ pub fn changes(notes: &Notes, cell: &Cell) -> bool
 
 /// Returns the value that a change writes. `value` is the cell's value before the change. A file
 /// grows in place.
-pub fn written(change: &Change, value: Value) -> Result<Value, AllocError>
+pub fn written(change: &Change, value: Value) -> Result<Value, NoMem>
     ensures { IfOk result (λ v. v ≡ written change.now value) }
 {
     match change {
@@ -80,7 +79,7 @@ pub fn written(change: &Change, value: Value) -> Result<Value, AllocError>
 
 /// Returns the value of a cell after notes. `value` is its value before them. A file grows in
 /// place.
-pub fn effects(notes: &Notes, cell: &Cell, value: Value) -> Result<Value, AllocError>
+pub fn effects(notes: &Notes, cell: &Cell, value: Value) -> Result<Value, NoMem>
     ensures { IfOk result (λ v. v ≡ effects notes.now cell.now value) }
 {
     let mut value = value;

@@ -2,8 +2,8 @@
 ghost use Rattle.std.specs.Prelude.{◌≡◌, IfOk};
 ghost use Rattle.retro_effects.specs.ValueRef.{ref_value};
 
-use retro_tree::{Bytes, Node, Path, Text, Value};
-use std::alloc::{AllocError, Global};
+use retro_tree::{Bytes, NoMem, Node, Path, Text, Value};
+use std::alloc::Global;
 
 /// A borrowed value of a cell.
 #[derive(Clone, Copy)]
@@ -43,7 +43,7 @@ impl<'a> ValueRef<'a> {
     }
 
     /// Returns the value as one that owns what it holds.
-    pub fn to_value(self, alloc: Global) -> Result<Value, AllocError>
+    pub fn to_value(self, alloc: Global) -> Result<Value, NoMem>
         ensures { IfOk result (λ value. value ≡ ref_value self.entry) }
     {
         match self {

@@ -3,8 +3,8 @@ ghost use Rattle.std.specs.Prelude.{◌≡◌, OnOk};
 ghost use Rattle.std.specs.FinMap as map;
 
 use crate::write::Write;
-use retro_tree::Cell;
-use std::alloc::{AllocError, Global};
+use retro_tree::{Cell, NoMem};
+use std::alloc::Global;
 use std::collections::BTreeMap;
 use std::collections::btree_map::IntoIter;
 use std::marker::Model;
@@ -39,7 +39,7 @@ impl WriteMap {
     }
 
     /// Sets the write of a cell.
-    pub(crate) fn insert(&mut self, cell: Cell, write: Write) -> Result<(), AllocError>
+    pub(crate) fn insert(&mut self, cell: Cell, write: Write) -> Result<(), NoMem>
         ensures ok { OnOk result (self.new ≡ map.insert self.old cell write) }
     {
         self.writes.insert(cell, write)?;

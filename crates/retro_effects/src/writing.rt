@@ -9,12 +9,11 @@ ghost use Rattle.retro_effects.specs.inner.Undo.{undone, undone_all, undone_cell
 use crate::undo::Undo;
 use crate::write::Write;
 use crate::write_map::WriteMap;
-use retro_tree::{Bytes, Cell, Node, Overlay, OverlayEntry, Value};
-use std::alloc::AllocError;
+use retro_tree::{Bytes, Cell, NoMem, Node, Overlay, OverlayEntry, Value};
 
 /// Returns how to undo that a cell's entry grows by `bytes`.
 #[tactic(auto, using(crate::proofs::Undoing::growing))]
-fn undo_of_growth(overlay: &Overlay, cell: Cell, bytes: &Bytes) -> Result<Undo, AllocError>
+fn undo_of_growth(overlay: &Overlay, cell: Cell, bytes: &Bytes) -> Result<Undo, NoMem>
     ensures cell { IfOk result (λ undo. undone_cell undo ≡ cell) }
     ensures undo { IfOk result (λ undo. undone undo
         (grown_at cell bytes.now (map.get overlay.now cell) overlay.now) ≡ overlay.now) }
@@ -34,7 +33,7 @@ fn undo_of_growth(overlay: &Overlay, cell: Cell, bytes: &Bytes) -> Result<Undo, 
 
 /// Sets a cell's entry to a value, and returns how to undo that.
 #[tactic(auto, using(crate::proofs::Undoing::setting))]
-fn set(overlay: &mut Overlay, cell: Cell, value: Value) -> Result<Undo, AllocError>
+fn set(overlay: &mut Overlay, cell: Cell, value: Value) -> Result<Undo, NoMem>
     ensures ok { OnOk result
         (overlay.new ≡ map.insert overlay.old cell (OverlayEntry.Value value)) }
     ensures undo { IfOk result (λ undo. undone undo overlay.new ≡ overlay.old) }
@@ -52,7 +51,7 @@ fn set(overlay: &mut Overlay, cell: Cell, value: Value) -> Result<Undo, AllocErr
 }
 
 /// Makes a write. Returns how to undo it, or `None` if it changes nothing.
-fn write_one(overlay: &mut Overlay, cell: Cell, write: Write) -> Result<Option<Undo>, AllocError>
+fn write_one(overlay: &mut Overlay, cell: Cell, write: Write) -> Result<Option<Undo>, NoMem>
     ensures ok { OnOk result (overlay.new ≡ wrote cell write overlay.old) }
     ensures undo { IfOk result (λ undo. Undoes undo overlay.new overlay.old) }
     ensures err { OnErr result (overlay.new ≡ overlay.old) }
@@ -75,7 +74,7 @@ fn write_next(
     undos: &mut Vec<Undo>,
     cell: Cell,
     write: Write,
-) -> Result<(), AllocError>
+) -> Result<(), NoMem>
     ensures ok { OnOk result (overlay.new ≡ wrote cell write overlay.old) }
     ensures undone { undone_all (reverse undos.new.items) overlay.new
         ≡ undone_all (reverse undos.old.items) overlay.old }
@@ -85,7 +84,7 @@ fn write_next(
     };
     if let Err(refused) = undos.push(undo) {
         refused.value.apply(overlay);
-        return Err(AllocError);
+        return Err(NoMem);
     }
     Ok(())
 }
@@ -96,7 +95,7 @@ pub(crate) fn write_all(
     overlay: &mut Overlay,
     undos: &mut Vec<Undo>,
     writes: WriteMap,
-) -> Result<(), AllocError>
+) -> Result<(), NoMem>
     ensures ok { OnOk result (overlay.new ≡ wrote_all (map.entries writes) overlay.old) }
     ensures undone { undone_all (reverse undos.new.items) overlay.new
         ≡ undone_all (reverse undos.old.items) overlay.old }

@@ -1,8 +1,8 @@
 //! Cells and values as the texts of rows.
 use hex::encode;
 use retro_rows::{fail, path, text};
-use retro_tree::{Cell, Name, Node, Text, Value, VarName};
-use std::alloc::{AllocError, Global};
+use retro_tree::{Cell, Name, NoMem, Node, Text, Value, VarName};
+use std::alloc::Global;
 use std::test::Fail;
 
 /// The cell of a session's variable.
@@ -31,7 +31,7 @@ pub fn cell(alloc: Global, given: &str) -> Result<Cell, Fail> {
 }
 
 /// The text of a path's names.
-fn path_text(alloc: Global, names: &[Name]) -> Result<String, AllocError> {
+fn path_text(alloc: Global, names: &[Name]) -> Result<String, NoMem> {
     let mut out = String::new(alloc);
     for name in names {
         out.push_str("/")?;
@@ -41,13 +41,13 @@ fn path_text(alloc: Global, names: &[Name]) -> Result<String, AllocError> {
 }
 
 /// A file's bytes in hexadecimal digits.
-fn file_text(alloc: Global, bytes: &[u8]) -> Result<String, AllocError> {
+fn file_text(alloc: Global, bytes: &[u8]) -> Result<String, NoMem> {
     let digits = encode(alloc, bytes)?;
     format!(in alloc; "file {digits}")
 }
 
 /// A node as a text.
-fn node_text(alloc: Global, node: &Node) -> Result<String, AllocError> {
+fn node_text(alloc: Global, node: &Node) -> Result<String, NoMem> {
     match node {
         Node::Missing => text(alloc, "missing"),
         Node::Dir => text(alloc, "dir"),
@@ -56,7 +56,7 @@ fn node_text(alloc: Global, node: &Node) -> Result<String, AllocError> {
 }
 
 /// The text of a variable, or that it isn't set.
-fn variable_text(alloc: Global, value: &Option<Text>) -> Result<String, AllocError> {
+fn variable_text(alloc: Global, value: &Option<Text>) -> Result<String, NoMem> {
     match value {
         None => text(alloc, "unset"),
         Some(value) => format!(in alloc; "text {}", value.as_str()),
@@ -64,7 +64,7 @@ fn variable_text(alloc: Global, value: &Option<Text>) -> Result<String, AllocErr
 }
 
 /// A value as a text.
-pub fn value_text(alloc: Global, value: &Value) -> Result<String, AllocError> {
+pub fn value_text(alloc: Global, value: &Value) -> Result<String, NoMem> {
     match value {
         Value::Node(node) => node_text(alloc, node),
         Value::Cwd(path) => path_text(alloc, path.names()),

@@ -2,13 +2,13 @@
 use crate::cells::{cell, value_text};
 use retro_history::History;
 use retro_rows::{fail, path, text};
-use retro_tree::{Cell, Listing, Overlay, Path, Text, User, Value};
-use std::alloc::{AllocError, Global};
+use retro_tree::{Cell, Listing, NoMem, Overlay, Path, Text, User, Value};
+use std::alloc::Global;
 use std::collections::BTreeSet;
 use std::test::Fail;
 
 /// Appends a number after a space, or alone as the first one.
-fn push_number(alloc: Global, out: &mut String, number: u32) -> Result<(), AllocError> {
+fn push_number(alloc: Global, out: &mut String, number: u32) -> Result<(), NoMem> {
     if !out.is_empty() {
         out.push_str(" ")?;
     }
@@ -16,7 +16,7 @@ fn push_number(alloc: Global, out: &mut String, number: u32) -> Result<(), Alloc
 }
 
 /// Numbers as a text.
-fn numbers_text(alloc: Global, numbers: &[u32]) -> Result<String, AllocError> {
+fn numbers_text(alloc: Global, numbers: &[u32]) -> Result<String, NoMem> {
     let mut out = String::new(alloc);
     for number in numbers {
         push_number(alloc, &mut out, *number)?;
@@ -25,7 +25,7 @@ fn numbers_text(alloc: Global, numbers: &[u32]) -> Result<String, AllocError> {
 }
 
 /// The number of a line as a text, or `none`.
-fn line_text(alloc: Global, number: Option<u32>) -> Result<String, AllocError> {
+fn line_text(alloc: Global, number: Option<u32>) -> Result<String, NoMem> {
     match number {
         Some(number) => format!(in alloc; "{number}"),
         None => text(alloc, "none"),
@@ -33,7 +33,7 @@ fn line_text(alloc: Global, number: Option<u32>) -> Result<String, AllocError> {
 }
 
 /// A checkpoint and the value that is rolled back to from there, as a text.
-fn rolled_text(alloc: Global, from: u32, value: &Value) -> Result<String, AllocError> {
+fn rolled_text(alloc: Global, from: u32, value: &Value) -> Result<String, NoMem> {
     let value = value_text(alloc, value)?;
     format!(in alloc; "{from} {value}")
 }
@@ -44,7 +44,7 @@ fn cell_value(
     history: &History<'_>,
     cell: &Cell,
     number: u32,
-) -> Result<String, AllocError> {
+) -> Result<String, NoMem> {
     let value = history.value_at(alloc, cell, number)?;
     let rolled = history.rollback(alloc, cell, number)?;
     if rolled.value.is_same(&value) {
@@ -62,7 +62,7 @@ fn value(alloc: Global, history: &History<'_>, name: &str, at: &str) -> Result<S
 }
 
 /// The number and the home of a user, or `none`.
-fn user_text(alloc: Global, user: &Option<User>) -> Result<String, AllocError> {
+fn user_text(alloc: Global, user: &Option<User>) -> Result<String, NoMem> {
     match user {
         Some(user) => format!(in alloc; "{} {}", user.number, user.home.as_str()),
         None => text(alloc, "none"),
@@ -75,7 +75,7 @@ fn entry_text(
     history: &History<'_>,
     name: &Text,
     number: u32,
-) -> Result<String, AllocError> {
+) -> Result<String, NoMem> {
     let user = history.entry_at(alloc, name, number)?;
     user_text(alloc, &user)
 }
@@ -88,7 +88,7 @@ fn entry(alloc: Global, history: &History<'_>, name: &str, at: &str) -> Result<S
 }
 
 /// The names of a listing, with spaces between.
-fn listing_text(alloc: Global, listing: &Listing) -> Result<String, AllocError> {
+fn listing_text(alloc: Global, listing: &Listing) -> Result<String, NoMem> {
     let mut out = String::new(alloc);
     for name in listing.names() {
         if !out.is_empty() {
@@ -105,7 +105,7 @@ fn names_at(
     history: &History<'_>,
     path: &Path,
     number: u32,
-) -> Result<String, AllocError> {
+) -> Result<String, NoMem> {
     match history.names_at(alloc, path, number)? {
         Some(listing) => listing_text(alloc, &listing),
         None => text(alloc, "none"),
@@ -120,14 +120,14 @@ fn names(alloc: Global, history: &History<'_>, of: &str, at: &str) -> Result<Str
 }
 
 /// The set of one cell.
-fn set_of(alloc: Global, cell: &Cell) -> Result<BTreeSet<Cell>, AllocError> {
+fn set_of(alloc: Global, cell: &Cell) -> Result<BTreeSet<Cell>, NoMem> {
     let mut cells = BTreeSet::new(alloc);
     cells.insert(cell.copy()?)?;
     Ok(cells)
 }
 
 /// An overlay of one cell, whatever its value.
-fn overlay_of(alloc: Global, cell: &Cell) -> Result<Overlay, AllocError> {
+fn overlay_of(alloc: Global, cell: &Cell) -> Result<Overlay, NoMem> {
     let mut overlay = Overlay::new(alloc);
     overlay.insert(cell.copy()?, Value::Status(0))?;
     Ok(overlay)
@@ -139,7 +139,7 @@ fn met(
     history: &History<'_>,
     cell: &Cell,
     after: u32,
-) -> Result<Option<u32>, AllocError> {
+) -> Result<Option<u32>, NoMem> {
     let cells = set_of(alloc, cell)?;
     history.next_meeting(alloc, &cells, after)
 }
@@ -150,7 +150,7 @@ fn met_in(
     history: &History<'_>,
     cell: &Cell,
     after: u32,
-) -> Result<Option<u32>, AllocError> {
+) -> Result<Option<u32>, NoMem> {
     let overlay = overlay_of(alloc, cell)?;
     history.next_meeting_in(alloc, &overlay, after)
 }
@@ -178,7 +178,7 @@ fn next(alloc: Global, history: &History<'_>, name: &str, after: &str) -> Result
 }
 
 /// The lines that write a cell.
-fn writers(alloc: Global, history: &History<'_>, cell: &Cell) -> Result<String, AllocError> {
+fn writers(alloc: Global, history: &History<'_>, cell: &Cell) -> Result<String, NoMem> {
     let numbers = history.writers(alloc, cell)?;
     if numbers.as_slice() == history.written_by(cell) {
         numbers_text(alloc, numbers.as_slice())
@@ -188,13 +188,13 @@ fn writers(alloc: Global, history: &History<'_>, cell: &Cell) -> Result<String, 
 }
 
 /// The lines that read a cell.
-fn readers(alloc: Global, history: &History<'_>, cell: &Cell) -> Result<String, AllocError> {
+fn readers(alloc: Global, history: &History<'_>, cell: &Cell) -> Result<String, NoMem> {
     let numbers = history.readers(alloc, cell)?;
     numbers_text(alloc, numbers.as_slice())
 }
 
 /// The checkpoints of a cell.
-fn checkpoints(alloc: Global, history: &History<'_>, cell: &Cell) -> Result<String, AllocError> {
+fn checkpoints(alloc: Global, history: &History<'_>, cell: &Cell) -> Result<String, NoMem> {
     let numbers = history.checkpoints(alloc, cell)?;
     numbers_text(alloc, numbers.as_slice())
 }
@@ -217,12 +217,7 @@ fn numbered(
 }
 
 /// What a query about a cell answers.
-fn of_cell(
-    alloc: Global,
-    history: &History<'_>,
-    call: &str,
-    cell: &Cell,
-) -> Result<String, AllocError> {
+fn of_cell(alloc: Global, history: &History<'_>, call: &str, cell: &Cell) -> Result<String, NoMem> {
     match call {
         "writers" => writers(alloc, history, cell),
         "readers" => readers(alloc, history, cell),

@@ -3,31 +3,31 @@ use crate::queries::next_meeting;
 use retro_history::History;
 use retro_keep::{Noted, Recording};
 use retro_rows::text;
-use retro_tree::{Ask, Cell, Change, Note, Notes, Path, State, Value, VarName, supports};
-use std::alloc::{AllocError, Global};
+use retro_tree::{Ask, Cell, Change, NoMem, Note, Notes, Path, State, Value, VarName, supports};
+use std::alloc::Global;
 use std::test::Fail;
 
 /// Appends the cells of a path and of its parent.
-fn push_path(alloc: Global, cells: &mut Vec<Cell>, path: &Path) -> Result<(), AllocError> {
+fn push_path(alloc: Global, cells: &mut Vec<Cell>, path: &Path) -> Result<(), NoMem> {
     cells.push(Cell::At(path.parent(alloc)?))?;
     cells.push(Cell::At(path.copy()?))?;
     Ok(())
 }
 
 /// Appends the cell of a session's variable.
-fn push_variable(cells: &mut Vec<Cell>, sid: u32, name: &VarName) -> Result<(), AllocError> {
+fn push_variable(cells: &mut Vec<Cell>, sid: u32, name: &VarName) -> Result<(), NoMem> {
     cells.push(Cell::Var(sid, name.copy()?))?;
     Ok(())
 }
 
 /// Appends the cell of a session's directory or status.
-fn push_session(cells: &mut Vec<Cell>, cell: Cell) -> Result<(), AllocError> {
+fn push_session(cells: &mut Vec<Cell>, cell: Cell) -> Result<(), NoMem> {
     cells.push(cell)?;
     Ok(())
 }
 
 /// Appends the cell that a change writes, and the parent of a path.
-fn push_changed(alloc: Global, cells: &mut Vec<Cell>, change: &Change) -> Result<(), AllocError> {
+fn push_changed(alloc: Global, cells: &mut Vec<Cell>, change: &Change) -> Result<(), NoMem> {
     match change {
         Change::Put(path, _) | Change::Grow(path, _) => push_path(alloc, cells, path),
         Change::SetVar(sid, name, _) => push_variable(cells, *sid, name),
@@ -37,7 +37,7 @@ fn push_changed(alloc: Global, cells: &mut Vec<Cell>, change: &Change) -> Result
 }
 
 /// Appends the cell that a query is about, and the parent of a path.
-fn push_asked(alloc: Global, cells: &mut Vec<Cell>, ask: &Ask) -> Result<(), AllocError> {
+fn push_asked(alloc: Global, cells: &mut Vec<Cell>, ask: &Ask) -> Result<(), NoMem> {
     match ask {
         Ask::Kind(path) | Ask::Bytes(path) | Ask::Names(path) | Ask::CanWrite(path, _) => {
             push_path(alloc, cells, path)
@@ -50,7 +50,7 @@ fn push_asked(alloc: Global, cells: &mut Vec<Cell>, ask: &Ask) -> Result<(), All
 }
 
 /// Appends the cells of notes.
-fn push_cells(alloc: Global, cells: &mut Vec<Cell>, notes: &Notes) -> Result<(), AllocError> {
+fn push_cells(alloc: Global, cells: &mut Vec<Cell>, notes: &Notes) -> Result<(), NoMem> {
     for note in notes.as_slice() {
         match note {
             Note::Made(change) => push_changed(alloc, cells, change)?,
@@ -61,7 +61,7 @@ fn push_cells(alloc: Global, cells: &mut Vec<Cell>, notes: &Notes) -> Result<(),
 }
 
 /// The cells of all notes.
-fn cells_of(alloc: Global, lines: &[(u32, Noted)]) -> Result<Vec<Cell>, AllocError> {
+fn cells_of(alloc: Global, lines: &[(u32, Noted)]) -> Result<Vec<Cell>, NoMem> {
     let mut cells = Vec::new(alloc);
     for line in lines {
         push_cells(alloc, &mut cells, &line.1.notes)?;
@@ -107,7 +107,7 @@ fn scanned(lines: &[(u32, Noted)], cell: &Cell, after: u32) -> Option<u32> {
 }
 
 /// Makes the changes of notes to a state.
-fn replay(alloc: Global, state: &mut State, notes: &Notes) -> Result<(), AllocError> {
+fn replay(alloc: Global, state: &mut State, notes: &Notes) -> Result<(), NoMem> {
     for note in notes.as_slice() {
         if let Note::Made(change) = note {
             state.apply(alloc, change)?;
@@ -117,7 +117,7 @@ fn replay(alloc: Global, state: &mut State, notes: &Notes) -> Result<(), AllocEr
 }
 
 /// The state after the lines below a number, which is replayed from the notes.
-fn replayed(alloc: Global, recording: &Recording, number: u32) -> Result<State, AllocError> {
+fn replayed(alloc: Global, recording: &Recording, number: u32) -> Result<State, NoMem> {
     let mut state = recording.first().copy()?;
     for line in recording.lines() {
         if line.0 < number {
@@ -140,7 +140,7 @@ fn is_rolled_back(
     cell: &Cell,
     number: u32,
     wanted: &Value,
-) -> Result<bool, AllocError> {
+) -> Result<bool, NoMem> {
     let rolled = history.rollback(alloc, cell, number)?;
     Ok(rolled.value.is_same(wanted))
 }
@@ -152,7 +152,7 @@ fn has_value(
     state: &State,
     cell: &Cell,
     number: u32,
-) -> Result<bool, AllocError> {
+) -> Result<bool, NoMem> {
     let wanted = state.value(alloc, cell)?;
     Ok(
         history.value_at(alloc, cell, number)?.is_same(&wanted)

@@ -5,7 +5,8 @@ ghost use Rattle.retro_json.specs.RecordingFaults.{lines_refusal, recording_faul
 ghost use Rattle.retro_json.specs.declared.fault.LogFault.TheVariants as faults;
 
 use retro_keep::{LinesFault, RecordingFault};
-use std::alloc::{AllocError, AllocFailed};
+use retro_tree::NoMem;
+use std::alloc::AllocFailed;
 use thiserror::Error;
 
 /// The part of a document in which a value has a wrong shape.
@@ -78,10 +79,10 @@ pub enum LogFault {
     Refused(Refusal),
 }
 
-impl From<AllocError> for LogFault {
+impl From<NoMem> for LogFault {
     ghost from_gives = { λ _ fault. fault ≡ faults.NoMem };
 
-    fn from(_error: AllocError) -> LogFault {
+    fn from(_error: NoMem) -> LogFault {
         LogFault::NoMem
     }
 }

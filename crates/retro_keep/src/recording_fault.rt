@@ -4,7 +4,7 @@ ghost use Rattle.retro_keep.specs.RecordingFault.{recording_fault};
 ghost use Rattle.retro_keep.specs.declared.recording_fault.RecordingFault.TheVariants as faults;
 
 use crate::script::LinesFault;
-use std::alloc::AllocError;
+use retro_tree::NoMem;
 use thiserror::Error;
 
 /// Why a state and lines don't make a recording.
@@ -24,10 +24,10 @@ pub enum RecordingFault {
     NoMem,
 }
 
-impl From<AllocError> for RecordingFault {
+impl From<NoMem> for RecordingFault {
     ghost from_gives = { λ _ fault. fault ≡ faults.NoMem };
 
-    fn from(_error: AllocError) -> RecordingFault {
+    fn from(_error: NoMem) -> RecordingFault {
         RecordingFault::NoMem
     }
 }

@@ -10,8 +10,8 @@ ghost use Rattle.retro_keep.specs.declared.script.EditFault.TheVariants as edits
 ghost use Rattle.retro_keep.specs.declared.script.ScriptFault.TheVariants as faults;
 
 use crate::numbered::test_lines;
-use retro_tree::{State, Text};
-use std::alloc::{AllocError, Global};
+use retro_tree::{NoMem, State, Text};
+use std::alloc::Global;
 use std::collections::BTreeSet;
 use std::marker::Model;
 use thiserror::Error;
@@ -47,10 +47,10 @@ pub enum ScriptFault {
     NoMem,
 }
 
-impl From<AllocError> for ScriptFault {
+impl From<NoMem> for ScriptFault {
     ghost from_gives = { λ _ fault. fault ≡ faults.NoMem };
 
-    fn from(_error: AllocError) -> ScriptFault {
+    fn from(_error: NoMem) -> ScriptFault {
         ScriptFault::NoMem
     }
 }
@@ -88,10 +88,10 @@ pub enum EditFault {
     NoMem,
 }
 
-impl From<AllocError> for EditFault {
+impl From<NoMem> for EditFault {
     ghost from_gives = { λ _ fault. fault ≡ edits.NoMem };
 
-    fn from(_error: AllocError) -> EditFault {
+    fn from(_error: NoMem) -> EditFault {
         EditFault::NoMem
     }
 }
@@ -191,14 +191,14 @@ impl Script {
 }
 
 /// Returns the numbers of a list as a set.
-fn number_set(alloc: Global, numbers: &[u32]) -> Result<BTreeSet<u32>, AllocError>
+fn number_set(alloc: Global, numbers: &[u32]) -> Result<BTreeSet<u32>, NoMem>
     ensures { IfOk result (λ set. (n : ℕ) → contains nat_cmp set n ≡ is_among numbers.now n) }
 {
     numbers.iter().copied().collect(alloc)
 }
 
 /// Returns the numbers of lines as a set.
-fn line_numbers(alloc: Global, lines: &[ScriptLine]) -> Result<BTreeSet<u32>, AllocError>
+fn line_numbers(alloc: Global, lines: &[ScriptLine]) -> Result<BTreeSet<u32>, NoMem>
     ensures { IfOk result (λ set. (n : ℕ) →
         contains nat_cmp set n ≡ is_among (map number_of lines.now) n) }
 {

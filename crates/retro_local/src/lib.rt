@@ -11,7 +11,7 @@
 //!
 //! `holds` decides whether notes hold in the state of a view. `apply_notes` makes their changes.
 //!
-//! If allocation fails, calls return `AllocError`. A `Local` then has its earlier notes and maybe
+//! If allocation fails, calls return `NoMem`. A `Local` then has its earlier notes and maybe
 //! some later ones, which hold. Other arguments are unchanged.
 #![tactic(auto)]
 

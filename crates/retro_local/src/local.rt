@@ -29,10 +29,10 @@ ghost use Rattle.retro_local.specs.Trace.{AllHold, IsEarlier, IsOwn, asked_sessi
 ghost use Rattle.retro_local.specs.Trace.{changed_session, named_sessions, noted, reached};
 
 use retro_tree::{
-    Answer, Ask, Bytes, Change, Kind, Listing, Node, Note, Notes, Overlay, Path, Permit, Resolved,
-    Text, User, VarName, View, is_relative, resolve,
+    Answer, Ask, Bytes, Change, Kind, Listing, NoMem, Node, Note, Notes, Overlay, Path, Permit,
+    Resolved, Text, User, VarName, View, is_relative, resolve,
 };
-use std::alloc::{AllocError, Global};
+use std::alloc::Global;
 use std::marker::Model;
 
 /// A view with the notes made over it. It answers queries from the view's state after the noted
@@ -77,7 +77,7 @@ impl<'a, V: View> Local<'a, V> {
     /// Answers a query from the state after the notes, and notes the query with its answer. If
     /// allocation fails, the notes are unchanged.
     #[tactic(auto, using(crate::proofs::Noting::noting))]
-    pub fn ask(&mut self, alloc: Global, ask: Ask) -> Result<Answer, AllocError>
+    pub fn ask(&mut self, alloc: Global, ask: Ask) -> Result<Answer, NoMem>
         ensures ok { IfOk result (λ r. self.new ≡ noted self.old (Asked ask r)) }
         ensures value { IfOk result (λ r. r ≡ answer ask (reached self.old.notes self.old.start)) }
         ensures start { self.new.start ≡ self.old.start }
@@ -98,7 +98,7 @@ impl<'a, V: View> Local<'a, V> {
     /// Makes and notes a change. The change must keep a lawful state lawful wherever the notes
     /// hold. If allocation fails, the notes are unchanged.
     #[tactic(auto, using(crate::proofs::Noting::noting))]
-    pub fn make(&mut self, alloc: Global, change: Change) -> Result<(), AllocError>
+    pub fn make(&mut self, alloc: Global, change: Change) -> Result<(), NoMem>
         requires { Always (λ s. may_make change s ≡ true) self.old }
         ensures ok { OnOk result (self.new ≡ noted self.old (Made change)) }
         ensures start { self.new.start ≡ self.old.start }
@@ -137,7 +137,7 @@ impl<'a, V: View> Local<'a, V> {
     /// each lawful state in which they hold, the state after them is lawful. If they name one
     /// session alone, which exists, each change is lawful where it is made.
     #[tactic(auto, using(crate::proofs::Order::both_orders))]
-    pub fn into_notes(self, alloc: Global) -> Result<Notes, AllocError>
+    pub fn into_notes(self, alloc: Global) -> Result<Notes, NoMem>
         ensures notes { IfOk result (λ made. reverse made ≡ self.entry.notes) }
         ensures state { IfOk result (λ made. (s : State)
             → after made s ≡ reached self.entry.notes s) }
@@ -166,7 +166,7 @@ impl<'a, V: View> Local<'a, V> {
 #[tactic(auto, unfolding(retro_tree::specs::Ask::answer))]
 impl<'a, V: View> Local<'a, V> {
     /// Returns the kind of the node at a path.
-    pub fn kind(&mut self, alloc: Global, path: &Path) -> Result<Kind, AllocError>
+    pub fn kind(&mut self, alloc: Global, path: &Path) -> Result<Kind, NoMem>
         ensures means { IfOk result (λ kind. Computes self.old self.new
             (λ s. (s, kind_of (node_in path.now s.tree))) kind) }
         ensures note { IfOk result (λ kind.
@@ -180,7 +180,7 @@ impl<'a, V: View> Local<'a, V> {
     }
 
     /// Returns the node at a path.
-    pub fn node(&mut self, alloc: Global, path: &Path) -> Result<Node, AllocError>
+    pub fn node(&mut self, alloc: Global, path: &Path) -> Result<Node, NoMem>
         ensures means { IfOk result (λ node. Computes self.old self.new
             (λ s. (s, node_in path.now s.tree)) node) }
         ensures note { IfOk result (λ node.
@@ -194,7 +194,7 @@ impl<'a, V: View> Local<'a, V> {
     }
 
     /// Returns the names of the children of a directory, or `None` if the path isn't one.
-    pub fn names(&mut self, alloc: Global, path: &Path) -> Result<Option<Listing>, AllocError>
+    pub fn names(&mut self, alloc: Global, path: &Path) -> Result<Option<Listing>, NoMem>
         ensures means { IfOk result (λ names. Computes self.old self.new
             (λ s. (s, listing (node_in path.now s.tree) (names_in path.now s.tree))) names) }
         ensures note { IfOk result (λ names.
@@ -209,12 +209,7 @@ impl<'a, V: View> Local<'a, V> {
 
     /// Returns whether `more` bytes can be appended to the file at a path, and if not, why.
     #[tactic(auto, unfolding(retro_tree::specs::Ask::answer), using(crate::proofs::Passing::clamp))]
-    pub fn can_write(
-        &mut self,
-        alloc: Global,
-        path: &Path,
-        more: usize,
-    ) -> Result<Permit, AllocError>
+    pub fn can_write(&mut self, alloc: Global, path: &Path, more: usize) -> Result<Permit, NoMem>
         ensures means { IfOk result (λ permit. Computes self.old self.new
             (λ s. (s, permit_of path.now more s)) permit) }
         ensures extends { ExtendsTree self.old self.new }
@@ -226,7 +221,7 @@ impl<'a, V: View> Local<'a, V> {
     }
 
     /// Returns the number and the home directory of a login name, or `None` if it has no entry.
-    pub fn user(&mut self, alloc: Global, name: &Text) -> Result<Option<User>, AllocError>
+    pub fn user(&mut self, alloc: Global, name: &Text) -> Result<Option<User>, NoMem>
         ensures means { IfOk result (λ user. Computes self.old self.new
             (λ s. (s, user_in name.now (node_in passwd s.tree))) user) }
         ensures extends { ExtendsTree self.old self.new }
@@ -238,12 +233,7 @@ impl<'a, V: View> Local<'a, V> {
     }
 
     /// Returns the value of a variable of a session, or `None` if it isn't set.
-    pub fn var(
-        &mut self,
-        alloc: Global,
-        sid: u32,
-        name: &VarName,
-    ) -> Result<Option<Text>, AllocError>
+    pub fn var(&mut self, alloc: Global, sid: u32, name: &VarName) -> Result<Option<Text>, NoMem>
         ensures means { IfOk result (λ value. Computes self.old self.new
             (λ s. (s, map.get (session_in sid s.sessions).vars name.now)) value) }
         ensures extends { Extends sid self.old self.new }
@@ -255,7 +245,7 @@ impl<'a, V: View> Local<'a, V> {
     }
 
     /// Returns the directory of a session.
-    pub fn cwd(&mut self, alloc: Global, sid: u32) -> Result<Path, AllocError>
+    pub fn cwd(&mut self, alloc: Global, sid: u32) -> Result<Path, NoMem>
         ensures means { IfOk result (λ cwd. Computes self.old self.new
             (λ s. (s, (session_in sid s.sessions).cwd)) cwd) }
         ensures note { IfOk result (λ cwd.
@@ -271,7 +261,7 @@ impl<'a, V: View> Local<'a, V> {
     }
 
     /// Returns the status of a session.
-    pub fn status(&mut self, alloc: Global, sid: u32) -> Result<u8, AllocError>
+    pub fn status(&mut self, alloc: Global, sid: u32) -> Result<u8, NoMem>
         ensures means { IfOk result (λ status. Computes self.old self.new
             (λ s. (s, (session_in sid s.sessions).status)) status) }
         ensures extends { Extends sid self.old self.new }
@@ -288,7 +278,7 @@ impl<'a, V: View> Local<'a, V> {
 #[tactic(auto, unfolding(retro_tree::specs::Change::apply), using(crate::proofs::Passing::passing))]
 impl<'a, V: View> Local<'a, V> {
     /// Puts a file with these bytes at a path that can be written to, except `/dev/null`.
-    pub fn put_file(&mut self, alloc: Global, path: Path, bytes: Bytes) -> Result<(), AllocError>
+    pub fn put_file(&mut self, alloc: Global, path: Path, bytes: Bytes) -> Result<(), NoMem>
         requires apart { is_null path ≡ false }
         requires permit { Always (λ s. permit_of path 0 s ≡ Yes) self.old }
         requires limit { Always (λ s. length bytes ≤ file_limit) self.old }
@@ -300,7 +290,7 @@ impl<'a, V: View> Local<'a, V> {
     }
 
     /// Puts a directory at a path whose parent is one, except `/dev/null`.
-    pub fn put_dir(&mut self, alloc: Global, path: Path) -> Result<(), AllocError>
+    pub fn put_dir(&mut self, alloc: Global, path: Path) -> Result<(), NoMem>
         requires apart { is_null path ≡ false }
         requires parent { Always (λ s. node_in (parent_of path) s.tree ≡ Dir) self.old }
         ensures means { OnOk result (Transforms self.old self.new (put_node path Dir)) }
@@ -310,7 +300,7 @@ impl<'a, V: View> Local<'a, V> {
     }
 
     /// Removes what is at a path that isn't the root and has no children.
-    pub fn remove(&mut self, alloc: Global, path: Path) -> Result<(), AllocError>
+    pub fn remove(&mut self, alloc: Global, path: Path) -> Result<(), NoMem>
         requires below { is_root path ≡ false }
         requires childless { Always (λ s. names_in path s.tree ≡ []) self.old }
         ensures means { OnOk result (Transforms self.old self.new (put_node path Missing)) }
@@ -321,7 +311,7 @@ impl<'a, V: View> Local<'a, V> {
     }
 
     /// Appends bytes to a file to which as many can be written, except `/dev/null`.
-    pub fn grow(&mut self, alloc: Global, path: Path, bytes: Bytes) -> Result<(), AllocError>
+    pub fn grow(&mut self, alloc: Global, path: Path, bytes: Bytes) -> Result<(), NoMem>
         requires apart { is_null path ≡ false }
         requires permit { Always (λ s. permit_of path (length bytes) s ≡ Yes) self.old }
         ensures means { OnOk result (Transforms self.old self.new (grow_file path bytes)) }
@@ -337,7 +327,7 @@ impl<'a, V: View> Local<'a, V> {
         sid: u32,
         name: VarName,
         text: Text,
-    ) -> Result<(), AllocError>
+    ) -> Result<(), NoMem>
         requires limit { length text ≤ value_limit }
         ensures means { OnOk result (Transforms self.old self.new (put_var sid name text)) }
         ensures extends { Extends sid self.old self.new }
@@ -346,7 +336,7 @@ impl<'a, V: View> Local<'a, V> {
     }
 
     /// Sets the directory of a session.
-    pub fn set_cwd(&mut self, alloc: Global, sid: u32, path: Path) -> Result<(), AllocError>
+    pub fn set_cwd(&mut self, alloc: Global, sid: u32, path: Path) -> Result<(), NoMem>
         ensures means { OnOk result (Transforms self.old self.new (put_cwd sid path)) }
         ensures extends { Extends sid self.old self.new }
     {
@@ -354,7 +344,7 @@ impl<'a, V: View> Local<'a, V> {
     }
 
     /// Sets the status of a session.
-    pub fn set_status(&mut self, alloc: Global, sid: u32, status: u8) -> Result<(), AllocError>
+    pub fn set_status(&mut self, alloc: Global, sid: u32, status: u8) -> Result<(), NoMem>
         ensures means { OnOk result (Transforms self.old self.new (put_status sid status)) }
         ensures extends { Extends sid self.old self.new }
     {
@@ -367,7 +357,7 @@ impl<'a, V: View> Local<'a, V> {
     /// Returns the path that a text names in a session. Queries the session's directory if the path
     /// depends on it, and otherwise queries nothing.
     #[tactic(auto, using(retro_tree::proofs::Alike::alike))]
-    pub fn resolve(&mut self, alloc: Global, sid: u32, text: &str) -> Result<Resolved, AllocError>
+    pub fn resolve(&mut self, alloc: Global, sid: u32, text: &str) -> Result<Resolved, NoMem>
         ensures means { IfOk result (λ resolved. Computes self.old self.new
             (λ s. (s, resolve (session_in sid s.sessions).cwd text.now)) resolved) }
         ensures quiet { is_relative text.now ≡ false → self.new ≡ self.old }
@@ -386,7 +376,7 @@ impl<'a, V: View> Local<'a, V> {
     /// Returns the kind of the node at a path. `/dev/null` counts as a file, and no query is made
     /// for it.
     #[tactic(auto, unfolding(crate::specs::Kinds::kind_at))]
-    pub fn kind_at(&mut self, alloc: Global, path: &Path) -> Result<Kind, AllocError>
+    pub fn kind_at(&mut self, alloc: Global, path: &Path) -> Result<Kind, NoMem>
         ensures means { IfOk result (λ kind. Computes self.old self.new
             (λ s. (s, kind_at path.now s)) kind) }
         ensures extends { ExtendsTree self.old self.new }

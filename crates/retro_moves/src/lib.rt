@@ -5,7 +5,7 @@
 //! `means` gives the whole tree after it: without a path, or with a path moved
 //! (`specs/Trees.antt`). `removals_of_files` and `moves_of_files` say what that is for a file.
 //!
-//! If allocation fails, calls return `AllocError`. The `Local` then has its earlier notes and maybe
+//! If allocation fails, calls return `NoMem`. The `Local` then has its earlier notes and maybe
 //! some later ones, which hold.
 #![tactic(auto)]
 

@@ -13,8 +13,8 @@ ghost use Rattle.retro_moves.specs.inner.Removal.{OfTrees};
 ghost use Rattle.retro_moves.specs.Trees.{CanMove, moved, with_tree};
 
 use retro_local::Local;
-use retro_tree::{Change, Node, Path, View};
-use std::alloc::{AllocError, Global};
+use retro_tree::{Change, NoMem, Node, Path, View};
+use std::alloc::Global;
 
 /// Moves a directory with everything below it to another path. That path must be missing or an
 /// empty directory, which is replaced.
@@ -27,7 +27,7 @@ pub fn move_dir<V: View>(
     from: &Path,
     to: &Path,
     local: &mut Local<'_, V>,
-) -> Result<(), AllocError>
+) -> Result<(), NoMem>
     requires { Always (λ s. CanMove from.now to.now s.tree) local.old }
     ensures means { OnOk result
         (Transforms local.old local.new (with_tree (moved from.now to.now))) }
@@ -53,7 +53,7 @@ fn copy_tree<V: View>(
     to: &Path,
     node: Node,
     local: &mut Local<'_, V>,
-) -> Result<Vec<Path>, AllocError>
+) -> Result<Vec<Path>, NoMem>
     requires can { Always (λ s. CanCopy from.now to.now s.tree) local.old }
     requires here { Always (λ s. node_in from.now s.tree ≡ node) local.old }
     ensures means { IfOk result (λ paths. Relates
@@ -97,7 +97,7 @@ fn put<V: View>(
     path: Path,
     node: Node,
     local: &mut Local<'_, V>,
-) -> Result<(), AllocError>
+) -> Result<(), NoMem>
     requires { Always (λ s. may_put path node s.tree ≡ true) local.old }
     ensures means { OnOk result (Transforms local.old local.new (put_node path node)) }
     ensures note { OnOk result (local.new ≡ noted local.old (Made (Put path node))) }

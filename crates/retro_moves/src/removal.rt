@@ -8,8 +8,8 @@ ghost use Rattle.retro_moves.specs.RemovalNotes.{RemovalNotes};
 ghost use Rattle.retro_moves.specs.Trees.{removed, with_tree, without};
 
 use retro_local::Local;
-use retro_tree::{Kind, Path, View};
-use std::alloc::{AllocError, Global};
+use retro_tree::{Kind, NoMem, Path, View};
+use std::alloc::Global;
 
 /// Removes what is at a path, and returns the kind of what was there. A directory is removed with
 /// everything below it if `recursive` is true, and stays unchanged otherwise.
@@ -22,7 +22,7 @@ pub fn remove<V: View>(
     recursive: bool,
     path: &Path,
     local: &mut Local<'_, V>,
-) -> Result<Kind, AllocError>
+) -> Result<Kind, NoMem>
     requires { is_root path.now ≡ false }
     ensures means { IfOk result (λ kind. Computes local.old local.new
         (λ s. (with_tree (removed recursive path.now) s, kind_of (node_in path.now s.tree))) kind) }
@@ -38,11 +38,7 @@ pub fn remove<V: View>(
 }
 
 /// Removes the file at a path, and returns the kind of what was there. A directory stays unchanged.
-fn remove_file<V: View>(
-    alloc: Global,
-    path: &Path,
-    local: &mut Local<'_, V>,
-) -> Result<Kind, AllocError>
+fn remove_file<V: View>(alloc: Global, path: &Path, local: &mut Local<'_, V>) -> Result<Kind, NoMem>
     requires { is_root path.now ≡ false }
     ensures means { IfOk result (λ kind. Computes local.old local.new
         (λ s. (with_tree (removed false path.now) s, kind_of (node_in path.now s.tree))) kind) }
@@ -63,11 +59,7 @@ fn remove_file<V: View>(
 ///
 /// Queries the kind of the path. If it is a directory, queries its names, removes each child in the
 /// same way in the order of names, and then removes the directory. Makes no other queries.
-fn remove_tree<V: View>(
-    alloc: Global,
-    path: &Path,
-    local: &mut Local<'_, V>,
-) -> Result<Kind, AllocError>
+fn remove_tree<V: View>(alloc: Global, path: &Path, local: &mut Local<'_, V>) -> Result<Kind, NoMem>
     requires { is_root path.now ≡ false }
     ensures means { IfOk result (λ kind. Computes local.old local.new
         (λ s. (with_tree (without path.now) s, kind_of (node_in path.now s.tree))) kind) }

@@ -1,7 +1,8 @@
 //! The bytes of a file.
 ghost use Rattle.std.specs.Prelude.{◌≡◌, ◌==◌, ◌++◌, [], IfOk, OnOk, OnErr, length, take};
 
-use std::alloc::{AllocError, Global};
+use crate::NoMem;
+use std::alloc::Global;
 use std::marker::Model;
 
 /// The bytes of a file.
@@ -29,7 +30,7 @@ impl Bytes {
     }
 
     /// Appends bytes in place.
-    pub fn extend(&mut self, more: &[u8]) -> Result<(), AllocError>
+    pub fn extend(&mut self, more: &[u8]) -> Result<(), NoMem>
         ensures ok { OnOk result (self.new ≡ self.old ++ more.now) }
         ensures err { OnErr result (self.new ≡ self.old) }
     {
@@ -58,7 +59,7 @@ impl Bytes {
     }
 
     /// Returns a copy.
-    pub fn copy(&self) -> Result<Bytes, AllocError>
+    pub fn copy(&self) -> Result<Bytes, NoMem>
         ensures { IfOk result (λ copy. copy ≡ self.now) }
     {
         self.clone()

@@ -7,7 +7,7 @@
 //!
 //! `resolve` computes the path that a text names from a directory, from the text alone.
 //!
-//! If allocation fails, calls return `NoMem` and leave their arguments unchanged.
+//! If allocation fails, calls return `NoMem` and leave borrowed arguments unchanged.
 #![tactic(auto)]
 
 mod bytes;

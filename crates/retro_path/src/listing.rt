@@ -1,8 +1,8 @@
 //! The names in a directory.
 ghost use Rattle.std.specs.Prelude.{◌≡◌, IfOk};
 
+use crate::NoMem;
 use crate::name::Name;
-use std::alloc::AllocError;
 use std::marker::Model;
 
 /// The names of the children of a directory. A state lists them in byte order.
@@ -43,7 +43,7 @@ impl Listing {
     }
 
     /// Returns a copy.
-    pub fn copy(&self) -> Result<Listing, AllocError>
+    pub fn copy(&self) -> Result<Listing, NoMem>
         ensures { IfOk result (λ copy. copy ≡ self.now) }
     {
         self.clone()

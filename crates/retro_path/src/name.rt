@@ -2,8 +2,8 @@
 ghost use Rattle.std.specs.Prelude.{◌≡◌, IfOk, IsTrue, MatchOption, string_bytes, false};
 ghost use Rattle.retro_path.specs.Name.{is_name};
 
+use crate::NoMem;
 use crate::text::Text;
-use std::alloc::AllocError;
 use std::cmp::Ordering;
 use std::marker::Model;
 
@@ -67,7 +67,7 @@ impl Name {
     }
 
     /// Returns a copy.
-    pub fn copy(&self) -> Result<Name, AllocError>
+    pub fn copy(&self) -> Result<Name, NoMem>
         ensures { IfOk result (λ copy. copy ≡ self.now) }
     {
         self.clone()

@@ -9,8 +9,9 @@ ghost use Rattle.retro_path.specs.Path.{parent_of, last_of, prefixes_of, usize_b
 ghost use Rattle.retro_path.specs.Path.{is_null, is_root, below, is_child, passwd};
 ghost use Rattle.retro_path.specs.Resolving.{step};
 
+use crate::NoMem;
 use crate::name::Name;
-use std::alloc::{AllocError, Global};
+use std::alloc::Global;
 use std::cmp::Ordering;
 use std::marker::Model;
 
@@ -44,7 +45,7 @@ impl Path {
 
     /// Returns the path of these names, from the root, or `None` if one can't be a name. Takes time
     /// in proportion to their length.
-    pub fn of(alloc: Global, texts: Vec<String>) -> Result<Option<Path>, AllocError>
+    pub fn of(alloc: Global, texts: Vec<String>) -> Result<Option<Path>, NoMem>
         ensures { IfOk result (λ found. MatchOption found
             (list_all is_name (map string_bytes texts.items) ≡ false)
             (λ path. path ≡ map string_bytes texts.items)) }
@@ -77,7 +78,7 @@ impl Path {
 
     /// Returns the parent. The parent of the root is the root.
     #[tactic(auto, using(crate::proofs::Parents::take_is_parent))]
-    pub fn parent(&self, alloc: Global) -> Result<Path, AllocError>
+    pub fn parent(&self, alloc: Global) -> Result<Path, NoMem>
         ensures { IfOk result (λ parent. parent ≡ parent_of self.now) }
     {
         let count = self.names.len().saturating_sub(1);
@@ -96,7 +97,7 @@ impl Path {
     }
 
     /// Returns the path of a child.
-    pub fn child(&self, alloc: Global, name: &Name) -> Result<Path, AllocError>
+    pub fn child(&self, alloc: Global, name: &Name) -> Result<Path, NoMem>
         ensures value { IfOk result (λ child. child ≡ self.now ++ name.now ∷ []) }
         ensures length { IfOk result (λ child. length child < usize_bound) }
     {
@@ -106,7 +107,7 @@ impl Path {
     }
 
     /// Appends a name.
-    fn push(&mut self, name: Name) -> Result<(), AllocError>
+    fn push(&mut self, name: Name) -> Result<(), NoMem>
         ensures ok { OnOk result (self.new ≡ self.old ++ name ∷ []) }
         ensures length { OnOk result (length self.new < usize_bound) }
         ensures err { OnErr result (self.new ≡ self.old) }
@@ -116,7 +117,7 @@ impl Path {
     }
 
     /// Returns the prefixes of this path without the root, from the shortest to the path itself.
-    pub fn prefixes(&self, alloc: Global) -> Result<Vec<Path>, AllocError>
+    pub fn prefixes(&self, alloc: Global) -> Result<Vec<Path>, NoMem>
         ensures { IfOk result (λ prefixes. prefixes.items ≡ prefixes_of self.now) }
     {
         let mut prefix = Path::root(alloc);
@@ -164,7 +165,7 @@ impl Path {
 
     /// Returns the path of the password file, `/etc/passwd`.
     #[tactic(auto, unfolding(crate::specs::Path::passwd, crate::specs::Name::is_name))]
-    pub fn passwd(alloc: Global) -> Result<Path, AllocError>
+    pub fn passwd(alloc: Global) -> Result<Path, NoMem>
         ensures { IfOk result (λ path. path ≡ passwd) }
     {
         let mut names = Vec::new(alloc);
@@ -189,7 +190,7 @@ impl Path {
     }
 
     /// Returns the path of these names.
-    fn of_names(alloc: Global, given: &[Name]) -> Result<Path, AllocError>
+    fn of_names(alloc: Global, given: &[Name]) -> Result<Path, NoMem>
         ensures { IfOk result (λ path. path ≡ given.now) }
     {
         let mut names = Vec::with_capacity(alloc, given.len())?;
@@ -202,7 +203,7 @@ impl Path {
     /// Follows one part of a text: appends a name, or removes the last one for `..`. An empty part
     /// and `.` change nothing.
     #[tactic(auto, unfolding(crate::specs::Resolving::step), using(crate::proofs::Parents::front))]
-    pub(crate) fn enter(&mut self, alloc: Global, part: &str) -> Result<(), AllocError>
+    pub(crate) fn enter(&mut self, alloc: Global, part: &str) -> Result<(), NoMem>
         ensures ok { OnOk result (self.new ≡ step self.old part.now) }
         ensures err { OnErr result (self.new ≡ self.old) }
     {
@@ -248,7 +249,7 @@ impl Path {
     }
 
     /// Returns a copy.
-    pub fn copy(&self) -> Result<Path, AllocError>
+    pub fn copy(&self) -> Result<Path, NoMem>
         ensures { IfOk result (λ copy. copy ≡ self.now) }
     {
         self.clone()

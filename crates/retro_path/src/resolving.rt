@@ -5,9 +5,10 @@ ghost use Rattle.retro_path.specs.Path.{PathValue};
 ghost use Rattle.retro_path.specs.Resolving.{parts_of, walk, is_long, start_of, resolve};
 ghost use Rattle.retro_path.specs.Resolving.{resolve_parts, is_relative};
 
+use crate::NoMem;
 use crate::name::NAME_LIMIT;
 use crate::path::Path;
-use std::alloc::{AllocError, Global};
+use std::alloc::Global;
 
 /// What a text resolves to.
 #[derive(Drop, Clone)]
@@ -21,7 +22,7 @@ pub enum Resolved {
 }
 
 /// Splits a text at slashes.
-fn parts_of(alloc: Global, text: &str) -> Result<Vec<&str>, AllocError>
+fn parts_of(alloc: Global, text: &str) -> Result<Vec<&str>, NoMem>
     ensures { IfOk result (λ parts. map (λ part. part.now) parts.items ≡ parts_of text.now) }
 {
     text.split('/').collect(alloc)
@@ -41,7 +42,7 @@ fn has_long(parts: &[&str]) -> bool
 
 /// Returns where resolution starts: at the root if the text begins with a slash, and at `cwd`
 /// otherwise.
-fn start_of(alloc: Global, cwd: &Path, text: &str) -> Result<Path, AllocError>
+fn start_of(alloc: Global, cwd: &Path, text: &str) -> Result<Path, NoMem>
     ensures { IfOk result (λ start. start ≡ start_of cwd.now text.now) }
 {
     match text.as_bytes() {
@@ -51,7 +52,7 @@ fn start_of(alloc: Global, cwd: &Path, text: &str) -> Result<Path, AllocError>
 }
 
 /// Returns the path that is reached from `start` by following the parts of a text.
-fn walk(alloc: Global, start: Path, parts: &[&str]) -> Result<Path, AllocError>
+fn walk(alloc: Global, start: Path, parts: &[&str]) -> Result<Path, NoMem>
     ensures { IfOk result (λ path. path ≡ walk start (map (λ part. part.now) parts.now)) }
 {
     let mut path = start;
@@ -67,7 +68,7 @@ fn walk(alloc: Global, start: Path, parts: &[&str]) -> Result<Path, AllocError>
 /// The text is split at slashes. A text that begins with a slash starts at the root. Empty parts
 /// and `.` are skipped, and `..` removes the last name, if there is one. A part of more than 255
 /// bytes gives `LongName`, even if a later `..` removes it.
-pub fn resolve(alloc: Global, cwd: &Path, text: &str) -> Result<Resolved, AllocError>
+pub fn resolve(alloc: Global, cwd: &Path, text: &str) -> Result<Resolved, NoMem>
     ensures { IfOk result (λ resolved. resolved ≡ resolve cwd.now text.now) }
 {
     if text.is_empty() {
@@ -84,7 +85,7 @@ pub fn resolve(alloc: Global, cwd: &Path, text: &str) -> Result<Resolved, AllocE
 /// Returns whether the path that a text names depends on the directory. It doesn't if the text is
 /// empty, begins with a slash, or has a part that is too long.
 #[tactic(auto, unfolding(crate::specs::Resolving::is_relative))]
-pub fn is_relative(alloc: Global, text: &str) -> Result<bool, AllocError>
+pub fn is_relative(alloc: Global, text: &str) -> Result<bool, NoMem>
     ensures { IfOk result (λ relative. relative ≡ is_relative text.now) }
 {
     match text.as_bytes() {

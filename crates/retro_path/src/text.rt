@@ -1,7 +1,7 @@
 //! Texts.
 ghost use Rattle.std.specs.Prelude.{◌≡◌, IfOk, string_bytes};
 
-use std::alloc::AllocError;
+use crate::NoMem;
 use std::cmp::Ordering;
 use std::marker::Model;
 
@@ -21,7 +21,7 @@ impl Model for Text {
 
 impl Text {
     /// Returns a copy.
-    pub fn copy(&self) -> Result<Text, AllocError>
+    pub fn copy(&self) -> Result<Text, NoMem>
         ensures { IfOk result (λ copy. copy ≡ self.now) }
     {
         self.clone()

@@ -4,8 +4,9 @@ ghost use Rattle.std.specs.Prelude.{string_bytes};
 ghost use Rattle.std.specs.List.{list_all};
 ghost use Rattle.retro_path.specs.VarName.{starts_name, continues_name, is_shell_name, is_var_name};
 
+use crate::NoMem;
 use crate::text::Text;
-use std::alloc::{AllocError, Global};
+use std::alloc::Global;
 use std::cmp::Ordering;
 use std::marker::Model;
 
@@ -93,7 +94,7 @@ impl VarName {
     }
 
     /// Returns the text as a name, or `None` if no line can assign it.
-    pub fn of(alloc: Global, text: &str) -> Result<Option<VarName>, AllocError>
+    pub fn of(alloc: Global, text: &str) -> Result<Option<VarName>, NoMem>
         ensures { IfOk result (λ found. MatchOption found
             (is_var_name text.now ≡ false)
             (λ name. (name ≡ text.now) × IsTrue (is_var_name name))) }
@@ -108,7 +109,7 @@ impl VarName {
 
     /// Returns the name `HOME`.
     #[tactic(auto, using(crate::proofs::Home::home_is_name))]
-    pub fn home(alloc: Global) -> Result<VarName, AllocError>
+    pub fn home(alloc: Global) -> Result<VarName, NoMem>
         ensures { IfOk result (λ name. name ≡ codes "HOME") }
     {
         Ok(VarName {
@@ -125,7 +126,7 @@ impl VarName {
     }
 
     /// Returns a copy.
-    pub fn copy(&self) -> Result<VarName, AllocError>
+    pub fn copy(&self) -> Result<VarName, NoMem>
         ensures { IfOk result (λ copy. copy ≡ self.now) }
     {
         self.clone()

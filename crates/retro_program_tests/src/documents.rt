@@ -2,20 +2,20 @@
 use retro_keep::{EditFault, Script, ScriptLine};
 use retro_log::{LogFault, read_log, read_script, sessions_value, tree_value};
 use retro_rows::{fail, numbers, text};
-use retro_tree::State;
-use std::alloc::{AllocError, Global};
+use retro_tree::{NoMem, State};
+use std::alloc::Global;
 use std::test::Fail;
 
 /// The number of a fault, or that it is none of the document.
-fn fault_text(alloc: Global, fault: LogFault) -> Result<String, AllocError> {
+fn fault_text(alloc: Global, fault: LogFault) -> Result<String, NoMem> {
     match fault {
-        LogFault::NoMem => Err(AllocError),
+        LogFault::NoMem => Err(NoMem),
         LogFault::Refused(refusal) => format!(in alloc; "{}", refusal.number()),
     }
 }
 
 /// The number of a document's refusal, or `script`.
-pub fn script(alloc: Global, document: &str) -> Result<String, AllocError> {
+pub fn script(alloc: Global, document: &str) -> Result<String, NoMem> {
     match read_script(alloc, document.as_bytes()) {
         Ok(_) => text(alloc, "script"),
         Err(fault) => fault_text(alloc, fault),
@@ -43,18 +43,13 @@ fn around(part: &str) -> Option<(&'static str, &'static str)> {
 }
 
 /// What a document is that has a value between these texts.
-fn script_between(
-    alloc: Global,
-    before: &str,
-    value: &str,
-    after: &str,
-) -> Result<String, AllocError> {
+fn script_between(alloc: Global, before: &str, value: &str, after: &str) -> Result<String, NoMem> {
     let document = format!(in alloc; "{before}{value}{after}")?;
     script(alloc, &document)
 }
 
 /// What a document is that has this value at a key, and lawful values at the others.
-pub fn script_part(alloc: Global, part: &str, value: &str) -> Result<String, AllocError> {
+pub fn script_part(alloc: Global, part: &str, value: &str) -> Result<String, NoMem> {
     match around(part) {
         Some((before, after)) => script_between(alloc, before, value, after),
         None => text(alloc, "no such part"),
@@ -62,7 +57,7 @@ pub fn script_part(alloc: Global, part: &str, value: &str) -> Result<String, All
 }
 
 /// The number of a log's refusal, or `log`.
-fn log_of(alloc: Global, document: &[u8]) -> Result<String, AllocError> {
+fn log_of(alloc: Global, document: &[u8]) -> Result<String, NoMem> {
     match read_log(alloc, document) {
         Ok(_) => text(alloc, "log"),
         Err(fault) => fault_text(alloc, fault),
@@ -70,12 +65,12 @@ fn log_of(alloc: Global, document: &[u8]) -> Result<String, AllocError> {
 }
 
 /// What a log is.
-pub fn log(alloc: Global, document: &str) -> Result<String, AllocError> {
+pub fn log(alloc: Global, document: &str) -> Result<String, NoMem> {
     log_of(alloc, document.as_bytes())
 }
 
 /// The first front of a log that isn't what all have to be, or `None`.
-fn other_front(alloc: Global, document: &[u8], all: &str) -> Result<Option<usize>, AllocError> {
+fn other_front(alloc: Global, document: &[u8], all: &str) -> Result<Option<usize>, NoMem> {
     for end in 0..document.len() {
         let front = log_of(alloc, &document[..end])?;
         if front.as_str() != all {
@@ -86,7 +81,7 @@ fn other_front(alloc: Global, document: &[u8], all: &str) -> Result<Option<usize
 }
 
 /// What each front of a document is, if all are alike.
-fn fronts_text(alloc: Global, document: &[u8]) -> Result<String, AllocError> {
+fn fronts_text(alloc: Global, document: &[u8]) -> Result<String, NoMem> {
     let all = log_of(alloc, document)?;
     match other_front(alloc, document, &all)? {
         Some(end) => format!(in alloc; "something else for {end} bytes"),
@@ -95,7 +90,7 @@ fn fronts_text(alloc: Global, document: &[u8]) -> Result<String, AllocError> {
 }
 
 /// What each front of a log is that lacks the last brace, if all are alike.
-pub fn log_fronts(alloc: Global, document: &str) -> Result<String, AllocError> {
+pub fn log_fronts(alloc: Global, document: &str) -> Result<String, NoMem> {
     match document.strip_suffix("}") {
         Some(longest) => fronts_text(alloc, longest.as_bytes()),
         None => text(alloc, "no brace at the end"),
@@ -109,13 +104,13 @@ const BEFORE_LINES: &str = concat!(
 );
 
 /// What such a log is that has these lines.
-pub fn logged(alloc: Global, lines: &str) -> Result<String, AllocError> {
+pub fn logged(alloc: Global, lines: &str) -> Result<String, NoMem> {
     let document = format!(in alloc; "{BEFORE_LINES}{lines}}}")?;
     log(alloc, &document)
 }
 
 /// What such a log is that has this note in a line of the first session.
-pub fn note(alloc: Global, note: &str) -> Result<String, AllocError> {
+pub fn note(alloc: Global, note: &str) -> Result<String, NoMem> {
     let lines = format!(in alloc; r#"[[1,1,"",[{note}],""]]"#)?;
     logged(alloc, &lines)
 }
@@ -129,20 +124,20 @@ pub fn script_of(alloc: Global, document: &str) -> Result<Script, Fail> {
 }
 
 /// The tree and the sessions of a state as they are written.
-fn state_text(alloc: Global, state: &State) -> Result<String, AllocError> {
+fn state_text(alloc: Global, state: &State) -> Result<String, NoMem> {
     let tree = tree_value(alloc, state)?.to_string(alloc)?;
     let sessions = sessions_value(alloc, state)?.to_string(alloc)?;
     format!(in alloc; "{tree} {sessions}")
 }
 
 /// Appends a line.
-fn push_line(alloc: Global, out: &mut String, line: &ScriptLine) -> Result<(), AllocError> {
+fn push_line(alloc: Global, out: &mut String, line: &ScriptLine) -> Result<(), NoMem> {
     let text = line.text.as_str();
     out.push_str(&format!(in alloc; " {} {} {text}", line.number, line.sid)?)
 }
 
 /// The first state and the lines of a script as they are written.
-fn script_text(alloc: Global, script: &Script) -> Result<String, AllocError> {
+fn script_text(alloc: Global, script: &Script) -> Result<String, NoMem> {
     let mut out = state_text(alloc, script.first())?;
     for line in script.lines() {
         push_line(alloc, &mut out, line)?;
@@ -157,12 +152,12 @@ pub fn written(alloc: Global, document: &str) -> Result<String, Fail> {
 }
 
 /// Appends a number with a space.
-fn push_number(alloc: Global, out: &mut String, number: u32) -> Result<(), AllocError> {
+fn push_number(alloc: Global, out: &mut String, number: u32) -> Result<(), NoMem> {
     out.push_str(&format!(in alloc; "{number} ")?)
 }
 
 /// The numbers of a script's lines.
-fn numbers_text(alloc: Global, script: &Script) -> Result<String, AllocError> {
+fn numbers_text(alloc: Global, script: &Script) -> Result<String, NoMem> {
     let mut out = String::new(alloc);
     for line in script.lines() {
         push_number(alloc, &mut out, line.number)?;
@@ -171,11 +166,11 @@ fn numbers_text(alloc: Global, script: &Script) -> Result<String, AllocError> {
 }
 
 /// The numbers of a script's lines without some, or the refusal and the number that no line has.
-fn edited_text(alloc: Global, script: Script, cancel: &[u32]) -> Result<String, AllocError> {
+fn edited_text(alloc: Global, script: Script, cancel: &[u32]) -> Result<String, NoMem> {
     match script.without(alloc, cancel) {
         Ok(script) => numbers_text(alloc, &script),
         Err(EditFault::UnknownLine(number)) => format!(in alloc; "21 {number}"),
-        Err(EditFault::NoMem) => Err(AllocError),
+        Err(EditFault::NoMem) => Err(NoMem),
     }
 }
 

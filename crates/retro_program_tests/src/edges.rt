@@ -3,7 +3,8 @@ use crate::programs::words;
 use crate::tables::EMPTY;
 use retro_cli::{Exit, Input, Output, run_with};
 use retro_rows::text;
-use std::alloc::{AllocError, AllocGlobal, Global};
+use retro_tree::NoMem;
+use std::alloc::{AllocGlobal, Global};
 use std::io;
 use std::io::{ErrorKind, Read, Write};
 use std::test::Fail;
@@ -122,7 +123,7 @@ fn run_edges<T: Threads + Sync + AllocGlobal>(
     rt: &T,
     (reads, kind): (u32, ErrorKind),
     (writes, failure): (u32, Failure),
-) -> Result<(Exit, u32, u32, Vec<u8>), AllocError> {
+) -> Result<(Exit, u32, u32, Vec<u8>), NoMem> {
     let words = words(rt.alloc(), "retro replay")?;
     let mut reader = Drip::new(EMPTY.as_bytes(), reads, kind);
     let mut writer = Sip::new(rt.alloc(), writes, failure);
@@ -135,7 +136,7 @@ fn is_unread<T: Threads + Sync + AllocGlobal>(
     rt: &T,
     call: u32,
     kind: ErrorKind,
-) -> Result<bool, AllocError> {
+) -> Result<bool, NoMem> {
     let (exit, reads, writes, _) = run_edges(rt, (call, kind), (NEVER, Failure::Nothing))?;
     Ok(exit == Exit::ReadFailed && reads == call.wrapping_add(1) && writes == 0)
 }
@@ -156,7 +157,7 @@ fn is_unwritten<T: Threads + Sync + AllocGlobal>(
     rt: &T,
     call: u32,
     failure: Failure,
-) -> Result<bool, AllocError> {
+) -> Result<bool, NoMem> {
     let (exit, _, writes, held) = run_edges(rt, (NEVER, ErrorKind::Other), (call, failure))?;
     let (wanted, calls) = if call as usize == EMPTY_REPORT.len() {
         (Exit::Done, call)
@@ -188,7 +189,7 @@ fn a_failed_write_ends_the_run(rt: HostRuntime) -> Result<(), Fail> {
 }
 
 /// Appends a text so many times.
-fn push_times(out: &mut String, text: &str, count: u32) -> Result<(), AllocError> {
+fn push_times(out: &mut String, text: &str, count: u32) -> Result<(), NoMem> {
     for _ in 0..count {
         out.push_str(text)?;
     }
@@ -196,7 +197,7 @@ fn push_times(out: &mut String, text: &str, count: u32) -> Result<(), AllocError
 }
 
 /// Appends a thousand files in a directory.
-fn push_files(alloc: Global, out: &mut String) -> Result<(), AllocError> {
+fn push_files(alloc: Global, out: &mut String) -> Result<(), NoMem> {
     for number in 1000..2000_u32 {
         out.push_str(&format!(in alloc; r#",["/d/{number}",""]"#)?)?;
     }
@@ -210,7 +211,7 @@ fn push_numbered(
     start: &str,
     letter: &str,
     end: &str,
-) -> Result<(), AllocError> {
+) -> Result<(), NoMem> {
     for number in 2..102_u32 {
         out.push_str(&format!(in alloc; ",[{number},{start}")?)?;
         push_times(out, letter, 4091)?;
@@ -220,7 +221,7 @@ fn push_numbered(
 }
 
 /// A script of a hundred lines of 4,096 bytes, `echo nn..`, in a directory with a thousand files.
-fn large_script(alloc: Global) -> Result<String, AllocError> {
+fn large_script(alloc: Global) -> Result<String, NoMem> {
     let mut script = text(alloc, r#"{"script":1,"tree":[["/d"]"#)?;
     push_files(alloc, &mut script)?;
     script.push_str(r#"],"sessions":[[1,"/d",0,[]]],"lines":[[1,1,""]"#)?;
@@ -230,7 +231,7 @@ fn large_script(alloc: Global) -> Result<String, AllocError> {
 }
 
 /// The report of that script.
-fn large_report(alloc: Global) -> Result<String, AllocError> {
+fn large_report(alloc: Global) -> Result<String, NoMem> {
     let mut report = text(alloc, r#"{"outputs":[[1,""]"#)?;
     push_numbered(alloc, &mut report, r#"""#, "6e", r#"0a"]"#)?;
     report.push_str(r#"],"sessions":[[1,"/d",0,[]]],"tree":[["/d"]"#)?;
@@ -243,7 +244,7 @@ fn large_report(alloc: Global) -> Result<String, AllocError> {
 fn replayed<T: Threads + Sync + AllocGlobal>(
     rt: &T,
     input: &[u8],
-) -> Result<(Exit, Vec<u8>), AllocError> {
+) -> Result<(Exit, Vec<u8>), NoMem> {
     let words = words(rt.alloc(), "retro replay")?;
     let mut reader = Drip::new(input, NEVER, ErrorKind::Other);
     let mut out = Vec::new(rt.alloc());
@@ -252,7 +253,7 @@ fn replayed<T: Threads + Sync + AllocGlobal>(
 }
 
 /// Whether the report of the large script is as it has to be.
-fn is_large_replayed<T: Threads + Sync + AllocGlobal>(rt: &T) -> Result<bool, AllocError> {
+fn is_large_replayed<T: Threads + Sync + AllocGlobal>(rt: &T) -> Result<bool, NoMem> {
     let script = large_script(rt.alloc())?;
     let (exit, out) = replayed(rt, script.as_bytes())?;
     Ok(exit == Exit::Done && out.as_slice() == large_report(rt.alloc())?.as_bytes())

@@ -4,7 +4,8 @@ use crate::programs::push_lines;
 use retro_keep::{Recording, keep_alone};
 use retro_log::{read_log, write_log};
 use retro_rows::{fail, rows, text};
-use std::alloc::{AllocError, Global};
+use retro_tree::NoMem;
+use std::alloc::Global;
 use std::test::Fail;
 
 /// Scripts and their logs; lines of session 1, which is at the root of a tree, with what their log
@@ -57,7 +58,7 @@ again: {"tree":[["/f","0A"]],"log":1,"sessions":[[1,"/",0,[]]],"lines":[[4294967
   0,[]]],"tree":[["/f","0a"]]}%(NL)"##;
 
 /// The script of session 1's lines, over a tree.
-fn script_over(alloc: Global, entries: &str, lines: &[String]) -> Result<String, AllocError> {
+fn script_over(alloc: Global, entries: &str, lines: &[String]) -> Result<String, NoMem> {
     let mut script = format!(in alloc; "{{\"script\":1,\"tree\":[{entries}]")?;
     script.push_str(r#","sessions":[[1,"/",0,[]]],"lines":["#)?;
     push_lines(alloc, &mut script, lines)?;
@@ -94,7 +95,7 @@ fn log_again(alloc: Global, document: &str) -> Result<String, Fail> {
 }
 
 /// What a log has after its lines, over a tree.
-fn log_end(alloc: Global, entries: &str) -> Result<String, AllocError> {
+fn log_end(alloc: Global, entries: &str) -> Result<String, NoMem> {
     let mut end = text(alloc, r#","log":1,"sessions":[[1,"/",0,[]]],"tree":["#)?;
     end.push_str(entries)?;
     end.push_str("]}\n")?;
@@ -102,7 +103,7 @@ fn log_end(alloc: Global, entries: &str) -> Result<String, AllocError> {
 }
 
 /// What a log has at `lines`, if the rest is as it has to be.
-fn lines_of(alloc: Global, log: &str, end: &str) -> Result<String, AllocError> {
+fn lines_of(alloc: Global, log: &str, end: &str) -> Result<String, NoMem> {
     let Some(log) = log.strip_prefix("{\"lines\":") else {
         return text(alloc, "another beginning");
     };

@@ -3,8 +3,9 @@ use crate::tables::input_named;
 use hex::decode;
 use retro_cli::{Exit, Input, Output, run_with};
 use retro_rows::{fail, text, utf8};
+use retro_tree::NoMem;
 use serde_json::Value;
-use std::alloc::{AllocError, AllocGlobal, Global};
+use std::alloc::{AllocGlobal, Global};
 use std::test::Fail;
 use std::thread::Threads;
 
@@ -20,7 +21,7 @@ const AFTER_ENTRIES: &str = concat!(
 );
 
 /// The program's name, and the words of a text that spaces separate.
-pub fn words(alloc: Global, given: &str) -> Result<Vec<String>, AllocError> {
+pub fn words(alloc: Global, given: &str) -> Result<Vec<String>, NoMem> {
     let mut words = Vec::new(alloc);
     for word in given.split(' ') {
         words.push(String::from_str(alloc, word)?)?;
@@ -49,7 +50,7 @@ fn output<T: Threads + Sync + AllocGlobal>(
     rt: &T,
     given: &str,
     input: &str,
-) -> Result<(Exit, Vec<u8>), AllocError> {
+) -> Result<(Exit, Vec<u8>), NoMem> {
     let words = words(rt.alloc(), given)?;
     let mut out = Vec::new(rt.alloc());
     let exit = push_output(rt, &words, input, &mut out);
@@ -103,13 +104,13 @@ pub fn run<T: Threads + Sync + AllocGlobal>(
 }
 
 /// A line of session 1 with its number, as scripts write it.
-fn line_json(alloc: Global, number: usize, line: &str) -> Result<String, AllocError> {
+fn line_json(alloc: Global, number: usize, line: &str) -> Result<String, NoMem> {
     let line = Value::String(text(alloc, line)?).to_string(alloc)?;
     format!(in alloc; "[{number},1,{line}]")
 }
 
 /// Appends lines of session 1, numbered from 1.
-pub fn push_lines(alloc: Global, script: &mut String, lines: &[String]) -> Result<(), AllocError> {
+pub fn push_lines(alloc: Global, script: &mut String, lines: &[String]) -> Result<(), NoMem> {
     for (index, line) in lines.iter().enumerate() {
         if index > 0 {
             script.push_str(",")?;
@@ -120,7 +121,7 @@ pub fn push_lines(alloc: Global, script: &mut String, lines: &[String]) -> Resul
 }
 
 /// The script of session 1's lines, over a tree with more entries.
-fn script_of(alloc: Global, entries: &str, lines: &[String]) -> Result<String, AllocError> {
+fn script_of(alloc: Global, entries: &str, lines: &[String]) -> Result<String, NoMem> {
     let mut script = format!(in alloc; "{BEFORE_ENTRIES}{entries}{AFTER_ENTRIES}")?;
     push_lines(alloc, &mut script, lines)?;
     script.push_str("]}")?;

@@ -5,12 +5,13 @@ use crate::programs::{run, run_in_turn, shell};
 use crate::repair_tables::REPAIRS;
 use crate::tables::{DOCUMENTS, PROGRAMS, SHELL};
 use retro_rows::rows;
-use std::alloc::{AllocError, AllocGlobal, Global};
+use retro_tree::NoMem;
+use std::alloc::{AllocGlobal, Global};
 use std::test::Fail;
 use std::thread::Threads;
 
 /// What a call about documents alone returns for these fields, as text.
-fn document_called(alloc: Global, call: &str, given: &[String]) -> Result<String, AllocError> {
+fn document_called(alloc: Global, call: &str, given: &[String]) -> Result<String, NoMem> {
     match (call, given) {
         ("script", [document]) => script(alloc, document),
         ("log", [document]) => log(alloc, document),

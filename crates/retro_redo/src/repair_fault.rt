@@ -3,7 +3,7 @@ ghost use Rattle.std.specs.Prelude.{◌≡◌};
 ghost use Rattle.retro_redo.specs.RepairFault.{fault_number};
 ghost use Rattle.retro_redo.specs.declared.repair_fault.RepairFault.TheVariants as faults;
 
-use std::alloc::AllocError;
+use retro_tree::NoMem;
 use thiserror::Error;
 
 /// Why a repair is refused.
@@ -37,10 +37,10 @@ impl RepairFault {
     }
 }
 
-impl From<AllocError> for RepairFault {
+impl From<NoMem> for RepairFault {
     ghost from_gives = { λ _ fault. fault ≡ faults.OutOfMemory };
 
-    fn from(_error: AllocError) -> RepairFault {
+    fn from(_error: NoMem) -> RepairFault {
         RepairFault::OutOfMemory
     }
 }

@@ -1,21 +1,17 @@
 //! What a repair answers, as the texts of rows.
 use retro_redo::{Compensation, Repair, Verdict};
 use retro_rows::{fail, text, utf8};
-use retro_tree::{Path, State};
-use std::alloc::{AllocError, Global};
+use retro_tree::{NoMem, Path, State};
+use std::alloc::Global;
 use std::test::Fail;
 
 /// Appends a number.
-fn push_number(alloc: Global, out: &mut String, number: u32) -> Result<(), AllocError> {
+fn push_number(alloc: Global, out: &mut String, number: u32) -> Result<(), NoMem> {
     out.push_str(&format!(in alloc; " {number}")?)
 }
 
 /// Appends the numbers of the lines that are redone.
-fn push_redone(
-    alloc: Global,
-    out: &mut String,
-    verdicts: &[(u32, Verdict)],
-) -> Result<(), AllocError> {
+fn push_redone(alloc: Global, out: &mut String, verdicts: &[(u32, Verdict)]) -> Result<(), NoMem> {
     for (number, verdict) in verdicts {
         if *verdict == Verdict::Redone {
             push_number(alloc, out, *number)?;
@@ -25,7 +21,7 @@ fn push_redone(
 }
 
 /// The numbers of the lines that are met, and of those that are redone.
-pub fn lines(alloc: Global, repair: &Repair) -> Result<String, AllocError> {
+pub fn lines(alloc: Global, repair: &Repair) -> Result<String, NoMem> {
     let mut out = text(alloc, "met")?;
     for number in &repair.met {
         push_number(alloc, &mut out, *number)?;
@@ -83,7 +79,7 @@ pub fn file(alloc: Global, state: &State, path: &Path) -> Result<String, Fail> {
 }
 
 /// How many bytes there are, and the last one.
-fn end_of(alloc: Global, bytes: &[u8]) -> Result<String, AllocError> {
+fn end_of(alloc: Global, bytes: &[u8]) -> Result<String, NoMem> {
     match bytes.last() {
         Some(last) => format!(in alloc; "{} {last}", bytes.len()),
         None => text(alloc, "0"),

@@ -1,6 +1,7 @@
 //! Rows of a table of tests.
 use crate::row_error::RowError;
-use std::alloc::{AllocError, Global};
+use retro_path::NoMem;
+use std::alloc::Global;
 use std::test::Fail;
 
 /// One row of a table.
@@ -85,7 +86,7 @@ fn fields(alloc: Global, given: &str) -> Result<Vec<String>, RowError> {
 }
 
 /// The lines of a table, each with its continuations.
-fn joined_lines(alloc: Global, table: &str) -> Result<Vec<String>, AllocError> {
+fn joined_lines(alloc: Global, table: &str) -> Result<Vec<String>, NoMem> {
     let mut joined: Vec<String> = Vec::new(alloc);
     for line in table.lines() {
         match (line.strip_prefix("  "), joined.last_mut()) {

@@ -1,5 +1,6 @@
 //! Why a table isn't one of rows.
-use std::alloc::{AllocError, AllocFailed};
+use retro_path::NoMem;
+use std::alloc::AllocFailed;
 use std::num::ParseIntError;
 
 /// A fault in a table of rows.
@@ -15,8 +16,8 @@ pub enum RowError {
     NoMem,
 }
 
-impl From<AllocError> for RowError {
-    fn from(_: AllocError) -> Self {
+impl From<NoMem> for RowError {
+    fn from(_: NoMem) -> Self {
         Self::NoMem
     }
 }

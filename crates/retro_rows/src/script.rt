@@ -1,6 +1,7 @@
 //! Scripts of lines that two sessions type.
+use retro_path::NoMem;
 use serde_json::Value;
-use std::alloc::{AllocError, Global};
+use std::alloc::Global;
 
 /// What every script has before and after its own entries of the tree.
 const BEFORE_ENTRIES: &str = concat!(
@@ -15,7 +16,7 @@ const AFTER_ENTRIES: &str = concat!(
 
 /// Returns the script of lines over a tree with more entries. Each line ends in `;;` and begins
 /// with its session. They are numbered from 1.
-pub fn script_of(alloc: Global, entries: &str, lines: &str) -> Result<String, AllocError> {
+pub fn script_of(alloc: Global, entries: &str, lines: &str) -> Result<String, NoMem> {
     let mut script = format!(in alloc; "{BEFORE_ENTRIES}{entries}{AFTER_ENTRIES}")?;
     let mut number: u32 = 0;
     for line in lines.split(";;") {

@@ -1,10 +1,11 @@
 //! Texts and what they stand for.
 use crate::failure::fail;
-use std::alloc::{AllocError, Global};
+use retro_path::NoMem;
+use std::alloc::Global;
 use std::test::Fail;
 
 /// Returns a copy of a text.
-pub fn text(alloc: Global, text: &str) -> Result<String, AllocError> {
+pub fn text(alloc: Global, text: &str) -> Result<String, NoMem> {
     String::from_str(alloc, text)
 }
 

@@ -1,11 +1,13 @@
 //! Notes as JSON, as logs write them.
 use hex::encode;
 use retro_rows::text;
-use retro_tree::{Answer, Ask, Change, Kind, Listing, Name, Node, Note, Path, Permit, Text, User};
-use std::alloc::{AllocError, Global};
+use retro_tree::{
+    Answer, Ask, Change, Kind, Listing, Name, NoMem, Node, Note, Path, Permit, Text, User,
+};
+use std::alloc::Global;
 
 /// Appends a character, with its escape where it has one.
-fn push_escaped(out: &mut String, c: char) -> Result<(), AllocError> {
+fn push_escaped(out: &mut String, c: char) -> Result<(), NoMem> {
     match c {
         '"' => out.push_str("\\\""),
         '\\' => out.push_str("\\\\"),
@@ -17,7 +19,7 @@ fn push_escaped(out: &mut String, c: char) -> Result<(), AllocError> {
 }
 
 /// A text between quotes.
-fn quoted(alloc: Global, given: &str) -> Result<String, AllocError> {
+fn quoted(alloc: Global, given: &str) -> Result<String, NoMem> {
     let mut out = text(alloc, "\"")?;
     for c in given.chars() {
         push_escaped(&mut out, c)?;
@@ -27,7 +29,7 @@ fn quoted(alloc: Global, given: &str) -> Result<String, AllocError> {
 }
 
 /// The text of names, with a slash before each.
-fn path_text(alloc: Global, names: &[Name]) -> Result<String, AllocError> {
+fn path_text(alloc: Global, names: &[Name]) -> Result<String, NoMem> {
     let mut out = String::new(alloc);
     for name in names {
         out.push('/')?;
@@ -37,19 +39,19 @@ fn path_text(alloc: Global, names: &[Name]) -> Result<String, AllocError> {
 }
 
 /// A path as text between quotes.
-fn path_json(alloc: Global, path: &Path) -> Result<String, AllocError> {
+fn path_json(alloc: Global, path: &Path) -> Result<String, NoMem> {
     if path.names().is_empty() {
         return quoted(alloc, "/");
     }
     quoted(alloc, &path_text(alloc, path.names())?)
 }
 
-fn file_json(alloc: Global, content: &[u8]) -> Result<String, AllocError> {
+fn file_json(alloc: Global, content: &[u8]) -> Result<String, NoMem> {
     let digits = encode(alloc, content)?;
     format!(in alloc; "[\"f\",\"{digits}\"]")
 }
 
-fn node_json(alloc: Global, node: &Node) -> Result<String, AllocError> {
+fn node_json(alloc: Global, node: &Node) -> Result<String, NoMem> {
     match node {
         Node::Missing => text(alloc, "[]"),
         Node::Dir => text(alloc, "[\"d\"]"),
@@ -58,7 +60,7 @@ fn node_json(alloc: Global, node: &Node) -> Result<String, AllocError> {
 }
 
 /// The names of a listing between brackets.
-fn names_json(alloc: Global, listing: &Listing) -> Result<String, AllocError> {
+fn names_json(alloc: Global, listing: &Listing) -> Result<String, NoMem> {
     let mut out = text(alloc, "[")?;
     for name in listing.names() {
         if out.len() > 1 {
@@ -70,26 +72,26 @@ fn names_json(alloc: Global, listing: &Listing) -> Result<String, AllocError> {
     Ok(out)
 }
 
-fn listing_json(alloc: Global, listing: &Option<Listing>) -> Result<String, AllocError> {
+fn listing_json(alloc: Global, listing: &Option<Listing>) -> Result<String, NoMem> {
     match listing {
         Some(listing) => names_json(alloc, listing),
         None => text(alloc, "null"),
     }
 }
 
-fn user_json(alloc: Global, user: &User) -> Result<String, AllocError> {
+fn user_json(alloc: Global, user: &User) -> Result<String, NoMem> {
     let home = quoted(alloc, user.home.as_str())?;
     format!(in alloc; "[{},{home}]", user.number)
 }
 
-fn entry_json(alloc: Global, user: &Option<User>) -> Result<String, AllocError> {
+fn entry_json(alloc: Global, user: &Option<User>) -> Result<String, NoMem> {
     match user {
         Some(user) => user_json(alloc, user),
         None => text(alloc, "null"),
     }
 }
 
-fn variable_json(alloc: Global, value: &Option<Text>) -> Result<String, AllocError> {
+fn variable_json(alloc: Global, value: &Option<Text>) -> Result<String, NoMem> {
     match value {
         Some(value) => quoted(alloc, value.as_str()),
         None => text(alloc, "null"),
@@ -115,25 +117,25 @@ fn permit_word(permit: Permit) -> &'static str {
 }
 
 /// A note's word with the path that it is about.
-fn of_path(alloc: Global, word: &str, path: &Path) -> Result<String, AllocError> {
+fn of_path(alloc: Global, word: &str, path: &Path) -> Result<String, NoMem> {
     let path = path_json(alloc, path)?;
     format!(in alloc; "\"{word}\",{path}")
 }
 
 /// A note's word with the name that it is about.
-fn of_name(alloc: Global, word: &str, name: &str) -> Result<String, AllocError> {
+fn of_name(alloc: Global, word: &str, name: &str) -> Result<String, NoMem> {
     let name = quoted(alloc, name)?;
     format!(in alloc; "\"{word}\",{name}")
 }
 
 /// A question for leave to write bytes to a path, without its brackets.
-fn of_writing(alloc: Global, path: &Path, more: u32) -> Result<String, AllocError> {
+fn of_writing(alloc: Global, path: &Path, more: u32) -> Result<String, NoMem> {
     let path = path_json(alloc, path)?;
     format!(in alloc; "\"canwrite\",{path},{more}")
 }
 
 /// A question, without its brackets and its session.
-fn ask_json(alloc: Global, ask: &Ask) -> Result<String, AllocError> {
+fn ask_json(alloc: Global, ask: &Ask) -> Result<String, NoMem> {
     match ask {
         Ask::Kind(path) => of_path(alloc, "kind", path),
         Ask::Bytes(path) => of_path(alloc, "bytes", path),
@@ -146,7 +148,7 @@ fn ask_json(alloc: Global, ask: &Ask) -> Result<String, AllocError> {
     }
 }
 
-fn answer_json(alloc: Global, answer: &Answer) -> Result<String, AllocError> {
+fn answer_json(alloc: Global, answer: &Answer) -> Result<String, NoMem> {
     match answer {
         Answer::Kind(kind) => quoted(alloc, kind_word(*kind)),
         Answer::Bytes(node) => node_json(alloc, node),
@@ -160,37 +162,37 @@ fn answer_json(alloc: Global, answer: &Answer) -> Result<String, AllocError> {
 }
 
 /// A question with its answer.
-fn asked_json(alloc: Global, ask: &Ask, answer: &Answer) -> Result<String, AllocError> {
+fn asked_json(alloc: Global, ask: &Ask, answer: &Answer) -> Result<String, NoMem> {
     let ask = ask_json(alloc, ask)?;
     let answer = answer_json(alloc, answer)?;
     format!(in alloc; "[{ask},{answer}]")
 }
 
-fn put_json(alloc: Global, path: &Path, node: &Node) -> Result<String, AllocError> {
+fn put_json(alloc: Global, path: &Path, node: &Node) -> Result<String, NoMem> {
     let path = of_path(alloc, "put", path)?;
     let node = node_json(alloc, node)?;
     format!(in alloc; "[{path},{node}]")
 }
 
-fn grow_json(alloc: Global, path: &Path, content: &[u8]) -> Result<String, AllocError> {
+fn grow_json(alloc: Global, path: &Path, content: &[u8]) -> Result<String, NoMem> {
     let path = of_path(alloc, "grow", path)?;
     let digits = encode(alloc, content)?;
     format!(in alloc; "[{path},\"{digits}\"]")
 }
 
-fn set_var_json(alloc: Global, name: &str, value: &str) -> Result<String, AllocError> {
+fn set_var_json(alloc: Global, name: &str, value: &str) -> Result<String, NoMem> {
     let name = of_name(alloc, "setvar", name)?;
     let value = quoted(alloc, value)?;
     format!(in alloc; "[{name},{value}]")
 }
 
-fn set_cwd_json(alloc: Global, path: &Path) -> Result<String, AllocError> {
+fn set_cwd_json(alloc: Global, path: &Path) -> Result<String, NoMem> {
     let path = of_path(alloc, "setcwd", path)?;
     format!(in alloc; "[{path}]")
 }
 
 /// A change.
-fn made_json(alloc: Global, change: &Change) -> Result<String, AllocError> {
+fn made_json(alloc: Global, change: &Change) -> Result<String, NoMem> {
     match change {
         Change::Put(path, node) => put_json(alloc, path, node),
         Change::Grow(path, content) => grow_json(alloc, path, content.as_slice()),
@@ -201,7 +203,7 @@ fn made_json(alloc: Global, change: &Change) -> Result<String, AllocError> {
 }
 
 /// A note, without its session.
-fn note_json(alloc: Global, note: &Note) -> Result<String, AllocError> {
+fn note_json(alloc: Global, note: &Note) -> Result<String, NoMem> {
     match note {
         Note::Asked(ask, answer) => asked_json(alloc, ask, answer),
         Note::Made(change) => made_json(alloc, change),
@@ -209,7 +211,7 @@ fn note_json(alloc: Global, note: &Note) -> Result<String, AllocError> {
 }
 
 /// Appends notes, each after a space.
-pub fn push_notes(alloc: Global, out: &mut String, notes: &[Note]) -> Result<(), AllocError> {
+pub fn push_notes(alloc: Global, out: &mut String, notes: &[Note]) -> Result<(), NoMem> {
     for note in notes {
         out.push(' ')?;
         out.push_str(&note_json(alloc, note)?)?;

@@ -8,8 +8,8 @@ use crate::states::{same_state, state_of};
 use retro_rows::{fail, text, utf8};
 use retro_shell::{Run, apply_notes, holds, play, run_line, run_parsed, step};
 use retro_syntax::Parsed;
-use retro_tree::{Answer, Ask, Note, State, View};
-use std::alloc::{AllocError, Global};
+use retro_tree::{Answer, Ask, NoMem, Note, State, View};
+use std::alloc::Global;
 use std::test::Fail;
 
 /// Whether two runs have the same notes and output.
@@ -23,25 +23,25 @@ fn is_of(run: &Run, given: &str) -> bool {
 }
 
 /// Runs the parsed line over a view.
-fn run_tree<V: View>(alloc: Global, view: &V, given: &str) -> Result<Run, AllocError> {
+fn run_tree<V: View>(alloc: Global, view: &V, given: &str) -> Result<Run, NoMem> {
     let parsed = Parsed::of(alloc, text(alloc, given)?)?;
     run_parsed(alloc, view, 1, &parsed)
 }
 
 /// Whether the parsed line leaves the same over a view as a run.
-fn is_run_parsed<V: View>(alloc: Global, view: &V, run: &Run) -> Result<bool, AllocError> {
+fn is_run_parsed<V: View>(alloc: Global, view: &V, run: &Run) -> Result<bool, NoMem> {
     let other = run_tree(alloc, view, run.text())?;
     Ok(is_of(&other, run.text()) && same_runs(run, &other))
 }
 
 /// Whether the line leaves the same over a view as a run.
-fn is_run_again<V: View>(alloc: Global, view: &V, run: &Run) -> Result<bool, AllocError> {
+fn is_run_again<V: View>(alloc: Global, view: &V, run: &Run) -> Result<bool, NoMem> {
     let other = run_line(alloc, view, 1, run.text())?;
     Ok(is_of(&other, run.text()) && same_runs(run, &other))
 }
 
 /// Whether the notes of a run hold over a view, and its line leaves the same there, also parsed.
-fn is_run_over<V: View>(alloc: Global, view: &V, run: &Run) -> Result<bool, AllocError> {
+fn is_run_over<V: View>(alloc: Global, view: &V, run: &Run) -> Result<bool, NoMem> {
     let holds = holds(alloc, run.notes(), view)?;
     Ok(holds && is_run_again(alloc, view, run)? && is_run_parsed(alloc, view, run)?)
 }
@@ -67,7 +67,7 @@ fn state_after(alloc: Global, words: &str, run: &Run) -> Result<State, Fail> {
 }
 
 /// Whether playing the line over a state gives a run's output and the state after its notes.
-fn is_played(alloc: Global, state: &State, after: &State, run: &Run) -> Result<bool, AllocError> {
+fn is_played(alloc: Global, state: &State, after: &State, run: &Run) -> Result<bool, NoMem> {
     if !state.has_session(1) || !state.is_lawful(alloc)? {
         return Ok(false);
     }
@@ -76,12 +76,7 @@ fn is_played(alloc: Global, state: &State, after: &State, run: &Run) -> Result<b
 }
 
 /// Whether stepping a state by the line leaves a run's output and the state after its notes.
-fn is_stepped(
-    alloc: Global,
-    state: &mut State,
-    after: &State,
-    run: &Run,
-) -> Result<bool, AllocError> {
+fn is_stepped(alloc: Global, state: &mut State, after: &State, run: &Run) -> Result<bool, NoMem> {
     if !state.has_session(1) || !state.is_lawful(alloc)? {
         return Ok(false);
     }
@@ -106,12 +101,7 @@ fn status_of(alloc: Global, state: &State) -> Result<u8, Fail> {
 }
 
 /// A status, an output and notes.
-fn result_text(
-    alloc: Global,
-    status: u8,
-    output: &str,
-    notes: &[Note],
-) -> Result<String, AllocError> {
+fn result_text(alloc: Global, status: u8, output: &str, notes: &[Note]) -> Result<String, NoMem> {
     let mut out = format!(in alloc; "{status} [{output}]")?;
     push_notes(alloc, &mut out, notes)?;
     Ok(out)

@@ -8,9 +8,9 @@ use crate::json::push_notes;
 use crate::shown::Shown;
 use crate::states::{bytes, state_of};
 use retro_rows::{fail, path, text, utf8};
-use retro_tree::{State, View};
+use retro_tree::{NoMem, State, View};
 use retro_utils::{Done, Input, Local, Place, holds, utility};
-use std::alloc::{AllocError, Global};
+use std::alloc::Global;
 use std::test::Fail;
 
 /// The place that a text says.
@@ -66,7 +66,7 @@ fn push_left<V: View>(
     out: &mut String,
     view: &V,
     local: Local<V>,
-) -> Result<bool, AllocError> {
+) -> Result<bool, NoMem> {
     let notes = local.into_notes(alloc)?;
     push_notes(alloc, out, notes.as_slice())?;
     holds(alloc, &notes, view)

@@ -1,7 +1,7 @@
 //! A view that is an overlay over another view.
 use crate::states::changes;
-use retro_tree::{Answer, Ask, Change, Listing, Overlay, Path, View};
-use std::alloc::{AllocError, Global};
+use retro_tree::{Answer, Ask, Change, Listing, NoMem, Overlay, Path, View};
+use std::alloc::Global;
 use std::marker::Model;
 use std::test::Fail;
 
@@ -46,7 +46,7 @@ impl<'a, V: View> Shown<'a, V> {
     }
 
     /// Makes a change.
-    fn apply(&mut self, change: Change) -> Result<(), AllocError> {
+    fn apply(&mut self, change: Change) -> Result<(), NoMem> {
         self.overlay.apply(change)
     }
 }
@@ -55,11 +55,11 @@ impl<'a, V: View> Shown<'a, V> {
 impl<'a, V: View> View for Shown<'a, V> {
     ghost state = { λ state. state };
 
-    fn answer(&self, alloc: Global, ask: &Ask) -> Result<Answer, AllocError> {
+    fn answer(&self, alloc: Global, ask: &Ask) -> Result<Answer, NoMem> {
         self.overlay.answer(alloc, self.below, ask)
     }
 
-    fn children(&self, alloc: Global, path: &Path) -> Result<Listing, AllocError> {
+    fn children(&self, alloc: Global, path: &Path) -> Result<Listing, NoMem> {
         self.overlay.children(alloc, self.below, path)
     }
 }

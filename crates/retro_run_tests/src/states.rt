@@ -6,9 +6,9 @@
 //! session in `/h`, its HOME.
 use retro_rows::{fail, path};
 use retro_tree::{
-    Bytes, Change, Entry, Node, Path, Resolved, Session, State, Text, Tree, VarName, resolve,
+    Bytes, Change, Entry, NoMem, Node, Path, Resolved, Session, State, Text, Tree, VarName, resolve,
 };
-use std::alloc::{AllocError, Global};
+use std::alloc::Global;
 use std::test::Fail;
 
 /// What `base` is short for.
@@ -18,12 +18,12 @@ const BASE: &str = concat!(
 );
 
 /// The bytes of a text.
-pub fn bytes(alloc: Global, given: &str) -> Result<Bytes, AllocError> {
+pub fn bytes(alloc: Global, given: &str) -> Result<Bytes, NoMem> {
     Ok(Bytes::of(Vec::from_slice(alloc, given.as_bytes())?))
 }
 
 /// The text of so many letters `n`.
-fn letters(alloc: Global, count: u32) -> Result<String, AllocError> {
+fn letters(alloc: Global, count: u32) -> Result<String, NoMem> {
     let mut out = String::new(alloc);
     for _ in 0..count {
         out.push('n')?;
@@ -99,7 +99,7 @@ pub fn changes(alloc: Global, words: &str) -> Result<Vec<Change>, Fail> {
 }
 
 /// Makes changes to a state.
-fn apply_all(alloc: Global, state: &mut State, changes: &[Change]) -> Result<(), AllocError> {
+fn apply_all(alloc: Global, state: &mut State, changes: &[Change]) -> Result<(), NoMem> {
     for change in changes {
         state.apply(alloc, change)?;
     }

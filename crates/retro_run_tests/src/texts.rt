@@ -5,7 +5,8 @@ use retro_text::{
     Condition, Cut, KnownLetters, Lines, PathTest, Request, Search, UsageError, Utility,
     before_bracket, echo_text, label, usage_text,
 };
-use std::alloc::{AllocError, Global};
+use retro_tree::NoMem;
+use std::alloc::Global;
 
 /// The option letters of `cut`.
 const CUT: KnownLetters = KnownLetters {
@@ -20,14 +21,14 @@ const GREP: KnownLetters = KnownLetters {
 };
 
 /// Bytes in hexadecimal digits after `0x`.
-fn hexadecimal(alloc: Global, bytes: &[u8]) -> Result<String, AllocError> {
+fn hexadecimal(alloc: Global, bytes: &[u8]) -> Result<String, NoMem> {
     let mut digits = text(alloc, "0x")?;
     digits.push_str(&encode(alloc, bytes)?)?;
     Ok(digits)
 }
 
 /// Bytes as text, or in hexadecimal digits if they aren't UTF-8.
-fn shown(alloc: Global, bytes: &[u8]) -> Result<String, AllocError> {
+fn shown(alloc: Global, bytes: &[u8]) -> Result<String, NoMem> {
     match str::from_utf8(bytes) {
         Ok(valid) => text(alloc, valid),
         Err(_) => hexadecimal(alloc, bytes),
@@ -35,15 +36,15 @@ fn shown(alloc: Global, bytes: &[u8]) -> Result<String, AllocError> {
 }
 
 /// What a call that reads fields returns if it fails.
-fn refused(alloc: Global, error: UsageError) -> Result<String, AllocError> {
+fn refused(alloc: Global, error: UsageError) -> Result<String, NoMem> {
     match error {
         UsageError::Usage => text(alloc, "usage"),
-        UsageError::NoMem => Err(AllocError),
+        UsageError::NoMem => Err(NoMem),
     }
 }
 
 /// Appends texts, each after a space.
-fn push_texts(out: &mut String, texts: &[String]) -> Result<(), AllocError> {
+fn push_texts(out: &mut String, texts: &[String]) -> Result<(), NoMem> {
     for each in texts {
         out.push(' ')?;
         out.push_str(each.as_str())?;
@@ -52,7 +53,7 @@ fn push_texts(out: &mut String, texts: &[String]) -> Result<(), AllocError> {
 }
 
 /// Appends the flags that were given.
-fn push_flags(out: &mut String, request: &Request<'_>, flags: &[u8]) -> Result<(), AllocError> {
+fn push_flags(out: &mut String, request: &Request<'_>, flags: &[u8]) -> Result<(), NoMem> {
     for letter in flags {
         if request.has(*letter) {
             out.push(char::from(*letter))?;
@@ -67,7 +68,7 @@ fn push_argument(
     out: &mut String,
     letter: char,
     argument: &[u8],
-) -> Result<(), AllocError> {
+) -> Result<(), NoMem> {
     let argument = shown(alloc, argument)?;
     out.push_str(&format!(in alloc; " {letter}={argument}")?)
 }
@@ -78,7 +79,7 @@ fn push_arguments(
     out: &mut String,
     request: &Request<'_>,
     letters: &[u8],
-) -> Result<(), AllocError> {
+) -> Result<(), NoMem> {
     for letter in letters {
         if let Some(argument) = request.argument(*letter) {
             push_argument(alloc, out, char::from(*letter), argument)?;
@@ -92,7 +93,7 @@ fn request_text(
     alloc: Global,
     request: &Request<'_>,
     known: &KnownLetters<'_>,
-) -> Result<String, AllocError> {
+) -> Result<String, NoMem> {
     let mut out = String::new(alloc);
     push_flags(&mut out, request, known.flags)?;
     push_arguments(alloc, &mut out, request, known.arguments)?;
@@ -108,7 +109,7 @@ pub fn request(
     flags: &str,
     arguments: &str,
     fields: &[String],
-) -> Result<String, AllocError> {
+) -> Result<String, NoMem> {
     let known = KnownLetters {
         flags: flags.as_bytes(),
         arguments: arguments.as_bytes(),
@@ -120,13 +121,13 @@ pub fn request(
 }
 
 /// Appends a line in brackets.
-fn push_line(alloc: Global, out: &mut String, line: &[u8]) -> Result<(), AllocError> {
+fn push_line(alloc: Global, out: &mut String, line: &[u8]) -> Result<(), NoMem> {
     let line = shown(alloc, line)?;
     out.push_str(&format!(in alloc; "[{line}]")?)
 }
 
 /// The lines of a text, each in brackets.
-pub fn lines(alloc: Global, given: &str) -> Result<String, AllocError> {
+pub fn lines(alloc: Global, given: &str) -> Result<String, NoMem> {
     let mut out = String::new(alloc);
     for line in Lines::of(given.as_bytes()) {
         push_line(alloc, &mut out, line)?;
@@ -135,13 +136,13 @@ pub fn lines(alloc: Global, given: &str) -> Result<String, AllocError> {
 }
 
 /// What `cut` leaves of a text.
-fn cut_text(alloc: Global, cut: &Cut, given: &str) -> Result<String, AllocError> {
+fn cut_text(alloc: Global, cut: &Cut, given: &str) -> Result<String, NoMem> {
     let left = cut.text(alloc, given.as_bytes())?;
     shown(alloc, left.as_slice())
 }
 
 /// What `cut` with this request leaves of a text.
-fn cut_of(alloc: Global, request: &Request<'_>, given: &str) -> Result<String, AllocError> {
+fn cut_of(alloc: Global, request: &Request<'_>, given: &str) -> Result<String, NoMem> {
     match Cut::of(alloc, request) {
         Ok(cut) => cut_text(alloc, &cut, given),
         Err(error) => refused(alloc, error),
@@ -149,7 +150,7 @@ fn cut_of(alloc: Global, request: &Request<'_>, given: &str) -> Result<String, A
 }
 
 /// What `cut` with these options leaves of a text.
-pub fn cut(alloc: Global, given: &str, fields: &[String]) -> Result<String, AllocError> {
+pub fn cut(alloc: Global, given: &str, fields: &[String]) -> Result<String, NoMem> {
     match Request::of(alloc, &CUT, fields) {
         Ok(request) => cut_of(alloc, &request, given),
         Err(error) => refused(alloc, error),
@@ -162,19 +163,14 @@ fn found_text(
     search: &Search<'_>,
     label: &[u8],
     given: &str,
-) -> Result<String, AllocError> {
+) -> Result<String, NoMem> {
     let found = search.run(alloc, label, given.as_bytes())?;
     let output = shown(alloc, found.output.as_slice())?;
     format!(in alloc; "{} {output}", search.status(found.selected, false))
 }
 
 /// The status of a `grep` with this request over one text, and what it prints, with a label.
-fn grep_of(
-    alloc: Global,
-    request: &Request<'_>,
-    name: &str,
-    given: &str,
-) -> Result<String, AllocError> {
+fn grep_of(alloc: Global, request: &Request<'_>, name: &str, given: &str) -> Result<String, NoMem> {
     let Some((search, files)) = Search::of(request) else {
         return text(alloc, "usage");
     };
@@ -183,12 +179,7 @@ fn grep_of(
 }
 
 /// The status of a `grep` without faults over one text, and what it prints, with a label.
-pub fn grep(
-    alloc: Global,
-    name: &str,
-    given: &str,
-    fields: &[String],
-) -> Result<String, AllocError> {
+pub fn grep(alloc: Global, name: &str, given: &str, fields: &[String]) -> Result<String, NoMem> {
     match Request::of(alloc, &GREP, fields) {
         Ok(request) => grep_of(alloc, &request, name, given),
         Err(error) => refused(alloc, error),
@@ -201,7 +192,7 @@ fn status_of(
     request: &Request<'_>,
     selected: bool,
     fault: bool,
-) -> Result<String, AllocError> {
+) -> Result<String, NoMem> {
     match Search::of(request) {
         Some((search, _)) => format!(in alloc; "{}", search.status(selected, fault)),
         None => text(alloc, "usage"),
@@ -214,7 +205,7 @@ pub fn grep_status(
     selected: &str,
     fault: &str,
     fields: &[String],
-) -> Result<String, AllocError> {
+) -> Result<String, NoMem> {
     match Request::of(alloc, &GREP, fields) {
         Ok(request) => status_of(alloc, &request, selected == "selected", fault == "fault"),
         Err(error) => refused(alloc, error),
@@ -231,7 +222,7 @@ fn test_word(test: PathTest) -> &'static str {
 }
 
 /// The condition that operands are: `true`, `false`, or which path it asks for.
-pub fn condition(alloc: Global, operands: &[String]) -> Result<String, AllocError> {
+pub fn condition(alloc: Global, operands: &[String]) -> Result<String, NoMem> {
     match Condition::of(operands) {
         None => text(alloc, "usage"),
         Some(Condition::Known(holds)) => format!(in alloc; "{holds}"),
@@ -240,7 +231,7 @@ pub fn condition(alloc: Global, operands: &[String]) -> Result<String, AllocErro
 }
 
 /// The condition that the operands of `[` are.
-pub fn bracket(alloc: Global, operands: &[String]) -> Result<String, AllocError> {
+pub fn bracket(alloc: Global, operands: &[String]) -> Result<String, NoMem> {
     match before_bracket(operands) {
         None => text(alloc, "usage"),
         Some(operands) => condition(alloc, operands),
@@ -248,19 +239,19 @@ pub fn bracket(alloc: Global, operands: &[String]) -> Result<String, AllocError>
 }
 
 /// What `echo` prints.
-pub fn echo(alloc: Global, operands: &[String]) -> Result<String, AllocError> {
+pub fn echo(alloc: Global, operands: &[String]) -> Result<String, NoMem> {
     let printed = echo_text(alloc, operands)?;
     shown(alloc, printed.as_slice())
 }
 
 /// What a fault in the fields of a utility prints.
-pub fn usage(alloc: Global, name: &str) -> Result<String, AllocError> {
+pub fn usage(alloc: Global, name: &str) -> Result<String, NoMem> {
     let printed = usage_text(alloc, name)?;
     shown(alloc, printed.as_slice())
 }
 
 /// The name of the utility that has a name, or `none`.
-pub fn utility(alloc: Global, name: &str) -> Result<String, AllocError> {
+pub fn utility(alloc: Global, name: &str) -> Result<String, NoMem> {
     match Utility::of(name) {
         Some(utility) => text(alloc, utility.name()),
         None => text(alloc, "none"),

@@ -29,6 +29,6 @@ mod streams;
 mod target;
 
 pub use line::{play, run_line, run_parsed, step};
+pub use retro_tree::NoMem;
 pub use retro_utils::{apply_notes, holds};
 pub use run::Run;
-pub use std::alloc::AllocError as NoMem;

@@ -12,10 +12,11 @@ ghost use Rattle.retro_syntax.specs.View.{
 };
 
 use crate::tree::{Command, Commands, Conditional, Loop, Simple};
-use std::alloc::{AllocError, Global};
+use retro_path::NoMem;
+use std::alloc::Global;
 
 /// Returns an `if` without `else`.
-pub fn conditional(alloc: Global, parts: Conditional<Command>) -> Result<Command, AllocError>
+pub fn conditional(alloc: Global, parts: Conditional<Command>) -> Result<Command, NoMem>
     ensures { IfOk result (λ c. view c ≡ Tree.conditional (arms_of view parts)) }
 {
     Ok(Command::If(Box::new(alloc, parts)?))
@@ -34,7 +35,7 @@ pub fn conditional_else(
     alloc: Global,
     parts: Conditional<Command>,
     alternative: Commands<Command>,
-) -> Result<Command, AllocError>
+) -> Result<Command, NoMem>
     ensures { IfOk result (λ c. view c ≡ Tree.conditional (arms_else_of view parts alternative)) }
 {
     let parts = Box::new(alloc, parts)?;
@@ -42,7 +43,7 @@ pub fn conditional_else(
 }
 
 /// Returns a `for`.
-pub fn repetition(alloc: Global, parts: Loop<Command>) -> Result<Command, AllocError>
+pub fn repetition(alloc: Global, parts: Loop<Command>) -> Result<Command, NoMem>
     ensures { IfOk result (λ c. view c
         ≡ Tree.loop parts.name (map word_view parts.words.items)
         (commands_of view parts.body)) }

@@ -43,8 +43,8 @@ use crate::lexer::characters::{
 use crate::lexer::pieces::{push_dollar, push_plain, push_quoted, push_quoted_text};
 use crate::syntax_error::SyntaxError;
 use crate::tree::{Connector, Direction, Parameter, Piece, Token, Word};
-use retro_path::VarName;
-use std::alloc::{AllocError, Global};
+use retro_path::{NoMem, VarName};
+use std::alloc::Global;
 use std::mem;
 
 /// The first character of an operator (XCU 2.10.2).
@@ -190,7 +190,7 @@ impl Lexer {
     }
 
     /// Appends the pending word to the tokens.
-    fn end_word(&mut self) -> Result<(), AllocError>
+    fn end_word(&mut self) -> Result<(), NoMem>
         ensures { OnOk result (tokens_view self.new.tokens
             ≡ tokens_view self.old.tokens ++ Tree.word (pieces_view self.old.pieces) ∷ []) }
     {
@@ -365,7 +365,7 @@ impl Lexer {
     }
 
     /// Begins the name of a parameter with its first character.
-    fn begin_name(&mut self, c: char) -> Result<(), AllocError>
+    fn begin_name(&mut self, c: char) -> Result<(), NoMem>
         ensures name { OnOk result (string_bytes self.new.name ≡ encode_utf8 c) }
         ensures tokens { self.new.tokens ≡ self.old.tokens }
         ensures pieces { self.new.pieces ≡ self.old.pieces }

@@ -13,10 +13,11 @@ ghost use Rattle.std.specs.Prelude.{
   string_bytes,
 };
 ghost use Rattle.retro_syntax.specs.Lines.{Meets, line_view, parsed};
-ghost use Rattle.retro_syntax.specs.declared.lines.Refused.TheVariants.{NoMem};
+ghost use Rattle.retro_syntax.specs.declared.lines.Refused.TheVariants as refusals;
 
 use crate::lines::{Line, Refused, parse};
-use std::alloc::{AllocError, Global};
+use retro_path::NoMem;
+use std::alloc::Global;
 use std::marker::Model;
 
 /// A text with the result of [`parse`] for it. In contracts it is the text.
@@ -39,11 +40,11 @@ impl Model for Parsed {
 
 impl Parsed {
     /// Parses a text, and keeps it with the result.
-    pub fn of(alloc: Global, text: String) -> Result<Parsed, AllocError>
+    pub fn of(alloc: Global, text: String) -> Result<Parsed, NoMem>
         ensures { IfOk result (λ p. p ≡ string_bytes text) }
     {
         match parse(alloc, &text) {
-            Err(Refused::NoMem) => Err(AllocError),
+            Err(Refused::NoMem) => Err(NoMem),
             answer => Ok(Parsed { text, answer }),
         }
     }
@@ -67,7 +68,7 @@ impl Parsed {
 
     /// Returns why the text is refused, or `None` if it spells a line. Never returns `NoMem`.
     pub fn refused(&self) -> Option<Refused>
-        ensures meets { IfSome result (λ why. Meets self.now (Err why) × (why ≢ NoMem)) }
+        ensures meets { IfSome result (λ why. Meets self.now (Err why) × (why ≢ refusals.NoMem)) }
         ensures found { is_some result ≡ is_none (parsed self.now) }
     {
         match &self.answer {

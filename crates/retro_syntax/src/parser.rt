@@ -44,7 +44,7 @@ use crate::tree::{
 use crate::words::{Class, assignment_of, class_of, is_assignment, is_ordinary, name_of};
 use open::Open;
 use retro_path::VarName;
-use std::alloc::{AllocError, Global};
+use std::alloc::Global;
 use std::mem;
 
 /// A condition of an `if`, and the list that runs if it holds.

@@ -1,6 +1,7 @@
 //! Errors of the lexer and the parser.
 
-use std::alloc::{AllocError, AllocFailed};
+use retro_path::NoMem;
+use std::alloc::AllocFailed;
 
 /// Why a text has no tokens, or tokens have no tree.
 #[derive(Clone, Copy, Debug, PartialEq, Eq)]
@@ -11,22 +12,22 @@ pub enum SyntaxError {
     NoMem,
 }
 
-impl From<AllocError> for SyntaxError {
+impl From<NoMem> for SyntaxError {
     ghost use Rattle.std.specs.Prelude.{◌≡◌};
-    ghost use Rattle.retro_syntax.specs.declared.syntax_error.SyntaxError.TheVariants.{NoMem};
+    ghost use Rattle.retro_syntax.specs.declared.syntax_error.SyntaxError.TheVariants as errors;
 
-    ghost from_gives = { λ _ e. e ≡ NoMem };
+    ghost from_gives = { λ _ e. e ≡ errors.NoMem };
 
-    fn from(_error: AllocError) -> SyntaxError {
+    fn from(_error: NoMem) -> SyntaxError {
         SyntaxError::NoMem
     }
 }
 
 impl<T: Drop> From<AllocFailed<T>> for SyntaxError {
     ghost use Rattle.std.specs.Prelude.{◌≡◌};
-    ghost use Rattle.retro_syntax.specs.declared.syntax_error.SyntaxError.TheVariants.{NoMem};
+    ghost use Rattle.retro_syntax.specs.declared.syntax_error.SyntaxError.TheVariants as errors;
 
-    ghost from_gives = { λ _ e. e ≡ NoMem };
+    ghost from_gives = { λ _ e. e ≡ errors.NoMem };
 
     fn from(_error: AllocFailed<T>) -> SyntaxError {
         SyntaxError::NoMem

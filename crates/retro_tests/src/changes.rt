@@ -3,8 +3,8 @@
 //! Changes are separated by `; `: `put PATH dir`, `put PATH missing`, `put PATH file TEXT`,
 //! `grow PATH by TEXT`, `var SID NAME TEXT`, `cwd SID PATH`, `status SID NUMBER`.
 use retro_rows::{fail, path, text};
-use retro_tree::{Bytes, Change, Node, State, Text, VarName};
-use std::alloc::{AllocError, Global};
+use retro_tree::{Bytes, Change, NoMem, Node, State, Text, VarName};
+use std::alloc::Global;
 use std::test::Fail;
 
 /// A name of a variable.
@@ -16,7 +16,7 @@ pub fn variable(alloc: Global, given: &str) -> Result<VarName, Fail> {
 }
 
 /// The bytes of a text.
-fn bytes(alloc: Global, given: &str) -> Result<Bytes, AllocError> {
+fn bytes(alloc: Global, given: &str) -> Result<Bytes, NoMem> {
     Ok(Bytes::of(Vec::from_slice(alloc, given.as_bytes())?))
 }
 
@@ -98,13 +98,13 @@ fn changes(alloc: Global, given: &str) -> Result<Vec<Change>, Fail> {
 }
 
 /// Makes a copy of a change to a state.
-fn apply_copy(alloc: Global, state: &mut State, change: &Change) -> Result<(), AllocError> {
+fn apply_copy(alloc: Global, state: &mut State, change: &Change) -> Result<(), NoMem> {
     let copy = change.copy()?;
     state.apply(alloc, &copy)
 }
 
 /// Makes copies of changes to a state.
-fn apply_all(alloc: Global, state: &mut State, changes: &[Change]) -> Result<(), AllocError> {
+fn apply_all(alloc: Global, state: &mut State, changes: &[Change]) -> Result<(), NoMem> {
     for change in changes {
         apply_copy(alloc, state, change)?;
     }

@@ -1,11 +1,11 @@
 //! Names, paths, and the paths that texts name.
 use retro_rows::{fail, path, text};
-use retro_tree::{Name, Path, Resolved, VarName, is_relative, resolve};
-use std::alloc::{AllocError, Global};
+use retro_tree::{Name, NoMem, Path, Resolved, VarName, is_relative, resolve};
+use std::alloc::Global;
 use std::test::Fail;
 
 /// The path of these names as text, `/` for none.
-pub fn path_text(alloc: Global, names: &[Name]) -> Result<String, AllocError> {
+pub fn path_text(alloc: Global, names: &[Name]) -> Result<String, NoMem> {
     if names.is_empty() {
         return text(alloc, "/");
     }
@@ -18,7 +18,7 @@ pub fn path_text(alloc: Global, names: &[Name]) -> Result<String, AllocError> {
 }
 
 /// What resolving a text came to.
-fn resolved_text(alloc: Global, resolved: &Resolved) -> Result<String, AllocError> {
+fn resolved_text(alloc: Global, resolved: &Resolved) -> Result<String, NoMem> {
     match resolved {
         Resolved::Is(path) => path_text(alloc, path.names()),
         Resolved::Empty => text(alloc, "empty"),
@@ -34,24 +34,24 @@ pub fn resolved(alloc: Global, cwd: &str, given: &str) -> Result<String, Fail> {
 }
 
 /// A truth value as text.
-pub fn bool_text(alloc: Global, holds: bool) -> Result<String, AllocError> {
+pub fn bool_text(alloc: Global, holds: bool) -> Result<String, NoMem> {
     text(alloc, if holds { "true" } else { "false" })
 }
 
 /// Whether a text is relative.
-pub fn relative(alloc: Global, text: &str) -> Result<String, AllocError> {
+pub fn relative(alloc: Global, text: &str) -> Result<String, NoMem> {
     let relative = is_relative(alloc, text)?;
     bool_text(alloc, relative)
 }
 
 /// Whether a text is a name.
-pub fn is_name(alloc: Global, given: &str) -> Result<String, AllocError> {
+pub fn is_name(alloc: Global, given: &str) -> Result<String, NoMem> {
     let name = text(alloc, given)?;
     bool_text(alloc, Name::of(name).is_some())
 }
 
 /// The variable's name that a text is, or `none`.
-pub fn variable(alloc: Global, given: &str) -> Result<String, AllocError> {
+pub fn variable(alloc: Global, given: &str) -> Result<String, NoMem> {
     match VarName::of(alloc, given)? {
         Some(name) => text(alloc, name.copy()?.as_str()),
         None => text(alloc, "none"),
@@ -59,7 +59,7 @@ pub fn variable(alloc: Global, given: &str) -> Result<String, AllocError> {
 }
 
 /// Copies of texts.
-fn copies(alloc: Global, texts: &[String]) -> Result<Vec<String>, AllocError> {
+fn copies(alloc: Global, texts: &[String]) -> Result<Vec<String>, NoMem> {
     let mut copies = Vec::new(alloc);
     for text in texts {
         copies.push(text.clone()?)?;
@@ -68,7 +68,7 @@ fn copies(alloc: Global, texts: &[String]) -> Result<Vec<String>, AllocError> {
 }
 
 /// The path of these names, or `none`.
-pub fn joined_path(alloc: Global, names: &[String]) -> Result<String, AllocError> {
+pub fn joined_path(alloc: Global, names: &[String]) -> Result<String, NoMem> {
     match Path::of(alloc, copies(alloc, names)?)? {
         Some(path) => path_text(alloc, path.names()),
         None => text(alloc, "none"),
@@ -76,7 +76,7 @@ pub fn joined_path(alloc: Global, names: &[String]) -> Result<String, AllocError
 }
 
 /// The parent of a path.
-fn parent_of(alloc: Global, path: &Path) -> Result<String, AllocError> {
+fn parent_of(alloc: Global, path: &Path) -> Result<String, NoMem> {
     let parent = path.parent(alloc)?;
     path_text(alloc, parent.names())
 }
@@ -88,7 +88,7 @@ pub fn parent(alloc: Global, given: &str) -> Result<String, Fail> {
 }
 
 /// The child of a path with a copy of a name.
-fn child_of(alloc: Global, path: &Path, name: &Name) -> Result<String, AllocError> {
+fn child_of(alloc: Global, path: &Path, name: &Name) -> Result<String, NoMem> {
     let name = name.copy()?;
     let child = path.child(alloc, &name)?;
     path_text(alloc, child.names())
@@ -104,7 +104,7 @@ pub fn child(alloc: Global, given: &str, name: &str) -> Result<String, Fail> {
 }
 
 /// The names of a path below a prefix, or `none`.
-fn names_below(alloc: Global, path: &Path, prefix: &Path) -> Result<String, AllocError> {
+fn names_below(alloc: Global, path: &Path, prefix: &Path) -> Result<String, NoMem> {
     match path.strip_prefix(prefix) {
         Some(names) => path_text(alloc, names),
         None => text(alloc, "none"),
@@ -119,7 +119,7 @@ pub fn below(alloc: Global, given: &str, prefix: &str) -> Result<String, Fail> {
 }
 
 /// Paths, each with a space after it.
-fn paths_text(alloc: Global, paths: &[Path]) -> Result<String, AllocError> {
+fn paths_text(alloc: Global, paths: &[Path]) -> Result<String, NoMem> {
     let mut out = String::new(alloc);
     for path in paths {
         out.push_str(&path_text(alloc, path.names())?)?;
@@ -129,7 +129,7 @@ fn paths_text(alloc: Global, paths: &[Path]) -> Result<String, AllocError> {
 }
 
 /// The prefixes of a path, each with a space after it.
-fn prefixes_of(alloc: Global, path: &Path) -> Result<String, AllocError> {
+fn prefixes_of(alloc: Global, path: &Path) -> Result<String, NoMem> {
     let prefixes = path.prefixes(alloc)?;
     paths_text(alloc, &prefixes)
 }

@@ -5,8 +5,8 @@
 use crate::changes::variable;
 use crate::paths::path_text;
 use retro_rows::{fail, path, text, utf8};
-use retro_tree::{Answer, Ask, Cell, Listing, Node, Path, Text, User, Value};
-use std::alloc::{AllocError, Global};
+use retro_tree::{Answer, Ask, Cell, Listing, NoMem, Node, Path, Text, User, Value};
+use std::alloc::Global;
 use std::test::Fail;
 
 /// The question about a path.
@@ -77,7 +77,7 @@ fn node_text(alloc: Global, node: &Node) -> Result<String, Fail> {
 }
 
 /// The names of a listing, with spaces between.
-pub fn listing_text(alloc: Global, listing: &Listing) -> Result<String, AllocError> {
+pub fn listing_text(alloc: Global, listing: &Listing) -> Result<String, NoMem> {
     let mut out = String::new(alloc);
     for name in listing.names() {
         if !out.is_empty() {
@@ -89,7 +89,7 @@ pub fn listing_text(alloc: Global, listing: &Listing) -> Result<String, AllocErr
 }
 
 /// The names of a copy of a listing, or that there is no directory.
-fn names_text(alloc: Global, listing: &Option<Listing>) -> Result<String, AllocError> {
+fn names_text(alloc: Global, listing: &Option<Listing>) -> Result<String, NoMem> {
     match listing {
         Some(listing) => listing_text(alloc, &listing.copy()?),
         None => text(alloc, "no directory"),
@@ -97,7 +97,7 @@ fn names_text(alloc: Global, listing: &Option<Listing>) -> Result<String, AllocE
 }
 
 /// A user as text.
-fn user_text(alloc: Global, user: &Option<User>) -> Result<String, AllocError> {
+fn user_text(alloc: Global, user: &Option<User>) -> Result<String, NoMem> {
     match user {
         Some(user) => format!(in alloc; "{} {}", user.number, user.home.as_str()),
         None => text(alloc, "nobody"),
@@ -105,7 +105,7 @@ fn user_text(alloc: Global, user: &Option<User>) -> Result<String, AllocError> {
 }
 
 /// A variable's value as text.
-fn variable_text(alloc: Global, value: &Option<Text>) -> Result<String, AllocError> {
+fn variable_text(alloc: Global, value: &Option<Text>) -> Result<String, NoMem> {
     match value {
         Some(value) => text(alloc, value.as_str()),
         None => text(alloc, "unset"),

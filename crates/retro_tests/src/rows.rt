@@ -7,11 +7,12 @@ use crate::states::{allows, lawfulness, played, state_answer};
 use crate::tables::{EXPANSIONS, PATHS, SCRIPTS, STATES, TREES};
 use crate::trees::{tilde, tree};
 use retro_rows::{rows, text};
-use std::alloc::{AllocError, Global};
+use retro_tree::NoMem;
+use std::alloc::Global;
 use std::test::Fail;
 
 /// What a call about texts and names returns for these fields, as text.
-fn text_called(alloc: Global, call: &str, given: &[String]) -> Result<String, AllocError> {
+fn text_called(alloc: Global, call: &str, given: &[String]) -> Result<String, NoMem> {
     match (call, given) {
         ("relative", [text]) => relative(alloc, text),
         ("name", [name]) => is_name(alloc, name),

@@ -2,8 +2,8 @@
 use crate::changes::changed;
 use retro_keep::{Script, ScriptFault, ScriptLine};
 use retro_rows::{fail, text};
-use retro_tree::Text;
-use std::alloc::{AllocError, Global};
+use retro_tree::{NoMem, Text};
+use std::alloc::Global;
 use std::test::Fail;
 
 /// A line with the number and the session that a text is.
@@ -37,7 +37,7 @@ fn refusal(fault: ScriptFault) -> &'static str {
 }
 
 /// The refusal's number, or the number of lines of a script.
-fn script_text(alloc: Global, script: Result<Script, ScriptFault>) -> Result<String, AllocError> {
+fn script_text(alloc: Global, script: Result<Script, ScriptFault>) -> Result<String, NoMem> {
     match script {
         Ok(script) => format!(in alloc; "script {}", script.lines().len()),
         Err(fault) => text(alloc, refusal(fault)),

@@ -7,8 +7,8 @@ use crate::paths::bool_text;
 use crate::questions::{answer_text, ask, cell, listing_text, value_text};
 use retro_rows::{fail, path, text, utf8};
 use retro_shell::{play, step};
-use retro_tree::{Ask, Bytes, Cell, Change, Overlay, Path, State, View};
-use std::alloc::{AllocError, Global};
+use retro_tree::{Ask, Bytes, Cell, Change, NoMem, Overlay, Path, State, View};
+use std::alloc::Global;
 use std::test::Fail;
 
 /// What a view answers.
@@ -137,12 +137,7 @@ fn direct_answer(alloc: Global, base: &str, given: &str, question: &str) -> Resu
 }
 
 /// One answer, or all of them if they differ.
-fn agreed(
-    alloc: Global,
-    direct: &str,
-    combined: &str,
-    committed: &str,
-) -> Result<String, AllocError> {
+fn agreed(alloc: Global, direct: &str, combined: &str, committed: &str) -> Result<String, NoMem> {
     if direct == combined && direct == committed {
         return text(alloc, direct);
     }
@@ -162,7 +157,7 @@ pub fn state_answer(alloc: Global, given: &str, question: &str) -> Result<String
 }
 
 /// Whether a change is lawful in a state.
-fn allowed_text(alloc: Global, state: &State, change: &Change) -> Result<String, AllocError> {
+fn allowed_text(alloc: Global, state: &State, change: &Change) -> Result<String, NoMem> {
     let allowed = state.allows(alloc, change)?;
     bool_text(alloc, allowed)
 }

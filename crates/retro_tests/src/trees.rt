@@ -5,10 +5,11 @@ use retro_syntax::tree::{
     Pipeline, Simple, Word,
 };
 use retro_syntax::{Line, Parsed, Refused, TildePrefix, parse};
-use std::alloc::{AllocError, Global};
+use retro_tree::NoMem;
+use std::alloc::Global;
 
 /// Quoted pieces stand in double quotes, and parameters in `${ }`.
-fn show_word(out: &mut String, word: &Word) -> Result<(), AllocError> {
+fn show_word(out: &mut String, word: &Word) -> Result<(), NoMem> {
     for piece in &word.pieces {
         match piece {
             Piece::Plain(text) => out.push_str(text)?,
@@ -22,13 +23,13 @@ fn show_word(out: &mut String, word: &Word) -> Result<(), AllocError> {
     Ok(())
 }
 
-fn show_between(out: &mut String, before: &str, text: &str, after: &str) -> Result<(), AllocError> {
+fn show_between(out: &mut String, before: &str, text: &str, after: &str) -> Result<(), NoMem> {
     out.push_str(before)?;
     out.push_str(text)?;
     out.push_str(after)
 }
 
-fn show_item(out: &mut String, item: &Item) -> Result<(), AllocError> {
+fn show_item(out: &mut String, item: &Item) -> Result<(), NoMem> {
     match item {
         Item::Argument(word) => show_word(out, word),
         Item::Redirect(direction, word) => {
@@ -42,12 +43,12 @@ fn show_item(out: &mut String, item: &Item) -> Result<(), AllocError> {
     }
 }
 
-fn show_assignment(out: &mut String, assignment: &Assignment) -> Result<(), AllocError> {
+fn show_assignment(out: &mut String, assignment: &Assignment) -> Result<(), NoMem> {
     show_between(out, "", assignment.name.as_str(), ":=")?;
     show_word(out, &assignment.value)
 }
 
-fn show_simple(out: &mut String, simple: &Simple) -> Result<(), AllocError> {
+fn show_simple(out: &mut String, simple: &Simple) -> Result<(), NoMem> {
     out.push_str("(")?;
     match simple {
         Simple::Assignments(assignments) => {
@@ -66,7 +67,7 @@ fn show_simple(out: &mut String, simple: &Simple) -> Result<(), AllocError> {
     out.push_str(")")
 }
 
-fn show_stages(out: &mut String, stages: &[Simple]) -> Result<(), AllocError> {
+fn show_stages(out: &mut String, stages: &[Simple]) -> Result<(), NoMem> {
     for stage in stages {
         show_simple(out, stage)?;
     }
@@ -74,7 +75,7 @@ fn show_stages(out: &mut String, stages: &[Simple]) -> Result<(), AllocError> {
 }
 
 #[cycle(shown)]
-fn show_command(out: &mut String, command: &Command, room: u8) -> Result<(), AllocError> {
+fn show_command(out: &mut String, command: &Command, room: u8) -> Result<(), NoMem> {
     if room == 0 {
         return out.push_str("..");
     }
@@ -91,7 +92,7 @@ fn show_command(out: &mut String, command: &Command, room: u8) -> Result<(), All
 
 /// The conditions of an `if`, each with its consequence.
 #[cycle(shown)]
-fn show_arms(out: &mut String, parts: &Conditional<Command>, room: u8) -> Result<(), AllocError> {
+fn show_arms(out: &mut String, parts: &Conditional<Command>, room: u8) -> Result<(), NoMem> {
     for arm in &parts.before {
         show_list(out, "if", &arm.0, room)?;
         show_list(out, "then", &arm.1, room)?;
@@ -101,7 +102,7 @@ fn show_arms(out: &mut String, parts: &Conditional<Command>, room: u8) -> Result
 }
 
 /// What a `for` has before its body.
-fn show_head(out: &mut String, parts: &Loop<Command>) -> Result<(), AllocError> {
+fn show_head(out: &mut String, parts: &Loop<Command>) -> Result<(), NoMem> {
     show_between(out, "for ", parts.name.as_str(), " in ")?;
     for word in &parts.words {
         show_word(out, word)?;
@@ -111,17 +112,13 @@ fn show_head(out: &mut String, parts: &Loop<Command>) -> Result<(), AllocError> 
 }
 
 #[cycle(shown)]
-fn show_loop(out: &mut String, parts: &Loop<Command>, room: u8) -> Result<(), AllocError> {
+fn show_loop(out: &mut String, parts: &Loop<Command>, room: u8) -> Result<(), NoMem> {
     show_head(out, parts)?;
     show_list(out, "do", &parts.body, room)
 }
 
 #[cycle(shown)]
-fn show_pipeline(
-    out: &mut String,
-    pipeline: &Pipeline<Command>,
-    room: u8,
-) -> Result<(), AllocError> {
+fn show_pipeline(out: &mut String, pipeline: &Pipeline<Command>, room: u8) -> Result<(), NoMem> {
     if pipeline.negated {
         out.push_str("!")?;
     }
@@ -129,7 +126,7 @@ fn show_pipeline(
 }
 
 #[cycle(shown)]
-fn show_and_or(out: &mut String, and_or: &AndOr<Command>, room: u8) -> Result<(), AllocError> {
+fn show_and_or(out: &mut String, and_or: &AndOr<Command>, room: u8) -> Result<(), NoMem> {
     for joined in &and_or.before {
         show_pipeline(out, &joined.0, room)?;
         out.push_str(match joined.1 {
@@ -141,12 +138,7 @@ fn show_and_or(out: &mut String, and_or: &AndOr<Command>, room: u8) -> Result<()
 }
 
 #[cycle(shown)]
-fn show_list(
-    out: &mut String,
-    key: &str,
-    list: &Commands<Command>,
-    room: u8,
-) -> Result<(), AllocError> {
+fn show_list(out: &mut String, key: &str, list: &Commands<Command>, room: u8) -> Result<(), NoMem> {
     out.push_str(key)?;
     out.push_str("[")?;
     for and_or in &list.before {
@@ -158,7 +150,7 @@ fn show_list(
 }
 
 /// The tree of a line, nothing for a blank one.
-fn line_text(alloc: Global, line: &Line) -> Result<String, AllocError> {
+fn line_text(alloc: Global, line: &Line) -> Result<String, NoMem> {
     let mut out = String::new(alloc);
     if let Some(commands) = &line.commands {
         show_list(&mut out, "", commands, 40)?;
@@ -178,7 +170,7 @@ fn refusal(refused: Option<Refused>) -> &'static str {
 }
 
 /// The tree of a parsed text, or the number of its refusal.
-fn parsed_text(alloc: Global, parsed: &Parsed) -> Result<String, AllocError> {
+fn parsed_text(alloc: Global, parsed: &Parsed) -> Result<String, NoMem> {
     match parsed.line() {
         Some(line) => line_text(alloc, line),
         None => text(alloc, refusal(parsed.refused())),
@@ -186,7 +178,7 @@ fn parsed_text(alloc: Global, parsed: &Parsed) -> Result<String, AllocError> {
 }
 
 /// The tree of a parsed text, or the number of its refusal, or that its text isn't the given one.
-fn tree_of(alloc: Global, parsed: &Parsed, given: &str) -> Result<String, AllocError> {
+fn tree_of(alloc: Global, parsed: &Parsed, given: &str) -> Result<String, NoMem> {
     if parsed.text() == given {
         parsed_text(alloc, parsed)
     } else {
@@ -195,7 +187,7 @@ fn tree_of(alloc: Global, parsed: &Parsed, given: &str) -> Result<String, AllocE
 }
 
 /// The tree of a text, nothing for a blank line, or the number of its refusal.
-pub fn tree(alloc: Global, given: &str) -> Result<String, AllocError> {
+pub fn tree(alloc: Global, given: &str) -> Result<String, NoMem> {
     let text = text(alloc, given)?;
     tree_of(alloc, &Parsed::of(alloc, text)?, given)
 }
@@ -221,7 +213,7 @@ fn line_prefix(line: &Line) -> Option<TildePrefix<'_>> {
 }
 
 /// A login name and the rest of its word, or `none`.
-fn prefix_text(alloc: Global, prefix: Option<TildePrefix<'_>>) -> Result<String, AllocError> {
+fn prefix_text(alloc: Global, prefix: Option<TildePrefix<'_>>) -> Result<String, NoMem> {
     match prefix {
         Some(prefix) => format!(in alloc; "{}|{}", prefix.login, prefix.rest),
         None => text(alloc, "none"),
@@ -229,7 +221,7 @@ fn prefix_text(alloc: Global, prefix: Option<TildePrefix<'_>>) -> Result<String,
 }
 
 /// The login name and the rest of the first tilde prefix of a text's line, or `none`.
-pub fn tilde(alloc: Global, given: &str) -> Result<String, AllocError> {
+pub fn tilde(alloc: Global, given: &str) -> Result<String, NoMem> {
     match parse(alloc, given) {
         Ok(line) => prefix_text(alloc, line_prefix(&line)),
         Err(_) => text(alloc, "refused"),

@@ -1,13 +1,13 @@
 //! Bytes, texts, notes and overlays, by their small calls.
 use retro_rows::path;
 use retro_tree::{
-    Answer, Ask, Bytes, Cell, Change, Note, Notes, Overlay, OverlayEntry, Text, Value,
+    Answer, Ask, Bytes, Cell, Change, NoMem, Note, Notes, Overlay, OverlayEntry, Text, Value,
 };
-use std::alloc::{AllocError, Global};
+use std::alloc::Global;
 use std::test::Fail;
 
 /// Whether bytes are what they are made of, and what extends them.
-fn bytes_are_kept(alloc: Global) -> Result<bool, AllocError> {
+fn bytes_are_kept(alloc: Global) -> Result<bool, NoMem> {
     let mut bytes = Bytes::of(Vec::from_slice(alloc, b"ab")?);
     bytes.extend(b"c")?;
     Ok(
@@ -18,13 +18,13 @@ fn bytes_are_kept(alloc: Global) -> Result<bool, AllocError> {
 }
 
 /// Whether a text has its bytes.
-fn texts_are_kept(alloc: Global) -> Result<bool, AllocError> {
+fn texts_are_kept(alloc: Global) -> Result<bool, NoMem> {
     let text = Text::of(String::from_str(alloc, "é")?);
     Ok(text.copy()?.bytes() == [195, 169].as_slice())
 }
 
 /// A question with its answer and a change, in this order.
-fn two_notes(alloc: Global, status: u8) -> Result<Notes, AllocError> {
+fn two_notes(alloc: Global, status: u8) -> Result<Notes, NoMem> {
     let mut notes = Vec::new(alloc);
     notes.push(Note::Asked(Ask::StatusOf(7), Answer::Status(1)))?;
     notes.push(Note::Made(Change::SetStatus(7, status)))?;
@@ -45,14 +45,14 @@ fn are_two_notes(notes: &[Note], status: u8) -> bool {
 }
 
 /// Whether a copy of notes is the same as they are.
-fn notes_are_kept(alloc: Global) -> Result<bool, AllocError> {
+fn notes_are_kept(alloc: Global) -> Result<bool, NoMem> {
     let notes = two_notes(alloc, 2)?;
     let copy = notes.copy()?;
     Ok(are_two_notes(copy.as_slice(), 2) && copy.is_same(&notes))
 }
 
 /// Whether notes with other changes are others.
-fn notes_differ(alloc: Global) -> Result<bool, AllocError> {
+fn notes_differ(alloc: Global) -> Result<bool, NoMem> {
     let notes = two_notes(alloc, 2)?;
     Ok(!notes.is_same(&two_notes(alloc, 3)?))
 }

@@ -11,8 +11,8 @@ use crate::lines::Lines;
 use crate::request::Request;
 use crate::spans::Spans;
 use crate::usage::UsageError;
-use retro_path::Bytes;
-use std::alloc::{AllocError, Global};
+use retro_path::{Bytes, NoMem};
+use std::alloc::Global;
 
 /// The byte that separates fields if no other is given.
 const TAB: u8 = b'\t';
@@ -49,7 +49,7 @@ fn delimiter_of(argument: Option<&[u8]>) -> Option<u8>
 
 /// Appends the bytes of a line that the spans select, and a newline.
 #[tactic(auto, using(crate::proofs::Selecting::selects))]
-fn push_bytes(out: &mut Vec<u8>, spans: &Spans, line: &[u8]) -> Result<(), AllocError>
+fn push_bytes(out: &mut Vec<u8>, spans: &Spans, line: &[u8]) -> Result<(), NoMem>
     ensures { OnOk result (out.new.items
         ≡ out.old.items ++ (selected_items spans.now line.now ++ newline ∷ [])) }
 {
@@ -63,12 +63,7 @@ fn push_bytes(out: &mut Vec<u8>, spans: &Spans, line: &[u8]) -> Result<(), Alloc
 }
 
 /// Appends a field, after a delimiter if it isn't the first one.
-fn push_field(
-    out: &mut Vec<u8>,
-    delimiter: u8,
-    is_first: bool,
-    field: &[u8],
-) -> Result<(), AllocError>
+fn push_field(out: &mut Vec<u8>, delimiter: u8, is_first: bool, field: &[u8]) -> Result<(), NoMem>
     ensures { OnOk result (out.new.items
         ≡ out.old.items ++ separated delimiter is_first field.now) }
 {
@@ -80,12 +75,7 @@ fn push_field(
 
 /// Appends the fields of a line that the spans select, with the delimiter between each two, and a
 /// newline.
-fn push_fields(
-    out: &mut Vec<u8>,
-    spans: &Spans,
-    delimiter: u8,
-    line: &[u8],
-) -> Result<(), AllocError>
+fn push_fields(out: &mut Vec<u8>, spans: &Spans, delimiter: u8, line: &[u8]) -> Result<(), NoMem>
     ensures { OnOk result (out.new.items ≡ out.old.items ++ (join_with_byte delimiter
         (selected_items spans.now (slice_split (λ b. b == delimiter) line.now)) ++ newline ∷ [])) }
 {
@@ -101,7 +91,7 @@ fn push_fields(
 }
 
 /// Appends a line and a newline.
-fn push_whole(out: &mut Vec<u8>, line: &[u8]) -> Result<(), AllocError>
+fn push_whole(out: &mut Vec<u8>, line: &[u8]) -> Result<(), NoMem>
     ensures { OnOk result (out.new.items ≡ out.old.items ++ (line.now ++ newline ∷ [])) }
 {
     out.extend_from_slice(line)?;
@@ -136,7 +126,7 @@ impl Cut {
     }
 
     /// Appends what is left of a line and a newline, or nothing if the line is dropped.
-    fn push_line(&self, out: &mut Vec<u8>, line: &[u8]) -> Result<(), AllocError>
+    fn push_line(&self, out: &mut Vec<u8>, line: &[u8]) -> Result<(), NoMem>
         ensures { OnOk result (out.new.items ≡ out.old.items ++ line_text self.now line.now) }
     {
         match self {
@@ -162,7 +152,7 @@ impl Cut {
     ///
     /// Takes time in proportion to the text times the number of spans.
     #[tactic(auto, using(crate::proofs::CutLemmas::more_lines))]
-    pub fn text(&self, alloc: Global, text: &[u8]) -> Result<Bytes, AllocError>
+    pub fn text(&self, alloc: Global, text: &[u8]) -> Result<Bytes, NoMem>
         ensures { IfOk result (λ out. out ≡ cut_text self.now text.now) }
     {
         let mut out = Vec::new(alloc);

@@ -4,11 +4,11 @@ ghost use Rattle.std.specs.List.{join_with_byte};
 ghost use Rattle.retro_text.specs.Ascii.{space};
 ghost use Rattle.retro_text.specs.Output.{echo_text, spaced};
 
-use retro_path::Bytes;
-use std::alloc::{AllocError, Global};
+use retro_path::{Bytes, NoMem};
+use std::alloc::Global;
 
 /// Appends the operands, each after a space.
-fn push_spaced(text: &mut Bytes, operands: &[String]) -> Result<(), AllocError>
+fn push_spaced(text: &mut Bytes, operands: &[String]) -> Result<(), NoMem>
     ensures { OnOk result (text.new ≡ text.old ++ spaced (map string_bytes operands.now)) }
 {
     for operand in operands {
@@ -20,7 +20,7 @@ fn push_spaced(text: &mut Bytes, operands: &[String]) -> Result<(), AllocError>
 
 /// Appends the operands, with a space between each two.
 #[tactic(auto, using(crate::proofs::Joining::text_joins))]
-fn push_joined(text: &mut Bytes, operands: &[String]) -> Result<(), AllocError>
+fn push_joined(text: &mut Bytes, operands: &[String]) -> Result<(), NoMem>
     ensures { OnOk result (text.new
         ≡ text.old ++ join_with_byte space (map string_bytes operands.now)) }
 {
@@ -33,7 +33,7 @@ fn push_joined(text: &mut Bytes, operands: &[String]) -> Result<(), AllocError>
 
 /// Returns what `echo` prints: the operands, with a space between each two, and a newline. A first
 /// operand `-n` omits the newline.
-pub fn echo_text(alloc: Global, operands: &[String]) -> Result<Bytes, AllocError>
+pub fn echo_text(alloc: Global, operands: &[String]) -> Result<Bytes, NoMem>
     ensures { IfOk result (λ text. text ≡ echo_text (map string_bytes operands.now)) }
 {
     let mut text = Bytes::new(alloc);

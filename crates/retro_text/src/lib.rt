@@ -33,4 +33,4 @@ pub use usage::{UsageError, usage_text};
 pub use utility::Utility;
 
 /// Allocation failed.
-pub use std::alloc::AllocError as NoMem;
+pub use retro_path::NoMem;

@@ -12,8 +12,8 @@ ghost use Rattle.retro_text.specs.Search.{selected_lines, label_of, output_of, s
 use crate::lines::Lines;
 use crate::request::Request;
 use memchr::memmem;
-use retro_path::Bytes;
-use std::alloc::{AllocError, Global};
+use retro_path::{Bytes, NoMem};
+use std::alloc::Global;
 use std::marker::Model;
 
 /// The byte that ends a line, and separates patterns.
@@ -69,7 +69,7 @@ fn is_match(whole: bool, pattern: &[u8], line: &[u8]) -> bool
 }
 
 /// Returns a label followed by a number and a newline.
-fn count_text(alloc: Global, label: &[u8], count: usize) -> Result<Bytes, AllocError>
+fn count_text(alloc: Global, label: &[u8], count: usize) -> Result<Bytes, NoMem>
     ensures { IfOk result (λ text. text ≡ label.now ++ decimal count ++ newline ∷ []) }
 {
     let mut text = Bytes::new(alloc);
@@ -156,7 +156,7 @@ impl<'a> Search<'a> {
 
     /// Returns the selected lines of a text. Each follows the label and ends with a newline.
     #[tactic(auto, using(crate::proofs::SearchLemmas::labelling))]
-    fn selected_text(&self, alloc: Global, label: &[u8], text: &[u8]) -> Result<Bytes, AllocError>
+    fn selected_text(&self, alloc: Global, label: &[u8], text: &[u8]) -> Result<Bytes, NoMem>
         ensures { IfOk result (λ out. out
             ≡ labelled_text label.now (selected_lines self.now text.now)) }
     {
@@ -174,7 +174,7 @@ impl<'a> Search<'a> {
     /// Returns what the search prints of the text of an operand with this label, and whether it
     /// selects a line.
     #[tactic(auto, using(crate::proofs::SearchLemmas::running))]
-    pub fn run(&self, alloc: Global, label: &[u8], text: &[u8]) -> Result<Found, AllocError>
+    pub fn run(&self, alloc: Global, label: &[u8], text: &[u8]) -> Result<Found, NoMem>
         ensures output { IfOk result (λ found. found.output
             ≡ output_of self.now label.now (selected_lines self.now text.now)) }
         ensures selected { IfOk result (λ found. found.selected
@@ -215,7 +215,7 @@ impl<'a> Search<'a> {
 
 /// Returns the label that precedes each line of an operand's output: the operand and a colon. The
 /// operand `-` is called `(standard input)`. The label is empty if there is only one operand.
-pub fn label(alloc: Global, several: bool, operand: &str) -> Result<Bytes, AllocError>
+pub fn label(alloc: Global, several: bool, operand: &str) -> Result<Bytes, NoMem>
     ensures { IfOk result (λ label. label ≡ label_of several operand.now) }
 {
     let mut label = Bytes::new(alloc);

@@ -2,8 +2,8 @@
 ghost use Rattle.std.specs.Prelude.{◌≡◌, IfOk};
 ghost use Rattle.retro_text.specs.Output.{usage_text};
 
-use retro_path::Bytes;
-use std::alloc::{AllocError, AllocFailed, Global};
+use retro_path::{Bytes, NoMem};
+use std::alloc::{AllocFailed, Global};
 
 /// Why the fields of a utility can't be read.
 #[derive(Clone, Copy, Debug, PartialEq, Eq)]
@@ -14,12 +14,12 @@ pub enum UsageError {
     NoMem,
 }
 
-impl From<AllocError> for UsageError {
+impl From<NoMem> for UsageError {
     ghost use Rattle.retro_text.specs.declared.usage.UsageError.TheVariants as usages;
 
     ghost from_gives = { λ _ error. error ≡ usages.NoMem };
 
-    fn from(_error: AllocError) -> UsageError {
+    fn from(_error: NoMem) -> UsageError {
         UsageError::NoMem
     }
 }
@@ -36,7 +36,7 @@ impl<T: Drop> From<AllocFailed<T>> for UsageError {
 
 /// Returns what a utility prints if its fields aren't a form of its synopsis: `NAME: usage` and a
 /// newline.
-pub fn usage_text(alloc: Global, name: &str) -> Result<Bytes, AllocError>
+pub fn usage_text(alloc: Global, name: &str) -> Result<Bytes, NoMem>
     ensures { IfOk result (λ text. text ≡ usage_text name.now) }
 {
     let mut text = Bytes::new(alloc);

@@ -5,8 +5,7 @@ use crate::kind::Kind;
 use crate::node::Node;
 use crate::permit::Permit;
 use crate::user::User;
-use retro_path::{Listing, Path, Text};
-use std::alloc::AllocError;
+use retro_path::{Listing, NoMem, Path, Text};
 
 /// The answer to a query. Its variant has the query's name.
 #[derive(Drop, Clone, PartialEq, Eq)]
@@ -31,7 +30,7 @@ pub enum Answer {
 
 impl Answer {
     /// Returns a copy.
-    pub fn copy(&self) -> Result<Answer, AllocError>
+    pub fn copy(&self) -> Result<Answer, NoMem>
         ensures { IfOk result (λ copy. copy ≡ self.now) }
     {
         self.clone()

@@ -3,8 +3,7 @@ ghost use Rattle.std.specs.Prelude.{◌≡◌, ◌↔◌, IfOk, IsTrue};
 ghost use Rattle.retro_tree.specs.Ask.{supports};
 
 use crate::cell::Cell;
-use retro_path::{Path, Text, VarName};
-use std::alloc::AllocError;
+use retro_path::{NoMem, Path, Text, VarName};
 
 /// A query of a state. `State::answer` answers it.
 ///
@@ -31,7 +30,7 @@ pub enum Ask {
 
 impl Ask {
     /// Returns a copy.
-    pub fn copy(&self) -> Result<Ask, AllocError>
+    pub fn copy(&self) -> Result<Ask, NoMem>
         ensures { IfOk result (λ copy. copy ≡ self.now) }
     {
         self.clone()

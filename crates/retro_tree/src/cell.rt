@@ -1,8 +1,7 @@
 //! The cells of a state.
 ghost use Rattle.std.specs.Prelude.{◌≡◌, ◌↔◌, IfOk, IsTrue};
 
-use retro_path::{Path, VarName};
-use std::alloc::AllocError;
+use retro_path::{NoMem, Path, VarName};
 use std::cmp::Ordering;
 
 /// A place of a state that holds one value. A state is the values of its cells and the set of its
@@ -21,7 +20,7 @@ pub enum Cell {
 
 impl Cell {
     /// Returns a copy.
-    pub fn copy(&self) -> Result<Cell, AllocError>
+    pub fn copy(&self) -> Result<Cell, NoMem>
         ensures { IfOk result (λ copy. copy ≡ self.now) }
     {
         self.clone()

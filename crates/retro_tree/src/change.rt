@@ -5,8 +5,7 @@ ghost use Rattle.retro_tree.specs.Change.{has_its_session, grows_dir, may_make};
 use crate::node::Node;
 use crate::session::{VALUE_LIMIT, status_fits};
 use crate::state::State;
-use retro_path::{Bytes, Path, Text, VarName};
-use std::alloc::AllocError;
+use retro_path::{Bytes, NoMem, Path, Text, VarName};
 
 /// A write to one cell of a state. `State::apply` makes it.
 ///
@@ -28,7 +27,7 @@ pub enum Change {
 
 impl Change {
     /// Returns a copy.
-    pub fn copy(&self) -> Result<Change, AllocError>
+    pub fn copy(&self) -> Result<Change, NoMem>
         ensures { IfOk result (λ copy. copy ≡ self.now) }
     {
         self.clone()
@@ -80,7 +79,7 @@ impl Change {
     /// Returns whether the change keeps a lawful state lawful. Looks only at the cell of the change
     /// and the cells around it.
     #[tactic(auto, unfolding(crate::specs::Change::may_make))]
-    pub(crate) fn keeps_lawful(&self, state: &State) -> Result<bool, AllocError>
+    pub(crate) fn keeps_lawful(&self, state: &State) -> Result<bool, NoMem>
         ensures { IfOk result (λ keeps. keeps ≡ may_make self.now state.now) }
     {
         match self {

@@ -27,8 +27,8 @@ use crate::tree::Tree;
 use crate::user::{User, find_user};
 use crate::value::Value;
 use crate::view::View;
-use retro_path::{Bytes, Listing, Name, Path, Text, VarName};
-use std::alloc::{AllocError, Global};
+use retro_path::{Bytes, Listing, Name, NoMem, Path, Text, VarName};
+use std::alloc::Global;
 
 /// A view with an overlay on it. Its methods answer from the combined state, which is any state
 /// `now` with `Overlays overlay (V.state view) now`.
@@ -48,7 +48,7 @@ impl<'a, V: View> Combined<'a, V> {
     }
 
     /// Returns the entry of a path's cell, or `None` if the cell has no entry.
-    fn entry(&self, path: &Path) -> Result<Option<&OverlayEntry>, AllocError>
+    fn entry(&self, path: &Path) -> Result<Option<&OverlayEntry>, NoMem>
         ensures { IfOk result (λ entry.
             option_copied entry ≡ map.get self.now.overlay.now (Cell.At path.now)) }
     {
@@ -57,7 +57,7 @@ impl<'a, V: View> Combined<'a, V> {
 
     /// Returns the node at a path of the view's state.
     #[tactic(auto, unfolding(crate::specs::Ask::answer))]
-    fn view_node(&self, alloc: Global, path: &Path) -> Result<Node, AllocError>
+    fn view_node(&self, alloc: Global, path: &Path) -> Result<Node, NoMem>
         ensures { IfOk result (λ node.
             node ≡ node_in path.now (V.state self.now.view.now).tree) }
     {
@@ -69,7 +69,7 @@ impl<'a, V: View> Combined<'a, V> {
 
     /// Returns the kind of the node at a path of the view's state.
     #[tactic(auto, unfolding(crate::specs::Ask::answer))]
-    fn view_kind(&self, alloc: Global, path: &Path) -> Result<Kind, AllocError>
+    fn view_kind(&self, alloc: Global, path: &Path) -> Result<Kind, NoMem>
         ensures { IfOk result (λ kind.
             kind ≡ kind_of (node_in path.now (V.state self.now.view.now).tree)) }
     {
@@ -81,7 +81,7 @@ impl<'a, V: View> Combined<'a, V> {
 
     /// Returns whether `more` bytes can be appended to the file at a path of the view's state.
     #[tactic(auto, unfolding(crate::specs::Ask::answer))]
-    fn view_permit(&self, alloc: Global, path: &Path, more: u32) -> Result<Permit, AllocError>
+    fn view_permit(&self, alloc: Global, path: &Path, more: u32) -> Result<Permit, NoMem>
         ensures { IfOk result (λ permit.
             permit ≡ permit_of path.now more (V.state self.now.view.now)) }
     {
@@ -93,7 +93,7 @@ impl<'a, V: View> Combined<'a, V> {
 
     /// Returns the user with a login name in the view's state, or `None` if there is none.
     #[tactic(auto, unfolding(crate::specs::Ask::answer))]
-    fn view_user(&self, alloc: Global, name: &Text) -> Result<Option<User>, AllocError>
+    fn view_user(&self, alloc: Global, name: &Text) -> Result<Option<User>, NoMem>
         ensures { IfOk result (λ user. user
             ≡ user_in name.now (node_in passwd (V.state self.now.view.now).tree)) }
     {
@@ -105,7 +105,7 @@ impl<'a, V: View> Combined<'a, V> {
 
     /// Returns the node at a path.
     #[tactic(auto, unfolding(crate::specs::Cell::value))]
-    fn node(&self, alloc: Global, path: &Path) -> Result<Node, AllocError>
+    fn node(&self, alloc: Global, path: &Path) -> Result<Node, NoMem>
         ensures { IfOk result (λ node. (now : State)
             → Overlays self.now.overlay.now (V.state self.now.view.now) now
             → node ≡ node_in path.now now.tree) }
@@ -123,7 +123,7 @@ impl<'a, V: View> Combined<'a, V> {
 
     /// Returns the kind of the node at a path.
     #[tactic(auto, using(crate::proofs::Answering::kinds), unfolding(crate::specs::Cell::value))]
-    fn kind(&self, alloc: Global, path: &Path) -> Result<Kind, AllocError>
+    fn kind(&self, alloc: Global, path: &Path) -> Result<Kind, NoMem>
         ensures { IfOk result (λ kind. (now : State)
             → Overlays self.now.overlay.now (V.state self.now.view.now) now
             → kind ≡ kind_of (node_in path.now now.tree)) }
@@ -139,7 +139,7 @@ impl<'a, V: View> Combined<'a, V> {
     /// only the kind. An entry of the path is read in place. If it is a growth, its bytes count
     /// with those that are to be appended.
     #[tactic(auto, using(crate::proofs::Answering::permits), unfolding(crate::specs::Cell::value))]
-    fn permit(&self, alloc: Global, path: &Path, more: u32) -> Result<Permit, AllocError>
+    fn permit(&self, alloc: Global, path: &Path, more: u32) -> Result<Permit, NoMem>
         ensures { IfOk result (λ permit. (now : State)
             → Overlays self.now.overlay.now (V.state self.now.view.now) now
             → permit ≡ permit_of path.now more now) }
@@ -166,7 +166,7 @@ impl<'a, V: View> Combined<'a, V> {
 
     /// Returns the value of a variable, or `None` if it isn't set.
     #[tactic(auto, unfolding(crate::specs::Ask::answer, crate::specs::Cell::value))]
-    fn var(&self, alloc: Global, sid: u32, name: &VarName) -> Result<Option<Text>, AllocError>
+    fn var(&self, alloc: Global, sid: u32, name: &VarName) -> Result<Option<Text>, NoMem>
         ensures { IfOk result (λ text. (now : State)
             → Overlays self.now.overlay.now (V.state self.now.view.now) now
             → text ≡ map.get (session_in sid now.sessions).vars name.now) }
@@ -183,7 +183,7 @@ impl<'a, V: View> Combined<'a, V> {
 
     /// Returns the directory of a session.
     #[tactic(auto, unfolding(crate::specs::Ask::answer, crate::specs::Cell::value))]
-    fn cwd(&self, alloc: Global, sid: u32) -> Result<Path, AllocError>
+    fn cwd(&self, alloc: Global, sid: u32) -> Result<Path, NoMem>
         ensures { IfOk result (λ cwd. (now : State)
             → Overlays self.now.overlay.now (V.state self.now.view.now) now
             → cwd ≡ (session_in sid now.sessions).cwd) }
@@ -199,7 +199,7 @@ impl<'a, V: View> Combined<'a, V> {
 
     /// Returns the status of a session.
     #[tactic(auto, unfolding(crate::specs::Ask::answer, crate::specs::Cell::value))]
-    fn status(&self, alloc: Global, sid: u32) -> Result<u8, AllocError>
+    fn status(&self, alloc: Global, sid: u32) -> Result<u8, NoMem>
         ensures { IfOk result (λ status. (now : State)
             → Overlays self.now.overlay.now (V.state self.now.view.now) now
             → status ≡ (session_in sid now.sessions).status) }
@@ -216,7 +216,7 @@ impl<'a, V: View> Combined<'a, V> {
 
     /// Returns the user with a login name, or `None` if there is none.
     #[tactic(auto, unfolding(crate::specs::Ask::answer, crate::specs::Cell::value))]
-    fn user(&self, alloc: Global, name: &Text) -> Result<Option<User>, AllocError>
+    fn user(&self, alloc: Global, name: &Text) -> Result<Option<User>, NoMem>
         ensures { IfOk result (λ user. (now : State)
             → Overlays self.now.overlay.now (V.state self.now.view.now) now
             → user ≡ user_in name.now (node_in passwd now.tree)) }
@@ -234,7 +234,7 @@ impl<'a, V: View> Combined<'a, V> {
 
     /// Returns the answer to a query.
     #[tactic(auto, unfolding(crate::specs::Ask::answer))]
-    pub(crate) fn answer(&self, alloc: Global, ask: &Ask) -> Result<Answer, AllocError>
+    pub(crate) fn answer(&self, alloc: Global, ask: &Ask) -> Result<Answer, NoMem>
         ensures { IfOk result (λ a. (now : State)
             → Overlays self.now.overlay.now (V.state self.now.view.now) now
             → a ≡ answer ask.now now) }
@@ -253,7 +253,7 @@ impl<'a, V: View> Combined<'a, V> {
 
     /// Returns the value of a cell.
     #[tactic(auto, unfolding(crate::specs::Cell::value))]
-    pub(crate) fn value(&self, alloc: Global, cell: &Cell) -> Result<Value, AllocError>
+    pub(crate) fn value(&self, alloc: Global, cell: &Cell) -> Result<Value, NoMem>
         ensures { IfOk result (λ held. (now : State)
             → Overlays self.now.overlay.now (V.state self.now.view.now) now
             → held ≡ value cell.now now) }
@@ -268,7 +268,7 @@ impl<'a, V: View> Combined<'a, V> {
 
     /// Returns the names of the children of a path, in byte order, whatever node is at the path
     /// itself.
-    pub(crate) fn children(&self, alloc: Global, path: &Path) -> Result<Listing, AllocError>
+    pub(crate) fn children(&self, alloc: Global, path: &Path) -> Result<Listing, NoMem>
         ensures { IfOk result (λ names. (now : State)
             → Overlays self.now.overlay.now (V.state self.now.view.now) now
             → names ≡ names_in path.now now.tree) }
@@ -283,7 +283,7 @@ impl<'a, V: View> Combined<'a, V> {
     }
 
     /// Returns the names of the children of a directory, or `None` if the path isn't a directory.
-    fn listing(&self, alloc: Global, path: &Path) -> Result<Option<Listing>, AllocError>
+    fn listing(&self, alloc: Global, path: &Path) -> Result<Option<Listing>, NoMem>
         ensures { IfOk result (λ names. (now : State)
             → Overlays self.now.overlay.now (V.state self.now.view.now) now
             → names ≡ listing (node_in path.now now.tree) (names_in path.now now.tree)) }
@@ -296,7 +296,7 @@ impl<'a, V: View> Combined<'a, V> {
 
     /// Marks in a tree the children of a path that have entries: puts a directory for each one that
     /// exists, and removes each one that is missing.
-    fn mark(&self, tree: Tree, path: &Path) -> Result<Tree, AllocError>
+    fn mark(&self, tree: Tree, path: &Path) -> Result<Tree, NoMem>
         ensures { IfOk result (λ marked. marked ≡ mark_entries path.now
             (overlay_from (Cell.At path.now) self.now.overlay.now) tree) }
     {
@@ -318,7 +318,7 @@ impl<'a, V: View> Combined<'a, V> {
 }
 
 /// Returns a small tree with a directory for each child of a path.
-fn children_tree(alloc: Global, path: &Path, names: &[Name]) -> Result<Tree, AllocError>
+fn children_tree(alloc: Global, path: &Path, names: &[Name]) -> Result<Tree, NoMem>
     ensures { IfOk result (λ tree. tree ≡ children_tree path.now names.now map.empty) }
 {
     let mut tree = Tree::new(alloc);
@@ -340,7 +340,7 @@ fn with_more(bytes: &Bytes, more: u32) -> u32
 }
 
 /// Returns the user with a login name, if the node is the password file.
-fn user_of(alloc: Global, name: &Text, node: &Node) -> Result<Option<User>, AllocError>
+fn user_of(alloc: Global, name: &Text, node: &Node) -> Result<Option<User>, NoMem>
     ensures { IfOk result (λ user. user ≡ user_in name.now node.now) }
 {
     match node {

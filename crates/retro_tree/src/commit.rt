@@ -24,8 +24,8 @@ use crate::state::State;
 use crate::tree::Tree;
 use crate::undo::Undo;
 use crate::value::Value;
-use retro_path::{Bytes, Path};
-use std::alloc::{AllocError, Global};
+use retro_path::{Bytes, NoMem, Path};
+use std::alloc::Global;
 
 /// A commit in progress. Writes come first, because they take memory. If memory runs out, they are
 /// undone, which takes none. Removals take none, so they come last.
@@ -54,7 +54,7 @@ impl Commit {
         alloc: Global,
         overlay: Overlay,
         state: &mut State,
-    ) -> Result<(), AllocError>
+    ) -> Result<(), NoMem>
         requires undos { self.old.undos.items ≡ [] }
         requires removals { self.old.removals.items ≡ [] }
         ensures can { CanUndoAll (reverse self.new.undos.items) state.new }
@@ -159,7 +159,7 @@ fn write_one(
     undos: &mut Vec<Undo>,
     cell: Cell,
     entry: OverlayEntry,
-) -> Result<(), AllocError>
+) -> Result<(), NoMem>
     requires entry { removes entry ≡ false }
     requires can { CanUndoAll (reverse undos.old.items) state.old }
     ensures can { CanUndoAll (reverse undos.new.items) state.new }
@@ -172,7 +172,7 @@ fn write_one(
     };
     if let Err(failed) = undos.push(undo) {
         failed.value.apply(state);
-        return Err(AllocError);
+        return Err(NoMem);
     }
     Ok(())
 }
@@ -185,7 +185,7 @@ fn write_entry(
     state: &mut State,
     cell: Cell,
     entry: OverlayEntry,
-) -> Result<Option<Undo>, AllocError>
+) -> Result<Option<Undo>, NoMem>
     requires { removes entry ≡ false }
     ensures ok { OnOk result (state.new ≡ put_cell cell entry state.old) }
     ensures undo { IfOk result (λ undo. Undoes undo state.new state.old) }
@@ -206,7 +206,7 @@ fn write_value(
     state: &mut State,
     cell: Cell,
     value: Value,
-) -> Result<Option<Undo>, AllocError>
+) -> Result<Option<Undo>, NoMem>
     requires { removes (OverlayEntry.Value value) ≡ false }
     ensures ok { OnOk result (state.new ≡ put_cell cell (OverlayEntry.Value value) state.old) }
     ensures undo { IfOk result (λ undo. Undoes undo state.new state.old) }
@@ -242,7 +242,7 @@ fn write_value(
 /// Appends bytes to the file at a path, in place. Returns how to undo that, or `None` if nothing
 /// changes. A missing file is made of the bytes themselves. A directory stays unchanged.
 #[tactic(auto, using(crate::proofs::Undoing::growing))]
-fn write_growth(state: &mut State, path: Path, bytes: Bytes) -> Result<Option<Undo>, AllocError>
+fn write_growth(state: &mut State, path: Path, bytes: Bytes) -> Result<Option<Undo>, NoMem>
     ensures ok { OnOk result (state.new ≡ grow_file path bytes state.old) }
     ensures undo { IfOk result (λ undo. Undoes undo state.new state.old) }
     ensures err { OnErr result (state.new ≡ state.old) }
@@ -259,7 +259,7 @@ fn write_growth(state: &mut State, path: Path, bytes: Bytes) -> Result<Option<Un
 }
 
 /// Puts a directory or a file at a path, and returns how to undo that.
-fn write_node(state: &mut State, path: Path, node: Node) -> Result<Undo, AllocError>
+fn write_node(state: &mut State, path: Path, node: Node) -> Result<Undo, NoMem>
     requires { is_present node ≡ true }
     ensures ok { OnOk result (state.new ≡ put_node path node state.old) }
     ensures undo { IfOk result (λ undo. Undoes (Some undo) state.new state.old) }
@@ -277,7 +277,7 @@ fn write_setting(
     state: &mut State,
     sid: u32,
     setting: Setting,
-) -> Result<Undo, AllocError>
+) -> Result<Undo, NoMem>
     ensures ok { OnOk result (state.new ≡ put_setting sid setting state.old) }
     ensures undo { IfOk result (λ undo. Undoes (Some undo) state.new state.old) }
     ensures err { OnErr result (state.new ≡ state.old) }

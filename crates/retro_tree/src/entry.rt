@@ -2,8 +2,7 @@
 ghost use Rattle.std.specs.Prelude.{◌≡◌, OnOk, OnErr, Some, nat_le};
 ghost use Rattle.retro_tree.specs.Node.{entry_grown, entry_cut, node_of, size_of, file_limit};
 
-use retro_path::Bytes;
-use std::alloc::AllocError;
+use retro_path::{Bytes, NoMem};
 
 /// The maximum size of a file, in bytes.
 pub const FILE_LIMIT: u64 = 1_048_576;
@@ -19,7 +18,7 @@ pub enum Entry {
 
 impl Entry {
     /// Appends bytes to a file, in place. A directory stays unchanged.
-    pub(crate) fn grow(&mut self, bytes: &Bytes) -> Result<(), AllocError>
+    pub(crate) fn grow(&mut self, bytes: &Bytes) -> Result<(), NoMem>
         ensures ok { OnOk result (self.new ≡ entry_grown bytes.now self.old) }
         ensures err { OnErr result (self.new ≡ self.old) }
     {

@@ -10,8 +10,8 @@ ghost use Rattle.retro_tree.specs.inner.CommitSteps.{cut_at};
 
 use crate::entry::Entry;
 use crate::node::Node;
-use retro_path::{Bytes, Listing, Path};
-use std::alloc::{AllocError, Global};
+use retro_path::{Bytes, Listing, NoMem, Path};
+use std::alloc::Global;
 use std::collections::BTreeMap;
 use std::collections::btree_map::{Iter, Range};
 use std::marker::Model;
@@ -55,7 +55,7 @@ impl EntryMap {
 
     /// Puts an entry at a path and returns the previous one. Takes no memory if the path has an
     /// entry.
-    pub(crate) fn insert(&mut self, path: Path, entry: Entry) -> Result<Option<Entry>, AllocError>
+    pub(crate) fn insert(&mut self, path: Path, entry: Entry) -> Result<Option<Entry>, NoMem>
         ensures previous { IfOk result (λ previous. previous ≡ map.get self.old path) }
         ensures ok { OnOk result (self.new ≡ map.insert self.old path entry) }
         ensures err { OnErr result (self.new ≡ self.old) }
@@ -66,7 +66,7 @@ impl EntryMap {
 
     /// Puts a directory or a file at a path and returns the previous entry. Takes no memory if the
     /// path has an entry.
-    pub(crate) fn exchange(&mut self, path: Path, node: Node) -> Result<Option<Entry>, AllocError>
+    pub(crate) fn exchange(&mut self, path: Path, node: Node) -> Result<Option<Entry>, NoMem>
         requires { is_present node ≡ true }
         ensures previous { IfOk result (λ previous. previous ≡ map.get self.old path) }
         ensures ok { OnOk result (self.new ≡ put path node self.old) }
@@ -99,7 +99,7 @@ impl EntryMap {
     }
 
     /// Puts a node at a path. `Missing` removes what the path holds.
-    pub(crate) fn put(&mut self, path: Path, node: Node) -> Result<(), AllocError>
+    pub(crate) fn put(&mut self, path: Path, node: Node) -> Result<(), NoMem>
         ensures ok { OnOk result (self.new ≡ put path node self.old) }
         ensures err { OnErr result (self.new ≡ self.old) }
     {
@@ -117,7 +117,7 @@ impl EntryMap {
 
     /// Appends bytes to a file, in place. A missing file is created, and a directory stays
     /// unchanged.
-    pub(crate) fn grow(&mut self, path: &Path, bytes: &Bytes) -> Result<(), AllocError>
+    pub(crate) fn grow(&mut self, path: &Path, bytes: &Bytes) -> Result<(), NoMem>
         ensures ok { OnOk result
             (self.new ≡ put path.now (grown bytes.now (node_in path.now self.old)) self.old) }
         ensures err { OnErr result (self.new ≡ self.old) }
@@ -156,7 +156,7 @@ impl EntryMap {
 
     /// Returns the names of the children of a path, in byte order, whatever node is at the path
     /// itself. Takes time in proportion to the entries below the path.
-    pub(crate) fn names(&self, alloc: Global, path: &Path) -> Result<Listing, AllocError>
+    pub(crate) fn names(&self, alloc: Global, path: &Path) -> Result<Listing, NoMem>
         ensures { IfOk result (λ names. names ≡ names_in path.now self.now) }
     {
         let mut names = Vec::new(alloc);

@@ -21,7 +21,7 @@
 //! The names of `retro_path` are exported here too, so that a crate that works with states needs
 //! only this one.
 //!
-//! If allocation fails, calls return `NoMem` and leave their arguments unchanged.
+//! If allocation fails, calls return `NoMem` and leave borrowed arguments unchanged.
 #![tactic(auto)]
 
 mod answer;
@@ -100,4 +100,4 @@ pub use vars::Vars;
 pub use view::View;
 
 /// Allocation failed.
-pub use std::alloc::AllocError as NoMem;
+pub use retro_path::NoMem;

@@ -3,8 +3,7 @@ ghost use Rattle.std.specs.Prelude.{◌≡◌, ◌↔◌, IfOk, IsTrue, OnOk, On
 ghost use Rattle.retro_tree.specs.Node.{grown, kind_of, size_of};
 
 use crate::kind::Kind;
-use retro_path::Bytes;
-use std::alloc::AllocError;
+use retro_path::{Bytes, NoMem};
 
 /// What is at a path.
 #[derive(Drop, Clone, PartialEq, Eq)]
@@ -19,7 +18,7 @@ pub enum Node {
 
 impl Node {
     /// Returns a copy.
-    pub fn copy(&self) -> Result<Node, AllocError>
+    pub fn copy(&self) -> Result<Node, NoMem>
         ensures { IfOk result (λ copy. copy ≡ self.now) }
     {
         self.clone()
@@ -60,7 +59,7 @@ impl Node {
 
     /// Appends bytes to a file, in place. A missing node becomes a file, and a directory stays
     /// unchanged.
-    pub(crate) fn grow(&mut self, bytes: &Bytes) -> Result<(), AllocError>
+    pub(crate) fn grow(&mut self, bytes: &Bytes) -> Result<(), NoMem>
         ensures ok { OnOk result (self.new ≡ grown bytes.now self.old) }
         ensures err { OnErr result (self.new ≡ self.old) }
     {

@@ -4,7 +4,7 @@ ghost use Rattle.std.specs.Prelude.{◌≡◌, ◌↔◌, IfOk, IsTrue};
 use crate::answer::Answer;
 use crate::ask::Ask;
 use crate::change::Change;
-use std::alloc::AllocError;
+use retro_path::NoMem;
 
 /// One step of a trace of reads and writes: a query with its answer, or a change.
 #[derive(Drop, PartialEq, Eq)]
@@ -17,7 +17,7 @@ pub enum Note {
 
 impl Note {
     /// Returns a copy.
-    pub fn copy(&self) -> Result<Note, AllocError>
+    pub fn copy(&self) -> Result<Note, NoMem>
         ensures { IfOk result (λ copy. copy ≡ self.now) }
     {
         match self {

@@ -2,7 +2,8 @@
 ghost use Rattle.std.specs.Prelude.{◌≡◌, ◌↔◌, [], IfOk, IsTrue};
 
 use crate::note::Note;
-use std::alloc::{AllocError, Global};
+use retro_path::NoMem;
+use std::alloc::Global;
 use std::marker::Model;
 use std::sync::Arc;
 
@@ -27,14 +28,14 @@ impl Model for Notes {
 
 impl Notes {
     /// Returns an empty trace.
-    pub fn new(alloc: Global) -> Result<Notes, AllocError>
+    pub fn new(alloc: Global) -> Result<Notes, NoMem>
         ensures { IfOk result (λ notes. notes ≡ []) }
     {
         Notes::of(alloc, Vec::new(alloc))
     }
 
     /// Makes notes of a vector. The vector isn't copied, and its unused capacity is freed.
-    pub fn of(alloc: Global, notes: Vec<Note>) -> Result<Notes, AllocError>
+    pub fn of(alloc: Global, notes: Vec<Note>) -> Result<Notes, NoMem>
         ensures { IfOk result (λ made. made ≡ notes.items) }
     {
         let mut notes = notes;
@@ -52,7 +53,7 @@ impl Notes {
     }
 
     /// Returns a copy, which shares the notes. Takes no memory.
-    pub fn copy(&self) -> Result<Notes, AllocError>
+    pub fn copy(&self) -> Result<Notes, NoMem>
         ensures { IfOk result (λ copy. copy ≡ self.now) }
     {
         Ok(Notes {

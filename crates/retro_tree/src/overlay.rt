@@ -26,8 +26,8 @@ use crate::overlay_entry::OverlayEntry;
 use crate::state::State;
 use crate::value::Value;
 use crate::view::View;
-use retro_path::{Bytes, Listing, Path};
-use std::alloc::{AllocError, Global};
+use retro_path::{Bytes, Listing, NoMem, Path};
+use std::alloc::Global;
 use std::collections::BTreeMap;
 use std::collections::btree_map::{IntoIter, Iter, Range};
 use std::marker::Model;
@@ -93,7 +93,7 @@ impl Overlay {
 
     /// Sets the value of a cell.
     #[tactic(auto, using(crate::proofs::OverlayCalls::insertion))]
-    pub fn insert(&mut self, cell: Cell, value: Value) -> Result<(), AllocError>
+    pub fn insert(&mut self, cell: Cell, value: Value) -> Result<(), NoMem>
         ensures ok { OnOk result
             (self.new ≡ map.insert self.old cell (OverlayEntry.Value value)) }
         ensures overlays { OnOk result ((below now next : StateValue)
@@ -110,7 +110,7 @@ impl Overlay {
     }
 
     /// Sets the entry of a cell.
-    fn set(&mut self, cell: Cell, entry: OverlayEntry) -> Result<(), AllocError>
+    fn set(&mut self, cell: Cell, entry: OverlayEntry) -> Result<(), NoMem>
         ensures ok { OnOk result (self.new ≡ map.insert self.old cell entry) }
         ensures err { OnErr result (self.new ≡ self.old) }
     {
@@ -150,7 +150,7 @@ impl Overlay {
 
     /// Appends bytes to the entry of a cell, in place. A value grows as its cell does, and a growth
     /// gets longer. If the cell has no entry, changes nothing and returns false.
-    pub fn grow(&mut self, cell: &Cell, bytes: &Bytes) -> Result<bool, AllocError>
+    pub fn grow(&mut self, cell: &Cell, bytes: &Bytes) -> Result<bool, NoMem>
         ensures done { IfOk result (λ done. done ≡ is_some (map.get self.old cell.now)) }
         ensures ok { OnOk result
             (self.new ≡ grown_at cell.now bytes.now (map.get self.old cell.now) self.old) }
@@ -168,7 +168,7 @@ impl Overlay {
     /// Makes a change in the combined state. The entries of other cells stay unchanged. A growth
     /// takes time in proportion to its own bytes: no file is read or copied.
     #[tactic(auto, using(crate::proofs::OverlayCalls::changes))]
-    pub fn apply(&mut self, change: Change) -> Result<(), AllocError>
+    pub fn apply(&mut self, change: Change) -> Result<(), NoMem>
         ensures ok { OnOk result ((below now : StateValue)
             → Overlays self.old below now
             → Overlays self.new below (apply change now)) }
@@ -200,7 +200,7 @@ impl Overlay {
     /// Makes a growth: appends the bytes to the entry of the path, or makes them its entry if it
     /// has none.
     #[tactic(auto, using(crate::proofs::OverlayCalls::changes))]
-    fn apply_growth(&mut self, path: Path, bytes: Bytes) -> Result<(), AllocError>
+    fn apply_growth(&mut self, path: Path, bytes: Bytes) -> Result<(), NoMem>
         ensures ok { OnOk result ((below now : StateValue)
             → Overlays self.old below now
             → Overlays self.new below (apply (Change.Grow path bytes) now)) }
@@ -244,7 +244,7 @@ impl Overlay {
     }
 
     /// Returns whether the cell of a path, or of a path below it, has an entry.
-    pub(crate) fn has_entry_below(&self, path: &Path) -> Result<bool, AllocError>
+    pub(crate) fn has_entry_below(&self, path: &Path) -> Result<bool, NoMem>
         ensures { IfOk result (λ has.
             has ≡ starts_below path.now (overlay_from (Cell.At path.now) self.now)) }
     {
@@ -270,7 +270,7 @@ impl Overlay {
     }
 
     /// Returns a copy.
-    pub fn copy(&self, alloc: Global) -> Result<Overlay, AllocError>
+    pub fn copy(&self, alloc: Global) -> Result<Overlay, NoMem>
         ensures { IfOk result (λ copy. copy ≡ self.now) }
     {
         let mut copy = Overlay::new(alloc);
@@ -282,7 +282,7 @@ impl Overlay {
 
     /// Returns the combined state's answer to a query.
     #[tactic(auto, using(crate::proofs::Answering::answered_below))]
-    pub fn answer<V: View>(&self, alloc: Global, view: &V, ask: &Ask) -> Result<Answer, AllocError>
+    pub fn answer<V: View>(&self, alloc: Global, view: &V, ask: &Ask) -> Result<Answer, NoMem>
         ensures { IfOk result (λ a. (now : StateValue)
             → Overlays self.now (V.state view.now) now → a ≡ answer ask.now now) }
     {
@@ -293,7 +293,7 @@ impl Overlay {
     }
 
     /// Returns the value of a cell in the combined state.
-    pub fn value<V: View>(&self, alloc: Global, view: &V, cell: &Cell) -> Result<Value, AllocError>
+    pub fn value<V: View>(&self, alloc: Global, view: &V, cell: &Cell) -> Result<Value, NoMem>
         ensures { IfOk result (λ value. (now : StateValue)
             → Overlays self.now (V.state view.now) now → value ≡ value_at cell.now now) }
     {
@@ -303,12 +303,7 @@ impl Overlay {
     /// Returns the names of the children of a path in the combined state, in byte order, whatever
     /// node is at the path itself. Takes time in proportion to the view's names and to the entries
     /// below the path.
-    pub fn children<V: View>(
-        &self,
-        alloc: Global,
-        view: &V,
-        path: &Path,
-    ) -> Result<Listing, AllocError>
+    pub fn children<V: View>(&self, alloc: Global, view: &V, path: &Path) -> Result<Listing, NoMem>
         ensures { IfOk result (λ names. (now : StateValue)
             → Overlays self.now (V.state view.now) now → names ≡ names_in path.now now.tree) }
     {
@@ -318,7 +313,7 @@ impl Overlay {
     /// Commits all entries to a state. Files grow in place. Cells without an entry are neither
     /// copied nor read.
     #[tactic(auto, using(crate::proofs::PutCells::cells_committed))]
-    pub fn commit(self, alloc: Global, state: &mut State) -> Result<(), AllocError>
+    pub fn commit(self, alloc: Global, state: &mut State) -> Result<(), NoMem>
         ensures ok { OnOk result (state.new ≡ committed self state.old) }
         ensures cells { OnOk result ((now : StateValue)
             → Overlays self state.old now

@@ -6,8 +6,7 @@ ghost use Rattle.retro_tree.specs.inner.Marks.{mark_of};
 
 use crate::node::Node;
 use crate::value::Value;
-use retro_path::Bytes;
-use std::alloc::AllocError;
+use retro_path::{Bytes, NoMem};
 
 /// An overlay's entry for a cell.
 #[derive(Drop, Clone, PartialEq, Eq)]
@@ -21,14 +20,14 @@ pub enum OverlayEntry {
 
 impl OverlayEntry {
     /// Returns a copy.
-    pub fn copy(&self) -> Result<OverlayEntry, AllocError>
+    pub fn copy(&self) -> Result<OverlayEntry, NoMem>
         ensures { IfOk result (λ copy. copy ≡ self.now) }
     {
         self.clone()
     }
 
     /// Appends bytes, in place.
-    pub(crate) fn grow(&mut self, bytes: &Bytes) -> Result<(), AllocError>
+    pub(crate) fn grow(&mut self, bytes: &Bytes) -> Result<(), NoMem>
         ensures ok { OnOk result (self.new ≡ overlay_entry_grown bytes.now self.old) }
         ensures err { OnErr result (self.new ≡ self.old) }
     {

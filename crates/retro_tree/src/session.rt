@@ -8,8 +8,8 @@ ghost use Rattle.retro_tree.specs.Limits.{values_fit};
 use crate::previous::Previous;
 use crate::setting::Setting;
 use crate::vars::Vars;
-use retro_path::Path;
-use std::alloc::{AllocError, Global};
+use retro_path::{NoMem, Path};
+use std::alloc::Global;
 use std::mem::replace;
 
 /// The maximum size of the value of a variable, in bytes.
@@ -49,7 +49,7 @@ impl Session {
     }
 
     /// Makes a setting and returns what it replaced.
-    pub(crate) fn set(&mut self, setting: Setting) -> Result<Previous, AllocError>
+    pub(crate) fn set(&mut self, setting: Setting) -> Result<Previous, NoMem>
         ensures previous { IfOk result (λ previous. previous ≡ previous_of setting self.old) }
         ensures ok { OnOk result (self.new ≡ with_setting setting self.old) }
         ensures err { OnErr result (self.new ≡ self.old) }

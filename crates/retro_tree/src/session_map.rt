@@ -10,8 +10,8 @@ ghost use Rattle.retro_tree.specs.inner.Previous.{previous_of, with_previous, ha
 use crate::previous::Previous;
 use crate::session::Session;
 use crate::setting::Setting;
-use retro_path::VarName;
-use std::alloc::{AllocError, Global};
+use retro_path::{NoMem, VarName};
+use std::alloc::Global;
 use std::collections::BTreeMap;
 use std::collections::btree_map::Iter;
 use std::marker::Model;
@@ -61,7 +61,7 @@ impl SessionMap {
     }
 
     /// Adds a session, or replaces the one with its number.
-    pub(crate) fn insert(&mut self, sid: u32, session: Session) -> Result<(), AllocError>
+    pub(crate) fn insert(&mut self, sid: u32, session: Session) -> Result<(), NoMem>
         ensures ok { OnOk result (self.new ≡ map.insert self.old sid session) }
         ensures err { OnErr result (self.new ≡ self.old) }
     {
@@ -76,7 +76,7 @@ impl SessionMap {
         alloc: Global,
         sid: u32,
         setting: Setting,
-    ) -> Result<Option<Previous>, AllocError>
+    ) -> Result<Option<Previous>, NoMem>
         ensures previous { IfOk result (λ previous.
             previous ≡ option_map (previous_of setting) (map.get self.old sid)) }
         ensures ok { OnOk result

@@ -13,8 +13,8 @@ use crate::previous::Previous;
 use crate::session::Session;
 use crate::session_map::SessionMap;
 use crate::setting::Setting;
-use retro_path::VarName;
-use std::alloc::{AllocError, Global};
+use retro_path::{NoMem, VarName};
+use std::alloc::Global;
 use std::collections::btree_map::Iter;
 use std::marker::Model;
 
@@ -107,7 +107,7 @@ impl Sessions {
     /// Adds a session, or replaces the one with its number. Sessions that are known to be lawful
     /// stay so if this one is within the limits.
     #[tactic(auto, using(crate::proofs::Keeping::added))]
-    pub(crate) fn add(&mut self, sid: u32, session: Session) -> Result<(), AllocError>
+    pub(crate) fn add(&mut self, sid: u32, session: Session) -> Result<(), NoMem>
         ensures ok { OnOk result (self.new ≡ map.insert self.old sid session) }
         ensures err { OnErr result (self.new ≡ self.old) }
     {
@@ -124,7 +124,7 @@ impl Sessions {
         alloc: Global,
         sid: u32,
         setting: Setting,
-    ) -> Result<Option<Previous>, AllocError>
+    ) -> Result<Option<Previous>, NoMem>
         ensures previous { IfOk result (λ previous.
             previous ≡ option_map (previous_of setting) (map.get self.old sid)) }
         ensures ok { OnOk result

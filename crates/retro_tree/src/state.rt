@@ -31,8 +31,8 @@ use crate::user::{User, find_user};
 use crate::value::Value;
 use crate::vars::Vars;
 use crate::view::View;
-use retro_path::{Bytes, Listing, Path, Text, VarName};
-use std::alloc::{AllocError, Global};
+use retro_path::{Bytes, Listing, NoMem, Path, Text, VarName};
+use std::alloc::Global;
 use std::collections::BTreeMap;
 
 /// A tree of files and the sessions that work in it.
@@ -45,7 +45,7 @@ pub struct State {
 impl State {
     /// Returns a state with only the root, and no sessions.
     #[tactic(auto, unfolding(crate::specs::State::empty_state))]
-    pub fn empty(alloc: Global) -> Result<State, AllocError>
+    pub fn empty(alloc: Global) -> Result<State, NoMem>
         ensures { IfOk result (λ state. state ≡ empty_state) }
     {
         let mut state = State {
@@ -58,7 +58,7 @@ impl State {
     }
 
     /// Returns a copy.
-    pub fn copy(&self) -> Result<State, AllocError>
+    pub fn copy(&self) -> Result<State, NoMem>
         ensures { IfOk result (λ copy. copy ≡ self.now) }
     {
         self.clone()
@@ -79,7 +79,7 @@ impl State {
     }
 
     /// Puts a node at a path. `Missing` removes what the path holds.
-    pub fn place(&mut self, path: Path, node: Node) -> Result<(), AllocError>
+    pub fn place(&mut self, path: Path, node: Node) -> Result<(), NoMem>
         ensures ok { OnOk result (self.new ≡ put_node path node self.old) }
         ensures err { OnErr result (self.new ≡ self.old) }
     {
@@ -88,7 +88,7 @@ impl State {
 
     /// Appends bytes to a file, in place. A missing file is created, and a directory stays
     /// unchanged.
-    pub fn grow(&mut self, path: &Path, bytes: &Bytes) -> Result<(), AllocError>
+    pub fn grow(&mut self, path: &Path, bytes: &Bytes) -> Result<(), NoMem>
         ensures ok { OnOk result (self.new ≡ grow_file path.now bytes.now self.old) }
         ensures err { OnErr result (self.new ≡ self.old) }
     {
@@ -102,7 +102,7 @@ impl State {
         cwd: Path,
         status: u8,
         vars: BTreeMap<VarName, Text>,
-    ) -> Result<(), AllocError>
+    ) -> Result<(), NoMem>
         ensures ok { OnOk result (self.new ≡ put_session sid
             (record { cwd = cwd; vars = map.from_entries vars.entries; status = status })
             self.old) }
@@ -118,7 +118,7 @@ impl State {
 
     /// Sets the status of a session. One that doesn't exist is created: at the root, without
     /// variables.
-    pub fn set_status(&mut self, alloc: Global, sid: u32, status: u8) -> Result<(), AllocError>
+    pub fn set_status(&mut self, alloc: Global, sid: u32, status: u8) -> Result<(), NoMem>
         ensures ok { OnOk result (self.new ≡ put_status sid status self.old) }
         ensures err { OnErr result (self.new ≡ self.old) }
     {
@@ -127,7 +127,7 @@ impl State {
 
     /// Makes a setting in a session. One that doesn't exist is created: at the root, without
     /// variables, with status 0.
-    fn set(&mut self, alloc: Global, sid: u32, setting: Setting) -> Result<(), AllocError>
+    fn set(&mut self, alloc: Global, sid: u32, setting: Setting) -> Result<(), NoMem>
         ensures ok { OnOk result (self.new ≡ put_setting sid setting self.old) }
         ensures err { OnErr result (self.new ≡ self.old) }
     {
@@ -137,7 +137,7 @@ impl State {
 
     /// Makes a change. Files grow in place.
     #[tactic(auto, unfolding(crate::specs::Change::apply))]
-    pub fn apply(&mut self, alloc: Global, change: &Change) -> Result<(), AllocError>
+    pub fn apply(&mut self, alloc: Global, change: &Change) -> Result<(), NoMem>
         ensures ok { OnOk result (self.new ≡ apply change.now self.old) }
         ensures err { OnErr result (self.new ≡ self.old) }
     {
@@ -161,7 +161,7 @@ impl State {
     }
 
     /// Returns a copy of the node at a path.
-    pub fn node(&self, path: &Path) -> Result<Node, AllocError>
+    pub fn node(&self, path: &Path) -> Result<Node, NoMem>
         ensures { IfOk result (λ node. node ≡ node_in path.now self.now.tree) }
     {
         self.tree.node(path)
@@ -176,14 +176,14 @@ impl State {
 
     /// Returns the names of the children of a path, in byte order, whatever node is at the path
     /// itself. Takes time in proportion to the entries below the path.
-    pub fn names(&self, alloc: Global, path: &Path) -> Result<Listing, AllocError>
+    pub fn names(&self, alloc: Global, path: &Path) -> Result<Listing, NoMem>
         ensures { IfOk result (λ names. names ≡ names_in path.now self.now.tree) }
     {
         self.tree.names(alloc, path)
     }
 
     /// Returns the names of the children of a directory, or `None` if the path isn't a directory.
-    fn listing(&self, alloc: Global, path: &Path) -> Result<Option<Listing>, AllocError>
+    fn listing(&self, alloc: Global, path: &Path) -> Result<Option<Listing>, NoMem>
         ensures { IfOk result (λ names. names
             ≡ listing (node_in path.now self.now.tree) (names_in path.now self.now.tree)) }
     {
@@ -194,7 +194,7 @@ impl State {
     }
 
     /// Returns whether `more` bytes can be appended to the file at a path, and if not, why.
-    pub fn permit(&self, alloc: Global, path: &Path, more: u64) -> Result<Permit, AllocError>
+    pub fn permit(&self, alloc: Global, path: &Path, more: u64) -> Result<Permit, NoMem>
         ensures { IfOk result (λ permit. permit ≡ permit_of path.now more self.now) }
     {
         let parent = path.parent(alloc)?;
@@ -203,7 +203,7 @@ impl State {
 
     /// Returns the user with a login name, or `None` if the password file has none.
     #[tactic(auto, unfolding(crate::specs::Tree::node_in))]
-    fn user(&self, alloc: Global, name: &Text) -> Result<Option<User>, AllocError>
+    fn user(&self, alloc: Global, name: &Text) -> Result<Option<User>, NoMem>
         ensures { IfOk result (λ user. user
             ≡ user_in name.now (node_in passwd self.now.tree)) }
     {
@@ -223,7 +223,7 @@ impl State {
 
     /// Returns the directory of a session. It is the root if the session doesn't exist.
     #[tactic(auto, unfolding(crate::specs::Session::default_session))]
-    pub fn cwd(&self, alloc: Global, sid: u32) -> Result<Path, AllocError>
+    pub fn cwd(&self, alloc: Global, sid: u32) -> Result<Path, NoMem>
         ensures { IfOk result (λ cwd. cwd ≡ (session_in sid self.now.sessions).cwd) }
     {
         match self.sessions.get(sid) {
@@ -234,7 +234,7 @@ impl State {
 
     /// Returns the value of a variable of a session, or `None` if it isn't set.
     #[tactic(auto, using(crate::proofs::Lookups::var_of_none))]
-    fn var(&self, sid: u32, name: &VarName) -> Result<Option<Text>, AllocError>
+    fn var(&self, sid: u32, name: &VarName) -> Result<Option<Text>, NoMem>
         ensures { IfOk result (λ text. text
             ≡ map.get (session_in sid self.now.sessions).vars name.now) }
     {
@@ -260,7 +260,7 @@ impl State {
 
     /// Returns the answer to a query.
     #[tactic(auto, unfolding(crate::specs::Ask::answer))]
-    pub fn answer(&self, alloc: Global, ask: &Ask) -> Result<Answer, AllocError>
+    pub fn answer(&self, alloc: Global, ask: &Ask) -> Result<Answer, NoMem>
         ensures { IfOk result (λ a. a ≡ answer ask.now self.now) }
     {
         match ask {
@@ -280,7 +280,7 @@ impl State {
     /// Returns the value of a cell. A session that doesn't exist is at the root, without variables,
     /// with status 0.
     #[tactic(auto, unfolding(crate::specs::Cell::value))]
-    pub fn value(&self, alloc: Global, cell: &Cell) -> Result<Value, AllocError>
+    pub fn value(&self, alloc: Global, cell: &Cell) -> Result<Value, NoMem>
         ensures { IfOk result (λ v. v ≡ value cell.now self.now) }
     {
         match cell {
@@ -310,7 +310,7 @@ impl State {
 
     /// Returns whether the state is lawful: the root is a directory, as is the parent of each other
     /// path, nothing is at `/dev/null` or below it, and the state is within the limits.
-    pub fn is_lawful(&self, alloc: Global) -> Result<bool, AllocError>
+    pub fn is_lawful(&self, alloc: Global) -> Result<bool, NoMem>
         ensures value { IfOk result (λ lawful. lawful ≡ is_lawful self.now) }
         ensures exact { IfOk result (λ lawful. IsTrue lawful ↔ IsLawful self.now) }
     {
@@ -320,7 +320,7 @@ impl State {
     /// Returns whether the state is lawful, as `is_lawful` does. It is a function of its own for
     /// the prover, which proves its two clauses one after the other.
     #[tactic(auto, unfolding(crate::specs::Lawful::is_lawful))]
-    fn passes_law(&self, alloc: Global) -> Result<bool, AllocError>
+    fn passes_law(&self, alloc: Global) -> Result<bool, NoMem>
         ensures { IfOk result (λ lawful. lawful ≡ is_lawful self.now) }
     {
         Ok(self.tree.is_lawful(alloc)? && self.sessions.are_lawful())
@@ -329,7 +329,7 @@ impl State {
     /// Returns whether the state is lawful, and remembers the answer until a change isn't known to
     /// keep it. `allows` is cheap on a state that is known to be lawful. A state that was made from
     /// an empty one by lawful changes is known to be lawful without this call.
-    pub fn validate(&mut self, alloc: Global) -> Result<bool, AllocError>
+    pub fn validate(&mut self, alloc: Global) -> Result<bool, NoMem>
         ensures exact { IfOk result (λ lawful. IsTrue lawful ↔ IsLawful self.old) }
         ensures unchanged { self.new ≡ self.old }
     {
@@ -359,7 +359,7 @@ impl State {
     /// change, its parent and the first entry below it. In any other state, makes the change in a
     /// copy and validates that.
     #[tactic(auto, using(crate::proofs::Allowed::allowed))]
-    pub fn allows(&self, alloc: Global, change: &Change) -> Result<bool, AllocError>
+    pub fn allows(&self, alloc: Global, change: &Change) -> Result<bool, NoMem>
         ensures { IfOk result (λ may. IsTrue may ↔ IsLawfulChange change.now self.now) }
     {
         if !change.has_its_session(self) || change.grows_dir(self) {
@@ -372,7 +372,7 @@ impl State {
     }
 
     /// Returns whether the state after a change is lawful.
-    fn is_lawful_after(&self, alloc: Global, change: &Change) -> Result<bool, AllocError>
+    fn is_lawful_after(&self, alloc: Global, change: &Change) -> Result<bool, NoMem>
         ensures { IfOk result (λ lawful. IsTrue lawful
             ↔ IsLawful (apply change.now self.now)) }
     {
@@ -385,11 +385,11 @@ impl State {
 impl View for State {
     ghost state = { λ s. s };
 
-    fn answer(&self, alloc: Global, ask: &Ask) -> Result<Answer, AllocError> {
+    fn answer(&self, alloc: Global, ask: &Ask) -> Result<Answer, NoMem> {
         self.answer(alloc, ask)
     }
 
-    fn children(&self, alloc: Global, path: &Path) -> Result<Listing, AllocError> {
+    fn children(&self, alloc: Global, path: &Path) -> Result<Listing, NoMem> {
         self.names(alloc, path)
     }
 }

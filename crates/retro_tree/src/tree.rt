@@ -18,8 +18,8 @@ use crate::kind::Kind;
 use crate::known::Known;
 use crate::node::Node;
 use crate::permit::Permit;
-use retro_path::{Bytes, Listing, Path};
-use std::alloc::{AllocError, Global};
+use retro_path::{Bytes, Listing, NoMem, Path};
+use std::alloc::Global;
 use std::collections::btree_map::Iter;
 use std::marker::Model;
 
@@ -67,7 +67,7 @@ impl Tree {
     /// Puts a node at a path. `Missing` removes what the path holds. A tree that is known to be
     /// lawful stays so if the node may be put there.
     #[tactic(auto, using(crate::proofs::LawLemmas::lawful_put))]
-    pub(crate) fn put(&mut self, path: Path, node: Node) -> Result<(), AllocError>
+    pub(crate) fn put(&mut self, path: Path, node: Node) -> Result<(), NoMem>
         ensures ok { OnOk result (self.new ≡ put path node self.old) }
         ensures err { OnErr result (self.new ≡ self.old) }
     {
@@ -84,7 +84,7 @@ impl Tree {
 
     /// Returns the names of the children of a path, in byte order, whatever node is at the path
     /// itself. Takes time in proportion to the entries below the path.
-    pub fn names(&self, alloc: Global, path: &Path) -> Result<Listing, AllocError>
+    pub fn names(&self, alloc: Global, path: &Path) -> Result<Listing, NoMem>
         ensures { IfOk result (λ names. names ≡ names_in path.now self.now) }
     {
         self.entries.get().names(alloc, path)
@@ -100,7 +100,7 @@ impl Tree {
 
     /// Returns a copy of the node at a path.
     #[tactic(auto, unfolding(crate::specs::Tree::node_in))]
-    pub fn node(&self, path: &Path) -> Result<Node, AllocError>
+    pub fn node(&self, path: &Path) -> Result<Node, NoMem>
         ensures { IfOk result (λ node. node ≡ node_in path.now self.now) }
     {
         match self.get(path) {
@@ -164,7 +164,7 @@ impl Tree {
     /// Appends bytes to a file, in place. A missing file is created, and a directory stays
     /// unchanged. A tree that is known to be lawful stays so if the file may grow.
     #[tactic(auto, using(crate::proofs::LawLemmas::growing))]
-    pub(crate) fn grow(&mut self, path: &Path, bytes: &Bytes) -> Result<(), AllocError>
+    pub(crate) fn grow(&mut self, path: &Path, bytes: &Bytes) -> Result<(), NoMem>
         ensures ok { OnOk result
             (self.new ≡ put path.now (grown bytes.now (node_in path.now self.old)) self.old) }
         ensures err { OnErr result (self.new ≡ self.old) }
@@ -175,7 +175,7 @@ impl Tree {
 
     /// Returns whether a lawful tree stays lawful with a node at a path. Looks only at the path,
     /// its parent and the first entry below it.
-    pub(crate) fn may_put(&self, path: &Path, node: &Node) -> Result<bool, AllocError>
+    pub(crate) fn may_put(&self, path: &Path, node: &Node) -> Result<bool, NoMem>
         ensures { IfOk result (λ may. may ≡ may_put path.now node.now self.now) }
     {
         if path.is_root() {
@@ -196,7 +196,7 @@ impl Tree {
     /// Returns whether a lawful tree stays lawful with bytes appended to a file. Looks only at the
     /// path and its parent.
     #[tactic(auto, unfolding(crate::specs::Tree::node_in))]
-    pub(crate) fn may_grow(&self, path: &Path, bytes: &Bytes) -> Result<bool, AllocError>
+    pub(crate) fn may_grow(&self, path: &Path, bytes: &Bytes) -> Result<bool, NoMem>
         ensures { IfOk result (λ may. may ≡ may_grow path.now bytes.now self.now) }
     {
         if path.is_root() || self.is_dir(path) {
@@ -253,7 +253,7 @@ impl Tree {
     }
 
     /// Returns whether the tree is lawful, and remembers it.
-    pub(crate) fn validate(&mut self, alloc: Global) -> Result<bool, AllocError>
+    pub(crate) fn validate(&mut self, alloc: Global) -> Result<bool, NoMem>
         ensures exact { IfOk result (λ lawful. IsTrue lawful ↔ IsLawfulTree self.old) }
         ensures unchanged { self.new ≡ self.old }
     {
@@ -272,7 +272,7 @@ impl Tree {
     /// Returns whether the tree is lawful: the root is a directory, as is the parent of each other
     /// path, nothing is at `/dev/null` or below it, and each file is within the limit.
     #[tactic(auto, unfolding(crate::specs::Lawful::is_lawful_tree))]
-    pub fn is_lawful(&self, alloc: Global) -> Result<bool, AllocError>
+    pub fn is_lawful(&self, alloc: Global) -> Result<bool, NoMem>
         ensures { IfOk result (λ lawful. lawful ≡ is_lawful_tree self.now) }
     {
         let root = Path::root(alloc);
@@ -289,7 +289,7 @@ impl Tree {
 
     /// Returns whether a lawful tree may hold an entry at a path.
     #[tactic(auto, unfolding(crate::specs::Lawful::entry_passes))]
-    fn entry_passes(&self, path: &Path, entry: &Entry) -> Result<bool, AllocError>
+    fn entry_passes(&self, path: &Path, entry: &Entry) -> Result<bool, NoMem>
         ensures { IfOk result (λ passes. passes ≡ entry_passes self.now (path.now, entry.now)) }
     {
         if path.is_root() {
@@ -303,7 +303,7 @@ impl Tree {
 
     /// Puts a directory or a file at a path and returns the previous entry. Forgets whether the
     /// tree is lawful.
-    pub(crate) fn exchange(&mut self, path: Path, node: Node) -> Result<Option<Entry>, AllocError>
+    pub(crate) fn exchange(&mut self, path: Path, node: Node) -> Result<Option<Entry>, NoMem>
         requires { is_present node ≡ true }
         ensures previous { IfOk result (λ previous. previous ≡ map.get self.old path) }
         ensures ok { OnOk result (self.new ≡ put path node self.old) }

@@ -5,8 +5,8 @@ ghost use Rattle.std.specs.Char.{is_ascii_digit};
 ghost use Rattle.retro_tree.specs.User.{plain_text, user_number, named, entry_by, entry_of_line};
 ghost use Rattle.retro_tree.specs.User.{find_user};
 
-use retro_path::Text;
-use std::alloc::{AllocError, Global};
+use retro_path::{NoMem, Text};
+use std::alloc::Global;
 use std::str;
 
 /// The maximum number of digits in the number of a user.
@@ -22,7 +22,7 @@ pub struct User {
 }
 
 /// Splits bytes at a separator.
-fn split(alloc: Global, bytes: &[u8], separator: u8) -> Result<Vec<&[u8]>, AllocError>
+fn split(alloc: Global, bytes: &[u8], separator: u8) -> Result<Vec<&[u8]>, NoMem>
     ensures { IfOk result (λ parts. map (λ part. part.now) parts.items
         ≡ slice_split (λ b. b == separator) bytes.now) }
 {
@@ -73,7 +73,7 @@ fn user_of_fields(
     login: &[u8],
     number: &[u8],
     home: &[u8],
-) -> Result<Option<User>, AllocError>
+) -> Result<Option<User>, NoMem>
     ensures { IfOk result (λ user. user
         ≡ named name.now (entry_by login.now number.now home.now)) }
 {
@@ -93,7 +93,7 @@ fn user_of_fields(
 /// Returns the user of a line, or `None` if the line isn't well formed or its login name isn't
 /// `name`. A line has seven fields, separated by colons.
 #[tactic(auto, unfolding(crate::specs::User::entry_of_line))]
-fn user_of_line(alloc: Global, name: &Text, line: &[u8]) -> Result<Option<User>, AllocError>
+fn user_of_line(alloc: Global, name: &Text, line: &[u8]) -> Result<Option<User>, NoMem>
     ensures { IfOk result (λ user. user ≡ named name.now (entry_of_line line.now)) }
 {
     let fields = split(alloc, line, b':')?;
@@ -106,11 +106,7 @@ fn user_of_line(alloc: Global, name: &Text, line: &[u8]) -> Result<Option<User>,
 /// Returns the user with a login name, from the first well-formed line that has the name. Returns
 /// `None` if no line does.
 #[tactic(auto, unfolding(crate::specs::User::find_user))]
-pub(crate) fn find_user(
-    alloc: Global,
-    name: &Text,
-    bytes: &[u8],
-) -> Result<Option<User>, AllocError>
+pub(crate) fn find_user(alloc: Global, name: &Text, bytes: &[u8]) -> Result<Option<User>, NoMem>
     ensures { IfOk result (λ user. user ≡ find_user name.now bytes.now) }
 {
     for line in bytes.split(|byte| *byte == b'\n') {

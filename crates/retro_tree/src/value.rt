@@ -3,8 +3,7 @@ ghost use Rattle.std.specs.Prelude.{◌≡◌, ◌↔◌, IfOk, IsTrue, OnOk, On
 ghost use Rattle.retro_tree.specs.Change.{value_grown};
 
 use crate::node::Node;
-use retro_path::{Bytes, Path, Text};
-use std::alloc::AllocError;
+use retro_path::{Bytes, NoMem, Path, Text};
 
 /// The value of a cell, by the cell's kind.
 #[derive(Drop, Clone, PartialEq, Eq)]
@@ -21,7 +20,7 @@ pub enum Value {
 
 impl Value {
     /// Returns a copy.
-    pub fn copy(&self) -> Result<Value, AllocError>
+    pub fn copy(&self) -> Result<Value, NoMem>
         ensures { IfOk result (λ copy. copy ≡ self.now) }
     {
         self.clone()
@@ -44,7 +43,7 @@ impl Value {
 
     /// Appends bytes to a file, in place. A missing node becomes a file. A directory and a value of
     /// another kind stay unchanged.
-    pub fn grow(&mut self, bytes: &Bytes) -> Result<(), AllocError>
+    pub fn grow(&mut self, bytes: &Bytes) -> Result<(), NoMem>
         ensures ok { OnOk result (self.new ≡ value_grown bytes.now self.old) }
         ensures err { OnErr result (self.new ≡ self.old) }
     {

@@ -5,8 +5,8 @@ ghost use Rattle.std.specs.FinMap as map;
 ghost use Rattle.retro_tree.specs.Limits.{values_fit};
 
 use crate::session::VALUE_LIMIT;
-use retro_path::{Text, VarName};
-use std::alloc::{AllocError, Global};
+use retro_path::{NoMem, Text, VarName};
+use std::alloc::Global;
 use std::collections::BTreeMap;
 use std::collections::btree_map::Iter;
 use std::marker::Model;
@@ -55,7 +55,7 @@ impl Vars {
     }
 
     /// Sets a variable and returns its previous value. Takes no memory if the variable is set.
-    pub(crate) fn insert(&mut self, name: VarName, value: Text) -> Result<Option<Text>, AllocError>
+    pub(crate) fn insert(&mut self, name: VarName, value: Text) -> Result<Option<Text>, NoMem>
         ensures previous { IfOk result (λ previous. previous ≡ map.get self.old name) }
         ensures ok { OnOk result (self.new ≡ map.insert self.old name value) }
         ensures err { OnErr result (self.new ≡ self.old) }

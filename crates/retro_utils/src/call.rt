@@ -15,8 +15,8 @@ use crate::utilities::cut::run_cut;
 use crate::utilities::grep::run_grep;
 use retro_local::Local;
 use retro_text::Utility;
-use retro_tree::View;
-use std::alloc::{AllocError, Global};
+use retro_tree::{NoMem, View};
+use std::alloc::Global;
 
 /// What a utility is called with.
 #[derive(Drop)]
@@ -33,7 +33,7 @@ fn run<V: View>(
     utility: Utility,
     call: Call,
     local: &mut Local<V>,
-) -> Result<Done, AllocError>
+) -> Result<Done, NoMem>
     ensures means { IfOk result (λ done. Computes local.old local.new
         (meaning utility (map string_bytes call.entry.fields.now) call.entry.input call.entry.place)
         done) }
@@ -75,7 +75,7 @@ pub fn utility<V: View>(
     input: Input,
     local: &mut Local<V>,
     place: Place,
-) -> Result<Option<Done>, AllocError>
+) -> Result<Option<Done>, NoMem>
     ensures known { IfOk result (λ done. is_some done ≡ is_some (utility_named name.now)) }
     ensures means { IfOk result (λ done. Computes local.old local.new
         (utility name.now (map string_bytes fields.now) input place) done) }

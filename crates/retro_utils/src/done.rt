@@ -7,8 +7,8 @@ ghost use Rattle.retro_utils.specs.Transfers.{with_transfer};
 use crate::reason::Reason;
 use crate::transfer_fault::TransferFault;
 use retro_text::usage_text;
-use retro_tree::Bytes;
-use std::alloc::{AllocError, Global};
+use retro_tree::{Bytes, NoMem};
+use std::alloc::Global;
 
 /// The result of a utility.
 #[derive(Drop)]
@@ -34,7 +34,7 @@ impl Done {
     }
 
     /// Returns the result of a utility whose fields aren't a form of its synopsis.
-    pub(crate) fn usage(alloc: Global, name: &str) -> Result<Done, AllocError>
+    pub(crate) fn usage(alloc: Global, name: &str) -> Result<Done, NoMem>
         ensures { IfOk result (λ done. done ≡ usage name.now) }
     {
         Ok(Done {
@@ -45,12 +45,7 @@ impl Done {
     }
 
     /// Adds the diagnostic of a fault on an operand, and sets the status to 1.
-    pub(crate) fn fault(
-        &mut self,
-        name: &str,
-        operand: &str,
-        reason: Reason,
-    ) -> Result<(), AllocError>
+    pub(crate) fn fault(&mut self, name: &str, operand: &str, reason: Reason) -> Result<(), NoMem>
         ensures { OnOk result (self.new ≡ with_fault name.now operand.now reason self.old) }
     {
         reason.push_fault(&mut self.err, name, operand)?;
@@ -64,7 +59,7 @@ impl Done {
         name: &str,
         operand: &str,
         outcome: Result<(), Reason>,
-    ) -> Result<(), AllocError>
+    ) -> Result<(), NoMem>
         ensures { OnOk result (self.new ≡ with_outcome name.now operand.now outcome self.old) }
     {
         match outcome {
@@ -80,7 +75,7 @@ impl Done {
         source: &str,
         last: &str,
         outcome: Result<(), TransferFault>,
-    ) -> Result<(), AllocError>
+    ) -> Result<(), NoMem>
         ensures { OnOk result
             (self.new ≡ with_transfer name.now source.now last.now outcome self.old) }
     {
@@ -92,7 +87,7 @@ impl Done {
     }
 
     /// Adds output.
-    pub(crate) fn print(&mut self, bytes: &[u8]) -> Result<(), AllocError>
+    pub(crate) fn print(&mut self, bytes: &[u8]) -> Result<(), NoMem>
         ensures { OnOk result (self.new ≡ with_output bytes.now self.old) }
     {
         self.out.extend(bytes)
@@ -104,7 +99,7 @@ impl Done {
         name: &str,
         operand: &str,
         reading: Result<Bytes, Reason>,
-    ) -> Result<(), AllocError>
+    ) -> Result<(), NoMem>
         ensures { OnOk result (self.new ≡ with_reading name.now operand.now reading self.old) }
     {
         match reading {

@@ -23,11 +23,11 @@ use crate::utilities::rm::rm;
 use crate::utilities::tee::{TeeOperands, tee};
 use retro_local::Local;
 use retro_text::{Request, echo_text};
-use retro_tree::View;
-use std::alloc::{AllocError, Global};
+use retro_tree::{NoMem, View};
+use std::alloc::Global;
 
 /// Runs `echo [-n] [text..]`: prints the fields, with a space between each two, and a newline.
-pub(crate) fn run_echo(alloc: Global, fields: &[String]) -> Result<Done, AllocError>
+pub(crate) fn run_echo(alloc: Global, fields: &[String]) -> Result<Done, NoMem>
     ensures { IfOk result (λ done. done ≡ echo (map string_bytes fields.now)) }
 {
     let mut done = Done::nothing(alloc, 0);
@@ -42,7 +42,7 @@ pub(crate) fn run_pwd<V: View>(
     sid: u32,
     fields: &[String],
     local: &mut Local<V>,
-) -> Result<Done, AllocError>
+) -> Result<Done, NoMem>
     ensures means { IfOk result (λ done. Computes local.old local.new
         (pwd_call sid (map string_bytes fields.now)) done) }
     ensures extends { Extends sid local.old local.new }
@@ -60,7 +60,7 @@ pub(crate) fn run_cd<V: View>(
     place: Place,
     fields: &[String],
     local: &mut Local<V>,
-) -> Result<Done, AllocError>
+) -> Result<Done, NoMem>
     ensures means { IfOk result (λ done. Computes local.old local.new
         (cd_call place (map string_bytes fields.now)) done) }
     ensures extends { Extends place.sid local.old local.new }
@@ -77,7 +77,7 @@ pub(crate) fn run_id<V: View>(
     alloc: Global,
     fields: &[String],
     local: &mut Local<V>,
-) -> Result<Done, AllocError>
+) -> Result<Done, NoMem>
     ensures means { IfOk result (λ done. Computes local.old local.new
         (id_call (map string_bytes fields.now)) done) }
     ensures extends { ExtendsTree local.old local.new }
@@ -96,7 +96,7 @@ pub(crate) fn run_cat<V: View>(
     fields: &[String],
     input: Input,
     local: &mut Local<V>,
-) -> Result<Done, AllocError>
+) -> Result<Done, NoMem>
     ensures means { IfOk result (λ done. Computes local.old local.new
         (cat_call sid (map string_bytes fields.now) input) done) }
     ensures extends { Extends sid local.old local.new }
@@ -126,7 +126,7 @@ pub(crate) fn run_tee<V: View>(
     fields: &[String],
     input: Input,
     local: &mut Local<V>,
-) -> Result<Done, AllocError>
+) -> Result<Done, NoMem>
     ensures means { IfOk result (λ done. Computes local.old local.new
         (tee_call sid (map string_bytes fields.now) input) done) }
     ensures extends { Extends sid local.old local.new }
@@ -150,7 +150,7 @@ pub(crate) fn run_mkdir<V: View>(
     sid: u32,
     fields: &[String],
     local: &mut Local<V>,
-) -> Result<Done, AllocError>
+) -> Result<Done, NoMem>
     ensures means { IfOk result (λ done. Computes local.old local.new
         (mkdir_call sid (map string_bytes fields.now)) done) }
     ensures extends { Extends sid local.old local.new }
@@ -184,7 +184,7 @@ pub(crate) fn run_rm<V: View>(
     sid: u32,
     fields: &[String],
     local: &mut Local<V>,
-) -> Result<Done, AllocError>
+) -> Result<Done, NoMem>
     ensures means { IfOk result (λ done. Computes local.old local.new
         (rm_call sid (map string_bytes fields.now)) done) }
     ensures extends { Extends sid local.old local.new }
@@ -217,7 +217,7 @@ pub(crate) fn run_cp<V: View>(
     sid: u32,
     fields: &[String],
     local: &mut Local<V>,
-) -> Result<Done, AllocError>
+) -> Result<Done, NoMem>
     ensures means { IfOk result (λ done. Computes local.old local.new
         (cp_call sid (map string_bytes fields.now)) done) }
     ensures extends { Extends sid local.old local.new }
@@ -238,7 +238,7 @@ pub(crate) fn run_mv<V: View>(
     sid: u32,
     fields: &[String],
     local: &mut Local<V>,
-) -> Result<Done, AllocError>
+) -> Result<Done, NoMem>
     ensures means { IfOk result (λ done. Computes local.old local.new
         (mv_call sid (map string_bytes fields.now)) done) }
     ensures extends { Extends sid local.old local.new }

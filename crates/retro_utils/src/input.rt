@@ -5,8 +5,8 @@ ghost use Rattle.retro_utils.specs.Reading.{input_in};
 ghost use Rattle.retro_utils.specs.declared.input.Input.TheVariants as Input;
 
 use retro_local::Local;
-use retro_tree::{Bytes, Node, Path, View};
-use std::alloc::{AllocError, Global};
+use retro_tree::{Bytes, NoMem, Node, Path, View};
+use std::alloc::Global;
 use std::mem::replace;
 
 /// Standard input. It is read once: the second reading is empty.
@@ -28,7 +28,7 @@ impl Input {
         &mut self,
         alloc: Global,
         local: &mut Local<V>,
-    ) -> Result<Bytes, AllocError>
+    ) -> Result<Bytes, NoMem>
         ensures means { IfOk result (λ bytes. Computes local.old local.new
             (λ s. (s, input_in self.old s)) bytes) }
         ensures once { self.new ≡ Input.Empty }

@@ -4,7 +4,7 @@
 //! its output, its diagnostics and its status. The code runs over a `Local`, and its notes say what
 //! was read and changed. `utility` runs the utility with a name on the fields after the name.
 //!
-//! If allocation fails, calls return `AllocError`. A `Local` then has its earlier notes and maybe
+//! If allocation fails, calls return `NoMem`. A `Local` then has its earlier notes and maybe
 //! some later ones, which hold.
 #![tactic(auto)]
 

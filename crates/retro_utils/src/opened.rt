@@ -5,8 +5,8 @@ ghost use Rattle.retro_utils.specs.Tee.{files_view, with_file};
 
 use crate::done::Done;
 use crate::reason::Reason;
-use retro_tree::Path;
-use std::alloc::{AllocError, Global};
+use retro_tree::{NoMem, Path};
+use std::alloc::Global;
 
 /// The files that are open, and the faults of the other operands.
 #[derive(Drop)]
@@ -33,7 +33,7 @@ impl<'a> Opened<'a> {
         &mut self,
         operand: &'a str,
         outcome: Result<Path, Reason>,
-    ) -> Result<(), AllocError>
+    ) -> Result<(), NoMem>
         ensures { OnOk result
             (files_view self.new ≡ with_file operand.entry.now outcome (files_view self.old)) }
     {

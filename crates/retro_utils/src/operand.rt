@@ -7,8 +7,8 @@ ghost use Rattle.retro_utils.specs.Reading.{input_after, path_reading, reading, 
 use crate::input::Input;
 use crate::reason::Reason;
 use retro_local::Local;
-use retro_tree::{Bytes, Node, Path, Resolved, View};
-use std::alloc::{AllocError, Global};
+use retro_tree::{Bytes, NoMem, Node, Path, Resolved, View};
+use std::alloc::Global;
 
 /// Returns the path that an operand names in a session, or the reason why it names none.
 #[tactic(auto, unfolding(crate::specs::Operands::located))]
@@ -17,7 +17,7 @@ pub fn locate<V: View>(
     sid: u32,
     operand: &str,
     local: &mut Local<V>,
-) -> Result<Result<Path, Reason>, AllocError>
+) -> Result<Result<Path, Reason>, NoMem>
     ensures means { IfOk result (λ path. Computes local.old local.new
         (λ s. (s, located sid operand.now s)) path) }
     ensures extends { Extends sid local.old local.new }
@@ -36,7 +36,7 @@ pub(crate) fn read_path<V: View>(
     alloc: Global,
     path: &Path,
     local: &mut Local<V>,
-) -> Result<Result<Bytes, Reason>, AllocError>
+) -> Result<Result<Bytes, Reason>, NoMem>
     ensures means { IfOk result (λ bytes. Computes local.old local.new
         (λ s. (s, path_reading path.now s)) bytes) }
     ensures extends { ExtendsTree local.old local.new }
@@ -58,7 +58,7 @@ pub(crate) fn read_operand<V: View>(
     sid: u32,
     operand: &str,
     local: &mut Local<V>,
-) -> Result<Result<Bytes, Reason>, AllocError>
+) -> Result<Result<Bytes, Reason>, NoMem>
     ensures means { IfOk result (λ bytes. Computes local.old local.new
         (λ s. (s, reading sid operand.now s)) bytes) }
     ensures extends { Extends sid local.old local.new }
@@ -78,7 +78,7 @@ pub(crate) fn read_source<V: View>(
     operand: &str,
     input: &mut Input,
     local: &mut Local<V>,
-) -> Result<Result<Bytes, Reason>, AllocError>
+) -> Result<Result<Bytes, Reason>, NoMem>
     ensures means { IfOk result (λ bytes. Computes local.old local.new
         (λ s. (s, source sid operand.now input.old s)) bytes) }
     ensures input { input.new ≡ input_after operand.now input.old }

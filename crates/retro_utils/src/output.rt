@@ -9,8 +9,8 @@ ghost use Rattle.retro_utils.specs.Output.{appended, opened, prepared};
 use crate::mode::Mode;
 use crate::reason::{Reason, refusal};
 use retro_local::Local;
-use retro_tree::{Bytes, Path, View};
-use std::alloc::{AllocError, Global};
+use retro_tree::{Bytes, NoMem, Path, View};
+use std::alloc::Global;
 
 /// Creates a file if it is missing. Empties it in the mode `Truncate`.
 fn prepare<V: View>(
@@ -18,7 +18,7 @@ fn prepare<V: View>(
     mode: Mode,
     path: Path,
     local: &mut Local<V>,
-) -> Result<(), AllocError>
+) -> Result<(), NoMem>
     requires apart { is_null path ≡ false }
     requires permit { Always (λ s. permit_of path 0 s ≡ Yes) local.old }
     ensures means { OnOk result (Transforms local.old local.new (prepared mode path)) }
@@ -37,7 +37,7 @@ pub fn open<V: View>(
     mode: Mode,
     path: &Path,
     local: &mut Local<V>,
-) -> Result<Result<(), Reason>, AllocError>
+) -> Result<Result<(), Reason>, NoMem>
     ensures means { IfOk result (λ outcome. Computes local.old local.new
         (opened mode path.now) outcome) }
     ensures extends { ExtendsTree local.old local.new }
@@ -61,7 +61,7 @@ pub fn append<V: View>(
     text: &Bytes,
     path: &Path,
     local: &mut Local<V>,
-) -> Result<Result<(), Reason>, AllocError>
+) -> Result<Result<(), Reason>, NoMem>
     ensures means { IfOk result (λ outcome. Computes local.old local.new
         (appended text.now path.now) outcome) }
     ensures extends { ExtendsTree local.old local.new }

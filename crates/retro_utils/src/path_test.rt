@@ -7,8 +7,8 @@ ghost use Rattle.retro_utils.specs.PathTests.{path_passes};
 use crate::operand::locate;
 use retro_local::Local;
 use retro_text::PathTest;
-use retro_tree::{Kind, Path, View};
-use std::alloc::{AllocError, Global};
+use retro_tree::{Kind, NoMem, Path, View};
+use std::alloc::Global;
 
 /// Returns whether a node of the given kind passes.
 fn kind_passes(test: PathTest, kind: Kind) -> bool
@@ -41,7 +41,7 @@ fn path_passes<V: View>(
     test: PathTest,
     path: &Path,
     local: &mut Local<V>,
-) -> Result<bool, AllocError>
+) -> Result<bool, NoMem>
     ensures means { IfOk result (λ passes. Computes local.old local.new
         (λ s. (s, path_passes test path.now s)) passes) }
     ensures extends { ExtendsTree local.old local.new }
@@ -62,7 +62,7 @@ pub(crate) fn operand_passes<V: View>(
     sid: u32,
     operand: &str,
     local: &mut Local<V>,
-) -> Result<bool, AllocError>
+) -> Result<bool, NoMem>
     ensures means { IfOk result (λ passes. Computes local.old local.new
         (λ s. (s, operand_passes sid test operand.now s)) passes) }
     ensures extends { Extends sid local.old local.new }

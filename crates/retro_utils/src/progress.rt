@@ -6,8 +6,8 @@ ghost use Rattle.retro_utils.specs.Searching.{nothing_found, search_done, with_r
 use crate::done::Done;
 use crate::reason::Reason;
 use retro_text::{Found, Search};
-use retro_tree::Bytes;
-use std::alloc::{AllocError, Global};
+use retro_tree::{Bytes, NoMem};
+use std::alloc::Global;
 
 /// What a search has printed so far, whether it has selected a line, and whether it has failed on
 /// an operand.
@@ -35,7 +35,7 @@ impl Progress {
     }
 
     /// Adds what was found in an operand.
-    pub(crate) fn add(&mut self, found: &Found) -> Result<(), AllocError>
+    pub(crate) fn add(&mut self, found: &Found) -> Result<(), NoMem>
         ensures { OnOk result (self.new ≡ record self.old {
           out = self.old.out ++ found.now.output;
           selected = self.old.selected || found.now.selected;
@@ -47,7 +47,7 @@ impl Progress {
     }
 
     /// Adds the diagnostic of an operand that can't be read.
-    pub(crate) fn fail(&mut self, operand: &str, reason: Reason) -> Result<(), AllocError>
+    pub(crate) fn fail(&mut self, operand: &str, reason: Reason) -> Result<(), NoMem>
         ensures { OnOk result (self.new ≡ with_read_fault operand.now reason self.old) }
     {
         reason.push_fault(&mut self.err, "grep", operand)?;

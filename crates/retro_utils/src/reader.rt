@@ -7,8 +7,8 @@ use crate::input::Input;
 use crate::operand::read_source;
 use crate::reason::Reason;
 use retro_local::Local;
-use retro_tree::{Bytes, View};
-use std::alloc::{AllocError, Global};
+use retro_tree::{Bytes, NoMem, View};
+use std::alloc::Global;
 
 /// What a utility reads from: the files that operands name in a session, and standard input.
 #[derive(Drop)]
@@ -25,7 +25,7 @@ impl Reader {
         alloc: Global,
         operand: &str,
         local: &mut Local<V>,
-    ) -> Result<Result<Bytes, Reason>, AllocError>
+    ) -> Result<Result<Bytes, Reason>, NoMem>
         ensures means { IfOk result (λ bytes. Computes local.old local.new
             (λ s. (s, source self.old.sid operand.now self.old.input s)) bytes) }
         ensures input { self.new.input ≡ input_after operand.now self.old.input }

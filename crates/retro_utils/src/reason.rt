@@ -2,8 +2,7 @@
 ghost use Rattle.std.specs.Prelude.{◌≡◌, ◌++◌, OnOk, OnErr};
 ghost use Rattle.retro_utils.specs.Reasons.{fault_text, no_directory, reason_text, refusal};
 
-use retro_tree::{Bytes, Kind, Permit};
-use std::alloc::AllocError;
+use retro_tree::{Bytes, Kind, NoMem, Permit};
 
 /// The reason why an operation on a path fails.
 #[derive(Drop, Clone, Copy, Debug, PartialEq, Eq)]
@@ -51,7 +50,7 @@ impl Reason {
 
     /// Appends the diagnostic `SPEAKER: WORD: REASON` and a newline.
     #[tactic(auto, unfolding(crate::specs::Reasons::fault_text))]
-    pub fn push_fault(self, text: &mut Bytes, speaker: &str, word: &str) -> Result<(), AllocError>
+    pub fn push_fault(self, text: &mut Bytes, speaker: &str, word: &str) -> Result<(), NoMem>
         ensures { OnOk result (text.new ≡ text.old ++ fault_text speaker.now word.now self) }
     {
         text.extend(speaker.as_bytes())?;

@@ -3,7 +3,8 @@ ghost use Rattle.std.specs.Prelude.{◌≡◌, IfOk, map, string_bytes};
 ghost use Rattle.retro_text.specs.Request.{known_letters, request_in};
 
 use retro_text::{KnownLetters, Request, UsageError};
-use std::alloc::{AllocError, Global};
+use retro_tree::NoMem;
+use std::alloc::Global;
 
 /// Returns the options and operands in the fields of a utility, or `None` if they can't be read.
 /// The utility knows the given letters: those of options without an argument, and those of options
@@ -13,7 +14,7 @@ pub(crate) fn request_of<'a>(
     flags: &[u8],
     arguments: &[u8],
     fields: &'a [String],
-) -> Result<Option<Request<'a>>, AllocError>
+) -> Result<Option<Request<'a>>, NoMem>
     ensures { IfOk result (λ request. request
         ≡ request_in (known_letters flags.now arguments.now) (map string_bytes fields.entry.now)) }
 {
@@ -21,6 +22,6 @@ pub(crate) fn request_of<'a>(
     match Request::of(alloc, &known, fields) {
         Ok(request) => Ok(Some(request)),
         Err(UsageError::Usage) => Ok(None),
-        Err(UsageError::NoMem) => Err(AllocError),
+        Err(UsageError::NoMem) => Err(NoMem),
     }
 }

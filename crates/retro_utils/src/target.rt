@@ -7,8 +7,8 @@ ghost use Rattle.retro_utils.specs.Transfers.{target_by_kind, target_of, target_
 use crate::operand::locate;
 use crate::reason::Reason;
 use retro_local::Local;
-use retro_tree::{Kind, Path, View};
-use std::alloc::{AllocError, Global};
+use retro_tree::{Kind, NoMem, Path, View};
+use std::alloc::Global;
 
 /// Where sources go.
 #[derive(Drop)]
@@ -21,7 +21,7 @@ pub(crate) enum Target {
 
 impl Target {
     /// Returns the path that a source goes to.
-    pub(crate) fn path_for(&self, alloc: Global, source: &Path) -> Result<Path, AllocError>
+    pub(crate) fn path_for(&self, alloc: Global, source: &Path) -> Result<Path, NoMem>
         ensures { IfOk result (λ path. path ≡ target_path self.now source.now) }
     {
         match self {
@@ -39,7 +39,7 @@ impl Target {
         several: bool,
         path: Path,
         local: &mut Local<V>,
-    ) -> Result<Result<Target, Reason>, AllocError>
+    ) -> Result<Result<Target, Reason>, NoMem>
         ensures means { IfOk result (λ target. Computes local.old local.new
             (λ s. (s, target_by_kind several path (kind_at path s))) target) }
         ensures extends { ExtendsTree local.old local.new }
@@ -59,7 +59,7 @@ impl Target {
         several: bool,
         last: &str,
         local: &mut Local<V>,
-    ) -> Result<Result<Target, Reason>, AllocError>
+    ) -> Result<Result<Target, Reason>, NoMem>
         ensures means { IfOk result (λ target. Computes local.old local.new
             (λ s. (s, target_of sid several last.now s)) target) }
         ensures extends { Extends sid local.old local.new }

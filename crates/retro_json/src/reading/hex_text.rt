@@ -4,7 +4,7 @@ ghost use Rattle.retro_json.specs.TreePart.{bytes_in};
 
 use hex::FromHexError;
 use retro_tree::{Bytes, NoMem};
-use std::alloc::{AllocError, Global};
+use std::alloc::Global;
 
 /// Returns the bytes that pairs of hexadecimal digits of either case encode, or `None` if the text
 /// isn't such pairs.
@@ -13,7 +13,7 @@ pub fn bytes_in(alloc: Global, hex: &str) -> Result<Option<Bytes>, NoMem>
 {
     match hex::decode(alloc, hex) {
         Ok(bytes) => Ok(Some(Bytes::of(bytes))),
-        Err(FromHexError::OutOfMemory) => Err(AllocError),
+        Err(FromHexError::OutOfMemory) => Err(NoMem),
         Err(_) => Ok(None),
     }
 }

@@ -8,15 +8,11 @@ ghost use Rattle.retro_syntax.specs.View.{piece_view};
 ghost use Rattle.retro_syntax.specs.inner.QuotingViews.{pieces_view};
 
 use crate::tree::Piece;
-use std::alloc::{AllocError, Global};
+use retro_path::NoMem;
+use std::alloc::Global;
 
 /// Appends `last` and then an unquoted character, to the same piece if `last` is unquoted text.
-fn extend_plain(
-    alloc: Global,
-    pieces: &mut Vec<Piece>,
-    last: Piece,
-    c: char,
-) -> Result<(), AllocError>
+fn extend_plain(alloc: Global, pieces: &mut Vec<Piece>, last: Piece, c: char) -> Result<(), NoMem>
     ensures { OnOk result (pieces_view pieces.new
         ≡ pieces_view pieces.old ++ Quoting.grown_plain (piece_view last) c) }
 {
@@ -36,7 +32,7 @@ fn extend_plain(
 }
 
 /// Appends an unquoted character.
-pub fn push_plain(alloc: Global, pieces: &mut Vec<Piece>, c: char) -> Result<(), AllocError>
+pub fn push_plain(alloc: Global, pieces: &mut Vec<Piece>, c: char) -> Result<(), NoMem>
     ensures { OnOk result
         (pieces_view pieces.new ≡ Quoting.add_plain (pieces_view pieces.old) c) }
 {
@@ -57,7 +53,7 @@ fn extend_quoted(
     pieces: &mut Vec<Piece>,
     last: Piece,
     more: &str,
-) -> Result<(), AllocError>
+) -> Result<(), NoMem>
     ensures { OnOk result (pieces_view pieces.new
         ≡ pieces_view pieces.old ++ Quoting.grown_quoted (piece_view last) more.now) }
 {
@@ -78,11 +74,7 @@ fn extend_quoted(
 
 /// Appends a quoted text. If the text is empty, and the last piece isn't quoted text, an empty
 /// quoted piece is appended.
-pub fn push_quoted_text(
-    alloc: Global,
-    pieces: &mut Vec<Piece>,
-    more: &str,
-) -> Result<(), AllocError>
+pub fn push_quoted_text(alloc: Global, pieces: &mut Vec<Piece>, more: &str) -> Result<(), NoMem>
     ensures { OnOk result
         (pieces_view pieces.new ≡ Quoting.add_quoted (pieces_view pieces.old) more.now) }
 {
@@ -103,7 +95,7 @@ fn extend_quoted_character(
     pieces: &mut Vec<Piece>,
     last: Piece,
     c: char,
-) -> Result<(), AllocError>
+) -> Result<(), NoMem>
     ensures { OnOk result (pieces_view pieces.new
         ≡ pieces_view pieces.old ++ Quoting.grown_quoted (piece_view last) (encode_utf8 c)) }
 {
@@ -123,7 +115,7 @@ fn extend_quoted_character(
 }
 
 /// Appends a quoted character.
-pub fn push_quoted(alloc: Global, pieces: &mut Vec<Piece>, c: char) -> Result<(), AllocError>
+pub fn push_quoted(alloc: Global, pieces: &mut Vec<Piece>, c: char) -> Result<(), NoMem>
     ensures { OnOk result
         (pieces_view pieces.new ≡ Quoting.add_quoted (pieces_view pieces.old) (encode_utf8 c)) }
 {
@@ -139,7 +131,7 @@ pub fn push_quoted(alloc: Global, pieces: &mut Vec<Piece>, c: char) -> Result<()
 }
 
 /// Appends a `$` that begins no parameter. `quoted` says whether it is in double quotes.
-pub fn push_dollar(alloc: Global, pieces: &mut Vec<Piece>, quoted: bool) -> Result<(), AllocError>
+pub fn push_dollar(alloc: Global, pieces: &mut Vec<Piece>, quoted: bool) -> Result<(), NoMem>
     ensures { OnOk result
         (pieces_view pieces.new ≡ Quoting.add_dollar (pieces_view pieces.old) quoted) }
 {

@@ -9,8 +9,8 @@ use crate::done::Done;
 use crate::input::Input;
 use crate::operand::read_source;
 use retro_local::Local;
-use retro_tree::View;
-use std::alloc::{AllocError, Global};
+use retro_tree::{NoMem, View};
+use std::alloc::Global;
 use std::slice::from_ref;
 
 /// Returns the bytes of each operand in turn.
@@ -20,7 +20,7 @@ fn concatenate<V: View>(
     operands: &[String],
     input: Input,
     local: &mut Local<V>,
-) -> Result<Done, AllocError>
+) -> Result<Done, NoMem>
     ensures means { IfOk result (λ done. Computes local.old local.new
         (λ s. (
           s,
@@ -47,7 +47,7 @@ pub(crate) fn cat<V: View>(
     operands: &[String],
     input: Input,
     local: &mut Local<V>,
-) -> Result<Done, AllocError>
+) -> Result<Done, NoMem>
     ensures means { IfOk result (λ done. Computes local.old local.new
         (cat sid (map string_bytes operands.now) input) done) }
     ensures extends { Extends sid local.old local.new }

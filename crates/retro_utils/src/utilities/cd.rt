@@ -9,8 +9,8 @@ use crate::operand::locate;
 use crate::place::Place;
 use crate::reason::{Reason, no_directory};
 use retro_local::Local;
-use retro_tree::{Path, VarName, View};
-use std::alloc::{AllocError, Global};
+use retro_tree::{NoMem, Path, VarName, View};
+use std::alloc::Global;
 
 /// Makes a path the directory of the session. In a subshell, only tests that it is a directory.
 #[tactic(auto, unfolding(crate::specs::Directories::enter))]
@@ -19,7 +19,7 @@ fn enter<V: View>(
     place: Place,
     path: Path,
     local: &mut Local<V>,
-) -> Result<Result<(), Reason>, AllocError>
+) -> Result<Result<(), Reason>, NoMem>
     ensures means { IfOk result (λ outcome. Computes local.old local.new
         (enter place path) outcome) }
     ensures extends { Extends place.sid local.old local.new }
@@ -39,7 +39,7 @@ fn enter_operand<V: View>(
     place: Place,
     operand: &str,
     local: &mut Local<V>,
-) -> Result<Result<(), Reason>, AllocError>
+) -> Result<Result<(), Reason>, NoMem>
     ensures means { IfOk result (λ outcome. Computes local.old local.new
         (at_operand place.sid (enter place) operand.now) outcome) }
     ensures extends { Extends place.sid local.old local.new }
@@ -57,7 +57,7 @@ fn cd_to<V: View>(
     place: Place,
     operand: &str,
     local: &mut Local<V>,
-) -> Result<Done, AllocError>
+) -> Result<Done, NoMem>
     ensures means { IfOk result (λ done. Computes local.old local.new
         (cd_to place operand.now) done) }
     ensures extends { Extends place.sid local.old local.new }
@@ -70,7 +70,7 @@ fn cd_to<V: View>(
 
 /// Returns the result if HOME isn't set or is empty.
 #[tactic(auto, unfolding(crate::specs::Directories::home_not_set))]
-fn home_not_set(alloc: Global) -> Result<Done, AllocError>
+fn home_not_set(alloc: Global) -> Result<Done, NoMem>
     ensures { IfOk result (λ done. done ≡ home_not_set) }
 {
     let mut done = Done::nothing(alloc, 1);
@@ -79,7 +79,7 @@ fn home_not_set(alloc: Global) -> Result<Done, AllocError>
 }
 
 /// Changes to the directory that HOME names.
-fn cd_home<V: View>(alloc: Global, place: Place, local: &mut Local<V>) -> Result<Done, AllocError>
+fn cd_home<V: View>(alloc: Global, place: Place, local: &mut Local<V>) -> Result<Done, NoMem>
     ensures means { IfOk result (λ done. Computes local.old local.new
         (λ s. cd_home place (home_in place.sid s) s) done) }
     ensures extends { Extends place.sid local.old local.new }
@@ -101,7 +101,7 @@ pub(crate) fn cd<V: View>(
     place: Place,
     operands: &[String],
     local: &mut Local<V>,
-) -> Result<Done, AllocError>
+) -> Result<Done, NoMem>
     ensures means { IfOk result (λ done. Computes local.old local.new
         (cd place (map string_bytes operands.now)) done) }
     ensures extends { Extends place.sid local.old local.new }

@@ -8,8 +8,8 @@ use crate::done::Done;
 use crate::path_test::operand_passes;
 use retro_local::Local;
 use retro_text::{Condition, before_bracket};
-use retro_tree::View;
-use std::alloc::{AllocError, Global};
+use retro_tree::{NoMem, View};
+use std::alloc::Global;
 
 /// Returns whether a condition holds.
 fn condition_holds<V: View>(
@@ -17,7 +17,7 @@ fn condition_holds<V: View>(
     sid: u32,
     condition: Condition,
     local: &mut Local<V>,
-) -> Result<bool, AllocError>
+) -> Result<bool, NoMem>
     ensures means { IfOk result (λ holds. Computes local.old local.new
         (λ s. (s, condition_holds sid (condition_view condition.entry) s)) holds) }
     ensures extends { Extends sid local.old local.new }
@@ -36,7 +36,7 @@ pub(crate) fn run_condition<V: View>(
     name: &str,
     operands: &[String],
     local: &mut Local<V>,
-) -> Result<Done, AllocError>
+) -> Result<Done, NoMem>
     ensures means { IfOk result (λ done. Computes local.old local.new
         (condition_call name.now sid (map string_bytes operands.now)) done) }
     ensures extends { Extends sid local.old local.new }
@@ -58,7 +58,7 @@ pub(crate) fn run_bracket<V: View>(
     sid: u32,
     fields: &[String],
     local: &mut Local<V>,
-) -> Result<Done, AllocError>
+) -> Result<Done, NoMem>
     ensures means { IfOk result (λ done. Computes local.old local.new
         (bracket_call sid (map string_bytes fields.now)) done) }
     ensures extends { Extends sid local.old local.new }

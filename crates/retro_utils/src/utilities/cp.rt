@@ -11,8 +11,8 @@ use crate::reason::{Reason, refusal};
 use crate::target::Target;
 use crate::transfer_fault::TransferFault;
 use retro_local::Local;
-use retro_tree::{Bytes, Path, View};
-use std::alloc::{AllocError, Global};
+use retro_tree::{Bytes, NoMem, Path, View};
+use std::alloc::Global;
 
 /// Puts bytes at a path. `/dev/null` discards them, and no query is made for it.
 #[tactic(auto, unfolding(crate::specs::Cp::write_copy), using(crate::proofs::Facts::granted))]
@@ -21,7 +21,7 @@ fn write_copy<V: View>(
     path: Path,
     text: Bytes,
     local: &mut Local<V>,
-) -> Result<Result<(), TransferFault>, AllocError>
+) -> Result<Result<(), TransferFault>, NoMem>
     requires { Always (λ s. length text ≤ file_limit) local.old }
     ensures means { IfOk result (λ outcome. Computes local.old local.new
         (write_copy path text) outcome) }
@@ -46,7 +46,7 @@ fn copy_path<V: View>(
     target: &Target,
     path: &Path,
     local: &mut Local<V>,
-) -> Result<Result<(), TransferFault>, AllocError>
+) -> Result<Result<(), TransferFault>, NoMem>
     ensures means { IfOk result (λ outcome. Computes local.old local.new
         (copy_path target.now path.now) outcome) }
     ensures extends { ExtendsTree local.old local.new }
@@ -71,7 +71,7 @@ fn copy_operand<V: View>(
     target: &Target,
     source: &str,
     local: &mut Local<V>,
-) -> Result<Result<(), TransferFault>, AllocError>
+) -> Result<Result<(), TransferFault>, NoMem>
     ensures means { IfOk result (λ outcome. Computes local.old local.new
         (copy_operand sid target.now source.now) outcome) }
     ensures extends { Extends sid local.old local.new }
@@ -89,7 +89,7 @@ fn copy_all<V: View>(
     target: (&Target, &str),
     sources: &[String],
     local: &mut Local<V>,
-) -> Result<Done, AllocError>
+) -> Result<Done, NoMem>
     ensures means { IfOk result (λ done. Computes local.old local.new
         (copy_all sid target.entry.0.now target.entry.1.now (map string_bytes sources.now)
         (nothing_done 0)) done) }
@@ -112,7 +112,7 @@ pub(crate) fn cp<V: View>(
     last: &str,
     sources: &[String],
     local: &mut Local<V>,
-) -> Result<Done, AllocError>
+) -> Result<Done, NoMem>
     ensures means { IfOk result (λ done. Computes local.old local.new
         (cp sid last.now (map string_bytes sources.now)) done) }
     ensures extends { Extends sid local.old local.new }

@@ -14,8 +14,8 @@ use crate::reason::Reason;
 use crate::request::request_of;
 use retro_local::Local;
 use retro_text::{Cut, Request, UsageError};
-use retro_tree::{Bytes, View};
-use std::alloc::{AllocError, Global};
+use retro_tree::{Bytes, NoMem, View};
+use std::alloc::Global;
 use std::slice::from_ref;
 
 /// Returns what is left of the bytes that were read. Returns the reason if reading them failed.
@@ -23,7 +23,7 @@ fn cut_reading(
     alloc: Global,
     how: &Cut,
     reading: Result<Bytes, Reason>,
-) -> Result<Result<Bytes, Reason>, AllocError>
+) -> Result<Result<Bytes, Reason>, NoMem>
     ensures { IfOk result (λ left. left ≡ cut_reading how.now reading) }
 {
     match reading {
@@ -39,7 +39,7 @@ fn cut_files<V: View>(
     files: &[String],
     reader: Reader,
     local: &mut Local<V>,
-) -> Result<Done, AllocError>
+) -> Result<Done, NoMem>
     ensures means { IfOk result (λ done. Computes local.old local.new
         (λ s. (
           s,
@@ -66,7 +66,7 @@ fn cut<V: View>(
     operands: &[String],
     reader: Reader,
     local: &mut Local<V>,
-) -> Result<Done, AllocError>
+) -> Result<Done, NoMem>
     ensures means { IfOk result (λ done. Computes local.old local.new
         (cut reader.sid how.now (map string_bytes operands.now) reader.input) done) }
     ensures extends { Extends reader.sid local.old local.new }
@@ -81,13 +81,13 @@ fn cut<V: View>(
 }
 
 /// Returns what the options ask for, or `None` if they aren't a form of the synopsis.
-fn cut_of(alloc: Global, request: &Request) -> Result<Option<Cut>, AllocError>
+fn cut_of(alloc: Global, request: &Request) -> Result<Option<Cut>, NoMem>
     ensures { IfOk result (λ cut. cut ≡ cut_in request.now.options) }
 {
     match Cut::of(alloc, request) {
         Ok(cut) => Ok(Some(cut)),
         Err(UsageError::Usage) => Ok(None),
-        Err(UsageError::NoMem) => Err(AllocError),
+        Err(UsageError::NoMem) => Err(NoMem),
     }
 }
 
@@ -99,7 +99,7 @@ pub(crate) fn run_cut<V: View>(
     fields: &[String],
     input: Input,
     local: &mut Local<V>,
-) -> Result<Done, AllocError>
+) -> Result<Done, NoMem>
     ensures means { IfOk result (λ done. Computes local.old local.new
         (cut_call sid (map string_bytes fields.now) input) done) }
     ensures extends { Extends sid local.old local.new }

@@ -12,8 +12,8 @@ use crate::reader::Reader;
 use crate::request::request_of;
 use retro_local::Local;
 use retro_text::{Search, label};
-use retro_tree::View;
-use std::alloc::{AllocError, Global};
+use retro_tree::{NoMem, View};
+use std::alloc::Global;
 use std::slice::from_ref;
 
 /// Returns what a search finds in each file in turn.
@@ -23,7 +23,7 @@ fn search_files<V: View>(
     files: &[String],
     reader: Reader,
     local: &mut Local<V>,
-) -> Result<Done, AllocError>
+) -> Result<Done, NoMem>
     ensures means { IfOk result (λ done. Computes local.old local.new
         (λ s. (
           s,
@@ -59,7 +59,7 @@ fn grep<V: View>(
     files: &[String],
     reader: Reader,
     local: &mut Local<V>,
-) -> Result<Done, AllocError>
+) -> Result<Done, NoMem>
     ensures means { IfOk result (λ done. Computes local.old local.new
         (grep reader.sid search.now (map string_bytes files.now) reader.input) done) }
     ensures extends { Extends reader.sid local.old local.new }
@@ -81,7 +81,7 @@ pub(crate) fn run_grep<V: View>(
     fields: &[String],
     input: Input,
     local: &mut Local<V>,
-) -> Result<Done, AllocError>
+) -> Result<Done, NoMem>
     ensures means { IfOk result (λ done. Computes local.old local.new
         (grep_call sid (map string_bytes fields.now) input) done) }
     ensures extends { Extends sid local.old local.new }

@@ -5,11 +5,11 @@ ghost use Rattle.retro_utils.specs.Users.{id, user_done};
 
 use crate::done::Done;
 use retro_local::Local;
-use retro_tree::{Text, User, View};
-use std::alloc::{AllocError, Global};
+use retro_tree::{NoMem, Text, User, View};
+use std::alloc::Global;
 
 /// Returns the result for a login name and its entry.
-fn user_done(alloc: Global, name: &str, user: Option<User>) -> Result<Done, AllocError>
+fn user_done(alloc: Global, name: &str, user: Option<User>) -> Result<Done, NoMem>
     ensures { IfOk result (λ done. done ≡ user_done name.now user) }
 {
     match user {
@@ -36,7 +36,7 @@ pub(crate) fn id<V: View>(
     alloc: Global,
     operands: &[String],
     local: &mut Local<V>,
-) -> Result<Done, AllocError>
+) -> Result<Done, NoMem>
     ensures means { IfOk result (λ done. Computes local.old local.new
         (id (map string_bytes operands.now)) done) }
     ensures extends { ExtendsTree local.old local.new }

@@ -15,8 +15,8 @@ use crate::done::Done;
 use crate::operand::locate;
 use crate::reason::Reason;
 use retro_local::Local;
-use retro_tree::{Kind, Path, View};
-use std::alloc::{AllocError, Global};
+use retro_tree::{Kind, NoMem, Path, View};
+use std::alloc::Global;
 
 /// Puts a directory at a path, if its parent is a directory.
 #[tactic(auto, using(crate::proofs::Facts::directory_at))]
@@ -24,7 +24,7 @@ fn put_in_parent<V: View>(
     alloc: Global,
     path: Path,
     local: &mut Local<V>,
-) -> Result<Result<(), Reason>, AllocError>
+) -> Result<Result<(), Reason>, NoMem>
     requires { is_null path ≡ false }
     ensures means { IfOk result (λ outcome. Computes local.old local.new
         (λ s. made_unless (no_directory (kind_at (parent_of path) s)) (put_node path Dir) s)
@@ -48,7 +48,7 @@ fn make_dir<V: View>(
     alloc: Global,
     path: Path,
     local: &mut Local<V>,
-) -> Result<Result<(), Reason>, AllocError>
+) -> Result<Result<(), Reason>, NoMem>
     ensures means { IfOk result (λ outcome. Computes local.old local.new (make_dir path) outcome) }
     ensures extends { ExtendsTree local.old local.new }
 {
@@ -67,7 +67,7 @@ fn make_operand<V: View>(
     sid: u32,
     operand: &str,
     local: &mut Local<V>,
-) -> Result<Result<(), Reason>, AllocError>
+) -> Result<Result<(), Reason>, NoMem>
     ensures means { IfOk result (λ outcome. Computes local.old local.new
         (at_operand sid make_dir operand.now) outcome) }
     ensures extends { Extends sid local.old local.new }
@@ -84,7 +84,7 @@ fn make_dirs<V: View>(
     sid: u32,
     operands: &[String],
     local: &mut Local<V>,
-) -> Result<Done, AllocError>
+) -> Result<Done, NoMem>
     ensures means { IfOk result (λ done. Computes local.old local.new
         (in_turn (codes "mkdir") (at_operand sid make_dir) (map string_bytes operands.now)
         (nothing_done 0)) done) }
@@ -105,7 +105,7 @@ pub(crate) fn mkdir<V: View>(
     sid: u32,
     operands: &[String],
     local: &mut Local<V>,
-) -> Result<Done, AllocError>
+) -> Result<Done, NoMem>
     ensures means { IfOk result (λ done. Computes local.old local.new
         (mkdir sid (map string_bytes operands.now)) done) }
     ensures extends { Extends sid local.old local.new }

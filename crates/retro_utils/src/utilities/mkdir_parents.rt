@@ -13,8 +13,8 @@ use crate::done::Done;
 use crate::operand::locate;
 use crate::reason::Reason;
 use retro_local::Local;
-use retro_tree::{Kind, Path, View};
-use std::alloc::{AllocError, Global};
+use retro_tree::{Kind, NoMem, Path, View};
+use std::alloc::Global;
 
 /// Returns the reason why a path can't be made, because its prefix `prefix` is a file.
 fn blocked_at(path: &Path, prefix: &Path) -> Reason
@@ -34,7 +34,7 @@ fn make_step<V: View>(
     path: &Path,
     prefix: &Path,
     local: &mut Local<V>,
-) -> Result<Result<(), Reason>, AllocError>
+) -> Result<Result<(), Reason>, NoMem>
     requires { Always (λ s. node_in (parent_of prefix.now) s.tree ≡ Dir) local.old }
     ensures means { IfOk result (λ outcome. Computes local.old local.new
         (make_step path.now prefix.now) outcome) }
@@ -59,7 +59,7 @@ fn make_each<V: View>(
     alloc: Global,
     path: &Path,
     local: &mut Local<V>,
-) -> Result<Result<(), Reason>, AllocError>
+) -> Result<Result<(), Reason>, NoMem>
     ensures means { IfOk result (λ outcome. Computes local.old local.new
         (make_each path.now [] path.now) outcome) }
     ensures extends { ExtendsTree local.old local.new }
@@ -82,7 +82,7 @@ fn make_operand<V: View>(
     sid: u32,
     operand: &str,
     local: &mut Local<V>,
-) -> Result<Result<(), Reason>, AllocError>
+) -> Result<Result<(), Reason>, NoMem>
     ensures means { IfOk result (λ outcome. Computes local.old local.new
         (at_operand sid make_parents operand.now) outcome) }
     ensures extends { Extends sid local.old local.new }
@@ -99,7 +99,7 @@ fn make_paths<V: View>(
     sid: u32,
     operands: &[String],
     local: &mut Local<V>,
-) -> Result<Done, AllocError>
+) -> Result<Done, NoMem>
     ensures means { IfOk result (λ done. Computes local.old local.new
         (in_turn (codes "mkdir") (at_operand sid make_parents) (map string_bytes operands.now)
         (nothing_done 0)) done) }
@@ -120,7 +120,7 @@ pub(crate) fn mkdir_parents<V: View>(
     sid: u32,
     operands: &[String],
     local: &mut Local<V>,
-) -> Result<Done, AllocError>
+) -> Result<Done, NoMem>
     ensures means { IfOk result (λ done. Computes local.old local.new
         (mkdir_parents sid (map string_bytes operands.now)) done) }
     ensures extends { Extends sid local.old local.new }

@@ -18,8 +18,8 @@ use crate::transfer_fault::TransferFault;
 use crate::utilities::rm::is_protected;
 use retro_local::Local;
 use retro_moves::move_dir;
-use retro_tree::{Bytes, Kind, Node, Path, View};
-use std::alloc::{AllocError, Global};
+use retro_tree::{Bytes, Kind, NoMem, Node, Path, View};
+use std::alloc::Global;
 
 /// Returns whether a path is `/dev` or `/dev/null`.
 #[tactic(auto, unfolding(crate::specs::Mv::is_device))]
@@ -49,7 +49,7 @@ fn no_dir_place<V: View>(
     alloc: Global,
     path: &Path,
     local: &mut Local<V>,
-) -> Result<Option<Reason>, AllocError>
+) -> Result<Option<Reason>, NoMem>
     ensures means { IfOk result (λ reason. Computes local.old local.new
         (λ s. (s, no_dir_place (kind_at path.now s) path.now s)) reason) }
     ensures extends { ExtendsTree local.old local.new }
@@ -74,7 +74,7 @@ fn move_directory<V: View>(
     from: &Path,
     to: &Path,
     local: &mut Local<V>,
-) -> Result<Result<(), TransferFault>, AllocError>
+) -> Result<Result<(), TransferFault>, NoMem>
     requires device { is_device to.now ≡ false }
     requires apart { overlap from.now to.now ≡ None }
     requires here { Always (λ s. node_in from.now s.tree ≡ Dir) local.old }
@@ -99,7 +99,7 @@ fn move_file<V: View>(
     to: Path,
     bytes: Bytes,
     local: &mut Local<V>,
-) -> Result<Result<(), TransferFault>, AllocError>
+) -> Result<Result<(), TransferFault>, NoMem>
     requires root { is_root from ≡ false }
     requires device { is_device to ≡ false }
     requires apart { overlap from to ≡ None }
@@ -126,7 +126,7 @@ fn move_path<V: View>(
     from: Path,
     to: Path,
     local: &mut Local<V>,
-) -> Result<Result<(), TransferFault>, AllocError>
+) -> Result<Result<(), TransferFault>, NoMem>
     requires root { is_root from ≡ false }
     requires device { is_device to ≡ false }
     ensures means { IfOk result (λ outcome. Computes local.old local.new
@@ -155,7 +155,7 @@ fn move_to<V: View>(
     from: Path,
     to: Path,
     local: &mut Local<V>,
-) -> Result<Result<(), TransferFault>, AllocError>
+) -> Result<Result<(), TransferFault>, NoMem>
     ensures means { IfOk result (λ outcome. Computes local.old local.new
         (move_to source.now from to) outcome) }
     ensures extends { ExtendsTree local.old local.new }
@@ -174,7 +174,7 @@ fn move_operand<V: View>(
     target: &Target,
     source: &str,
     local: &mut Local<V>,
-) -> Result<Result<(), TransferFault>, AllocError>
+) -> Result<Result<(), TransferFault>, NoMem>
     ensures means { IfOk result (λ outcome. Computes local.old local.new
         (move_operand sid target.now source.now) outcome) }
     ensures extends { Extends sid local.old local.new }
@@ -195,7 +195,7 @@ fn move_all<V: View>(
     target: (&Target, &str),
     sources: &[String],
     local: &mut Local<V>,
-) -> Result<Done, AllocError>
+) -> Result<Done, NoMem>
     ensures means { IfOk result (λ done. Computes local.old local.new
         (move_all sid target.entry.0.now target.entry.1.now (map string_bytes sources.now)
         (nothing_done 0)) done) }
@@ -218,7 +218,7 @@ pub(crate) fn mv<V: View>(
     last: &str,
     sources: &[String],
     local: &mut Local<V>,
-) -> Result<Done, AllocError>
+) -> Result<Done, NoMem>
     ensures means { IfOk result (λ done. Computes local.old local.new
         (mv sid last.now (map string_bytes sources.now)) done) }
     ensures extends { Extends sid local.old local.new }

@@ -5,11 +5,11 @@ ghost use Rattle.retro_utils.specs.Directories.{names_text, path_text, pwd};
 
 use crate::done::Done;
 use retro_local::Local;
-use retro_tree::{Bytes, Name, Path, View};
-use std::alloc::{AllocError, Global};
+use retro_tree::{Bytes, Name, NoMem, Path, View};
+use std::alloc::Global;
 
 /// Returns the text of names, each preceded by a slash.
-fn names_text(alloc: Global, names: &[Name]) -> Result<Bytes, AllocError>
+fn names_text(alloc: Global, names: &[Name]) -> Result<Bytes, NoMem>
     ensures { IfOk result (λ text. text ≡ names_text names.now) }
 {
     let mut text = Bytes::new(alloc);
@@ -21,7 +21,7 @@ fn names_text(alloc: Global, names: &[Name]) -> Result<Bytes, AllocError>
 }
 
 /// Returns the text of a path: `/a/b`, and `/` for the root.
-fn path_text(alloc: Global, path: &Path) -> Result<Bytes, AllocError>
+fn path_text(alloc: Global, path: &Path) -> Result<Bytes, NoMem>
     ensures { IfOk result (λ text. text ≡ path_text path.now) }
 {
     match path.names() {
@@ -41,7 +41,7 @@ pub(crate) fn pwd<V: View>(
     sid: u32,
     operands: &[String],
     local: &mut Local<V>,
-) -> Result<Done, AllocError>
+) -> Result<Done, NoMem>
     ensures means { IfOk result (λ done. Computes local.old local.new
         (pwd sid (map string_bytes operands.now)) done) }
     ensures extends { Extends sid local.old local.new }

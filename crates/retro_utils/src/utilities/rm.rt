@@ -14,11 +14,11 @@ use crate::reason::Reason;
 use crate::removal::Removal;
 use retro_local::Local;
 use retro_moves::remove;
-use retro_tree::{Kind, Path, View};
-use std::alloc::{AllocError, Global};
+use retro_tree::{Kind, NoMem, Path, View};
+use std::alloc::Global;
 
 /// Splits a text at slashes.
-fn parts_of(alloc: Global, text: &str) -> Result<Vec<&str>, AllocError>
+fn parts_of(alloc: Global, text: &str) -> Result<Vec<&str>, NoMem>
     ensures { IfOk result (λ parts. map (λ part. part.now) parts.items ≡ parts_of text.now) }
 {
     text.split('/').collect(alloc)
@@ -48,7 +48,7 @@ fn last_part<'a>(parts: &[&'a str]) -> &'a [u8]
 
 /// Returns whether the last part of a text is `.` or `..`. Slashes after it don't count.
 #[tactic(auto, unfolding(crate::specs::Rm::ends_in_dots))]
-fn ends_in_dots(alloc: Global, text: &str) -> Result<bool, AllocError>
+fn ends_in_dots(alloc: Global, text: &str) -> Result<bool, NoMem>
     ensures { IfOk result (λ ends. ends ≡ ends_in_dots text.now) }
 {
     let parts = parts_of(alloc, text)?;
@@ -58,7 +58,7 @@ fn ends_in_dots(alloc: Global, text: &str) -> Result<bool, AllocError>
 
 /// Returns whether an operand names a path that neither `rm` nor `mv` takes away.
 #[tactic(auto, unfolding(crate::specs::Rm::is_protected))]
-pub(crate) fn is_protected(alloc: Global, operand: &str, path: &Path) -> Result<bool, AllocError>
+pub(crate) fn is_protected(alloc: Global, operand: &str, path: &Path) -> Result<bool, NoMem>
     ensures { IfOk result (λ protected. protected ≡ is_protected operand.now path.now) }
 {
     let dots = ends_in_dots(alloc, operand)?;
@@ -84,7 +84,7 @@ fn remove_path<V: View>(
     how: Removal,
     path: Path,
     local: &mut Local<V>,
-) -> Result<Result<(), Reason>, AllocError>
+) -> Result<Result<(), Reason>, NoMem>
     requires { is_root path ≡ false }
     ensures means { IfOk result (λ outcome. Computes local.old local.new
         (remove_path how path) outcome) }
@@ -106,7 +106,7 @@ fn remove_at<V: View>(
     operand: &str,
     path: Path,
     local: &mut Local<V>,
-) -> Result<Result<(), Reason>, AllocError>
+) -> Result<Result<(), Reason>, NoMem>
     ensures means { IfOk result (λ outcome. Computes local.old local.new
         (remove_at how operand.now path) outcome) }
     ensures extends { ExtendsTree local.old local.new }
@@ -124,7 +124,7 @@ fn remove_operand<V: View>(
     how: Removal,
     operand: &str,
     local: &mut Local<V>,
-) -> Result<Result<(), Reason>, AllocError>
+) -> Result<Result<(), Reason>, NoMem>
     ensures means { IfOk result (λ outcome. Computes local.old local.new
         (remove_operand sid how operand.now) outcome) }
     ensures extends { Extends sid local.old local.new }
@@ -142,7 +142,7 @@ fn remove_all<V: View>(
     how: Removal,
     operands: &[String],
     local: &mut Local<V>,
-) -> Result<Done, AllocError>
+) -> Result<Done, NoMem>
     ensures means { IfOk result (λ done. Computes local.old local.new
         (in_turn (codes "rm") (remove_operand sid how) (map string_bytes operands.now)
         (nothing_done 0)) done) }
@@ -164,7 +164,7 @@ pub(crate) fn rm<V: View>(
     how: Removal,
     operands: &[String],
     local: &mut Local<V>,
-) -> Result<Done, AllocError>
+) -> Result<Done, NoMem>
     ensures means { IfOk result (λ done. Computes local.old local.new
         (rm sid how (map string_bytes operands.now)) done) }
     ensures extends { Extends sid local.old local.new }

@@ -14,8 +14,8 @@ use crate::operand::locate;
 use crate::output::{append, open};
 use crate::reason::Reason;
 use retro_local::Local;
-use retro_tree::{Bytes, Path, View};
-use std::alloc::{AllocError, Global};
+use retro_tree::{Bytes, NoMem, Path, View};
+use std::alloc::Global;
 
 /// The operands of `tee`, and how it opens their files.
 #[derive(Clone, Copy, Debug)]
@@ -32,7 +32,7 @@ fn open_path<V: View>(
     mode: Mode,
     path: Path,
     local: &mut Local<V>,
-) -> Result<Result<Path, Reason>, AllocError>
+) -> Result<Result<Path, Reason>, NoMem>
     ensures means { IfOk result (λ outcome. Computes local.old local.new
         (λ s. path_opened path (opened mode path s)) outcome) }
     ensures extends { ExtendsTree local.old local.new }
@@ -51,7 +51,7 @@ fn open_operand<V: View>(
     mode: Mode,
     operand: &str,
     local: &mut Local<V>,
-) -> Result<Result<Path, Reason>, AllocError>
+) -> Result<Result<Path, Reason>, NoMem>
     ensures means { IfOk result (λ outcome. Computes local.old local.new
         (open_operand sid mode operand.now) outcome) }
     ensures extends { Extends sid local.old local.new }
@@ -68,7 +68,7 @@ fn open_all<'a, V: View>(
     sid: u32,
     tee: TeeOperands<'a>,
     local: &mut Local<V>,
-) -> Result<Opened<'a>, AllocError>
+) -> Result<Opened<'a>, NoMem>
     ensures means { IfOk result (λ opened. Computes local.old local.new
         (open_all sid tee.entry.mode (map string_bytes tee.entry.operands.now) ([], nothing_done 0))
         (files_view opened)) }
@@ -89,7 +89,7 @@ fn append_all<V: View>(
     files: &[(&str, Path)],
     done: Done,
     local: &mut Local<V>,
-) -> Result<Done, AllocError>
+) -> Result<Done, NoMem>
     ensures means { IfOk result (λ after. Computes local.old local.new
         (append_all text.now (map (λ f. (f.0.now, f.1)) files.now) done) after) }
     ensures extends { ExtendsTree local.old local.new }
@@ -109,7 +109,7 @@ fn write_all<V: View>(
     text: &Bytes,
     opened: Opened,
     local: &mut Local<V>,
-) -> Result<Done, AllocError>
+) -> Result<Done, NoMem>
     ensures means { IfOk result (λ done. Computes local.old local.new
         (write_all text.now (files_view opened.entry)) done) }
     ensures extends { ExtendsTree local.old local.new }
@@ -133,7 +133,7 @@ pub(crate) fn tee<V: View>(
     operands: TeeOperands,
     input: Input,
     local: &mut Local<V>,
-) -> Result<Done, AllocError>
+) -> Result<Done, NoMem>
     ensures means { IfOk result (λ done. Computes local.old local.new
         (tee sid operands.entry.mode (map string_bytes operands.entry.operands.now) input) done) }
     ensures extends { Extends sid local.old local.new }
