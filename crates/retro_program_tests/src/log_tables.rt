@@ -1,7 +1,8 @@
 //! The tables of log documents; `retro_rows` says how they are written.
 
 /// Logs: `log`, or the number of the refusal that applies first.
-pub const LOGS: &str = r##"log: {"log":1 => 12
+pub const LOGS: &str = r##"
+log: {"log":1 => 12
 log: {"log":1,"tree":[],"sessions":[],"lines":[]}0 => 12
 log: [] => 13
 log: {} => 13
@@ -17,21 +18,23 @@ log: {"log":1,"tree":[["/a/b"]],"sessions":0,"lines":0} => 10
 log: {"log":1,"tree":[],"sessions":[[1,"/%(n*256)",0,[]]],"lines":0} => 11
 log: {"log":1,"tree":[],"sessions":[],"lines":0} => 13
 log: {"log":1,"tree":[],"sessions":[],"lines":[]} => log
-log: {"lines":[[1,1,"echo a > f",[["cwd","/"],["canwrite","/f",0,"yes"],["put","/f",["f",""]],
-  ["canwrite","/f",2,"yes"],["grow","/f","610a"],["setstatus",0]],""],[2,1,"cat f",[["cwd","/"],
-  ["bytes","/f",["f","610a"]],["setstatus",0]],"610a"]],"log":1,"sessions":[[1,"/",0,[]]],
-  "tree":[]} => log
-log fronts: {"lines":[[1,1,"echo a > f",[["cwd","/"],["canwrite","/f",0,"yes"],["put","/f",
-  ["f",""]],["canwrite","/f",2,"yes"],["grow","/f","610a"],["setstatus",0]],""],[2,1,"cat f",
-  [["cwd","/"],["bytes","/f",["f","610a"]],["setstatus",0]],"610a"]],"log":1,
+log: {"lines":[[1,1,"echo a > f",[["cwd","/"],["canwrite","/f",0,"yes"],["put","/f",["f",""]],\
+  ["canwrite","/f",2,"yes"],["grow","/f","610a"],["setstatus",0]],""],[2,1,"cat f",[["cwd","/"],\
+  ["bytes","/f",["f","610a"]],["setstatus",0]],"610a"]],"log":1,"sessions":[[1,"/",0,[]]],"tree":[]}
+  => log
+log fronts: {"lines":[[1,1,"echo a > f",[["cwd","/"],["canwrite","/f",0,"yes"],\
+  ["put","/f",["f",""]],["canwrite","/f",2,"yes"],["grow","/f","610a"],["setstatus",0]],""],\
+  [2,1,"cat f",[["cwd","/"],["bytes","/f",["f","610a"]],["setstatus",0]],"610a"]],"log":1,\
   "sessions":[[1,"/",0,[]]],"tree":[]} => 12
-log: {"log":1,"tree":[],"sessions":[[1,"/",0,[]]],"lines":[[1,1,"mkdir d",[["cwd","/"],["kind",
-  "/d","missing"],["kind","/","dir"],["put","/d",["d"]],["setstatus",0]],""],[2,1,"echo x > d/f",
-  [["put","/d/f",["f","780a"]],["setstatus",0]],""]]} => log
-script: {"log":1,"tree":[],"sessions":[],"lines":[]} => 14"##;
+log: {"log":1,"tree":[],"sessions":[[1,"/",0,[]]],"lines":[[1,1,"mkdir d",[["cwd","/"],\
+  ["kind","/d","missing"],["kind","/","dir"],["put","/d",["d"]],["setstatus",0]],""],\
+  [2,1,"echo x > d/f",[["put","/d/f",["f","780a"]],["setstatus",0]],""]]} => log
+script: {"log":1,"tree":[],"sessions":[],"lines":[]} => 14
+"##;
 
 /// The lines of a log of two sessions, 1 and 2, over a directory `/d` with a file `f`.
-pub const LOG_LINES: &str = r##"logged: {} => 13
+pub const LOG_LINES: &str = r##"
+logged: {} => 13
 logged: [] => log
 logged: [0] => 13
 logged: [[1,1,"",[],""]] => log
@@ -64,10 +67,12 @@ logged: [[1,1,"",[["grow","/d",""]],""]] => 10
 logged: [[1,1,"",[["put","/m",["d"]]],""],[2,2,"",[["put","/m/n",["f","00"]]],""]] => log
 logged: [[1,1,"",[["put","/m/n",["f","00"]]],""],[2,2,"",[["put","/m",["d"]]],""]] => 10
 logged: [[1,1,"",[["put","/m",["d"]],["kind","/m","file"],["put","/m/n",["d"]]],""]] => log
-logged: [[1,1,"",[["put","/d/f",[]],["put","/d",[]],["put","/d/f",["d"]]],""]] => 10"##;
+logged: [[1,1,"",[["put","/d/f",[]],["put","/d",[]],["put","/d/f",["d"]]],""]] => 10
+"##;
 
 /// The notes of a line of session 1 in such a log.
-pub const NOTES: &str = r##"note: [] => 13
+pub const NOTES: &str = r##"
+note: [] => 13
 note: "kind" => 13
 note: [0] => 13
 note: ["Kind","/a","dir"] => 13
@@ -192,4 +197,5 @@ note: ["setcwd","/a//b"] => 13
 note: ["setcwd","/%(n*256)"] => 11
 note: ["setstatus",255] => log
 note: ["setstatus",256] => 13
-note: ["setstatus",0,0] => 13"##;
+note: ["setstatus",0,0] => 13
+"##;

@@ -11,51 +11,52 @@ use std::test::Fail;
 /// Scripts and their logs; lines of session 1, which is at the root of a tree, with what their log
 /// has at `lines`; and logs with how they are written again. A note of each kind occurs, with each
 /// answer.
-const LOGS: &str = r##"log: {"script":1,"tree":[],"sessions":[[1,"/",0,[]]],"lines":[
-  [1,1,"echo a > f"],[2,1,"cat f"]]} => {"lines":[[1,1,"echo a > f",[["cwd","/"],
-  ["canwrite","/f",0,"yes"],["put","/f",["f",""]],["canwrite","/f",2,"yes"],["grow","/f","610a"],
-  ["setstatus",0]],""],[2,1,"cat f",[["cwd","/"],["bytes","/f",["f","610a"]],["setstatus",0]],
-  "610a"]],"log":1,"sessions":[[1,"/",0,[]]],"tree":[]}%(NL)
+const LOGS: &str = r##"
+log: {"script":1,"tree":[],"sessions":[[1,"/",0,[]]],"lines":[[1,1,"echo a > f"],[2,1,"cat f"]]}
+  => {"lines":[[1,1,"echo a > f",[["cwd","/"],["canwrite","/f",0,"yes"],\
+  ["put","/f",["f",""]],["canwrite","/f",2,"yes"],["grow","/f","610a"],["setstatus",0]],""],\
+  [2,1,"cat f",[["cwd","/"],["bytes","/f",["f","610a"]],["setstatus",0]],"610a"]],"log":1,\
+  "sessions":[[1,"/",0,[]]],"tree":[]}%(NL)
 log: {"sessions":[[1,"/",0,[]]],"lines":[],"script":1,"tree":[["/a/b","4A"],["/a"]]}
-   => {"lines":[],"log":1,"sessions":[[1,"/",0,[]]],"tree":[["/a"],["/a/b","4a"]]}%(NL)
+  => {"lines":[],"log":1,"sessions":[[1,"/",0,[]]],"tree":[["/a"],["/a/b","4a"]]}%(NL)
 log: {"script":1,"tree":[],"sessions":[[2,"/x",7,[["y","\""],["x","é"]]],[1,"/",0,[]]],"lines":[]}
-   => {"lines":[],"log":1,"sessions":[[1,"/",0,[]],[2,"/x",7,[["x","é"],["y","\""]]]],
-  "tree":[]}%(NL)
-noted: %(EMPTY) :: mkdir /d => [[1,1,"mkdir /d",[["kind","/d","missing"],["kind","/","dir"],
+  => {"lines":[],"log":1,"sessions":[[1,"/",0,[]],[2,"/x",7,[["x","é"],["y","\""]]]],"tree":[]}%(NL)
+noted: %(EMPTY) :: mkdir /d => [[1,1,"mkdir /d",[["kind","/d","missing"],["kind","/","dir"],\
   ["put","/d",["d"]],["setstatus",0]],""]]
-noted: ["/d"],["/d/f",""] :: rm -r /d => [[1,1,"rm -r /d",[["kind","/d","dir"],["names","/d",
+noted: ["/d"],["/d/f",""] :: rm -r /d => [[1,1,"rm -r /d",[["kind","/d","dir"],["names","/d",\
   ["f"]],["kind","/d/f","file"],["put","/d/f",[]],["put","/d",[]],["setstatus",0]],""]]
-noted: ["/etc"],["/etc/passwd","616c6963653a783a373a373a3a2f683a2f730a"] :: id -u alice :: id -u b
-  ob => [[1,1,"id -u alice",[["user","alice",[7,"/h"]],["setstatus",0]],"370a"],[2,1,"id -u bob",
+noted: ["/etc"],["/etc/passwd","616c6963653a783a373a373a3a2f683a2f730a"] :: id -u alice :: id -u bob
+  => [[1,1,"id -u alice",[["user","alice",[7,"/h"]],["setstatus",0]],"370a"],[2,1,"id -u bob",\
   [["user","bob",null],["setstatus",1]],"69643a20626f623a206e6f207375636820757365720a"]]
-noted: %(EMPTY) :: x=1 :: echo $x$y => [[1,1,"x=1",[["setvar","x","1"],["setstatus",0]],""],[2,1,
-  "echo $x$y",[["var","x","1"],["var","y",null],["setstatus",0]],"310a"]]
+noted: %(EMPTY) :: x=1 :: echo $x$y => [[1,1,"x=1",[["setvar","x","1"],["setstatus",0]],""],\
+  [2,1,"echo $x$y",[["var","x","1"],["var","y",null],["setstatus",0]],"310a"]]
 noted: ["/d"] :: cd /d => [[1,1,"cd /d",[["kind","/d","dir"],["setcwd","/d"],["setstatus",0]],""]]
 noted: %(EMPTY) :: echo $? => [[1,1,"echo $?",[["status",0],["setstatus",0]],"300a"]]
-noted: ["/d"] :: > /d => [[1,1,"> /d",[["canwrite","/d",0,"isdir"],["setstatus",1]],
+noted: ["/d"] :: > /d => [[1,1,"> /d",[["canwrite","/d",0,"isdir"],["setstatus",1]],\
   "73683a202f643a2049732061206469726563746f72790a"]]
-noted: %(EMPTY) :: > /n/f => [[1,1,"> /n/f",[["canwrite","/n/f",0,"noparent"],["setstatus",1]],
+noted: %(EMPTY) :: > /n/f => [[1,1,"> /n/f",[["canwrite","/n/f",0,"noparent"],["setstatus",1]],\
   "73683a202f6e2f663a204e6f20737563682066696c65206f72206469726563746f72790a"]]
-noted: ["/f",""] :: > /f/g => [[1,1,"> /f/g",[["canwrite","/f/g",0,"notdir"],["setstatus",1]],
+noted: ["/f",""] :: > /f/g => [[1,1,"> /f/g",[["canwrite","/f/g",0,"notdir"],["setstatus",1]],\
   "73683a202f662f673a204e6f742061206469726563746f72790a"]]
-noted: ["/f","%(61*1048576)"] :: echo a >> /f => [[1,1,"echo a >> /f",[["canwrite","/f",0,"yes"],
-  ["grow","/f",""],["canwrite","/f",2,"toolarge"],["setstatus",1]],
-  "73683a202f663a2046696c6520746f6f206c617267650a"]]
-noted: ["/d"] :: cat /n /d => [[1,1,"cat /n /d",[["bytes","/n",[]],["bytes","/d",["d"]],
-  ["setstatus",1]],"6361743a202f6e3a204e6f20737563682066696c65206f72206469726563746f72790a6361743a
+noted: ["/f","%(61*1048576)"] :: echo a >> /f
+  => [[1,1,"echo a >> /f",[["canwrite","/f",0,"yes"],["grow","/f",""],\
+  ["canwrite","/f",2,"toolarge"],["setstatus",1]],"73683a202f663a2046696c6520746f6f206c617267650a"]]
+noted: ["/d"] :: cat /n /d => [[1,1,"cat /n /d",[["bytes","/n",[]],["bytes","/d",["d"]],\
+  ["setstatus",1]],"6361743a202f6e3a204e6f20737563682066696c65206f72206469726563746f72790a6361743a\
   202f643a2049732061206469726563746f72790a"]]
 noted: %(EMPTY) :: # a => [[1,1,"# a",[],""]]
-again: {"tree":[["/f","0A"]],"log":1,"sessions":[[1,"/",0,[]]],"lines":[[4294967295,1,"\u0000",
-  [["names","/f",null],["names","/",["b","a","a"]],["user","\u0000",null],["user","",[4294967295,
-  "\u0000"]],["var","x",null],["var","x","\u0000"],["status",255],["setvar","x",""],["setcwd","/g"],
-  ["cwd","/a/b"],["bytes","/f",["f","0A"]],["canwrite","/f",4294967295,"toolarge"],["put","/f",[]],
+again: {"tree":[["/f","0A"]],"log":1,"sessions":[[1,"/",0,[]]],\
+  "lines":[[4294967295,1,"\u0000",[["names","/f",null],["names","/",["b","a","a"]],\
+  ["user","\u0000",null],["user","",[4294967295,"\u0000"]],["var","x",null],\
+  ["var","x","\u0000"],["status",255],["setvar","x",""],["setcwd","/g"],["cwd","/a/b"],\
+  ["bytes","/f",["f","0A"]],["canwrite","/f",4294967295,"toolarge"],["put","/f",[]],\
   ["put","/f",["f","Ff"]],["grow","/f","fF"],["setstatus",255]],"00fF"]]}
-   => {"lines":[[4294967295,1,"\u0000",
-  [["names","/f",null],["names","/",["b","a","a"]],["user","\u0000",null],["user","",[4294967295,
-  "\u0000"]],["var","x",null],["var","x","\u0000"],["status",255],["setvar","x",""],["setcwd","/g"],
-  ["cwd","/a/b"],["bytes","/f",["f","0a"]],["canwrite","/f",4294967295,"toolarge"],["put","/f",[]],
-  ["put","/f",["f","ff"]],["grow","/f","ff"],["setstatus",255]],"00ff"]],"log":1,"sessions":[[1,"/",
-  0,[]]],"tree":[["/f","0a"]]}%(NL)"##;
+  => {"lines":[[4294967295,1,"\u0000",[["names","/f",null],["names","/",["b","a","a"]],\
+  ["user","\u0000",null],["user","",[4294967295,"\u0000"]],["var","x",null],["var","x","\u0000"],\
+  ["status",255],["setvar","x",""],["setcwd","/g"],["cwd","/a/b"],["bytes","/f",["f","0a"]],\
+  ["canwrite","/f",4294967295,"toolarge"],["put","/f",[]],["put","/f",["f","ff"]],["grow","/f",\
+  "ff"],["setstatus",255]],"00ff"]],"log":1,"sessions":[[1,"/",0,[]]],"tree":[["/f","0a"]]}%(NL)
+"##;
 
 /// The script of session 1's lines, over a tree.
 fn script_over(alloc: Global, entries: &str, lines: &[String]) -> Result<String, NoMem> {

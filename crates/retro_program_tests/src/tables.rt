@@ -2,113 +2,119 @@
 
 /// Lines of session 1 in `/h`, beside whose directory `d` a row may list more of the tree: the
 /// status and the output of the last line.
-pub const SHELL: &str = r##"shell: %(EMPTY) :: echo a > f; echo b >> f; cat f f
-   => 0 a%(NL)b%(NL)a%(NL)b%(NL)
-shell: %(EMPTY) :: cat d => 1 cat: d: Is a directory%(NL)
-shell: %(EMPTY) :: echo x > d => 1 sh: d: Is a directory%(NL)
-shell: %(EMPTY) :: echo x > n/m => 1 sh: n/m: No such file or directory%(NL)
-shell: %(EMPTY) :: nosuch => 127 sh: nosuch: not found%(NL)
-shell: ,["/h/f","61"] :: > f => 0 %(EMPTY)
-shell: ,["/h/f","61"] :: > f :: cat f => 0 %(EMPTY)
-shell: %(EMPTY) :: ; => 2 sh: unsupported line%(NL)
-shell: %(EMPTY) :: nosuch :: %(EMPTY) => 127 %(EMPTY)
-shell: %(EMPTY) :: nosuch :: # a => 127 %(EMPTY)
-shell: ,["/h/f","61"] :: echo -n x y > f > /dev/null; cat f => 0 %(EMPTY)
-shell: %(EMPTY) :: echo -n x  y >> f; cat -u -- f - f => 0 x yx y
-shell: %(EMPTY) :: cat -x f => 2 cat: usage%(NL)
-shell: ,["/h/f","61"] :: cat none f => 1 acat: none: No such file or directory%(NL)
-shell: ,["/h/f","61"] :: echo z > f/g; echo next => 0 sh: f/g: Not a directory%(NL)next%(NL)
-shell: %(EMPTY) :: nosuch > f; cat f => 0 sh: nosuch: not found%(NL)
-shell: %(EMPTY) :: echo -- -n => 0 -- -n%(NL)
-shell: %(EMPTY) :: cat /dev/null ../dev/null => 0 %(EMPTY)
-shell: %(EMPTY) :: echo a | cat => 0 a%(NL)
-shell: %(EMPTY) :: cat none > f; cat f => 0 cat: none: No such file or directory%(NL)
-shell: ,["/h/f","61"] :: cat ../h/./f/ => 0 a
-shell: %(EMPTY) :: cat %(n*256) => 1 cat: %(n*256): File name too long%(NL)
-shell: ,["/h/big","%(6e*1048576)"] :: echo a >> big => 1 sh: big: File too large%(NL)
-shell: ,["/h/big","%(6e*1048576)"] :: echo -n >> big; > big; echo a >> big; cat big => 0 a%(NL)
-shell: %(EMPTY) :: echo x > f > d; cat f => 0 sh: d: Is a directory%(NL)
-shell: ,["/h/t","613a623a630a6e6f0a783a793a7a"] :: cut -f 3,1 -d : t => 0 a:c%(NL)no%(NL)x:z%(NL)
-shell: ,["/h/t","613a623a630a6e6f0a783a793a7a"] :: cut -b 2-3,1 t => 0 a:b%(NL)no%(NL)x:y%(NL)
-shell: ,["/h/t","613a623a630a6e6f0a783a793a7a"] :: cut -f 1 t => 0 a:b:c%(NL)no%(NL)x:y:z%(NL)
-shell: ,["/h/t","613a623a630a6e6f0a783a793a7a"] :: cut -sf 1 t => 0 %(EMPTY)
-shell: ,["/h/t","613a623a630a6e6f0a783a793a7a"] :: cut -f 0 t => 2 cut: usage%(NL)
-shell: ,["/h/t","613a623a630a6e6f0a783a793a7a"] :: grep -Fcv b t => 0 2%(NL)
-shell: ,["/h/t","613a623a630a6e6f0a783a793a7a"] :: grep -Fx no t => 0 no%(NL)
-shell: ,["/h/t","613a623a630a6e6f0a783a793a7a"] :: grep -F no t none => 2 t:no%(NL)grep: none: No
-   such file or directory%(NL)
-shell: ,["/h/t","613a623a630a6e6f0a783a793a7a"] :: grep -Fq no t none => 0 %(EMPTY)
-shell: ,["/h/t","613a623a630a6e6f0a783a793a7a"] :: grep -Fq no none t => 0 grep: none: No such file
-   or directory%(NL)
-shell: ,["/h/t","613a623a630a6e6f0a783a793a7a"] :: grep -F zz t => 1 %(EMPTY)
-shell: ,["/h/t","613a623a630a6e6f0a783a793a7a"] :: grep -F no t none > o; cat o => 0 grep: none: No
-   such file or directory%(NL)t:no%(NL)
-shell: %(EMPTY) :: id -u alice => 0 100%(NL)
-shell: %(EMPTY) :: id -u bob => 1 id: bob: no such user%(NL)
-shell: %(EMPTY) :: test -n => 0 %(EMPTY)
-shell: %(EMPTY) :: [ a = b => 2 [: usage%(NL)
-shell: %(EMPTY) :: [ -d d ] => 0 %(EMPTY)
-shell: %(EMPTY) :: test -e none => 1 %(EMPTY)
-shell: %(EMPTY) :: false x => 1 %(EMPTY)
-shell: %(EMPTY) :: false; true => 0 %(EMPTY)
-shell: %(EMPTY) :: rm none => 1 rm: none: No such file or directory%(NL)
-shell: %(EMPTY) :: rm -f none => 0 %(EMPTY)
-shell: %(EMPTY) :: rm -f => 0 %(EMPTY)
-shell: %(EMPTY) :: rm => 2 rm: usage%(NL)
-shell: %(EMPTY) :: rm -r / => 1 rm: /: Operation not permitted%(NL)
-shell: %(EMPTY) :: rm d; rm -r d; test -e d => 1 rm: d: Is a directory%(NL)
-shell: ,["/h/t","613a623a630a6e6f0a783a793a7a"] :: cp t t => 1 cp: t: same file%(NL)
-shell: ,["/h/t","613a623a630a6e6f0a783a793a7a"] :: mv t /dev/null => 1 mv: t: Operation not
-   permitted%(NL)
-shell: %(EMPTY) :: mkdir n/e => 1 mkdir: n/e: No such file or directory%(NL)
-shell: %(EMPTY) :: mkdir -p a/b/c; cd a/b/c; pwd => 0 /h/a/b/c%(NL)
-shell: ,["/h/a"],["/h/f",""] :: mv a a/b; test -d a => 0 mv: a: Invalid argument%(NL)
-shell: ,["/h/a"],["/h/f",""] :: rm .. => 1 rm: ..: Operation not permitted%(NL)
-shell: ,["/h/a"],["/h/f",""] :: mkdir -p f => 1 mkdir: f: File exists%(NL)
-shell: ,["/h/a"],["/h/f",""] :: mkdir -p f/g => 1 mkdir: f/g: Not a directory%(NL)
-shell: ,["/h/t","613a623a630a6e6f0a783a793a7a"] :: cp t d; rm t; cut -b1 d/t t => 1
-   a%(NL)n%(NL)x%(NL)cut: t: No such file or directory%(NL)
-shell: %(EMPTY) :: mkdir d/e; echo x > d/e/f; mv d g; cat g/e/f d/e/f => 1 x%(NL)cat: d/e/f: No such
-   file or directory%(NL)
-shell: %(EMPTY) :: cd d :: pwd => 0 /h/d%(NL)
-shell: %(EMPTY) :: cd d; echo x > f :: cat ../d/f; cd; cat d/f => 0 x%(NL)x%(NL)
-shell: %(EMPTY) :: cd d > o; cat o => 1 cat: o: No such file or directory%(NL)
-shell: %(EMPTY) :: cd none :: pwd => 0 /h%(NL)
-shell: %(EMPTY) :: cd none => 1 cd: none: No such file or directory%(NL)
-shell: %(EMPTY) :: tee a d < b => 1 sh: b: No such file or directory%(NL)
-shell: %(EMPTY) :: tee a d => 1 tee: d: Is a directory%(NL)
-shell: %(EMPTY) :: false :: if test $? = 0; then echo ok; else echo bad; fi => 0 bad%(NL)
-shell: %(EMPTY) :: if test $? = 0; then echo ok; else echo bad; fi => 0 ok%(NL)
-shell: %(EMPTY) :: false :: while :; do :; done => 2 sh: unsupported line%(NL)
-shell: %(EMPTY) :: x="a  b" :: echo "$x" $x '$x' \$x => 0 a  b a b $x $x%(NL)
-shell: %(EMPTY) :: x="a  b" :: for i in $x; do echo "<$i>"; done => 0 <a>%(NL)<b>%(NL)
-shell: %(EMPTY) :: cd /tmp | cat; pwd => 0 /h%(NL)
-shell: %(EMPTY) :: ! false && echo y || echo n => 0 y%(NL)
-shell: %(EMPTY) :: nosuch; echo $? => 0 sh: nosuch: not found%(NL)127%(NL)
-shell: %(EMPTY) :: cat < none; echo $? => 0 sh: none: No such file or directory%(NL)1%(NL)
-shell: ,["/h/f","710a"] :: cat < f > f => 0 %(EMPTY)
-shell: ,["/h/f","710a"] :: cat < f > f :: cat f => 0 %(EMPTY)
-shell: %(EMPTY) :: echo "a'b"'c"d'\ e => 0 a'bc"d e%(NL)
-shell: %(EMPTY) :: x=; echo $x "" end => 0  end%(NL)
-shell: %(EMPTY) :: echo ~ "~" ~/x ~nobody ~mallory/q a#b => 0 /h ~ /h/x ~nobody /tmp/q a#b%(NL)
-shell: %(EMPTY) :: if false; then echo a; elif true; then echo b; else echo c; fi; echo $? => 0
-   b%(NL)0%(NL)
-shell: %(EMPTY) :: for i in; do echo x; done; echo $? => 0 0%(NL)
-shell: %(EMPTY) :: echo a > f | cat; cat f => 0 a%(NL)
-shell: %(EMPTY) :: echo hi >f>g; cat f; cat g => 0 hi%(NL)
-shell: %(EMPTY) :: echo a & => 2 sh: unsupported line%(NL)
-shell: %(EMPTY) :: echo a & :: %(#*4096) => 2 %(EMPTY)
-shell: %(EMPTY) :: %(#*4096) => 0 %(EMPTY)
-shell: %(EMPTY) :: %(#*4097) => 2 sh: unsupported line%(NL)
-shell: %(EMPTY) :: echo a & :: %(if *32):%(; then :; fi*32) => 0 %(EMPTY)
-shell: %(EMPTY) :: %(if *33):%(; then :; fi*33) => 2 sh: unsupported line%(NL)
-shell: %(EMPTY) :: false :: echo $? $?; echo $? => 0 1 1%(NL)0%(NL)
-shell: %(EMPTY) :: x=1 y=$x :: for x in $x 2; do echo $x$y; done :: echo $x => 0 2%(NL)
-shell: %(EMPTY) :: cat f :: echo b | tee f | cat :: cat f f | cut -b 1 > g :: cat < g => 0
-   b%(NL)b%(NL)"##;
+pub const SHELL: &str = r##"
+given: %(EMPTY)
+- shell: echo a > f; echo b >> f; cat f f => 0 a%(NL)b%(NL)a%(NL)b%(NL)
+- shell: cat d => 1 cat: d: Is a directory%(NL)
+- shell: echo x > d => 1 sh: d: Is a directory%(NL)
+- shell: echo x > n/m => 1 sh: n/m: No such file or directory%(NL)
+- shell: nosuch => 127 sh: nosuch: not found%(NL)
+- shell: ; => 2 sh: unsupported line%(NL)
+- shell: nosuch :: %(EMPTY) => 127 %(EMPTY)
+- shell: nosuch :: # a => 127 %(EMPTY)
+- shell: echo -n x  y >> f; cat -u -- f - f => 0 x yx y
+- shell: cat -x f => 2 cat: usage%(NL)
+- shell: nosuch > f; cat f => 0 sh: nosuch: not found%(NL)
+- shell: echo -- -n => 0 -- -n%(NL)
+- shell: cat /dev/null ../dev/null => 0 %(EMPTY)
+- shell: echo a | cat => 0 a%(NL)
+- shell: cat none > f; cat f => 0 cat: none: No such file or directory%(NL)
+- shell: cat %(n*256) => 1 cat: %(n*256): File name too long%(NL)
+- shell: echo x > f > d; cat f => 0 sh: d: Is a directory%(NL)
+- shell: id -u alice => 0 100%(NL)
+- shell: id -u bob => 1 id: bob: no such user%(NL)
+- shell: test -n => 0 %(EMPTY)
+- shell: [ a = b => 2 [: usage%(NL)
+- shell: [ -d d ] => 0 %(EMPTY)
+- shell: test -e none => 1 %(EMPTY)
+- shell: false x => 1 %(EMPTY)
+- shell: false; true => 0 %(EMPTY)
+- shell: rm none => 1 rm: none: No such file or directory%(NL)
+- shell: rm -f none => 0 %(EMPTY)
+- shell: rm -f => 0 %(EMPTY)
+- shell: rm => 2 rm: usage%(NL)
+- shell: rm -r / => 1 rm: /: Operation not permitted%(NL)
+- shell: rm d; rm -r d; test -e d => 1 rm: d: Is a directory%(NL)
+- shell: mkdir n/e => 1 mkdir: n/e: No such file or directory%(NL)
+- shell: mkdir -p a/b/c; cd a/b/c; pwd => 0 /h/a/b/c%(NL)
+- shell: mkdir d/e; echo x > d/e/f; mv d g; cat g/e/f d/e/f
+  => 1 x%(NL)cat: d/e/f: No such file or directory%(NL)
+- shell: cd d :: pwd => 0 /h/d%(NL)
+- shell: cd d; echo x > f :: cat ../d/f; cd; cat d/f => 0 x%(NL)x%(NL)
+- shell: cd d > o; cat o => 1 cat: o: No such file or directory%(NL)
+- shell: cd none :: pwd => 0 /h%(NL)
+- shell: cd none => 1 cd: none: No such file or directory%(NL)
+- shell: tee a d < b => 1 sh: b: No such file or directory%(NL)
+- shell: tee a d => 1 tee: d: Is a directory%(NL)
+- shell: false :: if test $? = 0; then echo ok; else echo bad; fi => 0 bad%(NL)
+- shell: if test $? = 0; then echo ok; else echo bad; fi => 0 ok%(NL)
+- shell: false :: while :; do :; done => 2 sh: unsupported line%(NL)
+- shell: x="a  b" :: echo "$x" $x '$x' \$x => 0 a  b a b $x $x%(NL)
+- shell: x="a  b" :: for i in $x; do echo "<$i>"; done => 0 <a>%(NL)<b>%(NL)
+- shell: cd /tmp | cat; pwd => 0 /h%(NL)
+- shell: ! false && echo y || echo n => 0 y%(NL)
+- shell: nosuch; echo $? => 0 sh: nosuch: not found%(NL)127%(NL)
+- shell: cat < none; echo $? => 0 sh: none: No such file or directory%(NL)1%(NL)
+- shell: echo "a'b"'c"d'\ e => 0 a'bc"d e%(NL)
+- shell: x=; echo $x "" end => 0  end%(NL)
+- shell: echo ~ "~" ~/x ~nobody ~mallory/q a#b => 0 /h ~ /h/x ~nobody /tmp/q a#b%(NL)
+- shell: if false; then echo a; elif true; then echo b; else echo c; fi; echo $? => 0 b%(NL)0%(NL)
+- shell: for i in; do echo x; done; echo $? => 0 0%(NL)
+- shell: echo a > f | cat; cat f => 0 a%(NL)
+- shell: echo hi >f>g; cat f; cat g => 0 hi%(NL)
+- shell: echo a & => 2 sh: unsupported line%(NL)
+- shell: echo a & :: %(#*4096) => 2 %(EMPTY)
+- shell: %(#*4096) => 0 %(EMPTY)
+- shell: %(#*4097) => 2 sh: unsupported line%(NL)
+- shell: echo a & :: %(if *32):%(; then :; fi*32) => 0 %(EMPTY)
+- shell: %(if *33):%(; then :; fi*33) => 2 sh: unsupported line%(NL)
+- shell: false :: echo $? $?; echo $? => 0 1 1%(NL)0%(NL)
+- shell: x=1 y=$x :: for x in $x 2; do echo $x$y; done :: echo $x => 0 2%(NL)
+- shell: cat f :: echo b | tee f | cat :: cat f f | cut -b 1 > g :: cat < g => 0 b%(NL)b%(NL)
+
+given: ,["/h/f","61"]
+- shell: > f => 0 %(EMPTY)
+- shell: > f :: cat f => 0 %(EMPTY)
+- shell: echo -n x y > f > /dev/null; cat f => 0 %(EMPTY)
+- shell: cat none f => 1 acat: none: No such file or directory%(NL)
+- shell: echo z > f/g; echo next => 0 sh: f/g: Not a directory%(NL)next%(NL)
+- shell: cat ../h/./f/ => 0 a
+
+given: ,["/h/big","%(6e*1048576)"]
+- shell: echo a >> big => 1 sh: big: File too large%(NL)
+- shell: echo -n >> big; > big; echo a >> big; cat big => 0 a%(NL)
+
+given: ,["/h/t","613a623a630a6e6f0a783a793a7a"]
+- shell: cut -f 3,1 -d : t => 0 a:c%(NL)no%(NL)x:z%(NL)
+- shell: cut -b 2-3,1 t => 0 a:b%(NL)no%(NL)x:y%(NL)
+- shell: cut -f 1 t => 0 a:b:c%(NL)no%(NL)x:y:z%(NL)
+- shell: cut -sf 1 t => 0 %(EMPTY)
+- shell: cut -f 0 t => 2 cut: usage%(NL)
+- shell: grep -Fcv b t => 0 2%(NL)
+- shell: grep -Fx no t => 0 no%(NL)
+- shell: grep -F no t none => 2 t:no%(NL)grep: none: No such file or directory%(NL)
+- shell: grep -Fq no t none => 0 %(EMPTY)
+- shell: grep -Fq no none t => 0 grep: none: No such file or directory%(NL)
+- shell: grep -F zz t => 1 %(EMPTY)
+- shell: grep -F no t none > o; cat o => 0 grep: none: No such file or directory%(NL)t:no%(NL)
+- shell: cp t t => 1 cp: t: same file%(NL)
+- shell: mv t /dev/null => 1 mv: t: Operation not permitted%(NL)
+- shell: cp t d; rm t; cut -b1 d/t t => 1 a%(NL)n%(NL)x%(NL)cut: t: No such file or directory%(NL)
+
+given: ,["/h/a"],["/h/f",""]
+- shell: mv a a/b; test -d a => 0 mv: a: Invalid argument%(NL)
+- shell: rm .. => 1 rm: ..: Operation not permitted%(NL)
+- shell: mkdir -p f => 1 mkdir: f: File exists%(NL)
+- shell: mkdir -p f/g => 1 mkdir: f/g: Not a directory%(NL)
+
+given: ,["/h/f","710a"]
+- shell: cat < f > f => 0 %(EMPTY)
+- shell: cat < f > f :: cat f => 0 %(EMPTY)
+"##;
 
 /// Documents: `script`, or the number of the refusal that applies first.
-pub const DOCUMENTS: &str = r##"script: {"script":1 => 12
+pub const DOCUMENTS: &str = r##"
+script: {"script":1 => 12
 script: {} {} => 12
 script: "\ud800" => 12
 script: [01] => 12
@@ -182,37 +188,36 @@ lines: [[2,2,""],[2,1,""]] => 8
 lines: [[2,1,""],[2,1,""]] => 8
 lines: [[1,2,""]] => 9
 lines: [[1,1,""],[4294967295,1,""]] => script
-without: {"script":1,"tree":[],"sessions":[[1,"/",0,[]]],"lines":[[1,1,""],[7,1,""]]}
-   :: 7 7 => 1 %(EMPTY)
-without: {"script":1,"tree":[],"sessions":[[1,"/",0,[]]],"lines":[[1,1,""],[7,1,""]]}
-   :: 7 1 => %(EMPTY)
-without: {"script":1,"tree":[],"sessions":[[1,"/",0,[]]],"lines":[[1,1,""],[7,1,""]]}
-   :: 1 2 7 3 => 21 2
-written: {"script":1,"tree":[["/a/b","4A"],["/a"]],"lines":[],"sessions":[[2,"/a",7,[["y","é"]
-  ,["x",""]]],[1,"/",0,[]]]} => [["/a"],["/a/b","4a"]] [[1,"/",0,[]],[2,"/a",7,[["x",""],["y",
-  "é"]]]]
-written: {"script":1,"tree":[["/f","00aBfF"]],"lines":[],"sessions":[]}
-   => [["/f","00abff"]] []"##;
+
+given: {"script":1,"tree":[],"sessions":[[1,"/",0,[]]],"lines":[[1,1,""],[7,1,""]]}
+- without: 7 7 => 1 %(EMPTY)
+- without: 7 1 => %(EMPTY)
+- without: 1 2 7 3 => 21 2
+
+written: {"script":1,"tree":[["/a/b","4A"],["/a"]],"lines":[],"sessions":[[2,"/a",7,[["y","é"],\
+  ["x",""]]],[1,"/",0,[]]]} => [["/a"],["/a/b","4a"]] [[1,"/",0,[]],[2,"/a",7,[["x",""],["y","é"]]]]
+written: {"script":1,"tree":[["/f","00aBfF"]],"lines":[],"sessions":[]} => [["/f","00abff"]] []
+"##;
 
 /// Words, an input by its name, the exit status, and what is written to standard output and error.
-pub const PROGRAMS: &str = r##"run: retro replay :: EMPTY
-   => 0 {"outputs":[],"sessions":[],"tree":[]}
+pub const PROGRAMS: &str = r##"
+run: retro replay :: EMPTY => 0 {"outputs":[],"sessions":[],"tree":[]}
 run: retro replay -- :: EMPTY => 0 {"outputs":[],"sessions":[],"tree":[]}
-run: retro replay :: UNORDERED => 0 {"outputs":[],"sessions":[[1,"/",0,[]]],"tree":[["/a"],
-  ["/a/b","4a"]]}
-run: retro replay --cancel 1 :: PAIR => 0 {"outputs":[[2,
-  "6361743a20663a204e6f20737563682066696c65206f72206469726563746f72790a"]],"sessions":[[1,"/",1,
-  []]],"tree":[]}
-run: retro replay :: PAIR => 0 {"outputs":[[1,""],[2,"610a"]],"sessions":[[1,"/",0,[]]],
-  "tree":[["/f","610a"]]}
-run: retro replay --cancel= :: PAIR => 0 {"outputs":[[1,""],[2,"610a"]],"sessions":[[1,"/",
-  0,[]]],"tree":[["/f","610a"]]}
+run: retro replay :: UNORDERED
+  => 0 {"outputs":[],"sessions":[[1,"/",0,[]]],"tree":[["/a"],["/a/b","4a"]]}
+run: retro replay --cancel 1 :: PAIR
+  => 0 {"outputs":[[2,"6361743a20663a204e6f20737563682066696c65206f72206469726563746f72790a"]],\
+  "sessions":[[1,"/",1,[]]],"tree":[]}
+run: retro replay :: PAIR
+  => 0 {"outputs":[[1,""],[2,"610a"]],"sessions":[[1,"/",0,[]]],"tree":[["/f","610a"]]}
+run: retro replay --cancel= :: PAIR
+  => 0 {"outputs":[[1,""],[2,"610a"]],"sessions":[[1,"/",0,[]]],"tree":[["/f","610a"]]}
 run: retro replay --cancel %(EMPTY) :: PAIR
-   => 0 {"outputs":[[1,""],[2,"610a"]],"sessions":[[1,"/",0,[]]],"tree":[["/f","610a"]]}
+  => 0 {"outputs":[[1,""],[2,"610a"]],"sessions":[[1,"/",0,[]]],"tree":[["/f","610a"]]}
 run: retro replay --cancel=0000000002 :: PAIR
-   => 0 {"outputs":[[1,""]],"sessions":[[1,"/",0,[]]],"tree":[["/f","610a"]]}
-run: retro replay --cancel=2,2 :: PAIR => 0 {"outputs":[[1,""]],"sessions":[[1,"/",0,[]]],
-  "tree":[["/f","610a"]]}
+  => 0 {"outputs":[[1,""]],"sessions":[[1,"/",0,[]]],"tree":[["/f","610a"]]}
+run: retro replay --cancel=2,2 :: PAIR
+  => 0 {"outputs":[[1,""]],"sessions":[[1,"/",0,[]]],"tree":[["/f","610a"]]}
 run: retro replay --cancel=1,2 :: PAIR => 0 {"outputs":[],"sessions":[[1,"/",0,[]]],"tree":[]}
 run: retro :: PAIR => 1 retro: refused 31
 run: retro --help :: PAIR => 1 retro: refused 31
@@ -240,12 +245,12 @@ run: retro replay --cancel 9 :: PAIR => 1 retro: refused 21
 run: retro replay --cancel 9 :: [ => 1 retro: refused 12
 run: retro replay --cancel 4294967295 :: PAIR => 1 retro: refused 21
 run: retro record :: EMPTY => 0 {"lines":[],"log":1,"sessions":[],"tree":[]}
-run: retro record :: UNORDERED => 0 {"lines":[],"log":1,"sessions":[[1,"/",0,[]]],"tree":[["/a"],
-  ["/a/b","4a"]]}
-run: retro record :: PAIR => 0 {"lines":[[1,1,"echo a > f",[["cwd","/"],["canwrite","/f",0,"yes"],
-  ["put","/f",["f",""]],["canwrite","/f",2,"yes"],["grow","/f","610a"],["setstatus",0]],""],[2,1,
-  "cat f",[["cwd","/"],["bytes","/f",["f","610a"]],["setstatus",0]],"610a"]],"log":1,"sessions":[[1,
-  "/",0,[]]],"tree":[]}
+run: retro record :: UNORDERED
+  => 0 {"lines":[],"log":1,"sessions":[[1,"/",0,[]]],"tree":[["/a"],["/a/b","4a"]]}
+run: retro record :: PAIR => 0 {"lines":[[1,1,"echo a > f",[["cwd","/"],["canwrite","/f",0,"yes"],\
+  ["put","/f",["f",""]],["canwrite","/f",2,"yes"],["grow","/f","610a"],["setstatus",0]],""],\
+  [2,1,"cat f",[["cwd","/"],["bytes","/f",["f","610a"]],["setstatus",0]],"610a"]],"log":1,\
+  "sessions":[[1,"/",0,[]]],"tree":[]}
 run: retro record --cancel 1 :: PAIR => 1 retro: refused 31
 run: retro record more :: PAIR => 1 retro: refused 31
 run: retro record :: LOG => 1 retro: refused 14
@@ -257,7 +262,8 @@ run: retro check :: EMPTY_LOG => 0 yes
 run: retro check --cancel 1 :: LOG => 1 retro: refused 31
 run: retro check :: PAIR => 1 retro: refused 14
 run: retro check :: {"log":2,"tree":[],"sessions":[],"lines":[]} => 1 retro: refused 16
-run: retro replay :: LOG => 1 retro: refused 14"##;
+run: retro replay :: LOG => 1 retro: refused 14
+"##;
 
 /// The empty script.
 pub const EMPTY: &str = r#"{"script":1,"tree":[],"sessions":[],"lines":[]}"#;

@@ -1,8 +1,29 @@
-//! Tables of test rows: each names a call, what it is given, and what it has to return.
+//! Tables of test rows: each row names a call, what it is given, and what it has to return.
 //!
-//! A row is a line `CALL: GIVEN :: GIVEN => WANTED`. A line that begins with two spaces continues
-//! the row before it. In a field `%(NL)` is a newline, `%(TAB)` a tab, `%(CR)` a carriage return,
-//! `%(NUL)` the byte 0, `%(BOM)` a byte order mark, `%(EMPTY)` nothing, and `%(n*3)` is `nnn`.
+//! # The layout of a table
+//!
+//! - A row is a line `CALL: GIVEN :: GIVEN => WANTED`.
+//! - A line `given: GIVEN :: GIVEN` is a header. A row below it that begins with `- ` has the
+//!   header's fields before its own, and at least one of its own: `- CALL: GIVEN => WANTED`. So
+//!   what several rows are given is written once. Other rows don't use the header.
+//! - A line that begins with two or more spaces continues the line above it. One space takes the
+//!   place of the break. If the line above ends in `\`, nothing takes the place of the `\` and the
+//!   break. That is for texts without spaces, such as JSON and digits, and for scripts, whose lines
+//!   end in `;;`. So a row is broken at a single space that no `\` precedes, or by a `\` after a
+//!   comma, after `;;`, or between two bytes.
+//! - Empty lines mean nothing.
+//! - In a field `%(NL)` is a newline, `%(TAB)` a tab, `%(CR)` a carriage return, `%(NUL)` the byte
+//!   0, `%(BOM)` a byte order mark, `%(EMPTY)` nothing, and `%(n*3)` is `nnn`.
+//!
+//! ```text
+//! parent: /a/b => /a
+//! child: /a :: b => /a/b
+//!
+//! given: put /d dir; put /d/f file ab
+//! - state: kind /d/f => File
+//! - state: canwrite /d/f 1048575 => TooLarge
+//! ```
+//!
 //! The crates of tests use it; nothing else does.
 #![tactic(auto)]
 
@@ -11,11 +32,13 @@ mod paths;
 mod row;
 mod row_error;
 mod script;
+mod table;
 mod texts;
 
 pub use failure::fail;
 pub use paths::path;
-pub use row::{Row, rows};
+pub use row::Row;
 pub use row_error::RowError;
 pub use script::script_of;
+pub use table::rows;
 pub use texts::{numbers, text, utf8};

@@ -1,13 +1,12 @@
-//! Rows of a table of tests.
+//! Rows of tables.
 use crate::row_error::RowError;
-use retro_path::NoMem;
 use std::alloc::Global;
 use std::test::Fail;
 
 /// One row of a table.
 #[derive(Drop)]
 pub struct Row {
-    /// The text of the row, for a failure's message.
+    /// The text of the row with all that it is given, for a failure's message.
     pub text: String,
     /// The name of the call.
     pub call: String,
@@ -19,7 +18,7 @@ pub struct Row {
 
 impl Row {
     /// Reads the row that a text is.
-    fn read(alloc: Global, text: String) -> Result<Self, RowError> {
+    pub(crate) fn read(alloc: Global, text: String) -> Result<Self, RowError> {
         let (call, rest) = text.split_once(": ").ok_or(RowError::NoCall)?;
         let (given, wanted) = rest.split_once(" => ").ok_or(RowError::NothingWanted)?;
         let (call, given) = (String::from_str(alloc, call)?, fields(alloc, given)?);
@@ -63,7 +62,7 @@ fn push_escaped(out: &mut String, part: &str) -> Result<(), RowError> {
     Ok(())
 }
 
-/// The text that a field of a row stands for: `%(NL)` is a newline, `%(n*3)` is `nnn`.
+/// Returns the text that a field of a row stands for: `%(NL)` is a newline, `%(n*3)` is `nnn`.
 fn unescaped(alloc: Global, field: &str) -> Result<String, RowError> {
     let mut out = String::new(alloc);
     let mut parts = field.split("%(");
@@ -76,32 +75,11 @@ fn unescaped(alloc: Global, field: &str) -> Result<String, RowError> {
     Ok(out)
 }
 
-/// The fields of a row, which ` :: ` separates, with their escapes replaced.
+/// Returns the fields of a row, which ` :: ` separates, with their escapes replaced.
 fn fields(alloc: Global, given: &str) -> Result<Vec<String>, RowError> {
     let mut fields = Vec::new(alloc);
     for field in given.split(" :: ") {
         fields.push(unescaped(alloc, field)?)?;
     }
     Ok(fields)
-}
-
-/// The lines of a table, each with its continuations.
-fn joined_lines(alloc: Global, table: &str) -> Result<Vec<String>, NoMem> {
-    let mut joined: Vec<String> = Vec::new(alloc);
-    for line in table.lines() {
-        match (line.strip_prefix("  "), joined.last_mut()) {
-            (Some(more), Some(row)) => row.push_str(more)?,
-            _ => joined.push(String::from_str(alloc, line)?)?,
-        }
-    }
-    Ok(joined)
-}
-
-/// Reads the rows of a table.
-pub fn rows(alloc: Global, table: &str) -> Result<Vec<Row>, RowError> {
-    let mut rows = Vec::new(alloc);
-    for line in joined_lines(alloc, table)? {
-        rows.push(Row::read(alloc, line)?)?;
-    }
-    Ok(rows)
 }

@@ -1,4 +1,4 @@
-//! Why a table isn't one of rows.
+//! Faults in tables of rows.
 use retro_path::NoMem;
 use std::alloc::AllocFailed;
 use std::num::ParseIntError;
@@ -10,6 +10,8 @@ pub enum RowError {
     NoCall,
     /// A row has no ` => ` before what is wanted.
     NothingWanted,
+    /// A row begins with `- `, and no header is above it.
+    NoHeader,
     /// An escape isn't closed, or isn't known.
     BadEscape,
     /// An allocation failed.

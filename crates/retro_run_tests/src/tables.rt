@@ -1,7 +1,8 @@
 //! The tables of rows; `retro_rows` says how they are written.
 
 /// What utilities compute from texts alone (XCU chapter 4).
-pub const TEXTS: &str = r##"utility: echo => echo
+pub const TEXTS: &str = r##"
+utility: echo => echo
 utility: true => true
 utility: false => false
 utility: : => :
@@ -23,32 +24,35 @@ utility: Echo => none
 utility: ech => none
 utility: echoo => none
 utility: %(EMPTY) => none
-request: ab :: cd :: x => %(EMPTY) | x
-request: ab :: cd :: -a => a |
-request: ab :: cd :: -ab :: x => ab | x
-request: ab :: cd :: -a :: -b :: x => ab | x
-request: ab :: cd :: -a :: -a => a |
-request: ab :: cd :: -cx => %(EMPTY) c=x |
-request: ab :: cd :: -c :: x :: y => %(EMPTY) c=x | y
-request: ab :: cd :: -acx :: y => a c=x | y
-request: ab :: cd :: -ac :: x :: y => a c=x | y
-request: ab :: cd :: -cab => %(EMPTY) c=ab |
-request: ab :: cd :: -c :: -a => %(EMPTY) c=-a |
-request: ab :: cd :: -c :: -- :: -- :: x => %(EMPTY) c=-- | x
-request: ab :: cd :: -c :: %(EMPTY) => %(EMPTY) c= |
-request: ab :: cd :: -cx :: -d1 :: -cy => %(EMPTY) c=y d=1 |
-request: ab :: cd :: -a :: -- :: -b => a | -b
-request: ab :: cd :: -- :: -- => %(EMPTY) | --
-request: ab :: cd :: x :: -a => %(EMPTY) | x -a
-request: ab :: cd :: - :: -a => %(EMPTY) | - -a
-request: ab :: cd :: %(EMPTY) :: -a => %(EMPTY) |  -a
-request: ab :: cd :: -x => usage
-request: ab :: cd :: -ax => usage
-request: ab :: cd :: -a- => usage
-request: ab :: cd :: --a => usage
-request: ab :: cd :: -c => usage
-request: ab :: cd :: -ac => usage
-request: ab :: cd :: -a :: -- :: -x => a | -x
+
+given: ab :: cd
+- request: x => %(EMPTY) | x
+- request: -a => a |
+- request: -ab :: x => ab | x
+- request: -a :: -b :: x => ab | x
+- request: -a :: -a => a |
+- request: -cx => %(EMPTY) c=x |
+- request: -c :: x :: y => %(EMPTY) c=x | y
+- request: -acx :: y => a c=x | y
+- request: -ac :: x :: y => a c=x | y
+- request: -cab => %(EMPTY) c=ab |
+- request: -c :: -a => %(EMPTY) c=-a |
+- request: -c :: -- :: -- :: x => %(EMPTY) c=-- | x
+- request: -c :: %(EMPTY) => %(EMPTY) c= |
+- request: -cx :: -d1 :: -cy => %(EMPTY) c=y d=1 |
+- request: -a :: -- :: -b => a | -b
+- request: -- :: -- => %(EMPTY) | --
+- request: x :: -a => %(EMPTY) | x -a
+- request: - :: -a => %(EMPTY) | - -a
+- request: %(EMPTY) :: -a => %(EMPTY) |  -a
+- request: -x => usage
+- request: -ax => usage
+- request: -a- => usage
+- request: --a => usage
+- request: -c => usage
+- request: -ac => usage
+- request: -a :: -- :: -x => a | -x
+
 textlines: %(EMPTY) => %(EMPTY)
 textlines: a => [a]
 textlines: a%(NL) => [a]
@@ -59,20 +63,23 @@ textlines: %(NL)%(NL) => [][]
 textlines: %(NL)a => [][a]
 textlines: a%(CR)%(NL) => [a%(CR)]
 textlines: a%(NUL)b%(NL) => [a%(NUL)b]
-cut: abcdef%(NL) :: -b1 => a%(NL)
-cut: abcdef%(NL) :: -b :: 2-3 => bc%(NL)
-cut: abcdef%(NL) :: -b4- => def%(NL)
-cut: abcdef%(NL) :: -b-2 => ab%(NL)
-cut: abcdef%(NL) :: -b1,3,5 => ace%(NL)
-cut: abcdef%(NL) :: -b5,3,1 => ace%(NL)
-cut: abcdef%(NL) :: -b2-4,3-5 => bcde%(NL)
-cut: abcdef%(NL) :: -b2,2,2 => b%(NL)
-cut: abcdef%(NL) :: -b1 3 => ac%(NL)
-cut: abcdef%(NL) :: -b1%(TAB)3 => ac%(NL)
-cut: abcdef%(NL) :: -b3-3 => c%(NL)
-cut: abcdef%(NL) :: -b7- => %(NL)
-cut: abcdef%(NL) :: -b000000002 => b%(NL)
-cut: abcdef%(NL) :: -b6-999999999 => f%(NL)
+
+given: abcdef%(NL)
+- cut: -b1 => a%(NL)
+- cut: -b :: 2-3 => bc%(NL)
+- cut: -b4- => def%(NL)
+- cut: -b-2 => ab%(NL)
+- cut: -b1,3,5 => ace%(NL)
+- cut: -b5,3,1 => ace%(NL)
+- cut: -b2-4,3-5 => bcde%(NL)
+- cut: -b2,2,2 => b%(NL)
+- cut: -b1 3 => ac%(NL)
+- cut: -b1%(TAB)3 => ac%(NL)
+- cut: -b3-3 => c%(NL)
+- cut: -b7- => %(NL)
+- cut: -b000000002 => b%(NL)
+- cut: -b6-999999999 => f%(NL)
+
 cut: ab :: -b1 => a%(NL)
 cut: %(EMPTY) :: -b1 => %(EMPTY)
 cut: ab%(NL)%(NL)cd :: -b2 => b%(NL)%(NL)d%(NL)
@@ -95,70 +102,78 @@ cut: abc%(NL)a:b%(NL) :: -sd: :: -f3 => %(NL)
 cut: abc :: -sf1 => %(EMPTY)
 cut: a:b%(NL) :: -dx :: -d: :: -f1 => a%(NL)
 cut: a b%(NL) :: -d :: %( *1) :: -f2 => b%(NL)
-cut: a%(NL) :: -b%(EMPTY) => usage
-cut: a%(NL) :: -b :: %(EMPTY) => usage
-cut: a%(NL) :: -b0 => usage
-cut: a%(NL) :: -b000000000 => usage
-cut: a%(NL) :: -b0000000001 => usage
-cut: a%(NL) :: -b1000000000 => usage
-cut: a%(NL) :: -b- => usage
-cut: a%(NL) :: -b1-2-3 => usage
-cut: a%(NL) :: -b--2 => usage
-cut: a%(NL) :: -b2-1 => usage
-cut: a%(NL) :: -b0-1 => usage
-cut: a%(NL) :: -b1-0 => usage
-cut: a%(NL) :: -b1,,2 => usage
-cut: a%(NL) :: -b1, 2 => usage
-cut: a%(NL) :: -b,1 => usage
-cut: a%(NL) :: -b1, => usage
-cut: a%(NL) :: -b+1 => usage
-cut: a%(NL) :: -bx => usage
-cut: a%(NL) :: -b1%(NL)2 => usage
-cut: a%(NL) :: -b1 :: -f1 => usage
-cut: a%(NL) :: -b1 :: -d: => usage
-cut: a%(NL) :: -b1 :: -s => usage
-cut: a%(NL) :: -s => usage
-cut: a%(NL) :: -d: => usage
-cut: a%(NL) :: x => usage
-cut: a%(NL) :: -f1 :: -d%(NL) => usage
-cut: a%(NL) :: -f1 :: -dab => usage
-cut: a%(NL) :: -f1 :: -dé => usage
-cut: a%(NL) :: -f1 :: -d :: %(EMPTY) => usage
-cut: a%(NL) :: -f1 :: -d => usage
-cut: a%(NL) :: -c1 => usage
-grep: f :: ab%(NL)bc%(NL)cd%(NL) :: -F :: b => 0 ab%(NL)bc%(NL)
-grep: f :: ab%(NL)bc%(NL)cd :: -F :: d => 0 cd%(NL)
-grep: f :: ab%(NL)bc%(NL) :: -F :: x => 1 %(EMPTY)
-grep: f :: ab%(NL)bc%(NL) :: -Fv :: a => 0 bc%(NL)
-grep: f :: ab%(NL)bc%(NL) :: -F :: -v :: b => 1 %(EMPTY)
-grep: f :: ab%(NL)b%(NL) :: -Fx :: b => 0 b%(NL)
-grep: f :: ab%(NL)b%(NL) :: -Fxv :: b => 0 ab%(NL)
-grep: f :: ab%(NL)bc%(NL)cd%(NL) :: -Fc :: b => 0 2%(NL)
-grep: f :: ab%(NL)bc%(NL)cd%(NL) :: -Fcv :: b => 0 1%(NL)
-grep: f :: ab%(NL) :: -Fc :: x => 1 0%(NL)
-grep: f :: ab%(NL)bc%(NL) :: -Fq :: b => 0 %(EMPTY)
-grep: f :: ab%(NL)bc%(NL) :: -Fq :: x => 1 %(EMPTY)
-grep: f :: ab%(NL)bc%(NL) :: -Fqc :: b => 0 %(EMPTY)
-grep: f :: ab%(NL)bc%(NL)cd%(NL) :: -F :: a%(NL)d => 0 ab%(NL)cd%(NL)
-grep: f :: ab%(NL)%(NL) :: -F :: %(EMPTY) => 0 ab%(NL)%(NL)
-grep: f :: ab%(NL)%(NL) :: -Fx :: %(EMPTY) => 0 %(NL)
-grep: f :: ab%(NL)cd%(NL) :: -F :: x%(NL) => 0 ab%(NL)cd%(NL)
-grep: f :: %(EMPTY) :: -F :: %(EMPTY) => 1 %(EMPTY)
-grep: f :: %(EMPTY) :: -Fv :: x => 1 %(EMPTY)
-grep: f :: %(EMPTY) :: -Fc :: x => 1 0%(NL)
-grep: f :: aab%(NL) :: -F :: ab => 0 aab%(NL)
-grep: f :: a.b%(NL)axb%(NL) :: -F :: a.b => 0 a.b%(NL)
-grep: f :: AB%(NL) :: -F :: ab => 1 %(EMPTY)
-grep: f :: é%(NUL)%(NL) :: -F :: %(NUL) => 0 é%(NUL)%(NL)
-grep: f :: ab%(NL)bc%(NL) :: -F :: b :: f => 0 ab%(NL)bc%(NL)
-grep: f :: ab%(NL)bc%(NL) :: -F :: b :: f :: g => 0 f:ab%(NL)f:bc%(NL)
+
+given: a%(NL)
+- cut: -b%(EMPTY) => usage
+- cut: -b :: %(EMPTY) => usage
+- cut: -b0 => usage
+- cut: -b000000000 => usage
+- cut: -b0000000001 => usage
+- cut: -b1000000000 => usage
+- cut: -b- => usage
+- cut: -b1-2-3 => usage
+- cut: -b--2 => usage
+- cut: -b2-1 => usage
+- cut: -b0-1 => usage
+- cut: -b1-0 => usage
+- cut: -b1,,2 => usage
+- cut: -b1, 2 => usage
+- cut: -b,1 => usage
+- cut: -b1, => usage
+- cut: -b+1 => usage
+- cut: -bx => usage
+- cut: -b1%(NL)2 => usage
+- cut: -b1 :: -f1 => usage
+- cut: -b1 :: -d: => usage
+- cut: -b1 :: -s => usage
+- cut: -s => usage
+- cut: -d: => usage
+- cut: x => usage
+- cut: -f1 :: -d%(NL) => usage
+- cut: -f1 :: -dab => usage
+- cut: -f1 :: -dé => usage
+- cut: -f1 :: -d :: %(EMPTY) => usage
+- cut: -f1 :: -d => usage
+- cut: -c1 => usage
+
+given: f
+- grep: ab%(NL)bc%(NL)cd%(NL) :: -F :: b => 0 ab%(NL)bc%(NL)
+- grep: ab%(NL)bc%(NL)cd :: -F :: d => 0 cd%(NL)
+- grep: ab%(NL)bc%(NL) :: -F :: x => 1 %(EMPTY)
+- grep: ab%(NL)bc%(NL) :: -Fv :: a => 0 bc%(NL)
+- grep: ab%(NL)bc%(NL) :: -F :: -v :: b => 1 %(EMPTY)
+- grep: ab%(NL)b%(NL) :: -Fx :: b => 0 b%(NL)
+- grep: ab%(NL)b%(NL) :: -Fxv :: b => 0 ab%(NL)
+- grep: ab%(NL)bc%(NL)cd%(NL) :: -Fc :: b => 0 2%(NL)
+- grep: ab%(NL)bc%(NL)cd%(NL) :: -Fcv :: b => 0 1%(NL)
+- grep: ab%(NL) :: -Fc :: x => 1 0%(NL)
+- grep: ab%(NL)bc%(NL) :: -Fq :: b => 0 %(EMPTY)
+- grep: ab%(NL)bc%(NL) :: -Fq :: x => 1 %(EMPTY)
+- grep: ab%(NL)bc%(NL) :: -Fqc :: b => 0 %(EMPTY)
+- grep: ab%(NL)bc%(NL)cd%(NL) :: -F :: a%(NL)d => 0 ab%(NL)cd%(NL)
+- grep: ab%(NL)%(NL) :: -F :: %(EMPTY) => 0 ab%(NL)%(NL)
+- grep: ab%(NL)%(NL) :: -Fx :: %(EMPTY) => 0 %(NL)
+- grep: ab%(NL)cd%(NL) :: -F :: x%(NL) => 0 ab%(NL)cd%(NL)
+- grep: %(EMPTY) :: -F :: %(EMPTY) => 1 %(EMPTY)
+- grep: %(EMPTY) :: -Fv :: x => 1 %(EMPTY)
+- grep: %(EMPTY) :: -Fc :: x => 1 0%(NL)
+- grep: aab%(NL) :: -F :: ab => 0 aab%(NL)
+- grep: a.b%(NL)axb%(NL) :: -F :: a.b => 0 a.b%(NL)
+- grep: AB%(NL) :: -F :: ab => 1 %(EMPTY)
+- grep: é%(NUL)%(NL) :: -F :: %(NUL) => 0 é%(NUL)%(NL)
+- grep: ab%(NL)bc%(NL) :: -F :: b :: f => 0 ab%(NL)bc%(NL)
+- grep: ab%(NL)bc%(NL) :: -F :: b :: f :: g => 0 f:ab%(NL)f:bc%(NL)
+
 grep: - :: ab%(NL) :: -F :: b :: - :: g => 0 (standard input):ab%(NL)
-grep: f :: ab%(NL) :: -Fc :: b :: f :: g => 0 f:1%(NL)
-grep: f :: ab%(NL) :: -F :: b :: f :: -v => 0 f:ab%(NL)
-grep: f :: ab%(NL) :: -F => usage
-grep: f :: ab%(NL) :: b => usage
-grep: f :: ab%(NL) :: -v :: b => usage
-grep: f :: ab%(NL) :: -Fi :: b => usage
+
+given: f :: ab%(NL)
+- grep: -Fc :: b :: f :: g => 0 f:1%(NL)
+- grep: -F :: b :: f :: -v => 0 f:ab%(NL)
+- grep: -F => usage
+- grep: b => usage
+- grep: -v :: b => usage
+- grep: -Fi :: b => usage
+
 grep: f :: ab%(NL)-v%(NL) :: -F :: -- :: -v => 0 -v%(NL)
 grepstatus: selected :: none :: -F :: x => 0
 grepstatus: none :: none :: -F :: x => 1
@@ -215,4 +230,5 @@ echo: -nn => -nn%(NL)
 echo: -- :: a => -- a%(NL)
 echo: a\n => a\n%(NL)
 usage: cut => cut: usage%(NL)
-usage: [ => [: usage%(NL)"##;
+usage: [ => [: usage%(NL)
+"##;

@@ -8,6 +8,8 @@
 #[cfg(test)]
 mod changes;
 #[cfg(test)]
+mod layout;
+#[cfg(test)]
 mod paths;
 #[cfg(test)]
 mod questions;
@@ -15,6 +17,8 @@ mod questions;
 mod rows;
 #[cfg(test)]
 mod scripts;
+#[cfg(test)]
+mod state_tables;
 #[cfg(test)]
 mod states;
 #[cfg(test)]

@@ -1,19 +1,24 @@
 //! The call that each row names, and the test that makes these calls.
+use crate::layout::{LAYOUT, codes, fault, fields};
 use crate::paths::{
     below, child, is_name, joined_path, parent, prefixes, relative, resolved, variable,
 };
 use crate::scripts::parts;
+use crate::state_tables::{SCRIPTS, STATES};
 use crate::states::{allows, lawfulness, played, state_answer};
-use crate::tables::{EXPANSIONS, PATHS, SCRIPTS, STATES, TREES};
+use crate::tables::{EXPANSIONS, PATHS, TREES};
 use crate::trees::{tilde, tree};
 use retro_rows::{rows, text};
 use retro_tree::NoMem;
 use std::alloc::Global;
 use std::test::Fail;
 
-/// What a call about texts and names returns for these fields, as text.
+/// What a call about texts, names and tables returns for these fields, as text.
 fn text_called(alloc: Global, call: &str, given: &[String]) -> Result<String, NoMem> {
     match (call, given) {
+        ("fields", given) => fields(alloc, given),
+        ("codes", [text]) => codes(alloc, text),
+        ("fault", [table]) => fault(alloc, table),
         ("relative", [text]) => relative(alloc, text),
         ("name", [name]) => is_name(alloc, name),
         ("variable", [name]) => variable(alloc, name),
@@ -60,7 +65,7 @@ fn hold(alloc: Global, table: &str) -> Result<(), Fail> {
 
 #[test]
 fn rows_hold(rt: HostRuntime) -> Result<(), Fail> {
-    for table in [PATHS, TREES, EXPANSIONS, STATES, SCRIPTS] {
+    for table in [LAYOUT, PATHS, TREES, EXPANSIONS, STATES, SCRIPTS] {
         hold(rt.alloc(), table)?;
     }
     Ok(())
