@@ -1,7 +1,7 @@
 //! Cells and values as the texts of rows.
 use hex::encode;
-use retro_rows::{fail, path, text};
-use retro_tree::{Cell, Name, NoMem, Node, Text, Value, VarName};
+use retro_rows::{fail, path, path_text, text};
+use retro_tree::{Cell, NoMem, Node, Text, Value, VarName};
 use std::alloc::Global;
 use std::test::Fail;
 
@@ -28,16 +28,6 @@ pub fn cell(alloc: Global, given: &str) -> Result<Cell, Fail> {
         Some((sid, name)) => session_cell(alloc, sid.parse()?, name),
         None => Ok(Cell::At(path(alloc, given)?)),
     }
-}
-
-/// The text of a path's names.
-fn path_text(alloc: Global, names: &[Name]) -> Result<String, NoMem> {
-    let mut out = String::new(alloc);
-    for name in names {
-        out.push_str("/")?;
-        out.push_str(name.as_str())?;
-    }
-    Ok(out)
 }
 
 /// A file's bytes in hexadecimal digits.

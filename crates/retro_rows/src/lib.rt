@@ -36,7 +36,7 @@ mod table;
 mod texts;
 
 pub use failure::fail;
-pub use paths::path;
+pub use paths::{path, path_text};
 pub use row::Row;
 pub use row_error::RowError;
 pub use script::script_of;

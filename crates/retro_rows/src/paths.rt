@@ -1,6 +1,7 @@
-//! Paths that rows name.
+//! Paths that rows name, and paths as the texts of rows.
 use crate::failure::fail;
-use retro_path::{Path, Resolved, resolve};
+use crate::texts::text;
+use retro_path::{Name, NoMem, Path, Resolved, resolve};
 use std::alloc::Global;
 use std::test::Fail;
 
@@ -11,4 +12,17 @@ pub fn path(alloc: Global, text: &str) -> Result<Path, Fail> {
         Resolved::Is(path) => Ok(path),
         _ => fail("no path"),
     }
+}
+
+/// Returns the path of these names as text, `/` for none.
+pub fn path_text(alloc: Global, names: &[Name]) -> Result<String, NoMem> {
+    if names.is_empty() {
+        return text(alloc, "/");
+    }
+    let mut text = String::new(alloc);
+    for name in names {
+        text.push('/')?;
+        text.push_str(name.as_str())?;
+    }
+    Ok(text)
 }

@@ -1,9 +1,7 @@
 //! Notes as JSON, as logs write them.
 use hex::encode;
-use retro_rows::text;
-use retro_tree::{
-    Answer, Ask, Change, Kind, Listing, Name, NoMem, Node, Note, Path, Permit, Text, User,
-};
+use retro_rows::{path_text, text};
+use retro_tree::{Answer, Ask, Change, Kind, Listing, NoMem, Node, Note, Path, Permit, Text, User};
 use std::alloc::Global;
 
 /// Appends a character, with its escape where it has one.
@@ -28,21 +26,8 @@ fn quoted(alloc: Global, given: &str) -> Result<String, NoMem> {
     Ok(out)
 }
 
-/// The text of names, with a slash before each.
-fn path_text(alloc: Global, names: &[Name]) -> Result<String, NoMem> {
-    let mut out = String::new(alloc);
-    for name in names {
-        out.push('/')?;
-        out.push_str(name.as_str())?;
-    }
-    Ok(out)
-}
-
 /// A path as text between quotes.
 fn path_json(alloc: Global, path: &Path) -> Result<String, NoMem> {
-    if path.names().is_empty() {
-        return quoted(alloc, "/");
-    }
     quoted(alloc, &path_text(alloc, path.names())?)
 }
 

@@ -1,21 +1,8 @@
 //! Names, paths, and the paths that texts name.
-use retro_rows::{fail, path, text};
+use retro_rows::{fail, path, path_text, text};
 use retro_tree::{Name, NoMem, Path, Resolved, VarName, is_relative, resolve};
 use std::alloc::Global;
 use std::test::Fail;
-
-/// The path of these names as text, `/` for none.
-pub fn path_text(alloc: Global, names: &[Name]) -> Result<String, NoMem> {
-    if names.is_empty() {
-        return text(alloc, "/");
-    }
-    let mut text = String::new(alloc);
-    for name in names {
-        text.push('/')?;
-        text.push_str(name.as_str())?;
-    }
-    Ok(text)
-}
 
 /// What resolving a text came to.
 fn resolved_text(alloc: Global, resolved: &Resolved) -> Result<String, NoMem> {

@@ -3,8 +3,7 @@
 //! Questions are `kind PATH`, `bytes PATH`, `names PATH`, `canwrite PATH NUMBER`, `user NAME`,
 //! `var SID NAME`, `cwd SID`, and `status SID`.
 use crate::changes::variable;
-use crate::paths::path_text;
-use retro_rows::{fail, path, text, utf8};
+use retro_rows::{fail, path, path_text, text, utf8};
 use retro_tree::{Answer, Ask, Cell, Listing, NoMem, Node, Path, Text, User, Value};
 use std::alloc::Global;
 use std::test::Fail;
