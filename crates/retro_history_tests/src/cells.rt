@@ -5,7 +5,7 @@ use retro_tree::{Cell, NoMem, Node, Text, Value, VarName};
 use std::alloc::Global;
 use std::test::Fail;
 
-/// The cell of a session's variable.
+/// Returns the cell of a session's variable.
 fn variable(alloc: Global, sid: u32, name: &str) -> Result<Cell, Fail> {
     match VarName::of(alloc, name)? {
         Some(name) => Ok(Cell::Var(sid, name)),
@@ -13,7 +13,7 @@ fn variable(alloc: Global, sid: u32, name: &str) -> Result<Cell, Fail> {
     }
 }
 
-/// The cell of a session: `cwd`, `status` or a variable.
+/// Returns the cell of a session: `cwd`, `status` or a variable.
 fn session_cell(alloc: Global, sid: u32, name: &str) -> Result<Cell, Fail> {
     match name {
         "cwd" => Ok(Cell::Cwd(sid)),
@@ -22,7 +22,8 @@ fn session_cell(alloc: Global, sid: u32, name: &str) -> Result<Cell, Fail> {
     }
 }
 
-/// The cell with a name: a path, or `cwd`, `status` or a variable after the number of its session.
+/// Returns the cell with a name: a path, or `cwd`, `status` or a variable after the number of its
+/// session.
 pub fn cell(alloc: Global, given: &str) -> Result<Cell, Fail> {
     match given.split_once(' ') {
         Some((sid, name)) => session_cell(alloc, sid.parse()?, name),
@@ -30,13 +31,13 @@ pub fn cell(alloc: Global, given: &str) -> Result<Cell, Fail> {
     }
 }
 
-/// A file's bytes in hexadecimal digits.
+/// Returns a file's bytes in hexadecimal digits.
 fn file_text(alloc: Global, bytes: &[u8]) -> Result<String, NoMem> {
     let digits = encode(alloc, bytes)?;
     format!(in alloc; "file {digits}")
 }
 
-/// A node as a text.
+/// Returns a node as a text.
 fn node_text(alloc: Global, node: &Node) -> Result<String, NoMem> {
     match node {
         Node::Missing => text(alloc, "missing"),
@@ -45,7 +46,7 @@ fn node_text(alloc: Global, node: &Node) -> Result<String, NoMem> {
     }
 }
 
-/// The text of a variable, or that it isn't set.
+/// Returns the text of a variable, or that it isn't set.
 fn variable_text(alloc: Global, value: &Option<Text>) -> Result<String, NoMem> {
     match value {
         None => text(alloc, "unset"),
@@ -53,7 +54,7 @@ fn variable_text(alloc: Global, value: &Option<Text>) -> Result<String, NoMem> {
     }
 }
 
-/// A value as a text.
+/// Returns a value as a text.
 pub fn value_text(alloc: Global, value: &Value) -> Result<String, NoMem> {
     match value {
         Value::Node(node) => node_text(alloc, node),

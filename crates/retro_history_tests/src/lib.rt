@@ -1,8 +1,5 @@
-//! Worked histories, as tables of rows: the lines of two sessions, a query, and what the history of
-//! their recording answers; and histories compared with a plain scan of the notes.
-//!
-//! This crate has nothing but tests, which use public items alone. What rows want comes from the
-//! definitions of versions, readers and writers, never from the program's own output.
+//! Tests of histories. The rows have the lines of two sessions and queries of the history of their
+//! recording; histories are also compared with a plain scan of the notes.
 #![tactic(auto)]
 
 #[cfg(test)]

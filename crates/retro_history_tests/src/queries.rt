@@ -15,7 +15,7 @@ fn push_number(alloc: Global, out: &mut String, number: u32) -> Result<(), NoMem
     out.push_str(&format!(in alloc; "{number}")?)
 }
 
-/// Numbers as a text.
+/// Returns numbers as a text.
 fn numbers_text(alloc: Global, numbers: &[u32]) -> Result<String, NoMem> {
     let mut out = String::new(alloc);
     for number in numbers {
@@ -24,7 +24,7 @@ fn numbers_text(alloc: Global, numbers: &[u32]) -> Result<String, NoMem> {
     Ok(out)
 }
 
-/// The number of a line as a text, or `none`.
+/// Returns the number of a line as a text, or `none`.
 fn line_text(alloc: Global, number: Option<u32>) -> Result<String, NoMem> {
     match number {
         Some(number) => format!(in alloc; "{number}"),
@@ -32,13 +32,13 @@ fn line_text(alloc: Global, number: Option<u32>) -> Result<String, NoMem> {
     }
 }
 
-/// A checkpoint and the value that is rolled back to from there, as a text.
+/// Returns a checkpoint and the value that is rolled back to from there, as a text.
 fn rolled_text(alloc: Global, from: u32, value: &Value) -> Result<String, NoMem> {
     let value = value_text(alloc, value)?;
     format!(in alloc; "{from} {value}")
 }
 
-/// The value of a cell before a line. Rolling back to it has to give the same.
+/// Returns the value of a cell before a line, if rolling back to it gives the same.
 fn cell_value(
     alloc: Global,
     history: &History<'_>,
@@ -54,14 +54,14 @@ fn cell_value(
     }
 }
 
-/// The value of the cell with a name before a line.
+/// Returns the value of the cell with a name before a line.
 fn value(alloc: Global, history: &History<'_>, name: &str, at: &str) -> Result<String, Fail> {
     let number = at.parse()?;
     let cell = cell(alloc, name)?;
     Ok(cell_value(alloc, history, &cell, number)?)
 }
 
-/// The number and the home of a user, or `none`.
+/// Returns the number and the home of a user, or `none`.
 fn user_text(alloc: Global, user: &Option<User>) -> Result<String, NoMem> {
     match user {
         Some(user) => format!(in alloc; "{} {}", user.number, user.home.as_str()),
@@ -69,7 +69,7 @@ fn user_text(alloc: Global, user: &Option<User>) -> Result<String, NoMem> {
     }
 }
 
-/// The number and the home of a user before a line, or `none`.
+/// Returns the number and the home of a user before a line, or `none`.
 fn entry_text(
     alloc: Global,
     history: &History<'_>,
@@ -80,14 +80,14 @@ fn entry_text(
     user_text(alloc, &user)
 }
 
-/// The number and the home of the user with a name before a line, or `none`.
+/// Returns the number and the home of the user with a name before a line, or `none`.
 fn entry(alloc: Global, history: &History<'_>, name: &str, at: &str) -> Result<String, Fail> {
     let number = at.parse()?;
     let name = Text::of(text(alloc, name)?);
     Ok(entry_text(alloc, history, &name, number)?)
 }
 
-/// The names of a listing, with spaces between.
+/// Returns the names of a listing, with spaces between.
 fn listing_text(alloc: Global, listing: &Listing) -> Result<String, NoMem> {
     let mut out = String::new(alloc);
     for name in listing.names() {
@@ -99,7 +99,7 @@ fn listing_text(alloc: Global, listing: &Listing) -> Result<String, NoMem> {
     Ok(out)
 }
 
-/// The names in a directory before a line, or `none`.
+/// Returns the names in a directory before a line, or `none`.
 fn names_at(
     alloc: Global,
     history: &History<'_>,
@@ -112,28 +112,28 @@ fn names_at(
     }
 }
 
-/// The names in the directory that a text names before a line, or `none`.
+/// Returns the names in the directory that a text names before a line, or `none`.
 fn names(alloc: Global, history: &History<'_>, of: &str, at: &str) -> Result<String, Fail> {
     let number = at.parse()?;
     let path = path(alloc, of)?;
     Ok(names_at(alloc, history, &path, number)?)
 }
 
-/// The set of one cell.
+/// Returns the set of one cell.
 fn set_of(alloc: Global, cell: &Cell) -> Result<BTreeSet<Cell>, NoMem> {
     let mut cells = BTreeSet::new(alloc);
     cells.insert(cell.copy()?)?;
     Ok(cells)
 }
 
-/// An overlay of one cell, whatever its value.
+/// Returns an overlay of one cell, whatever its value.
 fn overlay_of(alloc: Global, cell: &Cell) -> Result<Overlay, NoMem> {
     let mut overlay = Overlay::new(alloc);
     overlay.insert(cell.copy()?, Value::Status(0))?;
     Ok(overlay)
 }
 
-/// The next line above a number that meets the set of a cell.
+/// Returns the next line above a number that meets the set of a cell.
 fn met(
     alloc: Global,
     history: &History<'_>,
@@ -144,7 +144,7 @@ fn met(
     history.next_meeting(alloc, &cells, after)
 }
 
-/// The next line above a number that meets an overlay of a cell.
+/// Returns the next line above a number that meets an overlay of a cell.
 fn met_in(
     alloc: Global,
     history: &History<'_>,
@@ -155,7 +155,7 @@ fn met_in(
     history.next_meeting_in(alloc, &overlay, after)
 }
 
-/// The next line above a number that reads or writes a cell.
+/// Returns the next line above a number that reads or writes a cell.
 pub fn next_meeting(
     alloc: Global,
     history: &History<'_>,
@@ -170,14 +170,14 @@ pub fn next_meeting(
     }
 }
 
-/// The next line above a number that reads or writes the cell with a name, or `none`.
+/// Returns the next line above a number that reads or writes the cell with a name, or `none`.
 fn next(alloc: Global, history: &History<'_>, name: &str, after: &str) -> Result<String, Fail> {
     let after = after.parse()?;
     let met = next_meeting(alloc, history, &cell(alloc, name)?, after)?;
     Ok(line_text(alloc, met)?)
 }
 
-/// The lines that write a cell.
+/// Returns the lines that write a cell.
 fn writers(alloc: Global, history: &History<'_>, cell: &Cell) -> Result<String, NoMem> {
     let numbers = history.writers(alloc, cell)?;
     if numbers.as_slice() == history.written_by(cell) {
@@ -187,19 +187,19 @@ fn writers(alloc: Global, history: &History<'_>, cell: &Cell) -> Result<String, 
     }
 }
 
-/// The lines that read a cell.
+/// Returns the lines that read a cell.
 fn readers(alloc: Global, history: &History<'_>, cell: &Cell) -> Result<String, NoMem> {
     let numbers = history.readers(alloc, cell)?;
     numbers_text(alloc, numbers.as_slice())
 }
 
-/// The checkpoints of a cell.
+/// Returns the checkpoints of a cell.
 fn checkpoints(alloc: Global, history: &History<'_>, cell: &Cell) -> Result<String, NoMem> {
     let numbers = history.checkpoints(alloc, cell)?;
     numbers_text(alloc, numbers.as_slice())
 }
 
-/// What a query about a cell or a directory and a number answers.
+/// Returns the answer to a query about a cell or a directory at a number.
 fn numbered(
     alloc: Global,
     history: &History<'_>,
@@ -216,7 +216,7 @@ fn numbered(
     }
 }
 
-/// What a query about a cell answers.
+/// Returns the answer to a query about a cell.
 fn of_cell(alloc: Global, history: &History<'_>, call: &str, cell: &Cell) -> Result<String, NoMem> {
     match call {
         "writers" => writers(alloc, history, cell),
@@ -226,13 +226,13 @@ fn of_cell(alloc: Global, history: &History<'_>, call: &str, cell: &Cell) -> Res
     }
 }
 
-/// The lines that list the directory that a text names.
+/// Returns the lines that list the directory that a text names.
 fn listed(alloc: Global, history: &History<'_>, of: &str) -> Result<String, Fail> {
     let path = path(alloc, of)?;
     Ok(numbers_text(alloc, history.listed_by(&path))?)
 }
 
-/// What a query about a cell or a directory answers.
+/// Returns the answer to a query about a cell or a directory.
 fn plain(alloc: Global, history: &History<'_>, call: &str, of: &str) -> Result<String, Fail> {
     if call == "listed" {
         return listed(alloc, history, of);
@@ -241,7 +241,7 @@ fn plain(alloc: Global, history: &History<'_>, call: &str, of: &str) -> Result<S
     Ok(of_cell(alloc, history, call, &cell)?)
 }
 
-/// What the query of a row answers.
+/// Returns the answer to the query of a row.
 pub fn answer(
     alloc: Global,
     history: &History<'_>,

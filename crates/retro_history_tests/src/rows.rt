@@ -9,7 +9,7 @@ use retro_rows::{Row, fail, rows};
 use std::alloc::Global;
 use std::test::Fail;
 
-/// What a call over a recording returns for these fields, as text.
+/// Returns the result of a call over a recording, as text.
 fn called(
     alloc: Global,
     recording: &Recording,
@@ -23,7 +23,7 @@ fn called(
     }
 }
 
-/// What a row's call returns over the recording of its entries and lines.
+/// Returns the result of a row's call over the recording of its entries and lines.
 fn returned(alloc: Global, row: &Row) -> Result<String, Fail> {
     let [entries, lines, fields @ ..] = row.given.as_slice() else {
         return fail("no lines");

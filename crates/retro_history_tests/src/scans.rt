@@ -60,7 +60,7 @@ fn push_cells(alloc: Global, cells: &mut Vec<Cell>, notes: &Notes) -> Result<(),
     Ok(())
 }
 
-/// The cells of all notes.
+/// Returns the cells of all notes.
 fn cells_of(alloc: Global, lines: &[(u32, Noted)]) -> Result<Vec<Cell>, NoMem> {
     let mut cells = Vec::new(alloc);
     for line in lines {
@@ -69,7 +69,7 @@ fn cells_of(alloc: Global, lines: &[(u32, Noted)]) -> Result<Vec<Cell>, NoMem> {
     Ok(cells)
 }
 
-/// Whether a change writes a cell.
+/// Returns whether a change writes a cell.
 fn writes(change: &Change, cell: &Cell) -> bool {
     match (change, cell) {
         (Change::Put(path, _) | Change::Grow(path, _), Cell::At(at)) => path == at,
@@ -82,7 +82,7 @@ fn writes(change: &Change, cell: &Cell) -> bool {
     }
 }
 
-/// Whether notes read or write a cell.
+/// Returns whether notes read or write a cell.
 fn has(notes: &Notes, cell: &Cell) -> bool {
     for note in notes.as_slice() {
         let found = match note {
@@ -96,7 +96,7 @@ fn has(notes: &Notes, cell: &Cell) -> bool {
     false
 }
 
-/// The first line above a number whose notes read or write a cell.
+/// Returns the first line above a number whose notes read or write a cell.
 fn scanned(lines: &[(u32, Noted)], cell: &Cell, after: u32) -> Option<u32> {
     for line in lines {
         if line.0 > after && has(&line.1.notes, cell) {
@@ -116,7 +116,7 @@ fn replay(alloc: Global, state: &mut State, notes: &Notes) -> Result<(), NoMem> 
     Ok(())
 }
 
-/// The state after the lines below a number, which is replayed from the notes.
+/// Returns the state that the notes of the lines below a number replay.
 fn replayed(alloc: Global, recording: &Recording, number: u32) -> Result<State, NoMem> {
     let mut state = recording.first().copy()?;
     for line in recording.lines() {
@@ -127,13 +127,13 @@ fn replayed(alloc: Global, recording: &Recording, number: u32) -> Result<State, 
     Ok(state)
 }
 
-/// Whether the next line that a history finds for a cell is the one that a scan finds.
+/// Returns whether the next line that a history finds for a cell is the one that a scan finds.
 fn finds_next(alloc: Global, history: &History<'_>, cell: &Cell, after: u32) -> Result<bool, Fail> {
     let wanted = scanned(history.recording().lines(), cell, after);
     Ok(next_meeting(alloc, history, cell, after)? == wanted)
 }
 
-/// Whether a history rolls a cell back to a value before a line.
+/// Returns whether a history rolls a cell back to a value before a line.
 fn is_rolled_back(
     alloc: Global,
     history: &History<'_>,
@@ -145,7 +145,7 @@ fn is_rolled_back(
     Ok(rolled.value.is_same(wanted))
 }
 
-/// Whether a history has the value of a state in a cell before a line.
+/// Returns whether a history has the value of a state in a cell before a line.
 fn has_value(
     alloc: Global,
     history: &History<'_>,
@@ -160,7 +160,7 @@ fn has_value(
     )
 }
 
-/// What differs, at a number, for a cell.
+/// Returns how a history differs from a scan or a replayed state for a cell, at a number.
 fn difference(
     alloc: Global,
     history: &History<'_>,
@@ -177,7 +177,8 @@ fn difference(
     Ok(None)
 }
 
-/// What differs, at a number, for one of some cells.
+/// Returns how a history differs from scans or a replayed state for the first such cell, at a
+/// number.
 fn difference_in(
     alloc: Global,
     history: &History<'_>,
@@ -194,8 +195,8 @@ fn difference_in(
     Ok(None)
 }
 
-/// What of a history differs from scans and replayed states, for the numbers from 0 to a last one
-/// and all cells of the notes. It is `same` if nothing does.
+/// Returns how a history first differs from scans and replayed states, for the numbers from 0 to a
+/// last one and all cells of the notes, or `same`.
 pub fn first_difference(alloc: Global, history: &History<'_>, last: u32) -> Result<String, Fail> {
     let cells = cells_of(alloc, history.recording().lines())?;
     for number in 0..=last {

@@ -6,7 +6,7 @@ use retro_tree::{NoMem, State};
 use std::alloc::Global;
 use std::test::Fail;
 
-/// The number of a fault, or that it is none of the document.
+/// Returns the number of a refusal. Fails if an allocation failed.
 fn fault_text(alloc: Global, fault: LogFault) -> Result<String, NoMem> {
     match fault {
         LogFault::NoMem => Err(NoMem),
@@ -14,7 +14,7 @@ fn fault_text(alloc: Global, fault: LogFault) -> Result<String, NoMem> {
     }
 }
 
-/// The number of a document's refusal, or `script`.
+/// Returns the number of a document's refusal, or `script`.
 pub fn script(alloc: Global, document: &str) -> Result<String, NoMem> {
     match read_script(alloc, document.as_bytes()) {
         Ok(_) => text(alloc, "script"),
@@ -22,7 +22,8 @@ pub fn script(alloc: Global, document: &str) -> Result<String, NoMem> {
     }
 }
 
-/// What a document has before and after the value at a key, with lawful values at the others.
+/// Returns the text of a script document before and after the value at a key. The other values are
+/// lawful.
 fn around(part: &str) -> Option<(&'static str, &'static str)> {
     match part {
         "version" => Some((
@@ -42,13 +43,14 @@ fn around(part: &str) -> Option<(&'static str, &'static str)> {
     }
 }
 
-/// What a document is that has a value between these texts.
+/// Returns the number of the refusal of a document with a value between these texts, or `script`.
 fn script_between(alloc: Global, before: &str, value: &str, after: &str) -> Result<String, NoMem> {
     let document = format!(in alloc; "{before}{value}{after}")?;
     script(alloc, &document)
 }
 
-/// What a document is that has this value at a key, and lawful values at the others.
+/// Returns the number of the refusal of a script with this value at a key and lawful values at the
+/// others, or `script`.
 pub fn script_part(alloc: Global, part: &str, value: &str) -> Result<String, NoMem> {
     match around(part) {
         Some((before, after)) => script_between(alloc, before, value, after),
@@ -56,7 +58,7 @@ pub fn script_part(alloc: Global, part: &str, value: &str) -> Result<String, NoM
     }
 }
 
-/// The number of a log's refusal, or `log`.
+/// Returns the number of a log's refusal, or `log`.
 fn log_of(alloc: Global, document: &[u8]) -> Result<String, NoMem> {
     match read_log(alloc, document) {
         Ok(_) => text(alloc, "log"),
@@ -64,12 +66,13 @@ fn log_of(alloc: Global, document: &[u8]) -> Result<String, NoMem> {
     }
 }
 
-/// What a log is.
+/// Returns the number of the refusal of the log that a text is, or `log`.
 pub fn log(alloc: Global, document: &str) -> Result<String, NoMem> {
     log_of(alloc, document.as_bytes())
 }
 
-/// The first front of a log that isn't what all have to be, or `None`.
+/// Returns the length of the first proper prefix of a log with another result than `all`, or
+/// `None`.
 fn other_front(alloc: Global, document: &[u8], all: &str) -> Result<Option<usize>, NoMem> {
     for end in 0..document.len() {
         let front = log_of(alloc, &document[..end])?;
@@ -80,7 +83,8 @@ fn other_front(alloc: Global, document: &[u8], all: &str) -> Result<Option<usize
     Ok(None)
 }
 
-/// What each front of a document is, if all are alike.
+/// Returns the result of a document and of all its prefixes, or the length of a prefix with another
+/// result.
 fn fronts_text(alloc: Global, document: &[u8]) -> Result<String, NoMem> {
     let all = log_of(alloc, document)?;
     match other_front(alloc, document, &all)? {
@@ -89,7 +93,7 @@ fn fronts_text(alloc: Global, document: &[u8]) -> Result<String, NoMem> {
     }
 }
 
-/// What each front of a log is that lacks the last brace, if all are alike.
+/// Returns the result of all prefixes of a log that lack its last brace, if they have the same.
 pub fn log_fronts(alloc: Global, document: &str) -> Result<String, NoMem> {
     match document.strip_suffix("}") {
         Some(longest) => fronts_text(alloc, longest.as_bytes()),
@@ -103,19 +107,19 @@ const BEFORE_LINES: &str = concat!(
     r#""sessions":[[1,"/",0,[]],[2,"/",0,[]]],"lines":"#,
 );
 
-/// What such a log is that has these lines.
+/// Returns the number of the refusal of such a log with these lines, or `log`.
 pub fn logged(alloc: Global, lines: &str) -> Result<String, NoMem> {
     let document = format!(in alloc; "{BEFORE_LINES}{lines}}}")?;
     log(alloc, &document)
 }
 
-/// What such a log is that has this note in a line of the first session.
+/// Returns the number of the refusal of such a log whose one line has this note, or `log`.
 pub fn note(alloc: Global, note: &str) -> Result<String, NoMem> {
     let lines = format!(in alloc; r#"[[1,1,"",[{note}],""]]"#)?;
     logged(alloc, &lines)
 }
 
-/// The script that a document is.
+/// Reads the script of a document. Fails if the document is refused.
 pub fn script_of(alloc: Global, document: &str) -> Result<Script, Fail> {
     match read_script(alloc, document.as_bytes()) {
         Ok(script) => Ok(script),
@@ -123,7 +127,7 @@ pub fn script_of(alloc: Global, document: &str) -> Result<Script, Fail> {
     }
 }
 
-/// The tree and the sessions of a state as they are written.
+/// Returns the tree and the sessions of a state as documents have them.
 fn state_text(alloc: Global, state: &State) -> Result<String, NoMem> {
     let tree = tree_value(alloc, state)?.to_string(alloc)?;
     let sessions = sessions_value(alloc, state)?.to_string(alloc)?;
@@ -136,7 +140,7 @@ fn push_line(alloc: Global, out: &mut String, line: &ScriptLine) -> Result<(), N
     out.push_str(&format!(in alloc; " {} {} {text}", line.number, line.sid)?)
 }
 
-/// The first state and the lines of a script as they are written.
+/// Returns the first state of a script as documents have it, and its lines.
 fn script_text(alloc: Global, script: &Script) -> Result<String, NoMem> {
     let mut out = state_text(alloc, script.first())?;
     for line in script.lines() {
@@ -145,7 +149,7 @@ fn script_text(alloc: Global, script: &Script) -> Result<String, NoMem> {
     Ok(out)
 }
 
-/// The tree and the sessions of a document as they are written, and its lines.
+/// Reads a script. Returns its tree and its sessions as they are written again, and its lines.
 pub fn written(alloc: Global, document: &str) -> Result<String, Fail> {
     let script = script_of(alloc, document)?;
     Ok(script_text(alloc, &script)?)
@@ -156,7 +160,7 @@ fn push_number(alloc: Global, out: &mut String, number: u32) -> Result<(), NoMem
     out.push_str(&format!(in alloc; "{number} ")?)
 }
 
-/// The numbers of a script's lines.
+/// Returns the numbers of a script's lines.
 fn numbers_text(alloc: Global, script: &Script) -> Result<String, NoMem> {
     let mut out = String::new(alloc);
     for line in script.lines() {
@@ -165,7 +169,8 @@ fn numbers_text(alloc: Global, script: &Script) -> Result<String, NoMem> {
     Ok(out)
 }
 
-/// The numbers of a script's lines without some, or the refusal and the number that no line has.
+/// Returns the numbers of a script's lines without the cancelled ones, or refusal 21 and the number
+/// that no line has.
 fn edited_text(alloc: Global, script: Script, cancel: &[u32]) -> Result<String, NoMem> {
     match script.without(alloc, cancel) {
         Ok(script) => numbers_text(alloc, &script),
@@ -174,7 +179,8 @@ fn edited_text(alloc: Global, script: Script, cancel: &[u32]) -> Result<String, 
     }
 }
 
-/// The numbers of a document's lines without some, or the refusal and the number that no line has.
+/// Returns the numbers of a document's lines without the cancelled ones, or refusal 21 and the
+/// number that no line has.
 pub fn without(alloc: Global, document: &str, given: &str) -> Result<String, Fail> {
     let numbers = numbers(alloc, given)?;
     let script = script_of(alloc, document)?;

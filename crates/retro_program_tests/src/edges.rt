@@ -35,6 +35,7 @@ struct Drip<'a> {
 }
 
 impl<'a> Drip<'a> {
+    /// Returns a reader of these bytes.
     fn new(left: &'a [u8], fails: u32, kind: ErrorKind) -> Drip<'a> {
         Drip {
             left,
@@ -73,6 +74,7 @@ struct Sip {
 }
 
 impl Sip {
+    /// Returns a writer that has taken nothing.
     fn new(alloc: Global, fails: u32, failure: Failure) -> Sip {
         Sip {
             held: Vec::new(alloc),
@@ -117,8 +119,8 @@ fn replay<T: Threads + Sync + AllocGlobal, R: Read, W: Write>(
     run_with(rt, words, &mut Input::new(reader), &mut Output::new(writer))
 }
 
-/// A run on the empty script, whose reader and writer fail at these calls: the exit, how often each
-/// was called, and what was written.
+/// Runs the program on the empty script, with a reader and a writer that fail at these calls.
+/// Returns the exit, how often each was called, and what was written.
 fn run_edges<T: Threads + Sync + AllocGlobal>(
     rt: &T,
     (reads, kind): (u32, ErrorKind),
@@ -131,7 +133,7 @@ fn run_edges<T: Threads + Sync + AllocGlobal>(
     Ok((exit, reader.calls, writer.calls, writer.held))
 }
 
-/// Whether a run ends at a call that fails to read, and writes nothing.
+/// Returns whether a run ends at a call that fails to read, and writes nothing.
 fn is_unread<T: Threads + Sync + AllocGlobal>(
     rt: &T,
     call: u32,
@@ -151,8 +153,8 @@ fn a_failed_read_ends_the_run(rt: HostRuntime) -> Result<(), Fail> {
     Ok(())
 }
 
-/// Whether a run ends at a call that fails to write, and has written what comes before it. With a
-/// call for each byte of the report, the call after them is none.
+/// Returns whether a run ends at a call that fails to write, and has written what comes before it.
+/// A run has no call after the last byte of the report.
 fn is_unwritten<T: Threads + Sync + AllocGlobal>(
     rt: &T,
     call: u32,
@@ -220,7 +222,8 @@ fn push_numbered(
     Ok(())
 }
 
-/// A script of a hundred lines of 4,096 bytes, `echo nn..`, in a directory with a thousand files.
+/// Returns a script of a hundred lines of 4,096 bytes, `echo nn..`, in a directory with a thousand
+/// files.
 fn large_script(alloc: Global) -> Result<String, NoMem> {
     let mut script = text(alloc, r#"{"script":1,"tree":[["/d"]"#)?;
     push_files(alloc, &mut script)?;
@@ -230,7 +233,7 @@ fn large_script(alloc: Global) -> Result<String, NoMem> {
     Ok(script)
 }
 
-/// The report of that script.
+/// Returns the report of that script.
 fn large_report(alloc: Global) -> Result<String, NoMem> {
     let mut report = text(alloc, r#"{"outputs":[[1,""]"#)?;
     push_numbered(alloc, &mut report, r#"""#, "6e", r#"0a"]"#)?;
@@ -240,7 +243,7 @@ fn large_report(alloc: Global) -> Result<String, NoMem> {
     Ok(report)
 }
 
-/// How a replay of an input ends that gives one byte a call, and what it writes.
+/// Replays an input that gives one byte a call. Returns the exit, and what was written.
 fn replayed<T: Threads + Sync + AllocGlobal>(
     rt: &T,
     input: &[u8],
@@ -252,7 +255,7 @@ fn replayed<T: Threads + Sync + AllocGlobal>(
     Ok((exit, out))
 }
 
-/// Whether the report of the large script is as it has to be.
+/// Returns whether a replay of the large script writes its report.
 fn is_large_replayed<T: Threads + Sync + AllocGlobal>(rt: &T) -> Result<bool, NoMem> {
     let script = large_script(rt.alloc())?;
     let (exit, out) = replayed(rt, script.as_bytes())?;
@@ -265,7 +268,7 @@ fn large_scripts_are_replayed(rt: HostRuntime) -> Result<(), Fail> {
     Ok(())
 }
 
-/// A run that isn't even given its own name.
+/// Runs the program without any word, even its own name.
 fn unnamed<T: Threads + Sync + AllocGlobal>(rt: &T) -> Exit {
     let none: [String; 0] = [];
     let mut reader = EMPTY.as_bytes();
@@ -273,7 +276,7 @@ fn unnamed<T: Threads + Sync + AllocGlobal>(rt: &T) -> Exit {
     replay(rt, &none, &mut reader, &mut out)
 }
 
-/// A run without its own name, and one on bytes that aren't UTF-8.
+/// Compares a run without any word, and one on bytes that aren't UTF-8, with their exits.
 #[test]
 fn odd_inputs_are_refused(rt: HostRuntime) -> Result<(), Fail> {
     assert_eq!(rt; unnamed(&rt), Exit::Refused(31));

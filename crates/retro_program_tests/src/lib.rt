@@ -1,8 +1,4 @@
-//! Worked values of documents and of the whole program, as tables of rows: a call, what it is
-//! given, and what it returns; and the program over readers and writers that fail.
-//!
-//! This crate has nothing but tests, which use public items alone. What rows want comes from the
-//! profile of the shell, the formats and the limits, never from the program's own output.
+//! Tests of documents and of the whole program, also over readers and writers that fail.
 #![tactic(auto)]
 
 #[cfg(test)]

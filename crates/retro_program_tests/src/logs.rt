@@ -58,7 +58,7 @@ again: {"tree":[["/f","0A"]],"log":1,"sessions":[[1,"/",0,[]]],\
   "ff"],["setstatus",255]],"00ff"]],"log":1,"sessions":[[1,"/",0,[]]],"tree":[["/f","0a"]]}%(NL)
 "##;
 
-/// The script of session 1's lines, over a tree.
+/// Returns the script of session 1's lines, over a tree.
 fn script_over(alloc: Global, entries: &str, lines: &[String]) -> Result<String, NoMem> {
     let mut script = format!(in alloc; "{{\"script\":1,\"tree\":[{entries}]")?;
     script.push_str(r#","sessions":[[1,"/",0,[]]],"lines":["#)?;
@@ -67,7 +67,7 @@ fn script_over(alloc: Global, entries: &str, lines: &[String]) -> Result<String,
     Ok(script)
 }
 
-/// The text of a recording's log.
+/// Returns the text of a recording's log.
 fn log_text(alloc: Global, recording: &Recording) -> Result<String, Fail> {
     match String::from_utf8(write_log(alloc, recording)?) {
         Ok(log) => Ok(log),
@@ -75,19 +75,19 @@ fn log_text(alloc: Global, recording: &Recording) -> Result<String, Fail> {
     }
 }
 
-/// The recording of a script.
+/// Returns the recording of a script.
 fn recorded(alloc: Global, document: &str) -> Result<Recording, Fail> {
     let script = script_of(alloc, document)?;
     Ok(keep_alone(alloc, &script)?)
 }
 
-/// The log of a script's recording.
+/// Returns the log of a script's recording.
 fn log(alloc: Global, document: &str) -> Result<String, Fail> {
     let recording = recorded(alloc, document)?;
     log_text(alloc, &recording)
 }
 
-/// The log of the recording that is read from a log.
+/// Returns the log of the recording that is read from a log.
 fn log_again(alloc: Global, document: &str) -> Result<String, Fail> {
     match read_log(alloc, document.as_bytes()) {
         Ok(recording) => log_text(alloc, &recording),
@@ -95,7 +95,7 @@ fn log_again(alloc: Global, document: &str) -> Result<String, Fail> {
     }
 }
 
-/// What a log has after its lines, over a tree.
+/// Returns the text of a log after its lines, over a tree.
 fn log_end(alloc: Global, entries: &str) -> Result<String, NoMem> {
     let mut end = text(alloc, r#","log":1,"sessions":[[1,"/",0,[]]],"tree":["#)?;
     end.push_str(entries)?;
@@ -103,7 +103,7 @@ fn log_end(alloc: Global, entries: &str) -> Result<String, NoMem> {
     Ok(end)
 }
 
-/// What a log has at `lines`, if the rest is as it has to be.
+/// Returns the value of a log at `lines`, if the log ends as it should.
 fn lines_of(alloc: Global, log: &str, end: &str) -> Result<String, NoMem> {
     let Some(log) = log.strip_prefix("{\"lines\":") else {
         return text(alloc, "another beginning");
@@ -114,7 +114,7 @@ fn lines_of(alloc: Global, log: &str, end: &str) -> Result<String, NoMem> {
     }
 }
 
-/// What the log of session 1's lines has at `lines`, if the rest is as it has to be.
+/// Returns the value at `lines` of the log of session 1's lines, if the log ends as it should.
 fn noted(alloc: Global, entries: &str, lines: &[String]) -> Result<String, Fail> {
     let script = script_over(alloc, entries, lines)?;
     let log = log(alloc, &script)?;
@@ -122,7 +122,7 @@ fn noted(alloc: Global, entries: &str, lines: &[String]) -> Result<String, Fail>
     Ok(lines_of(alloc, &log, &end)?)
 }
 
-/// What a row's call returns for these fields.
+/// Returns the result of a call for these fields, as text.
 fn called(alloc: Global, call: &str, given: &[String]) -> Result<String, Fail> {
     match (call, given) {
         ("log", [document]) => log(alloc, document),

@@ -20,7 +20,7 @@ const AFTER_ENTRIES: &str = concat!(
     r#"],"sessions":[[1,"/h",0,[["HOME","/h"]]],[2,"/tmp",0,[["HOME","/tmp"]]]],"lines":["#,
 );
 
-/// The program's name, and the words of a text that spaces separate.
+/// Returns the words of a text, which spaces separate.
 pub fn words(alloc: Global, given: &str) -> Result<Vec<String>, NoMem> {
     let mut words = Vec::new(alloc);
     for word in given.split(' ') {
@@ -45,7 +45,7 @@ fn push_output<T: Threads + Sync + AllocGlobal>(
     )
 }
 
-/// Runs the program: how it ended, and what it wrote.
+/// Runs the program. Returns how it ended, and what it wrote.
 fn output<T: Threads + Sync + AllocGlobal>(
     rt: &T,
     given: &str,
@@ -57,7 +57,7 @@ fn output<T: Threads + Sync + AllocGlobal>(
     Ok((exit, out))
 }
 
-/// What the program writes.
+/// Returns what the program writes.
 fn written<T: Threads + Sync + AllocGlobal>(
     rt: &T,
     given: &str,
@@ -70,8 +70,8 @@ fn written<T: Threads + Sync + AllocGlobal>(
     }
 }
 
-/// Runs the program with some words after the other, each on what the one before it wrote, and with
-/// the last words: what `run` returns then.
+/// Runs the program once for each text of words, each time on what it wrote before. Returns what
+/// `run` returns for the last words.
 pub fn run_in_turn<T: Threads + Sync + AllocGlobal>(
     rt: &T,
     words: &[String],
@@ -85,15 +85,15 @@ pub fn run_in_turn<T: Threads + Sync + AllocGlobal>(
     run(rt, last, &document)
 }
 
-/// An exit status, with the line for standard error after what was written.
+/// Returns an exit status, what was written, and after it the line for standard error.
 fn ended(alloc: Global, exit: Exit, mut out: Vec<u8>) -> Result<String, Fail> {
     exit.write_message(&mut out)?;
     let out = utf8(out.as_slice())?;
     Ok(format!(in alloc; "{} {}", exit.status(), out.trim_end())?)
 }
 
-/// The exit status of the program on words and an input, its line for standard error, and what it
-/// writes.
+/// Runs the program on words and an input. Returns the exit status, what it wrote, and its line for
+/// standard error.
 pub fn run<T: Threads + Sync + AllocGlobal>(
     rt: &T,
     given: &str,
@@ -103,7 +103,7 @@ pub fn run<T: Threads + Sync + AllocGlobal>(
     ended(rt.alloc(), exit, out)
 }
 
-/// A line of session 1 with its number, as scripts write it.
+/// Returns a line of session 1 with its number, as scripts write it.
 fn line_json(alloc: Global, number: usize, line: &str) -> Result<String, NoMem> {
     let line = Value::String(text(alloc, line)?).to_string(alloc)?;
     format!(in alloc; "[{number},1,{line}]")
@@ -120,7 +120,7 @@ pub fn push_lines(alloc: Global, script: &mut String, lines: &[String]) -> Resul
     Ok(())
 }
 
-/// The script of session 1's lines, over a tree with more entries.
+/// Returns the script of session 1's lines, over a tree with more entries.
 fn script_of(alloc: Global, entries: &str, lines: &[String]) -> Result<String, NoMem> {
     let mut script = format!(in alloc; "{BEFORE_ENTRIES}{entries}{AFTER_ENTRIES}")?;
     push_lines(alloc, &mut script, lines)?;
@@ -128,7 +128,7 @@ fn script_of(alloc: Global, entries: &str, lines: &[String]) -> Result<String, N
     Ok(script)
 }
 
-/// Session 1's status in a report, and what its last line printed.
+/// Returns session 1's status in a report, and what its last line printed.
 fn last_line(alloc: Global, report: &Value) -> Option<(u64, &str)> {
     let outputs = report.get("outputs")?.as_array()?;
     let printed = outputs.last()?.as_array()?.get(1)?.as_str()?;
@@ -136,14 +136,14 @@ fn last_line(alloc: Global, report: &Value) -> Option<(u64, &str)> {
     Some((sessions.first()?.as_array()?.get(2)?.as_u64()?, printed))
 }
 
-/// A status, and what hexadecimal digits stand for.
+/// Returns a status, and the text of hexadecimal digits.
 fn printed_text(alloc: Global, status: u64, digits: &str) -> Result<String, Fail> {
     let printed = decode(alloc, digits)?;
     let printed = utf8(printed.as_slice())?;
     Ok(format!(in alloc; "{status} {printed}")?)
 }
 
-/// Session 1's status in a report, and what its last line printed.
+/// Returns session 1's status in a report, and what its last line printed.
 fn report_text(alloc: Global, report: &Value) -> Result<String, Fail> {
     match last_line(alloc, report) {
         Some((status, digits)) => printed_text(alloc, status, digits),
@@ -151,7 +151,8 @@ fn report_text(alloc: Global, report: &Value) -> Result<String, Fail> {
     }
 }
 
-/// The status and the output of the last of session 1's lines, in a script of them.
+/// Replays a script of session 1's lines. Returns the session's status and the output of the last
+/// line.
 pub fn shell<T: Threads + Sync + AllocGlobal>(
     rt: &T,
     entries: &str,

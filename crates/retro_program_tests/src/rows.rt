@@ -10,7 +10,7 @@ use std::alloc::{AllocGlobal, Global};
 use std::test::Fail;
 use std::thread::Threads;
 
-/// What a call about documents alone returns for these fields, as text.
+/// Returns the result of a call about documents alone, as text.
 fn document_called(alloc: Global, call: &str, given: &[String]) -> Result<String, NoMem> {
     match (call, given) {
         ("script", [document]) => script(alloc, document),
@@ -23,7 +23,7 @@ fn document_called(alloc: Global, call: &str, given: &[String]) -> Result<String
     }
 }
 
-/// What a call returns for these fields, as text.
+/// Returns the result of a call for these fields, as text.
 fn called<T: Threads + Sync + AllocGlobal>(
     rt: &T,
     call: &str,

@@ -268,7 +268,7 @@ run: retro replay :: LOG => 1 retro: refused 14
 /// The empty script.
 pub const EMPTY: &str = r#"{"script":1,"tree":[],"sessions":[],"lines":[]}"#;
 
-/// The inputs that rows name; any other text is itself.
+/// Returns the input with a name. Any other text is itself.
 pub fn input_named(name: &str) -> &str {
     match name {
         "EMPTY" => EMPTY,

@@ -10,6 +10,7 @@ pub struct Counter {
 }
 
 impl Counter {
+    /// Returns an observer that has counted nothing.
     pub fn new() -> Counter {
         Counter {
             begun: Cell::new(0),
@@ -17,7 +18,7 @@ impl Counter {
         }
     }
 
-    /// How many executions began, if each ended.
+    /// Returns how many executions began, if each ended.
     pub fn count(&self) -> Option<u32> {
         if self.begun.get() == self.ended.get() {
             Some(self.begun.get())

@@ -5,7 +5,7 @@ use retro_rows::{fail, script_of};
 use std::alloc::Global;
 use std::test::Fail;
 
-/// The script that a document is.
+/// Reads the script of a document. Fails if the document is refused.
 fn script(alloc: Global, document: &str) -> Result<Script, Fail> {
     match read_script(alloc, document.as_bytes()) {
         Ok(script) => Ok(script),
@@ -13,7 +13,7 @@ fn script(alloc: Global, document: &str) -> Result<Script, Fail> {
     }
 }
 
-/// The recording of a script of lines, as `script_of` writes it.
+/// Returns the recording of the script that `script_of` writes for these lines.
 pub fn recording(alloc: Global, entries: &str, lines: &str) -> Result<Recording, Fail> {
     let document = script_of(alloc, entries, lines)?;
     let script = script(alloc, &document)?;

@@ -10,7 +10,7 @@ use retro_rows::{Row, fail, numbers, path, rows};
 use std::alloc::Global;
 use std::test::Fail;
 
-/// The repair of a recording without some lines.
+/// Repairs a recording without some lines. Fails if the repair is refused.
 fn repair_without(alloc: Global, recording: &Recording, cancel: &[u32]) -> Result<Repair, Fail> {
     match repair_alone(alloc, recording, cancel) {
         Ok(repair) => Ok(repair),
@@ -18,7 +18,7 @@ fn repair_without(alloc: Global, recording: &Recording, cancel: &[u32]) -> Resul
     }
 }
 
-/// The repair of a recording without some lines, whose own recording has to be one.
+/// Repairs a recording without some lines. Fails if `check` refuses the repair's own recording.
 fn repaired(alloc: Global, recording: &Recording, list: &str) -> Result<Repair, Fail> {
     let repair = repair_without(alloc, recording, &numbers(alloc, list)?)?;
     if check(alloc, &repair.recording)? {
@@ -28,12 +28,12 @@ fn repaired(alloc: Global, recording: &Recording, list: &str) -> Result<Repair, 
     }
 }
 
-/// The recording of a repair.
+/// Returns the recording of a repair.
 fn repaired_recording(alloc: Global, recording: &Recording, list: &str) -> Result<Recording, Fail> {
     Ok(repaired(alloc, recording, list)?.recording)
 }
 
-/// Whether a repair without some lines can be made while an observer counts.
+/// Repairs a recording without some lines while an observer counts. Returns whether that succeeded.
 fn is_repaired(
     alloc: Global,
     recording: &Recording,
@@ -44,7 +44,7 @@ fn is_repaired(
     Ok(repair_watched(alloc, recording, &cancel, counter).is_ok())
 }
 
-/// How many lines a repair executes.
+/// Returns how many lines a repair executes.
 fn executed(alloc: Global, recording: &Recording, list: &str) -> Result<String, Fail> {
     let counter = Counter::new();
     if !is_repaired(alloc, recording, list, &counter)? {
@@ -56,7 +56,7 @@ fn executed(alloc: Global, recording: &Recording, list: &str) -> Result<String, 
     }
 }
 
-/// What a call tells of a repair.
+/// Returns what a repair answers to a call.
 fn told(alloc: Global, repair: &Repair, call: &str, given: &[String]) -> Result<String, Fail> {
     match (call, given) {
         ("lines", []) => Ok(lines(alloc, repair)?),
@@ -68,7 +68,7 @@ fn told(alloc: Global, repair: &Repair, call: &str, given: &[String]) -> Result<
     }
 }
 
-/// What a call tells of the repair of a recording without some lines.
+/// Returns the result of a call on the repair of a recording without some lines.
 fn called(
     alloc: Global,
     recording: &Recording,
@@ -83,8 +83,8 @@ fn called(
     told(alloc, &repair, call, given)
 }
 
-/// What a call tells of the repair of a recording, or of the repair of that repair's recording: a
-/// list may have two parts with `then` between them.
+/// Returns the result of a call on the repair of a recording. If the list has two parts with `then`
+/// between them, the recording of the first part's repair is repaired without the second part.
 fn called_in_turn(
     alloc: Global,
     recording: &Recording,
@@ -99,7 +99,7 @@ fn called_in_turn(
     called(alloc, &once, call, second, given)
 }
 
-/// What a row's call returns.
+/// Returns the result of a row's call.
 fn returned(alloc: Global, row: &Row) -> Result<String, Fail> {
     let [entries, lines, lists, given @ ..] = row.given.as_slice() else {
         return fail("no lines");

@@ -20,7 +20,7 @@ fn push_redone(alloc: Global, out: &mut String, verdicts: &[(u32, Verdict)]) -> 
     Ok(())
 }
 
-/// The numbers of the lines that are met, and of those that are redone.
+/// Returns the numbers of the met lines, and of the redone ones.
 pub fn lines(alloc: Global, repair: &Repair) -> Result<String, NoMem> {
     let mut out = text(alloc, "met")?;
     for number in &repair.met {
@@ -40,7 +40,7 @@ fn push_output(alloc: Global, out: &mut String, number: u32, output: &[u8]) -> R
     Ok(())
 }
 
-/// The number of each line that prints something, with what it prints.
+/// Returns the number of each line that prints something, with what it prints.
 pub fn outputs(alloc: Global, repair: &Repair) -> Result<String, Fail> {
     let mut out = String::new(alloc);
     for (number, output) in &repair.outputs {
@@ -61,7 +61,7 @@ fn push_compensation(
     Ok(out.push_str(&format!(in alloc; "{number} [{before}] [{now}]")?)?)
 }
 
-/// The number of each compensated line, with what it printed and what it prints now.
+/// Returns the number of each compensated line, with what it printed and what it prints now.
 pub fn compensations(alloc: Global, repair: &Repair) -> Result<String, Fail> {
     let mut out = String::new(alloc);
     for compensation in &repair.compensations {
@@ -70,7 +70,7 @@ pub fn compensations(alloc: Global, repair: &Repair) -> Result<String, Fail> {
     Ok(out)
 }
 
-/// The bytes of a file, or `none`.
+/// Returns the bytes of a file, or `none`.
 pub fn file(alloc: Global, state: &State, path: &Path) -> Result<String, Fail> {
     match state.file(path) {
         Some(bytes) => Ok(text(alloc, utf8(bytes.as_slice())?)?),
@@ -78,7 +78,7 @@ pub fn file(alloc: Global, state: &State, path: &Path) -> Result<String, Fail> {
     }
 }
 
-/// How many bytes there are, and the last one.
+/// Returns how many bytes there are, and the last one.
 fn end_of(alloc: Global, bytes: &[u8]) -> Result<String, NoMem> {
     match bytes.last() {
         Some(last) => format!(in alloc; "{} {last}", bytes.len()),
@@ -86,7 +86,7 @@ fn end_of(alloc: Global, bytes: &[u8]) -> Result<String, NoMem> {
     }
 }
 
-/// How many bytes a file has, and its last one.
+/// Returns how many bytes a file has, and its last one.
 pub fn end(alloc: Global, state: &State, path: &Path) -> Result<String, Fail> {
     match state.file(path) {
         Some(bytes) => Ok(end_of(alloc, bytes.as_slice())?),

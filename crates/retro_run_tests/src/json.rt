@@ -16,7 +16,7 @@ fn push_escaped(out: &mut String, c: char) -> Result<(), NoMem> {
     }
 }
 
-/// A text between quotes.
+/// Returns a text between quotes.
 fn quoted(alloc: Global, given: &str) -> Result<String, NoMem> {
     let mut out = text(alloc, "\"")?;
     for c in given.chars() {
@@ -26,16 +26,18 @@ fn quoted(alloc: Global, given: &str) -> Result<String, NoMem> {
     Ok(out)
 }
 
-/// A path as text between quotes.
+/// Returns a path as text between quotes.
 fn path_json(alloc: Global, path: &Path) -> Result<String, NoMem> {
     quoted(alloc, &path_text(alloc, path.names())?)
 }
 
+/// Returns a file's content as JSON.
 fn file_json(alloc: Global, content: &[u8]) -> Result<String, NoMem> {
     let digits = encode(alloc, content)?;
     format!(in alloc; "[\"f\",\"{digits}\"]")
 }
 
+/// Returns a node as JSON.
 fn node_json(alloc: Global, node: &Node) -> Result<String, NoMem> {
     match node {
         Node::Missing => text(alloc, "[]"),
@@ -44,7 +46,7 @@ fn node_json(alloc: Global, node: &Node) -> Result<String, NoMem> {
     }
 }
 
-/// The names of a listing between brackets.
+/// Returns the names of a listing between brackets.
 fn names_json(alloc: Global, listing: &Listing) -> Result<String, NoMem> {
     let mut out = text(alloc, "[")?;
     for name in listing.names() {
@@ -57,6 +59,7 @@ fn names_json(alloc: Global, listing: &Listing) -> Result<String, NoMem> {
     Ok(out)
 }
 
+/// Returns a listing as JSON, `null` if there is none.
 fn listing_json(alloc: Global, listing: &Option<Listing>) -> Result<String, NoMem> {
     match listing {
         Some(listing) => names_json(alloc, listing),
@@ -64,11 +67,13 @@ fn listing_json(alloc: Global, listing: &Option<Listing>) -> Result<String, NoMe
     }
 }
 
+/// Returns a user's number and home as JSON.
 fn user_json(alloc: Global, user: &User) -> Result<String, NoMem> {
     let home = quoted(alloc, user.home.as_str())?;
     format!(in alloc; "[{},{home}]", user.number)
 }
 
+/// Returns a user as JSON, `null` if there is none.
 fn entry_json(alloc: Global, user: &Option<User>) -> Result<String, NoMem> {
     match user {
         Some(user) => user_json(alloc, user),
@@ -76,6 +81,7 @@ fn entry_json(alloc: Global, user: &Option<User>) -> Result<String, NoMem> {
     }
 }
 
+/// Returns a variable's value as JSON, `null` if it isn't set.
 fn variable_json(alloc: Global, value: &Option<Text>) -> Result<String, NoMem> {
     match value {
         Some(value) => quoted(alloc, value.as_str()),
@@ -83,6 +89,7 @@ fn variable_json(alloc: Global, value: &Option<Text>) -> Result<String, NoMem> {
     }
 }
 
+/// Returns the word of a kind.
 fn kind_word(kind: Kind) -> &'static str {
     match kind {
         Kind::Missing => "missing",
@@ -91,6 +98,7 @@ fn kind_word(kind: Kind) -> &'static str {
     }
 }
 
+/// Returns the word of a permit.
 fn permit_word(permit: Permit) -> &'static str {
     match permit {
         Permit::Yes => "yes",
@@ -101,25 +109,25 @@ fn permit_word(permit: Permit) -> &'static str {
     }
 }
 
-/// A note's word with the path that it is about.
+/// Returns a note's word with the path that it is about.
 fn of_path(alloc: Global, word: &str, path: &Path) -> Result<String, NoMem> {
     let path = path_json(alloc, path)?;
     format!(in alloc; "\"{word}\",{path}")
 }
 
-/// A note's word with the name that it is about.
+/// Returns a note's word with the name that it is about.
 fn of_name(alloc: Global, word: &str, name: &str) -> Result<String, NoMem> {
     let name = quoted(alloc, name)?;
     format!(in alloc; "\"{word}\",{name}")
 }
 
-/// A question for leave to write bytes to a path, without its brackets.
+/// Returns the query whether bytes may be written to a path, without its brackets.
 fn of_writing(alloc: Global, path: &Path, more: u32) -> Result<String, NoMem> {
     let path = path_json(alloc, path)?;
     format!(in alloc; "\"canwrite\",{path},{more}")
 }
 
-/// A question, without its brackets and its session.
+/// Returns a query as JSON, without its brackets and its session.
 fn ask_json(alloc: Global, ask: &Ask) -> Result<String, NoMem> {
     match ask {
         Ask::Kind(path) => of_path(alloc, "kind", path),
@@ -133,6 +141,7 @@ fn ask_json(alloc: Global, ask: &Ask) -> Result<String, NoMem> {
     }
 }
 
+/// Returns an answer as JSON.
 fn answer_json(alloc: Global, answer: &Answer) -> Result<String, NoMem> {
     match answer {
         Answer::Kind(kind) => quoted(alloc, kind_word(*kind)),
@@ -146,37 +155,41 @@ fn answer_json(alloc: Global, answer: &Answer) -> Result<String, NoMem> {
     }
 }
 
-/// A question with its answer.
+/// Returns a query with its answer as JSON.
 fn asked_json(alloc: Global, ask: &Ask, answer: &Answer) -> Result<String, NoMem> {
     let ask = ask_json(alloc, ask)?;
     let answer = answer_json(alloc, answer)?;
     format!(in alloc; "[{ask},{answer}]")
 }
 
+/// Returns the change of a node as JSON.
 fn put_json(alloc: Global, path: &Path, node: &Node) -> Result<String, NoMem> {
     let path = of_path(alloc, "put", path)?;
     let node = node_json(alloc, node)?;
     format!(in alloc; "[{path},{node}]")
 }
 
+/// Returns the growth of a file as JSON.
 fn grow_json(alloc: Global, path: &Path, content: &[u8]) -> Result<String, NoMem> {
     let path = of_path(alloc, "grow", path)?;
     let digits = encode(alloc, content)?;
     format!(in alloc; "[{path},\"{digits}\"]")
 }
 
+/// Returns the change of a variable as JSON.
 fn set_var_json(alloc: Global, name: &str, value: &str) -> Result<String, NoMem> {
     let name = of_name(alloc, "setvar", name)?;
     let value = quoted(alloc, value)?;
     format!(in alloc; "[{name},{value}]")
 }
 
+/// Returns the change of a session's directory as JSON.
 fn set_cwd_json(alloc: Global, path: &Path) -> Result<String, NoMem> {
     let path = of_path(alloc, "setcwd", path)?;
     format!(in alloc; "[{path}]")
 }
 
-/// A change.
+/// Returns a change as JSON.
 fn made_json(alloc: Global, change: &Change) -> Result<String, NoMem> {
     match change {
         Change::Put(path, node) => put_json(alloc, path, node),
@@ -187,7 +200,7 @@ fn made_json(alloc: Global, change: &Change) -> Result<String, NoMem> {
     }
 }
 
-/// A note, without its session.
+/// Returns a note as JSON, without its session.
 fn note_json(alloc: Global, note: &Note) -> Result<String, NoMem> {
     match note {
         Note::Asked(ask, answer) => asked_json(alloc, ask, answer),

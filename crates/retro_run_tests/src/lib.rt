@@ -1,8 +1,4 @@
-//! Runs of utilities and lines, with their notes, as tables of rows: a call, what it is given, and
-//! what it returns.
-//!
-//! This crate has nothing but tests, which use public items alone. What rows want comes from the
-//! profile of the shell, never from the program's own output.
+//! Tests of utilities and lines, with the notes that they leave. Each line is run in every way.
 #![tactic(auto)]
 
 #[cfg(test)]

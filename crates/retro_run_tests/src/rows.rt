@@ -14,7 +14,7 @@ use retro_rows::{fail, rows};
 use std::alloc::Global;
 use std::test::Fail;
 
-/// What a call on texts alone returns for these fields, as text.
+/// Returns the result of a call on texts alone, as text.
 fn text_called(alloc: Global, call: &str, given: &[String]) -> Result<String, Fail> {
     let returned = match (call, given) {
         ("request", [flags, arguments, fields @ ..]) => request(alloc, flags, arguments, fields),
@@ -32,7 +32,7 @@ fn text_called(alloc: Global, call: &str, given: &[String]) -> Result<String, Fa
     Ok(returned?)
 }
 
-/// What a call returns for these fields, as text.
+/// Returns the result of a call for these fields, as text.
 fn called(alloc: Global, call: &str, given: &[String]) -> Result<String, Fail> {
     match (call, given) {
         ("run", [words, place, fields @ ..]) => run(alloc, words, place, fields),

@@ -13,14 +13,14 @@ use retro_utils::{Done, Input, Local, Place, holds, utility};
 use std::alloc::Global;
 use std::test::Fail;
 
-/// The place that a text says.
+/// Returns the place that a text says.
 fn place(given: &str) -> Result<Place, Fail> {
     let sub = given.ends_with("s");
     let sid = given.strip_suffix("s").unwrap_or(given).parse()?;
     Ok(Place { sid, sub })
 }
 
-/// The standard input that a text says.
+/// Returns the standard input that a text says.
 fn input(alloc: Global, given: &str) -> Result<Input, Fail> {
     match given.strip_prefix("=") {
         None => Ok(Input::File(path(alloc, given)?)),
@@ -29,14 +29,14 @@ fn input(alloc: Global, given: &str) -> Result<Input, Fail> {
     }
 }
 
-/// A result as text.
+/// Returns a result as text.
 fn done_text(alloc: Global, done: &Done) -> Result<String, Fail> {
     let out = utf8(done.out.as_slice())?;
     let err = utf8(done.err.as_slice())?;
     Ok(format!(in alloc; "{} [{out}] [{err}]", done.status)?)
 }
 
-/// A result as text, or that there is no such utility.
+/// Returns a result as text, or that there is no such utility.
 fn called_text(alloc: Global, done: &Option<Done>) -> Result<String, Fail> {
     match done {
         Some(done) => done_text(alloc, done),
@@ -44,7 +44,7 @@ fn called_text(alloc: Global, done: &Option<Done>) -> Result<String, Fail> {
     }
 }
 
-/// What a utility leaves, as text.
+/// Returns what a utility leaves, as text.
 fn call<V: View>(
     alloc: Global,
     local: &mut Local<V>,
@@ -72,7 +72,7 @@ fn push_left<V: View>(
     holds(alloc, &notes, view)
 }
 
-/// What a utility leaves over a view, with its notes.
+/// Returns what a utility leaves over a view, with its notes.
 fn over<V: View>(alloc: Global, view: &V, given: &str, fields: &[String]) -> Result<String, Fail> {
     let mut local = Local::new(alloc, view);
     let mut out = call(alloc, &mut local, given, fields)?;
@@ -83,13 +83,13 @@ fn over<V: View>(alloc: Global, view: &V, given: &str, fields: &[String]) -> Res
     }
 }
 
-/// What a utility leaves over the state that words say.
+/// Returns what a utility leaves over the state that words say.
 fn over_state(alloc: Global, words: &str, given: &str, fields: &[String]) -> Result<String, Fail> {
     let state = state_of(alloc, words)?;
     over(alloc, &state, given, fields)
 }
 
-/// What a utility leaves over an overlay that shows this state.
+/// Returns what a utility leaves over an overlay that shows this state.
 fn over_overlay(
     alloc: Global,
     words: &str,
@@ -101,8 +101,8 @@ fn over_overlay(
     over(alloc, &shown, given, fields)
 }
 
-/// What a utility leaves over a state, and over an overlay that shows the same state: both results,
-/// where they differ.
+/// Returns what a utility leaves over a state, and over an overlay that shows the same state: both
+/// results, where they differ.
 pub fn run(alloc: Global, words: &str, given: &str, fields: &[String]) -> Result<String, Fail> {
     let one = over_state(alloc, words, given, fields)?;
     let other = over_overlay(alloc, words, given, fields)?;

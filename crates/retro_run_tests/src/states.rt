@@ -17,12 +17,12 @@ const BASE: &str = concat!(
     "alice:x:100:100:a:/h:/bin/sh\nmallory:x:200:200:m:/tmp:/bin/sh\n",
 );
 
-/// The bytes of a text.
+/// Returns the bytes of a text.
 pub fn bytes(alloc: Global, given: &str) -> Result<Bytes, NoMem> {
     Ok(Bytes::of(Vec::from_slice(alloc, given.as_bytes())?))
 }
 
-/// The text of so many letters `n`.
+/// Returns a text of so many letters `n`.
 fn letters(alloc: Global, count: u32) -> Result<String, NoMem> {
     let mut out = String::new(alloc);
     for _ in 0..count {
@@ -31,7 +31,7 @@ fn letters(alloc: Global, count: u32) -> Result<String, NoMem> {
     Ok(out)
 }
 
-/// The change that sets a variable.
+/// Returns the change that sets a variable.
 fn variable(alloc: Global, name: &str, value: String) -> Result<Change, Fail> {
     match VarName::of(alloc, name)? {
         Some(name) => Ok(Change::SetVar(1, name, Text::of(value))),
@@ -39,7 +39,7 @@ fn variable(alloc: Global, name: &str, value: String) -> Result<Change, Fail> {
     }
 }
 
-/// The change that sets a file or a variable.
+/// Returns the change that sets a file or a variable.
 fn content(alloc: Global, at: &str, value: String) -> Result<Change, Fail> {
     if !at.starts_with("/") {
         return variable(alloc, at, value);
@@ -48,7 +48,7 @@ fn content(alloc: Global, at: &str, value: String) -> Result<Change, Fail> {
     Ok(Change::Put(path(alloc, at)?, Node::File(content)))
 }
 
-/// The change that makes a directory, or what has so many letters.
+/// Returns the change that makes a directory, or sets a file or a variable to so many letters.
 fn counted(alloc: Global, word: &str) -> Result<Change, Fail> {
     match word.split_once("*") {
         None => Ok(Change::Put(path(alloc, word)?, Node::Dir)),
@@ -56,7 +56,7 @@ fn counted(alloc: Global, word: &str) -> Result<Change, Fail> {
     }
 }
 
-/// The change that makes a file, a variable or a directory.
+/// Returns the change that makes a file, a variable or a directory.
 fn entry(alloc: Global, word: &str) -> Result<Change, Fail> {
     match word.split_once("=") {
         None => counted(alloc, word),
@@ -64,7 +64,7 @@ fn entry(alloc: Global, word: &str) -> Result<Change, Fail> {
     }
 }
 
-/// The change that makes what a word says.
+/// Returns the change that a word says.
 fn change(alloc: Global, word: &str) -> Result<Change, Fail> {
     if let Some(cwd) = word.strip_prefix("@") {
         return Ok(Change::SetCwd(1, path(alloc, cwd)?));
@@ -75,7 +75,7 @@ fn change(alloc: Global, word: &str) -> Result<Change, Fail> {
     }
 }
 
-/// Appends the changes that make what words say.
+/// Appends the changes that words say.
 fn push_changes(alloc: Global, words: &str, changes: &mut Vec<Change>) -> Result<(), Fail> {
     for word in words.split(" ") {
         if !word.is_empty() {
@@ -85,7 +85,7 @@ fn push_changes(alloc: Global, words: &str, changes: &mut Vec<Change>) -> Result
     Ok(())
 }
 
-/// The changes that make what the words say.
+/// Returns the changes that words say.
 pub fn changes(alloc: Global, words: &str) -> Result<Vec<Change>, Fail> {
     let mut changes = Vec::new(alloc);
     match words.strip_prefix("base") {
@@ -106,7 +106,7 @@ fn apply_all(alloc: Global, state: &mut State, changes: &[Change]) -> Result<(),
     Ok(())
 }
 
-/// The state that words say.
+/// Returns the state that words say.
 pub fn state_of(alloc: Global, words: &str) -> Result<State, Fail> {
     let changes = changes(alloc, words)?;
     let mut state = State::empty(alloc)?;
@@ -114,7 +114,7 @@ pub fn state_of(alloc: Global, words: &str) -> Result<State, Fail> {
     Ok(state)
 }
 
-/// Whether two entries are the same.
+/// Returns whether two entries are the same.
 fn same_entry(one: &Entry, other: &Entry) -> bool {
     match (one, other) {
         (Entry::Dir, Entry::Dir) => true,
@@ -123,7 +123,7 @@ fn same_entry(one: &Entry, other: &Entry) -> bool {
     }
 }
 
-/// Whether two trees have the same entries.
+/// Returns whether two trees have the same entries.
 fn same_tree(one: &Tree, other: &Tree) -> bool {
     let mut rest = other.iter();
     for (path, entry) in one.iter() {
@@ -135,7 +135,7 @@ fn same_tree(one: &Tree, other: &Tree) -> bool {
     rest.next().is_none()
 }
 
-/// Whether two sessions have the same directory, status and variables.
+/// Returns whether two sessions have the same directory, status and variables.
 fn same_session(one: &Session, other: &Session) -> bool {
     let mut rest = other.vars.iter();
     for (name, value) in one.vars.iter() {
@@ -147,7 +147,7 @@ fn same_session(one: &Session, other: &Session) -> bool {
     rest.next().is_none() && one.cwd == other.cwd && one.status == other.status
 }
 
-/// Whether two states are the same.
+/// Returns whether two states are the same.
 pub fn same_state(one: &State, other: &State) -> bool {
     let mut rest = other.sessions().iter();
     for (sid, session) in one.sessions().iter() {

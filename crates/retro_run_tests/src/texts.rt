@@ -20,14 +20,14 @@ const GREP: KnownLetters = KnownLetters {
     arguments: b"",
 };
 
-/// Bytes in hexadecimal digits after `0x`.
+/// Returns bytes in hexadecimal digits after `0x`.
 fn hexadecimal(alloc: Global, bytes: &[u8]) -> Result<String, NoMem> {
     let mut digits = text(alloc, "0x")?;
     digits.push_str(&encode(alloc, bytes)?)?;
     Ok(digits)
 }
 
-/// Bytes as text, or in hexadecimal digits if they aren't UTF-8.
+/// Returns bytes as text, or in hexadecimal digits if they aren't UTF-8.
 fn shown(alloc: Global, bytes: &[u8]) -> Result<String, NoMem> {
     match str::from_utf8(bytes) {
         Ok(valid) => text(alloc, valid),
@@ -35,7 +35,7 @@ fn shown(alloc: Global, bytes: &[u8]) -> Result<String, NoMem> {
     }
 }
 
-/// What a call that reads fields returns if it fails.
+/// Returns `usage` for a usage error. Fails if an allocation failed.
 fn refused(alloc: Global, error: UsageError) -> Result<String, NoMem> {
     match error {
         UsageError::Usage => text(alloc, "usage"),
@@ -88,7 +88,7 @@ fn push_arguments(
     Ok(())
 }
 
-/// A request as text.
+/// Returns a request as text.
 fn request_text(
     alloc: Global,
     request: &Request<'_>,
@@ -102,8 +102,8 @@ fn request_text(
     Ok(out)
 }
 
-/// The options and operands in fields: the flags that were given, the letters with their arguments,
-/// and after a bar the operands.
+/// Returns the options and operands in fields: the flags that were given, the letters with their
+/// arguments, and after a bar the operands.
 pub fn request(
     alloc: Global,
     flags: &str,
@@ -126,7 +126,7 @@ fn push_line(alloc: Global, out: &mut String, line: &[u8]) -> Result<(), NoMem> 
     out.push_str(&format!(in alloc; "[{line}]")?)
 }
 
-/// The lines of a text, each in brackets.
+/// Returns the lines of a text, each in brackets.
 pub fn lines(alloc: Global, given: &str) -> Result<String, NoMem> {
     let mut out = String::new(alloc);
     for line in Lines::of(given.as_bytes()) {
@@ -135,13 +135,13 @@ pub fn lines(alloc: Global, given: &str) -> Result<String, NoMem> {
     Ok(out)
 }
 
-/// What `cut` leaves of a text.
+/// Returns what `cut` leaves of a text.
 fn cut_text(alloc: Global, cut: &Cut, given: &str) -> Result<String, NoMem> {
     let left = cut.text(alloc, given.as_bytes())?;
     shown(alloc, left.as_slice())
 }
 
-/// What `cut` with this request leaves of a text.
+/// Returns what `cut` with this request leaves of a text.
 fn cut_of(alloc: Global, request: &Request<'_>, given: &str) -> Result<String, NoMem> {
     match Cut::of(alloc, request) {
         Ok(cut) => cut_text(alloc, &cut, given),
@@ -149,7 +149,7 @@ fn cut_of(alloc: Global, request: &Request<'_>, given: &str) -> Result<String, N
     }
 }
 
-/// What `cut` with these options leaves of a text.
+/// Returns what `cut` with these options leaves of a text.
 pub fn cut(alloc: Global, given: &str, fields: &[String]) -> Result<String, NoMem> {
     match Request::of(alloc, &CUT, fields) {
         Ok(request) => cut_of(alloc, &request, given),
@@ -157,7 +157,7 @@ pub fn cut(alloc: Global, given: &str, fields: &[String]) -> Result<String, NoMe
     }
 }
 
-/// The status of a `grep` without faults over one text, and what it prints.
+/// Returns the status of a `grep` without faults over one text, and what it prints.
 fn found_text(
     alloc: Global,
     search: &Search<'_>,
@@ -169,7 +169,8 @@ fn found_text(
     format!(in alloc; "{} {output}", search.status(found.selected, false))
 }
 
-/// The status of a `grep` with this request over one text, and what it prints, with a label.
+/// Returns the status of a `grep` with this request over one text, and what it prints, with a
+/// label.
 fn grep_of(alloc: Global, request: &Request<'_>, name: &str, given: &str) -> Result<String, NoMem> {
     let Some((search, files)) = Search::of(request) else {
         return text(alloc, "usage");
@@ -178,7 +179,7 @@ fn grep_of(alloc: Global, request: &Request<'_>, name: &str, given: &str) -> Res
     found_text(alloc, &search, label.as_slice(), given)
 }
 
-/// The status of a `grep` without faults over one text, and what it prints, with a label.
+/// Returns the status of a `grep` without faults over one text, and what it prints, with a label.
 pub fn grep(alloc: Global, name: &str, given: &str, fields: &[String]) -> Result<String, NoMem> {
     match Request::of(alloc, &GREP, fields) {
         Ok(request) => grep_of(alloc, &request, name, given),
@@ -186,7 +187,8 @@ pub fn grep(alloc: Global, name: &str, given: &str, fields: &[String]) -> Result
     }
 }
 
-/// The status of a `grep` with this request that selected a line or not, and met a fault or not.
+/// Returns the status of a `grep` with this request that selected a line or not, and met a fault or
+/// not.
 fn status_of(
     alloc: Global,
     request: &Request<'_>,
@@ -199,7 +201,7 @@ fn status_of(
     }
 }
 
-/// The status of a `grep` that selected a line or not, and met a fault or not.
+/// Returns the status of a `grep` that selected a line or not, and met a fault or not.
 pub fn grep_status(
     alloc: Global,
     selected: &str,
@@ -212,7 +214,7 @@ pub fn grep_status(
     }
 }
 
-/// What a test of a path tests.
+/// Returns the word for what a test of a path tests.
 fn test_word(test: PathTest) -> &'static str {
     match test {
         PathTest::Exists => "exists",
@@ -221,7 +223,7 @@ fn test_word(test: PathTest) -> &'static str {
     }
 }
 
-/// The condition that operands are: `true`, `false`, or which path it asks for.
+/// Returns the value of the condition of operands: `true`, `false`, or the path that it asks for.
 pub fn condition(alloc: Global, operands: &[String]) -> Result<String, NoMem> {
     match Condition::of(operands) {
         None => text(alloc, "usage"),
@@ -230,7 +232,7 @@ pub fn condition(alloc: Global, operands: &[String]) -> Result<String, NoMem> {
     }
 }
 
-/// The condition that the operands of `[` are.
+/// Returns the value of the condition of the operands of `[`.
 pub fn bracket(alloc: Global, operands: &[String]) -> Result<String, NoMem> {
     match before_bracket(operands) {
         None => text(alloc, "usage"),
@@ -238,19 +240,19 @@ pub fn bracket(alloc: Global, operands: &[String]) -> Result<String, NoMem> {
     }
 }
 
-/// What `echo` prints.
+/// Returns what `echo` prints.
 pub fn echo(alloc: Global, operands: &[String]) -> Result<String, NoMem> {
     let printed = echo_text(alloc, operands)?;
     shown(alloc, printed.as_slice())
 }
 
-/// What a fault in the fields of a utility prints.
+/// Returns what a fault in the fields of a utility prints.
 pub fn usage(alloc: Global, name: &str) -> Result<String, NoMem> {
     let printed = usage_text(alloc, name)?;
     shown(alloc, printed.as_slice())
 }
 
-/// The name of the utility that has a name, or `none`.
+/// Returns the name of the utility with this name, or `none`.
 pub fn utility(alloc: Global, name: &str) -> Result<String, NoMem> {
     match Utility::of(name) {
         Some(utility) => text(alloc, utility.name()),

@@ -7,7 +7,7 @@ use retro_tree::{Bytes, Change, NoMem, Node, State, Text, VarName};
 use std::alloc::Global;
 use std::test::Fail;
 
-/// A name of a variable.
+/// Returns the variable that a text names. Fails if it names none.
 pub fn variable(alloc: Global, given: &str) -> Result<VarName, Fail> {
     match VarName::of(alloc, given)? {
         Some(name) => Ok(name),
@@ -15,12 +15,12 @@ pub fn variable(alloc: Global, given: &str) -> Result<VarName, Fail> {
     }
 }
 
-/// The bytes of a text.
+/// Returns the bytes of a text.
 fn bytes(alloc: Global, given: &str) -> Result<Bytes, NoMem> {
     Ok(Bytes::of(Vec::from_slice(alloc, given.as_bytes())?))
 }
 
-/// The node that `dir`, `missing`, or `file` and its content is.
+/// Returns the node that a text says: `dir`, `missing`, or `file` and its content.
 fn node(alloc: Global, given: &str) -> Result<Node, Fail> {
     match given {
         "dir" => Ok(Node::Dir),
@@ -32,7 +32,7 @@ fn node(alloc: Global, given: &str) -> Result<Node, Fail> {
     }
 }
 
-/// A change of a file by `by` and what is appended.
+/// Returns the change that appends to a file. The text is `by` and what is appended.
 fn growth(alloc: Global, place: &str, given: &str) -> Result<Change, Fail> {
     let Some(more) = given.strip_prefix("by ") else {
         return fail("no such growth");
@@ -41,7 +41,7 @@ fn growth(alloc: Global, place: &str, given: &str) -> Result<Change, Fail> {
     Ok(Change::Grow(path(alloc, place)?, more))
 }
 
-/// A change of a session's variable.
+/// Returns the change of a session's variable.
 fn variable_change(alloc: Global, sid: u32, given: &str) -> Result<Change, Fail> {
     let Some((name, value)) = given.split_once(' ') else {
         return fail("no value");
@@ -50,13 +50,13 @@ fn variable_change(alloc: Global, sid: u32, given: &str) -> Result<Change, Fail>
     Ok(Change::SetVar(sid, name, Text::of(text(alloc, value)?)))
 }
 
-/// A change of the node at a path.
+/// Returns the change of the node at a path.
 fn put(alloc: Global, place: &str, value: &str) -> Result<Change, Fail> {
     let node = node(alloc, value)?;
     Ok(Change::Put(path(alloc, place)?, node))
 }
 
-/// A change of a session's directory, status or variable.
+/// Returns the change of a session's directory, status or variable.
 fn session_change(alloc: Global, kind: &str, sid: u32, value: &str) -> Result<Change, Fail> {
     match kind {
         "var" => variable_change(alloc, sid, value),
@@ -66,7 +66,7 @@ fn session_change(alloc: Global, kind: &str, sid: u32, value: &str) -> Result<Ch
     }
 }
 
-/// The change of a kind, at a path or in a session, to a value.
+/// Returns the change of a kind, at a path or in a session, to a value.
 fn change_of(alloc: Global, kind: &str, place: &str, value: &str) -> Result<Change, Fail> {
     match kind {
         "put" => put(alloc, place, value),
@@ -75,7 +75,7 @@ fn change_of(alloc: Global, kind: &str, place: &str, value: &str) -> Result<Chan
     }
 }
 
-/// The change that a text is.
+/// Returns the change that a text says.
 pub fn change(alloc: Global, given: &str) -> Result<Change, Fail> {
     let Some((kind, rest)) = given.split_once(' ') else {
         return fail("no change");
@@ -86,7 +86,7 @@ pub fn change(alloc: Global, given: &str) -> Result<Change, Fail> {
     }
 }
 
-/// The changes that a text is.
+/// Returns the changes that a text says.
 fn changes(alloc: Global, given: &str) -> Result<Vec<Change>, Fail> {
     let mut changes = Vec::new(alloc);
     for each in given.split("; ") {
@@ -111,14 +111,14 @@ fn apply_all(alloc: Global, state: &mut State, changes: &[Change]) -> Result<(),
     Ok(())
 }
 
-/// A state after these changes.
+/// Returns a state after changes.
 pub fn after(alloc: Global, mut state: State, given: &str) -> Result<State, Fail> {
     let changes = changes(alloc, given)?;
     apply_all(alloc, &mut state, &changes)?;
     Ok(state)
 }
 
-/// The root alone after these changes.
+/// Returns the state that has only a root after changes.
 pub fn changed(alloc: Global, given: &str) -> Result<State, Fail> {
     let root = State::empty(alloc)?;
     after(alloc, root.copy()?, given)

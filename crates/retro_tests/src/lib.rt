@@ -1,8 +1,4 @@
-//! Worked values of the layers below documents, as tables of rows: a call, what it is given, and
-//! what it returns.
-//!
-//! This crate has nothing but tests, which use public items alone. What rows want comes from the
-//! profile of the shell and the limits, never from the program's own output.
+//! Tests of the layers below documents: paths, lines, states, overlays and scripts.
 #![tactic(auto)]
 
 #[cfg(test)]

@@ -4,7 +4,7 @@ use retro_tree::{Name, NoMem, Path, Resolved, VarName, is_relative, resolve};
 use std::alloc::Global;
 use std::test::Fail;
 
-/// What resolving a text came to.
+/// Returns the result of resolving a text, as text.
 fn resolved_text(alloc: Global, resolved: &Resolved) -> Result<String, NoMem> {
     match resolved {
         Resolved::Is(path) => path_text(alloc, path.names()),
@@ -13,31 +13,31 @@ fn resolved_text(alloc: Global, resolved: &Resolved) -> Result<String, NoMem> {
     }
 }
 
-/// What `resolve` returns for a text in a directory.
+/// Returns what `resolve` returns for a text in a directory.
 pub fn resolved(alloc: Global, cwd: &str, given: &str) -> Result<String, Fail> {
     let cwd = path(alloc, cwd)?;
     let resolved = resolve(alloc, &cwd, given)?;
     Ok(resolved_text(alloc, &resolved)?)
 }
 
-/// A truth value as text.
+/// Returns a truth value as text.
 pub fn bool_text(alloc: Global, holds: bool) -> Result<String, NoMem> {
     text(alloc, if holds { "true" } else { "false" })
 }
 
-/// Whether a text is relative.
+/// Returns whether a text is relative.
 pub fn relative(alloc: Global, text: &str) -> Result<String, NoMem> {
     let relative = is_relative(alloc, text)?;
     bool_text(alloc, relative)
 }
 
-/// Whether a text is a name.
+/// Returns whether a text is a name.
 pub fn is_name(alloc: Global, given: &str) -> Result<String, NoMem> {
     let name = text(alloc, given)?;
     bool_text(alloc, Name::of(name).is_some())
 }
 
-/// The variable's name that a text is, or `none`.
+/// Returns the name of the variable that a text names, or `none`.
 pub fn variable(alloc: Global, given: &str) -> Result<String, NoMem> {
     match VarName::of(alloc, given)? {
         Some(name) => text(alloc, name.copy()?.as_str()),
@@ -45,7 +45,7 @@ pub fn variable(alloc: Global, given: &str) -> Result<String, NoMem> {
     }
 }
 
-/// Copies of texts.
+/// Returns copies of texts.
 fn copies(alloc: Global, texts: &[String]) -> Result<Vec<String>, NoMem> {
     let mut copies = Vec::new(alloc);
     for text in texts {
@@ -54,7 +54,7 @@ fn copies(alloc: Global, texts: &[String]) -> Result<Vec<String>, NoMem> {
     Ok(copies)
 }
 
-/// The path of these names, or `none`.
+/// Returns the path of these names, or `none`.
 pub fn joined_path(alloc: Global, names: &[String]) -> Result<String, NoMem> {
     match Path::of(alloc, copies(alloc, names)?)? {
         Some(path) => path_text(alloc, path.names()),
@@ -62,26 +62,26 @@ pub fn joined_path(alloc: Global, names: &[String]) -> Result<String, NoMem> {
     }
 }
 
-/// The parent of a path.
+/// Returns the parent of a path.
 fn parent_of(alloc: Global, path: &Path) -> Result<String, NoMem> {
     let parent = path.parent(alloc)?;
     path_text(alloc, parent.names())
 }
 
-/// The parent of the path that a text names.
+/// Returns the parent of the path that a text names.
 pub fn parent(alloc: Global, given: &str) -> Result<String, Fail> {
     let path = path(alloc, given)?;
     Ok(parent_of(alloc, &path)?)
 }
 
-/// The child of a path with a copy of a name.
+/// Returns the child of a path with a copy of a name.
 fn child_of(alloc: Global, path: &Path, name: &Name) -> Result<String, NoMem> {
     let name = name.copy()?;
     let child = path.child(alloc, &name)?;
     path_text(alloc, child.names())
 }
 
-/// The child of the path that a text names with a name, or that it isn't one.
+/// Returns the child with a name of the path that a text names. Fails if the name isn't one.
 pub fn child(alloc: Global, given: &str, name: &str) -> Result<String, Fail> {
     let path = path(alloc, given)?;
     match Name::of(text(alloc, name)?) {
@@ -90,7 +90,7 @@ pub fn child(alloc: Global, given: &str, name: &str) -> Result<String, Fail> {
     }
 }
 
-/// The names of a path below a prefix, or `none`.
+/// Returns the names of a path below a prefix, or `none`.
 fn names_below(alloc: Global, path: &Path, prefix: &Path) -> Result<String, NoMem> {
     match path.strip_prefix(prefix) {
         Some(names) => path_text(alloc, names),
@@ -98,14 +98,14 @@ fn names_below(alloc: Global, path: &Path, prefix: &Path) -> Result<String, NoMe
     }
 }
 
-/// The names of a path that a text names below the prefix that another one names, or `none`.
+/// Returns the names of a path below a prefix, or `none`. Texts name both.
 pub fn below(alloc: Global, given: &str, prefix: &str) -> Result<String, Fail> {
     let prefix = path(alloc, prefix)?;
     let given = path(alloc, given)?;
     Ok(names_below(alloc, &given, &prefix)?)
 }
 
-/// Paths, each with a space after it.
+/// Returns paths as text, each followed by a space.
 fn paths_text(alloc: Global, paths: &[Path]) -> Result<String, NoMem> {
     let mut out = String::new(alloc);
     for path in paths {
@@ -115,13 +115,13 @@ fn paths_text(alloc: Global, paths: &[Path]) -> Result<String, NoMem> {
     Ok(out)
 }
 
-/// The prefixes of a path, each with a space after it.
+/// Returns the prefixes of a path, each followed by a space.
 fn prefixes_of(alloc: Global, path: &Path) -> Result<String, NoMem> {
     let prefixes = path.prefixes(alloc)?;
     paths_text(alloc, &prefixes)
 }
 
-/// The prefixes of the path that a text names, each with a space after it.
+/// Returns the prefixes of the path that a text names, each followed by a space.
 pub fn prefixes(alloc: Global, given: &str) -> Result<String, Fail> {
     let path = path(alloc, given)?;
     Ok(prefixes_of(alloc, &path)?)

@@ -1,6 +1,6 @@
-//! Questions and their answers as text.
+//! Queries and their answers as text.
 //!
-//! Questions are `kind PATH`, `bytes PATH`, `names PATH`, `canwrite PATH NUMBER`, `user NAME`,
+//! Queries are `kind PATH`, `bytes PATH`, `names PATH`, `canwrite PATH NUMBER`, `user NAME`,
 //! `var SID NAME`, `cwd SID`, and `status SID`.
 use crate::changes::variable;
 use retro_rows::{fail, path, path_text, text, utf8};
@@ -8,7 +8,7 @@ use retro_tree::{Answer, Ask, Cell, Listing, NoMem, Node, Path, Text, User, Valu
 use std::alloc::Global;
 use std::test::Fail;
 
-/// The question about a path.
+/// Returns the query about a path.
 fn path_question(kind: &str, path: Path) -> Result<Ask, Fail> {
     match kind {
         "kind" => Ok(Ask::Kind(path)),
@@ -18,7 +18,7 @@ fn path_question(kind: &str, path: Path) -> Result<Ask, Fail> {
     }
 }
 
-/// The question about a path and a number, or about a session's variable.
+/// Returns the query about a path and a number, or about a session's variable.
 fn question_of_two(alloc: Global, kind: &str, first: &str, second: &str) -> Result<Ask, Fail> {
     match kind {
         "canwrite" => Ok(Ask::CanWrite(path(alloc, first)?, second.parse()?)),
@@ -27,7 +27,7 @@ fn question_of_two(alloc: Global, kind: &str, first: &str, second: &str) -> Resu
     }
 }
 
-/// The question about a user, a session or a path.
+/// Returns the query about a user, a session or a path.
 fn question_of_one(alloc: Global, kind: &str, of: &str) -> Result<Ask, Fail> {
     match kind {
         "user" => Ok(Ask::User(Text::of(text(alloc, of)?))),
@@ -37,7 +37,7 @@ fn question_of_one(alloc: Global, kind: &str, of: &str) -> Result<Ask, Fail> {
     }
 }
 
-/// A copy of the question that a text is.
+/// Returns a copy of the query that a text says.
 pub fn ask(alloc: Global, kind: &str, rest: &str) -> Result<Ask, Fail> {
     let ask = match rest.split_once(' ') {
         Some((first, second)) => question_of_two(alloc, kind, first, second)?,
@@ -46,7 +46,7 @@ pub fn ask(alloc: Global, kind: &str, rest: &str) -> Result<Ask, Fail> {
     Ok(ask.copy()?)
 }
 
-/// The cell that a question with one answer in it is about.
+/// Returns the cell that a query of one cell is about.
 fn cell_of(ask: Ask) -> Result<Cell, Fail> {
     match ask {
         Ask::Bytes(path) => Ok(Cell::At(path)),
@@ -57,13 +57,13 @@ fn cell_of(ask: Ask) -> Result<Cell, Fail> {
     }
 }
 
-/// A copy of the cell that a question is about.
+/// Returns a copy of the cell that a query is about.
 pub fn cell(alloc: Global, kind: &str, rest: &str) -> Result<Cell, Fail> {
     let cell = cell_of(ask(alloc, kind, rest)?)?;
     Ok(cell.copy()?)
 }
 
-/// A node as text.
+/// Returns a node as text.
 fn node_text(alloc: Global, node: &Node) -> Result<String, Fail> {
     match node {
         Node::Missing => Ok(text(alloc, "missing")?),
@@ -75,7 +75,7 @@ fn node_text(alloc: Global, node: &Node) -> Result<String, Fail> {
     }
 }
 
-/// The names of a listing, with spaces between.
+/// Returns the names of a listing, with spaces between.
 pub fn listing_text(alloc: Global, listing: &Listing) -> Result<String, NoMem> {
     let mut out = String::new(alloc);
     for name in listing.names() {
@@ -87,7 +87,7 @@ pub fn listing_text(alloc: Global, listing: &Listing) -> Result<String, NoMem> {
     Ok(out)
 }
 
-/// The names of a copy of a listing, or that there is no directory.
+/// Returns the names of a copy of a listing, or that there is no directory.
 fn names_text(alloc: Global, listing: &Option<Listing>) -> Result<String, NoMem> {
     match listing {
         Some(listing) => listing_text(alloc, &listing.copy()?),
@@ -95,7 +95,7 @@ fn names_text(alloc: Global, listing: &Option<Listing>) -> Result<String, NoMem>
     }
 }
 
-/// A user as text.
+/// Returns a user as text.
 fn user_text(alloc: Global, user: &Option<User>) -> Result<String, NoMem> {
     match user {
         Some(user) => format!(in alloc; "{} {}", user.number, user.home.as_str()),
@@ -103,7 +103,7 @@ fn user_text(alloc: Global, user: &Option<User>) -> Result<String, NoMem> {
     }
 }
 
-/// A variable's value as text.
+/// Returns a variable's value as text.
 fn variable_text(alloc: Global, value: &Option<Text>) -> Result<String, NoMem> {
     match value {
         Some(value) => text(alloc, value.as_str()),
@@ -111,7 +111,7 @@ fn variable_text(alloc: Global, value: &Option<Text>) -> Result<String, NoMem> {
     }
 }
 
-/// An answer as text.
+/// Returns an answer as text.
 pub fn answer_text(alloc: Global, answer: &Answer) -> Result<String, Fail> {
     match answer {
         Answer::Kind(kind) => Ok(format!(in alloc; "{kind:?}")?),
@@ -125,7 +125,7 @@ pub fn answer_text(alloc: Global, answer: &Answer) -> Result<String, Fail> {
     }
 }
 
-/// A cell's value as text.
+/// Returns a cell's value as text.
 pub fn value_text(alloc: Global, value: &Value) -> Result<String, Fail> {
     match value {
         Value::Node(node) => node_text(alloc, node),

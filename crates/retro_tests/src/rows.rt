@@ -13,7 +13,7 @@ use retro_tree::NoMem;
 use std::alloc::Global;
 use std::test::Fail;
 
-/// What a call about texts, names and tables returns for these fields, as text.
+/// Returns the result of a call about texts, names and tables, as text.
 fn text_called(alloc: Global, call: &str, given: &[String]) -> Result<String, NoMem> {
     match (call, given) {
         ("fields", given) => fields(alloc, given),
@@ -29,7 +29,7 @@ fn text_called(alloc: Global, call: &str, given: &[String]) -> Result<String, No
     }
 }
 
-/// What a call about paths returns for these fields, as text.
+/// Returns the result of a call about paths, as text.
 fn path_called(alloc: Global, call: &str, given: &[String]) -> Result<String, Fail> {
     match (call, given) {
         ("resolve", [cwd, text]) => resolved(alloc, cwd, text),
@@ -41,7 +41,7 @@ fn path_called(alloc: Global, call: &str, given: &[String]) -> Result<String, Fa
     }
 }
 
-/// What a call returns for these fields, as text.
+/// Returns the result of a call for these fields, as text.
 fn called(alloc: Global, call: &str, given: &[String]) -> Result<String, Fail> {
     match (call, given) {
         ("state", [changes, question]) => state_answer(alloc, changes, question),

@@ -6,7 +6,7 @@ use retro_tree::{NoMem, Text};
 use std::alloc::Global;
 use std::test::Fail;
 
-/// A line with the number and the session that a text is.
+/// Returns the line with the number and the session that a text says.
 fn line(alloc: Global, given: &str) -> Result<ScriptLine, Fail> {
     let Some((number, sid)) = given.split_once(' ') else {
         return fail("a line without its session");
@@ -16,7 +16,7 @@ fn line(alloc: Global, given: &str) -> Result<ScriptLine, Fail> {
     Ok(ScriptLine { number, sid, text })
 }
 
-/// The lines that a text is.
+/// Returns the lines that a text says.
 fn lines(alloc: Global, given: &str) -> Result<Vec<ScriptLine>, Fail> {
     let mut lines = Vec::new(alloc);
     for each in given.split(", ") {
@@ -25,7 +25,7 @@ fn lines(alloc: Global, given: &str) -> Result<Vec<ScriptLine>, Fail> {
     Ok(lines)
 }
 
-/// The number of a refusal.
+/// Returns the number of a refusal.
 fn refusal(fault: ScriptFault) -> &'static str {
     match fault {
         ScriptFault::NumbersNotRising => "8",
@@ -36,7 +36,7 @@ fn refusal(fault: ScriptFault) -> &'static str {
     }
 }
 
-/// The refusal's number, or the number of lines of a script.
+/// Returns the refusal's number, or the number of lines of a script.
 fn script_text(alloc: Global, script: Result<Script, ScriptFault>) -> Result<String, NoMem> {
     match script {
         Ok(script) => format!(in alloc; "script {}", script.lines().len()),
@@ -44,8 +44,8 @@ fn script_text(alloc: Global, script: Result<Script, ScriptFault>) -> Result<Str
     }
 }
 
-/// The refusal's number of a state after these changes with these lines, or the number of lines of
-/// their script. A line is given as its number and its session.
+/// Makes a script of the state after these changes and of these lines. Returns the refusal's
+/// number, or the number of the script's lines. A line is given as its number and its session.
 pub fn parts(alloc: Global, changes: &str, given: &str) -> Result<String, Fail> {
     let lines = lines(alloc, given)?;
     let script = Script::new(alloc, changed(alloc, changes)?, lines);

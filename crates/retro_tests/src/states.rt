@@ -1,7 +1,7 @@
 //! What states, overlays and lines that are run on states answer, as text.
 //!
-//! A question is one of `questions`, or `children PATH`. `@` before it asks for the value of the
-//! cell that it is about.
+//! A query is one of `questions`, or `children PATH`. `@` before it asks for the value of the cell
+//! that it is about.
 use crate::changes::{after, change, changed};
 use crate::paths::bool_text;
 use crate::questions::{answer_text, ask, cell, listing_text, value_text};
@@ -11,25 +11,25 @@ use retro_tree::{Ask, Bytes, Cell, Change, NoMem, Overlay, Path, State, View};
 use std::alloc::Global;
 use std::test::Fail;
 
-/// What a view answers.
+/// Returns what a view answers.
 fn view_answer<V: View>(alloc: Global, view: &V, ask: &Ask) -> Result<String, Fail> {
     let answer = view.answer(alloc, ask)?;
     answer_text(alloc, &answer)
 }
 
-/// The names below a path of a view.
+/// Returns the names below a path of a view.
 fn view_children<V: View>(alloc: Global, view: &V, path: &Path) -> Result<String, Fail> {
     let children = view.children(alloc, path)?;
     Ok(listing_text(alloc, &children)?)
 }
 
-/// The value of a cell of a state.
+/// Returns the value of a cell of a state.
 fn state_value(alloc: Global, state: &State, cell: &Cell) -> Result<String, Fail> {
     let value = state.value(alloc, cell)?;
     value_text(alloc, &value)
 }
 
-/// What a state answers to a question.
+/// Returns what a state answers to a query.
 fn state_text(alloc: Global, state: &State, question: &str) -> Result<String, Fail> {
     let Some((kind, rest)) = question.split_once(' ') else {
         return fail("no question");
@@ -43,7 +43,7 @@ fn state_text(alloc: Global, state: &State, question: &str) -> Result<String, Fa
     }
 }
 
-/// What an overlay over a state answers.
+/// Returns what an overlay over a state answers.
 fn overlay_answer(
     alloc: Global,
     overlay: &Overlay,
@@ -54,7 +54,7 @@ fn overlay_answer(
     answer_text(alloc, &answer)
 }
 
-/// The names below a path in an overlay over a state.
+/// Returns the names below a path in an overlay over a state.
 fn overlay_children(
     alloc: Global,
     overlay: &Overlay,
@@ -65,7 +65,7 @@ fn overlay_children(
     Ok(listing_text(alloc, &children)?)
 }
 
-/// The value of a cell in an overlay over a state.
+/// Returns the value of a cell in an overlay over a state.
 fn overlay_value(
     alloc: Global,
     overlay: &Overlay,
@@ -76,7 +76,7 @@ fn overlay_value(
     value_text(alloc, &value)
 }
 
-/// What an overlay over a state answers to a question.
+/// Returns what an overlay over a state answers to a query.
 fn overlay_text(
     alloc: Global,
     overlay: &Overlay,
@@ -95,7 +95,7 @@ fn overlay_text(
     }
 }
 
-/// The overlay of changes.
+/// Returns an overlay of changes.
 fn overlaid(alloc: Global, given: &str) -> Result<Overlay, Fail> {
     let mut overlay = Overlay::new(alloc);
     for each in given.split("; ") {
@@ -106,20 +106,20 @@ fn overlaid(alloc: Global, given: &str) -> Result<Overlay, Fail> {
     Ok(overlay)
 }
 
-/// A state with an overlay of changes, which is committed to it.
+/// Returns a state to which an overlay of changes is committed.
 fn committed(alloc: Global, mut state: State, given: &str) -> Result<State, Fail> {
     overlaid(alloc, given)?.commit(alloc, &mut state)?;
     Ok(state)
 }
 
-/// What a copy of an overlay of changes answers over a state.
+/// Returns what a copy of an overlay of changes answers over a state.
 fn combined_answer(alloc: Global, base: &str, given: &str, question: &str) -> Result<String, Fail> {
     let state = changed(alloc, base)?;
     let overlay = overlaid(alloc, given)?;
     overlay_text(alloc, &overlay.copy(alloc)?, &state, question)
 }
 
-/// What a state answers after an overlay of changes is committed to it.
+/// Returns what a state answers after an overlay of changes is committed to it.
 fn committed_answer(
     alloc: Global,
     base: &str,
@@ -130,13 +130,13 @@ fn committed_answer(
     state_text(alloc, &state, question)
 }
 
-/// What a state answers after changes.
+/// Returns what a state answers after changes.
 fn direct_answer(alloc: Global, base: &str, given: &str, question: &str) -> Result<String, Fail> {
     let state = after(alloc, changed(alloc, base)?, given)?;
     state_text(alloc, &state, question)
 }
 
-/// One answer, or all of them if they differ.
+/// Returns one answer, or all of them if they differ.
 fn agreed(alloc: Global, direct: &str, combined: &str, committed: &str) -> Result<String, NoMem> {
     if direct == combined && direct == committed {
         return text(alloc, direct);
@@ -144,7 +144,7 @@ fn agreed(alloc: Global, direct: &str, combined: &str, committed: &str) -> Resul
     format!(in alloc; "{direct} / {combined} / {committed}")
 }
 
-/// What a state answers to a question after changes: all three answers, where they differ.
+/// Returns what a state answers to a query after changes: all three answers, where they differ.
 ///
 /// Changes before ` >> ` make the state. Those after it are applied to the state, put into an
 /// overlay over it, and committed to it from that overlay.
@@ -156,20 +156,20 @@ pub fn state_answer(alloc: Global, given: &str, question: &str) -> Result<String
     Ok(agreed(alloc, &direct, &combined, &committed)?)
 }
 
-/// Whether a change is lawful in a state.
+/// Returns whether a change is lawful in a state.
 fn allowed_text(alloc: Global, state: &State, change: &Change) -> Result<String, NoMem> {
     let allowed = state.allows(alloc, change)?;
     bool_text(alloc, allowed)
 }
 
-/// Whether a change is lawful in the root alone after others.
+/// Returns whether a change is lawful in the root alone after others.
 pub fn allows(alloc: Global, before: &str, given: &str) -> Result<String, Fail> {
     let state = changed(alloc, before)?;
     let change = change(alloc, given)?;
     Ok(allowed_text(alloc, &state, &change)?)
 }
 
-/// Whether a state is within the limits, and whether it is lawful.
+/// Returns whether a state is within the limits, and whether it is lawful.
 fn lawful_text(alloc: Global, state: &mut State) -> Result<String, Fail> {
     let lawful = state.is_lawful(alloc)?;
     if lawful != state.validate(alloc)? {
@@ -179,12 +179,12 @@ fn lawful_text(alloc: Global, state: &mut State) -> Result<String, Fail> {
     Ok(format!(in alloc; "{within} {lawful}")?)
 }
 
-/// Whether the root alone is within the limits after changes, and whether it is lawful.
+/// Returns whether the root alone is within the limits after changes, and whether it is lawful.
 pub fn lawfulness(alloc: Global, given: &str) -> Result<String, Fail> {
     lawful_text(alloc, &mut changed(alloc, given)?)
 }
 
-/// What stepping a state by a line of session 1 prints.
+/// Returns what stepping a state by a line of session 1 prints.
 fn stepped(alloc: Global, mut state: State, line: &str) -> Result<Bytes, Fail> {
     if !state.has_session(1) || !state.is_lawful(alloc)? {
         return fail("a lawless state");
@@ -192,7 +192,7 @@ fn stepped(alloc: Global, mut state: State, line: &str) -> Result<Bytes, Fail> {
     Ok(step(alloc, &mut state, 1, line)?)
 }
 
-/// What playing a line of session 1 over a state prints.
+/// Returns what playing a line of session 1 over a state prints.
 fn played_over(alloc: Global, state: &State, line: &str) -> Result<Bytes, Fail> {
     if !state.has_session(1) || !state.is_lawful(alloc)? {
         return fail("a lawless state");
@@ -200,7 +200,7 @@ fn played_over(alloc: Global, state: &State, line: &str) -> Result<Bytes, Fail> 
     Ok(play(alloc, state, 1, line)?.1)
 }
 
-/// What a line of session 1 prints on the root alone after changes.
+/// Returns what a line of session 1 prints on the root alone after changes.
 pub fn played(alloc: Global, given: &str, line: &str) -> Result<String, Fail> {
     let played = played_over(alloc, &changed(alloc, given)?, line)?;
     let stepped = stepped(alloc, changed(alloc, given)?, line)?;

@@ -8,7 +8,7 @@ use retro_syntax::{Line, Parsed, Refused, TildePrefix, parse};
 use retro_tree::NoMem;
 use std::alloc::Global;
 
-/// Quoted pieces stand in double quotes, and parameters in `${ }`.
+/// Appends a word. Quoted pieces are in double quotes, and parameters in `${ }`.
 fn show_word(out: &mut String, word: &Word) -> Result<(), NoMem> {
     for piece in &word.pieces {
         match piece {
@@ -23,12 +23,14 @@ fn show_word(out: &mut String, word: &Word) -> Result<(), NoMem> {
     Ok(())
 }
 
+/// Appends a text between two others.
 fn show_between(out: &mut String, before: &str, text: &str, after: &str) -> Result<(), NoMem> {
     out.push_str(before)?;
     out.push_str(text)?;
     out.push_str(after)
 }
 
+/// Appends an argument or a redirection.
 fn show_item(out: &mut String, item: &Item) -> Result<(), NoMem> {
     match item {
         Item::Argument(word) => show_word(out, word),
@@ -43,11 +45,13 @@ fn show_item(out: &mut String, item: &Item) -> Result<(), NoMem> {
     }
 }
 
+/// Appends an assignment.
 fn show_assignment(out: &mut String, assignment: &Assignment) -> Result<(), NoMem> {
     show_between(out, "", assignment.name.as_str(), ":=")?;
     show_word(out, &assignment.value)
 }
 
+/// Appends a simple command in `( )`.
 fn show_simple(out: &mut String, simple: &Simple) -> Result<(), NoMem> {
     out.push_str("(")?;
     match simple {
@@ -67,6 +71,7 @@ fn show_simple(out: &mut String, simple: &Simple) -> Result<(), NoMem> {
     out.push_str(")")
 }
 
+/// Appends the simple commands of a pipe.
 fn show_stages(out: &mut String, stages: &[Simple]) -> Result<(), NoMem> {
     for stage in stages {
         show_simple(out, stage)?;
@@ -74,6 +79,7 @@ fn show_stages(out: &mut String, stages: &[Simple]) -> Result<(), NoMem> {
     Ok(())
 }
 
+/// Appends a command, or `..` if it is too deep.
 #[cycle(shown)]
 fn show_command(out: &mut String, command: &Command, room: u8) -> Result<(), NoMem> {
     if room == 0 {
@@ -90,7 +96,7 @@ fn show_command(out: &mut String, command: &Command, room: u8) -> Result<(), NoM
     }
 }
 
-/// The conditions of an `if`, each with its consequence.
+/// Appends the conditions of an `if`, each with its consequence.
 #[cycle(shown)]
 fn show_arms(out: &mut String, parts: &Conditional<Command>, room: u8) -> Result<(), NoMem> {
     for arm in &parts.before {
@@ -101,7 +107,7 @@ fn show_arms(out: &mut String, parts: &Conditional<Command>, room: u8) -> Result
     show_list(out, "then", &parts.consequence, room)
 }
 
-/// What a `for` has before its body.
+/// Appends what a `for` has before its body.
 fn show_head(out: &mut String, parts: &Loop<Command>) -> Result<(), NoMem> {
     show_between(out, "for ", parts.name.as_str(), " in ")?;
     for word in &parts.words {
@@ -111,12 +117,14 @@ fn show_head(out: &mut String, parts: &Loop<Command>) -> Result<(), NoMem> {
     Ok(())
 }
 
+/// Appends a `for`.
 #[cycle(shown)]
 fn show_loop(out: &mut String, parts: &Loop<Command>, room: u8) -> Result<(), NoMem> {
     show_head(out, parts)?;
     show_list(out, "do", &parts.body, room)
 }
 
+/// Appends a pipeline, after `!` if it is negated.
 #[cycle(shown)]
 fn show_pipeline(out: &mut String, pipeline: &Pipeline<Command>, room: u8) -> Result<(), NoMem> {
     if pipeline.negated {
@@ -125,6 +133,7 @@ fn show_pipeline(out: &mut String, pipeline: &Pipeline<Command>, room: u8) -> Re
     show_command(out, &pipeline.command, room)
 }
 
+/// Appends pipelines with `&&` and `||` between them.
 #[cycle(shown)]
 fn show_and_or(out: &mut String, and_or: &AndOr<Command>, room: u8) -> Result<(), NoMem> {
     for joined in &and_or.before {
@@ -137,6 +146,7 @@ fn show_and_or(out: &mut String, and_or: &AndOr<Command>, room: u8) -> Result<()
     show_pipeline(out, &and_or.last, room)
 }
 
+/// Appends a list in `[ ]` after its keyword.
 #[cycle(shown)]
 fn show_list(out: &mut String, key: &str, list: &Commands<Command>, room: u8) -> Result<(), NoMem> {
     out.push_str(key)?;
@@ -149,7 +159,7 @@ fn show_list(out: &mut String, key: &str, list: &Commands<Command>, room: u8) ->
     out.push_str(if list.final_semicolon { ";]" } else { "]" })
 }
 
-/// The tree of a line, nothing for a blank one.
+/// Returns the tree of a line, nothing for a blank one.
 fn line_text(alloc: Global, line: &Line) -> Result<String, NoMem> {
     let mut out = String::new(alloc);
     if let Some(commands) = &line.commands {
@@ -158,7 +168,7 @@ fn line_text(alloc: Global, line: &Line) -> Result<String, NoMem> {
     Ok(out)
 }
 
-/// The number of a refusal.
+/// Returns the number of a refusal.
 fn refusal(refused: Option<Refused>) -> &'static str {
     match refused {
         Some(Refused::Unsupported) => "5",
@@ -169,7 +179,7 @@ fn refusal(refused: Option<Refused>) -> &'static str {
     }
 }
 
-/// The tree of a parsed text, or the number of its refusal.
+/// Returns the tree of a parsed text, or the number of its refusal.
 fn parsed_text(alloc: Global, parsed: &Parsed) -> Result<String, NoMem> {
     match parsed.line() {
         Some(line) => line_text(alloc, line),
@@ -177,7 +187,8 @@ fn parsed_text(alloc: Global, parsed: &Parsed) -> Result<String, NoMem> {
     }
 }
 
-/// The tree of a parsed text, or the number of its refusal, or that its text isn't the given one.
+/// Returns the tree of a parsed text, or the number of its refusal, or that its text isn't the
+/// given one.
 fn tree_of(alloc: Global, parsed: &Parsed, given: &str) -> Result<String, NoMem> {
     if parsed.text() == given {
         parsed_text(alloc, parsed)
@@ -186,13 +197,13 @@ fn tree_of(alloc: Global, parsed: &Parsed, given: &str) -> Result<String, NoMem>
     }
 }
 
-/// The tree of a text, nothing for a blank line, or the number of its refusal.
+/// Returns the tree of a text, nothing for a blank line, or the number of its refusal.
 pub fn tree(alloc: Global, given: &str) -> Result<String, NoMem> {
     let text = text(alloc, given)?;
     tree_of(alloc, &Parsed::of(alloc, text)?, given)
 }
 
-/// The tilde prefix of a command's first word or first value, where it has one.
+/// Returns the tilde prefix of a command's first word or first value, where it has one.
 fn stage_prefix(stage: &Simple) -> Option<TildePrefix<'_>> {
     match stage {
         Simple::Assignments(assignments) => assignments.first()?.tilde_prefix(),
@@ -203,7 +214,7 @@ fn stage_prefix(stage: &Simple) -> Option<TildePrefix<'_>> {
     }
 }
 
-/// The tilde prefix of a line's first word or first value, where it has one.
+/// Returns the tilde prefix of a line's first word or first value, where it has one.
 fn line_prefix(line: &Line) -> Option<TildePrefix<'_>> {
     let commands = line.commands.as_ref()?;
     match &commands.last.last.command {
@@ -212,7 +223,7 @@ fn line_prefix(line: &Line) -> Option<TildePrefix<'_>> {
     }
 }
 
-/// A login name and the rest of its word, or `none`.
+/// Returns a login name and the rest of its word, or `none`.
 fn prefix_text(alloc: Global, prefix: Option<TildePrefix<'_>>) -> Result<String, NoMem> {
     match prefix {
         Some(prefix) => format!(in alloc; "{}|{}", prefix.login, prefix.rest),
@@ -220,7 +231,7 @@ fn prefix_text(alloc: Global, prefix: Option<TildePrefix<'_>>) -> Result<String,
     }
 }
 
-/// The login name and the rest of the first tilde prefix of a text's line, or `none`.
+/// Returns the login name and the rest of the first tilde prefix of a text's line, or `none`.
 pub fn tilde(alloc: Global, given: &str) -> Result<String, NoMem> {
     match parse(alloc, given) {
         Ok(line) => prefix_text(alloc, line_prefix(&line)),

@@ -6,7 +6,7 @@ use retro_tree::{
 use std::alloc::Global;
 use std::test::Fail;
 
-/// Whether bytes are what they are made of, and what extends them.
+/// Returns whether bytes hold what they are made of, and what extends them.
 fn bytes_are_kept(alloc: Global) -> Result<bool, NoMem> {
     let mut bytes = Bytes::of(Vec::from_slice(alloc, b"ab")?);
     bytes.extend(b"c")?;
@@ -17,13 +17,13 @@ fn bytes_are_kept(alloc: Global) -> Result<bool, NoMem> {
     )
 }
 
-/// Whether a text has its bytes.
+/// Returns whether a text has its bytes.
 fn texts_are_kept(alloc: Global) -> Result<bool, NoMem> {
     let text = Text::of(String::from_str(alloc, "é")?);
     Ok(text.copy()?.bytes() == [195, 169].as_slice())
 }
 
-/// A question with its answer and a change, in this order.
+/// Returns a query with its answer and a change, in this order.
 fn two_notes(alloc: Global, status: u8) -> Result<Notes, NoMem> {
     let mut notes = Vec::new(alloc);
     notes.push(Note::Asked(Ask::StatusOf(7), Answer::Status(1)))?;
@@ -31,7 +31,8 @@ fn two_notes(alloc: Global, status: u8) -> Result<Notes, NoMem> {
     Notes::of(alloc, notes)
 }
 
-/// Whether notes are those that `two_notes` makes with a status, by each note's own comparison.
+/// Returns whether notes are those that `two_notes` makes with a status, by each note's own
+/// comparison.
 fn are_two_notes(notes: &[Note], status: u8) -> bool {
     match notes {
         [Note::Asked(ask, answer), Note::Made(change)] => {
@@ -44,14 +45,14 @@ fn are_two_notes(notes: &[Note], status: u8) -> bool {
     }
 }
 
-/// Whether a copy of notes is the same as they are.
+/// Returns whether a copy of notes is the same as they are.
 fn notes_are_kept(alloc: Global) -> Result<bool, NoMem> {
     let notes = two_notes(alloc, 2)?;
     let copy = notes.copy()?;
     Ok(are_two_notes(copy.as_slice(), 2) && copy.is_same(&notes))
 }
 
-/// Whether notes with other changes are others.
+/// Returns whether notes with another change differ.
 fn notes_differ(alloc: Global) -> Result<bool, NoMem> {
     let notes = two_notes(alloc, 2)?;
     Ok(!notes.is_same(&two_notes(alloc, 3)?))
@@ -69,17 +70,17 @@ fn small_values_are_kept(rt: HostRuntime) -> Result<(), Fail> {
 /// The cell of a session's directory.
 const CELL: Cell = Cell::Cwd(7);
 
-/// A directory as that cell's value.
+/// Returns a directory as that cell's value.
 fn directory(alloc: Global, at: &str) -> Result<Value, Fail> {
     Ok(Value::Cwd(path(alloc, at)?))
 }
 
-/// Whether an entry is a directory.
+/// Returns whether an entry is a directory.
 fn is_directory(entry: &Option<OverlayEntry>) -> bool {
     matches!(entry, Some(OverlayEntry::Value(Value::Cwd(_))))
 }
 
-/// Whether a value is there, and the same as another one.
+/// Returns whether a value exists and is the same as another one.
 fn is_same(value: Option<&Value>, wanted: &Value) -> bool {
     match value {
         Some(value) => value.is_same(wanted),
@@ -87,7 +88,8 @@ fn is_same(value: Option<&Value>, wanted: &Value) -> bool {
     }
 }
 
-/// Whether a replaced entry gives the previous one back and is the new one, alone in its overlay.
+/// Returns whether replacing an entry returns the previous one and leaves the new one alone in its
+/// overlay.
 fn entries_are_replaced(alloc: Global) -> Result<bool, Fail> {
     let (first, second) = (directory(alloc, "/d")?, directory(alloc, "/e")?);
     let wanted = directory(alloc, "/e")?;
@@ -102,7 +104,7 @@ fn entries_are_replaced(alloc: Global) -> Result<bool, Fail> {
     )
 }
 
-/// Whether an overlay without its entry is empty.
+/// Returns whether an overlay without its entry is empty.
 fn entries_are_removed(alloc: Global) -> Result<bool, Fail> {
     let mut overlay = Overlay::new(alloc);
     overlay.insert(CELL, directory(alloc, "/d")?)?;
