@@ -268,6 +268,14 @@ run: retro replay :: LOG => 1 retro: refused 14
 /// The empty script.
 pub const EMPTY: &str = r#"{"script":1,"tree":[],"sessions":[],"lines":[]}"#;
 
+/// A script in which two sessions append to one file.
+const SHARED: &str = concat!(
+    r#"{"script":1,"tree":[["/tmp"]],"sessions":[[1,"/",0,[]],[2,"/tmp",0,[]]],"lines":["#,
+    r#"[1,1,"echo one >> /tmp/log"],[2,2,"echo two >> /tmp/log"],"#,
+    r#"[3,1,"echo three >> /tmp/log"],[4,1,"cat /tmp/log"],"#,
+    r#"[5,2,"echo four >> /tmp/log"],[6,1,"cat /tmp/log"]]}"#,
+);
+
 /// Returns the input with a name. Any other text is itself.
 pub fn input_named(name: &str) -> &str {
     match name {
@@ -279,13 +287,7 @@ pub fn input_named(name: &str) -> &str {
             r#"{"script":1,"tree":[],"sessions":[[1,"/",0,[]]],"#,
             r#""lines":[[1,1,"echo a > f"],[2,1,"cat f"]]}"#
         ),
-        // Two sessions append to one file.
-        "SHARED" => concat!(
-            r#"{"script":1,"tree":[["/tmp"]],"sessions":[[1,"/",0,[]],[2,"/tmp",0,[]]],"lines":["#,
-            r#"[1,1,"echo one >> /tmp/log"],[2,2,"echo two >> /tmp/log"],"#,
-            r#"[3,1,"echo three >> /tmp/log"],[4,1,"cat /tmp/log"],"#,
-            r#"[5,2,"echo four >> /tmp/log"],[6,1,"cat /tmp/log"]]}"#
-        ),
+        "SHARED" => SHARED,
         "EMPTY_LOG" => r#"{"log":1,"tree":[],"sessions":[],"lines":[]}"#,
         "LOG" => concat!(
             r#"{"lines":[[1,1,"echo a > f",[["cwd","/"],["canwrite","/f",0,"yes"],"#,

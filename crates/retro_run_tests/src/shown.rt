@@ -16,7 +16,7 @@ impl<'a, V: View> Model for Shown<'a, V> {
     ghost use Rattle.retro_tree.specs.Commit.{committed};
     ghost use Rattle.retro_tree.specs.Overlay.{Fits};
     ghost use Rattle.retro_tree.specs.declared.state.State.{State};
-    ghost use Rattle.retro_local.specs.TraceCode.{coded_state};
+    ghost use Rattle.retro_local.specs.inner.TraceCode.{coded_state};
 
     ghost Value = { State };
 
