@@ -138,48 +138,48 @@ seen_item items f was new item is =
 
 -- ---- a loop over a slice, whose items are seen by `va`: `out` is what was read before an index
 
-abbrev pub IsJudgedTo : {A D B : Type 0} → (D → Result B Refusal) → (A → D) → Result (List B) Refusal → List A → ℕ
+abbrev pub IsValidatedTo : {A D B : Type 0} → (D → Result B Refusal) → (A → D) → Result (List B) Refusal → List A → ℕ
     → Type 0
-IsJudgedTo f va out items i = join out (every f (map va (drop i items))) ≡ every f (map va items)
+IsValidatedTo f va out items i = join out (every f (map va (drop i items))) ≡ every f (map va items)
 
-pub judging_starts : {A D B : Type 0} (f : D → Result B Refusal) (va : A → D) (items : List A)
-    → IsJudgedTo f va (Ok []) items 0
-judging_starts f va items = join_start (every f (map va items))
+pub validating_starts : {A D B : Type 0} (f : D → Result B Refusal) (va : A → D) (items : List A)
+    → IsValidatedTo f va (Ok []) items 0
+validating_starts f va items = join_start (every f (map va items))
 
-pub judging_goes_on : {A D B : Type 0} (f : D → Result B Refusal) (va : A → D) (out new : Result (List B) Refusal)
+pub validating_goes_on : {A D B : Type 0} (f : D → Result B Refusal) (va : A → D) (out new : Result (List B) Refusal)
     (items : List A) (i : ℕ) (d x : A) (y : Result B Refusal)
     → i < length items → x ≡ get_or items i d → y ≡ f (va x) → new ≡ with_item out y
-    → IsJudgedTo f va out items i → IsJudgedTo f va new items (i + 1)
+    → IsValidatedTo f va out items i → IsValidatedTo f va new items (i + 1)
 unfolding every
-judging_goes_on f va out new items i d x y lt is read pushed so_far =
+validating_goes_on f va out new items i d x y lt is read pushed so_far =
     let rest = every f (map va (drop (i + 1) items)) in
     let here : every f (map va (drop i items)) ≡ before (f (va x)) rest = ap (every f) (at_item va items i d x lt is) in
     let step : join new rest ≡ join out (before (f (va x)) rest) =
     ap (λ n. join n rest) (pushed ∙ ap (with_item out) read) ∙ regroup out (f (va x)) rest in
     step ∙ sym (ap (join out) here) ∙ so_far
 
-pub judging_done : {A D B : Type 0} (f : D → Result B Refusal) (va : A → D) (out : Result (List B) Refusal)
+pub validating_done : {A D B : Type 0} (f : D → Result B Refusal) (va : A → D) (out : Result (List B) Refusal)
     (items : List A) (i : ℕ)
-    → length items ≤ i → IsJudgedTo f va out items i → out ≡ every f (map va items)
+    → length items ≤ i → IsValidatedTo f va out items i → out ≡ every f (map va items)
 unfolding every
-judging_done f va out items i le so_far =
+validating_done f va out items i le so_far =
     let none : every f (map va (drop i items)) ≡ Ok [] = ap (λ xs. every f (map va xs)) (drop_of_length-le items le) in
     sym (join_end out) ∙ ap (join out) (sym none) ∙ so_far
 
 -- ---- a loop that takes its items from a list: `out` is what was read before the rest
 
-abbrev pub IsJudgedBefore : {A D B : Type 0} → (D → Result B Refusal) → (A → D) → Result (List B) Refusal → List A
+abbrev pub IsValidatedBefore : {A D B : Type 0} → (D → Result B Refusal) → (A → D) → Result (List B) Refusal → List A
     → List A → Type 0
-IsJudgedBefore f va out rest items = join out (every f (map va rest)) ≡ every f (map va items)
+IsValidatedBefore f va out rest items = join out (every f (map va rest)) ≡ every f (map va items)
 
 pub taking_starts : {A D B : Type 0} (f : D → Result B Refusal) (va : A → D) (items : List A)
-    → IsJudgedBefore f va (Ok []) items items
+    → IsValidatedBefore f va (Ok []) items items
 taking_starts f va items = join_start (every f (map va items))
 
 pub taking_goes_on : {A D B : Type 0} (f : D → Result B Refusal) (va : A → D) (out new : Result (List B) Refusal)
     (x : A) (rest items : List A) (y : Result B Refusal)
     → y ≡ f (va x) → new ≡ with_item out y
-    → IsJudgedBefore f va out (x ∷ rest) items → IsJudgedBefore f va new rest items
+    → IsValidatedBefore f va out (x ∷ rest) items → IsValidatedBefore f va new rest items
 unfolding every
 taking_goes_on f va out new x rest items y read pushed so_far =
     let others = every f (map va rest) in
@@ -188,6 +188,6 @@ taking_goes_on f va out new x rest items y read pushed so_far =
     step ∙ so_far
 
 pub taking_done : {A D B : Type 0} (f : D → Result B Refusal) (va : A → D) (out : Result (List B) Refusal)
-    (items : List A) → IsJudgedBefore f va out [] items → out ≡ every f (map va items)
+    (items : List A) → IsValidatedBefore f va out [] items → out ≡ every f (map va items)
 unfolding every
 taking_done f va out items so_far = sym (join_end out) ∙ so_far

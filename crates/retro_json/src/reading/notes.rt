@@ -64,7 +64,7 @@ fn read_note(alloc: Global, sid: u32, value: &Value) -> Result<OrRefusal<Note>, 
 }
 
 /// Reads notes of a session, or returns their worst refusal.
-#[tactic(auto, using(crate::proofs::Worst::judging_starts))]
+#[tactic(auto, using(crate::proofs::Worst::validating_starts))]
 fn read_items(alloc: Global, sid: u32, items: &[Value]) -> Result<OrRefusal<Vec<Note>>, NoMem>
     ensures { IfOk result (λ notes. seen (λ v. v.items) notes
         ≡ every (note_of sid) (map view items.now)) }

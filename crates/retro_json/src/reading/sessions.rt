@@ -72,7 +72,7 @@ fn read_var(alloc: Global, value: &Value) -> Result<OrRefusal<(VarName, Text)>, 
 }
 
 /// Reads variables, or returns their worst refusal.
-#[tactic(auto, using(crate::proofs::Worst::judging_starts))]
+#[tactic(auto, using(crate::proofs::Worst::validating_starts))]
 fn read_vars(alloc: Global, items: &[Value]) -> Result<OrRefusal<Vec<(VarName, Text)>>, NoMem>
     ensures { IfOk result (λ vars. seen (λ v. v.items) vars ≡ every var_of (map view items.now)) }
 {
@@ -201,7 +201,7 @@ fn read_row(alloc: Global, value: &Value) -> Result<OrRefusal<Row>, NoMem>
 }
 
 /// Reads rows, or returns the worst refusal of their shapes and numbers.
-#[tactic(auto, using(crate::proofs::Worst::judging_starts))]
+#[tactic(auto, using(crate::proofs::Worst::validating_starts))]
 fn read_rows(alloc: Global, items: &[Value]) -> Result<OrRefusal<Vec<Row>>, NoMem>
     ensures { IfOk result (λ rows. seen (λ v. map row_view v.items) rows
         ≡ every row_of (map view items.now)) }

@@ -64,7 +64,7 @@ fn read_row(alloc: Global, value: &Value) -> Result<OrRefusal<(Path, Entry)>, No
 }
 
 /// Reads rows, or returns their worst refusal.
-#[tactic(auto, using(crate::proofs::Worst::judging_starts))]
+#[tactic(auto, using(crate::proofs::Worst::validating_starts))]
 fn read_rows(alloc: Global, items: &[Value]) -> Result<OrRefusal<Vec<(Path, Entry)>>, NoMem>
     ensures { IfOk result (λ rows. seen (λ v. v.items) rows ≡ every row_of (map view items.now)) }
 {

@@ -4,7 +4,7 @@ use Rattle.std.specs.Vec.Iter.{into_iter_items}
 use Rattle.serde_json.specs.View.{view}
 use Rattle.retro_log.specs.LogLinesPart.{log_line_of}
 use Rattle.retro_json.specs.ReadsAs.{seen}
-use Rattle.retro_json.proofs.Worst.{IsJudgedBefore, taking_goes_on, taking_done}
+use Rattle.retro_json.proofs.Worst.{IsValidatedBefore, taking_goes_on, taking_done}
 use Rattle.retro_log.proofs.reading.log_lines.read_items.Goals as goal
 
 pub loop-item-preserved : goal.loop-item-preserved
@@ -15,7 +15,7 @@ loop-item-preserved c =
       taking_goes_on log_line_of view lines (seen (λ v. v.items) c.in_ok-lines.lines) c.in-Some.item
           (into_iter_items c.next.new.self) c.args.items.items c.in_ok-line.line c.in_ok-line.ensures
           c.in_ok-lines.ensures
-          (subst (λ rest. IsJudgedBefore log_line_of view lines rest c.args.items.items) c.in-Some.ensures.steps.0
+          (subst (λ rest. IsValidatedBefore log_line_of view lines rest c.args.items.items) c.in-Some.ensures.steps.0
           c.loop-item.invariant.2),
     )
 
@@ -26,4 +26,4 @@ returns c =
     nil_from_length (into_iter_items c.loop-item.item-iterator)
     (omega (arith, c.loop-item.item-iterator.rest.ok, c.in-None.ensures)) in
     taking_done log_line_of view lines c.args.items.items
-    (subst (λ rest. IsJudgedBefore log_line_of view lines rest c.args.items.items) none c.loop-item.invariant.2)
+    (subst (λ rest. IsValidatedBefore log_line_of view lines rest c.args.items.items) none c.loop-item.invariant.2)
