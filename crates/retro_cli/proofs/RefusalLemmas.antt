@@ -1,7 +1,7 @@
 -- Which repairs are refused.
-use Rattle.std.proofs.Common.{◌≡◌, ◌∙◌, ℕ, Bool, true, false, List, Option, Some, None, option_map, Result, Ok}
-use Rattle.std.proofs.Common.{refl, sym}
-use Rattle.std.proofs.lemmas.Bool.{true≢false}
+use Rattle.std.proofs.Common.{◌≡◌, ◌∙◌, ◌==◌, ◌||◌, ℕ, Bool, true, false, List, [], ◌∷◌, Option, Some, None, option_map}
+use Rattle.std.proofs.Common.{Result, Ok, ap, cond, refl, sym}
+use Rattle.std.proofs.lemmas.Bool.{eqb-true, true≢false}
 use Rattle.retro_keep.specs.Edit.{first_unknown, is_among}
 use Rattle.retro_keep.specs.Recording.{RecordingValue}
 use Rattle.retro_json.specs.declared.fault.Refusal.{Refusal}
@@ -10,11 +10,31 @@ use Rattle.retro_redo.specs.Cancelling.{is_line}
 use Rattle.retro_redo.specs.declared.repair_fault.RepairFault.{RepairFault}
 use Rattle.retro_redo.specs.declared.repair_fault.RepairFault.TheVariants.{NoSuchLine, NoCut, TooManyWorkers}
 use Rattle.retro_redo.specs.declared.repair_fault.RepairFault.TheVariants.{OutOfMemory}
-use Rattle.retro_redo.proofs.Numbers.{all_known}
 use Rattle.retro_cli.specs.Program.{repair_refusal}
 use Rattle.retro_cli.specs.inner.Stop.{Refuses, stop_of_repair}
 use Rattle.retro_cli.specs.declared.stop.Stop.{Stop}
 use Rattle.retro_cli.specs.declared.stop.TheConstants.{UNKNOWN_LINE}
+
+among_rest : (k m : ℕ) (b : Bool) → (k == m) ≡ false → ((k == m) || b) ≡ true → b ≡ true
+among_rest k m b e h = sym (ap (λ x. x || b) e) ∙ h
+
+some_none : (k : ℕ) → ◌≡◌ {A = Option ℕ} (Some k) None → ⊥
+some_none k g = cc
+
+-- each number is known if none is the first unknown one
+all_known : (known : ℕ → Bool) (numbers : List ℕ) → first_unknown known numbers ≡ None → (n : ℕ)
+    → is_among numbers n ≡ true → known n ≡ true
+all_known known [] h n among = absurd (true≢false (sym among))
+all_known known (k ∷ numbers) h n among = by_test (known k) refl (k == n) refl (λ e. all_known known numbers e n)
+  where
+    by_test : (b : Bool) → known k ≡ b → (c : Bool) → (k == n) ≡ c
+        → (first_unknown known numbers ≡ None → is_among numbers n ≡ true → known n ≡ true) → known n ≡ true
+    by_test true e true f rest = ap known (sym (eqb-true k n f)) ∙ e
+    by_test true e false f rest =
+        rest (sym (ap (λ b. cond b (first_unknown known numbers) (Some k)) e) ∙ h)
+        (among_rest k n (is_among numbers n) f among)
+    by_test false e c f rest =
+        absurd (some_none k (sym (ap (λ b. cond b (first_unknown known numbers) (Some k)) e) ∙ h))
 
 -- a repair is refused if a number among the cancelled ones isn't known
 pub unknown_is_refused : (known : ℕ → Bool) (cancelled : List ℕ) (n : ℕ) → is_among cancelled n ≡ true

@@ -21,9 +21,10 @@ IsLeastMissing cancel r n =
     (is_among cancel n ≡ true) × (is_line r n ≡ false)
     × ((m : ℕ) → is_among cancel m ≡ true → is_line r m ≡ false → n ≤ m)
 
--- A repair is refused with the least number that no line has, or because memory ran out.
+-- A repair is refused with the least number that no line has. Memory runs out only if each number is
+-- a line's.
 abbrev pub Refuses : List ℕ → RecordingValue → RepairFault → Type 0
 Refuses cancel r (NoSuchLine n) = IsLeastMissing cancel r n
 Refuses cancel r NoCut = ⊥
 Refuses cancel r TooManyWorkers = ⊥
-Refuses cancel r OutOfMemory = Unit {0}
+Refuses cancel r OutOfMemory = AreLines cancel r

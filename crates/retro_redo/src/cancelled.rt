@@ -1,11 +1,10 @@
 //! Sets of cancelled numbers.
-ghost use Rattle.std.specs.Prelude.{◌≡◌, IfOk, ℕ};
-ghost use Rattle.retro_redo.specs.Cancelling.{is_line};
+ghost use Rattle.std.specs.Prelude.{◌≡◌, IfOk, MatchOption, ℕ};
 ghost use Rattle.std.specs.BTreeSet.{contains};
-ghost use Rattle.std.specs.List.Sorted.{IsStrictlySortedBy};
 ghost use Rattle.std.specs.Ordering.{nat_cmp};
-ghost use Rattle.retro_keep.specs.Edit.{first_unknown, is_among};
-ghost use Rattle.retro_redo.specs.inner.Stops.{IsNextAmong};
+ghost use Rattle.retro_keep.specs.Edit.{is_among};
+ghost use Rattle.retro_redo.specs.Cancelling.{AreLines, IsLeastMissing};
+ghost use Rattle.retro_redo.specs.inner.Stops.{IsNextAmong, sooner};
 
 use retro_keep::Recording;
 use retro_tree::NoMem;
@@ -26,17 +25,30 @@ pub(crate) fn has_number(numbers: &BTreeSet<u32>, number: u32) -> bool
     numbers.contains(&number)
 }
 
-/// Returns the least of the numbers that no line has, or `None` if every number is a line's.
-pub(crate) fn first_missing(recording: &Recording, numbers: &BTreeSet<u32>) -> Option<u32>
-    ensures value { result ≡ first_unknown (is_line recording.now) numbers.now.keys }
-    ensures ordered { IsStrictlySortedBy nat_cmp numbers.now.keys }
+/// Returns the least of the numbers that no line has, or `None` if every number is a line's. A
+/// number may be there twice. Takes no memory.
+pub fn least_missing(recording: &Recording, numbers: &[u32]) -> Option<u32>
+    ensures { MatchOption result (AreLines numbers.now recording.now)
+        (λ n. IsLeastMissing numbers.now recording.now n) }
 {
-    for number in numbers.iter() {
+    let mut least = None;
+    for number in numbers {
         if recording.run_of(*number).is_none() {
-            return Some(*number);
+            least = sooner(least, Some(*number));
         }
     }
-    None
+    least
+}
+
+/// Returns the lesser of two numbers. If only one is there, returns that one.
+pub(crate) fn sooner(one: Option<u32>, two: Option<u32>) -> Option<u32>
+    ensures { result ≡ sooner one two }
+{
+    match (one, two) {
+        (Some(one), Some(two)) => Some(if one < two { one } else { two }),
+        (Some(only), None) | (None, Some(only)) => Some(only),
+        (None, None) => None,
+    }
 }
 
 /// Returns the least number in the set that is at least `from`, or `None` if there is none.

@@ -42,6 +42,7 @@ mod step;
 mod tally;
 mod verdict;
 
+pub use cancelled::least_missing;
 pub use compensation::Compensation;
 pub use gate::{Gate, Quiet, Turn};
 pub use ground::Ground;

@@ -16,7 +16,7 @@ ghost use Rattle.retro_redo.specs.Settled.{IsSettled};
 ghost use Rattle.retro_redo.specs.Skipping.{IsSkip};
 ghost use Rattle.retro_redo.specs.declared.repair_fault.RepairFault.TheVariants as faults;
 
-use crate::cancelled::{first_missing, number_set};
+use crate::cancelled::{least_missing, number_set};
 use crate::gate::Gate;
 use crate::ground::Ground;
 use crate::progress::Progress;
@@ -64,7 +64,8 @@ impl<'h, 'a> Repairer<'h, 'a> {
     ///
     /// # Errors
     ///
-    /// `NoSuchLine` with the least of the numbers that no line has.
+    /// `NoSuchLine` with the least of the numbers that no line has. `OutOfMemory` only if there is
+    /// no such number.
     pub fn new(
         alloc: Global,
         recording: &'a Recording,
@@ -78,10 +79,10 @@ impl<'h, 'a> Repairer<'h, 'a> {
         ensures known { OnOk result (AreLines cancel.now recording.now) }
         ensures refused { IfErr result (λ fault. Refuses cancel.now recording.now fault) }
     {
-        let cancelled = number_set(alloc, cancel)?;
-        if let Some(number) = first_missing(recording, &cancelled) {
+        if let Some(number) = least_missing(recording, cancel) {
             return Err(RepairFault::NoSuchLine(number));
         }
+        let cancelled = number_set(alloc, cancel)?;
         Ok(Repairer {
             progress: Progress::new(alloc, recording, cancelled),
             history,

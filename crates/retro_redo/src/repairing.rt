@@ -7,6 +7,7 @@ ghost use Rattle.retro_redo.specs.Progress.{next_line};
 ghost use Rattle.retro_redo.specs.Repair.{IsRepair, no_guesses};
 ghost use Rattle.retro_redo.specs.Settled.{AreSettled};
 
+use crate::cancelled::least_missing;
 use crate::gate::{Gate, Quiet};
 use crate::progress::Progress;
 use crate::repair::Repair;
@@ -82,6 +83,9 @@ fn settle_all<'a, G: Gate>(
     ensures known { OnOk result (AreLines cancel.now recording.now) }
     ensures refused { IfErr result (λ fault. Refuses cancel.now recording.now fault) }
 {
+    if let Some(number) = least_missing(recording, cancel) {
+        return Err(RepairFault::NoSuchLine(number));
+    }
     let history = History::of(alloc, recording)?;
     let mut repairer = Repairer::new(alloc, recording, &history, cancel)?;
     while let Some(number) = repairer.skip_unmet()? {

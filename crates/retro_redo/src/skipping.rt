@@ -10,10 +10,9 @@ ghost use Rattle.retro_keep.specs.Edit.{is_among};
 ghost use Rattle.retro_redo.specs.Cancelling.{AreLines};
 ghost use Rattle.retro_redo.specs.inner.Keeping.{KeepsUses};
 ghost use Rattle.retro_redo.specs.Skipping.{AreUnmet};
-ghost use Rattle.retro_redo.specs.inner.Stops.{sooner};
 ghost use Rattle.retro_redo.specs.declared.step.Step.TheVariants as steps;
 
-use crate::cancelled::number_from;
+use crate::cancelled::{number_from, sooner};
 use crate::next_uses::NextUses;
 use crate::step::Step;
 use retro_keep::{Noted, Recording};
@@ -45,17 +44,6 @@ pub(crate) fn unmet_lines(
     match sooner(number_from(cancelled, line.0), uses.next()) {
         None => rest.len(),
         Some(number) => rest.partition_point(|line| line.0 < number),
-    }
-}
-
-/// Returns the lesser of two numbers. If only one is there, returns that one.
-fn sooner(one: Option<u32>, two: Option<u32>) -> Option<u32>
-    ensures { result ≡ sooner one two }
-{
-    match (one, two) {
-        (Some(one), Some(two)) => Some(if one < two { one } else { two }),
-        (Some(only), None) | (None, Some(only)) => Some(only),
-        (None, None) => None,
     }
 }
 
