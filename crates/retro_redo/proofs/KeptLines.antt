@@ -1,6 +1,6 @@
 -- Lines kept without being looked at: what a repair keeps.
 use Rattle.std.proofs.Common.{◌≡◌, ◌∙◌, inl, inr, ℕ, zero, suc, false, List, [], ◌∷◌, ◌++◌, drop, length, Some}
-use Rattle.std.proofs.Common.{replicate, refl, sym, ap, subst, arith, ◌≤◌, ◌<◌, ◌-◌, ◌+◌}
+use Rattle.std.proofs.Common.{replicate, refl, sym, ap, subst, arith, ◌≤◌, ◌<◌, ◌-◌}
 use Rattle.retro_tree.specs.Exact.{IsExact}
 use Rattle.retro_tree.specs.Notes.{after, AgreeOn}
 use Rattle.retro_tree.specs.Overlay.{OverlayMap}
@@ -10,7 +10,7 @@ use Rattle.retro_keep.specs.Edit.{is_among}
 use Rattle.retro_keep.specs.Recording.{IsWellFormed, RecordingValue}
 use Rattle.retro_redo.specs.inner.Keeping.{Keeps}
 use Rattle.retro_redo.specs.Progress.{ProgressValue, cancelled_in, next_line, next_number, recorded_now, repaired_now}
-use Rattle.retro_redo.specs.Skipping.{AreUnmet, IsSkip}
+use Rattle.retro_redo.specs.Skipping.{AreUnmet, IsSkip, with_kept}
 use Rattle.retro_redo.specs.declared.step.Step.{Step}
 use Rattle.retro_redo.specs.declared.step.Step.TheVariants.{Keep}
 use Rattle.retro_redo.proofs.Before.{next_below, one_less}
@@ -35,28 +35,27 @@ with_choices : (p : ProgressValue) (a b : List Step) → a ≡ b
     (record { recording = p.recording; cancel = p.cancel; choices = b })
 with_choices p a b e = λ i. record { recording = p.recording; cancel = p.cancel; choices = e i }
 
--- the progress with more lines kept
-abbrev with_kept : ProgressValue → ℕ → ProgressValue
-with_kept p n =
-    record { recording = p.recording; cancel = p.cancel; choices = p.choices ++ replicate n Keep }
-
 -- the next lines are unmet, up to one that is cancelled or met
 abbrev pub AreNextUnmet : ℕ → ProgressValue → Type 0
 AreNextUnmet n p =
     AreUnmet (cancelled_in p) n (drop (length p.choices) p.recording.lines) (recorded_now p) (repaired_now p)
 
--- what one unmet line keeps, some of them keep
+-- what one unmet line keeps, the first of them keep
 along : (P : ProgressValue → Type 0)
     → ((q : ProgressValue) (l : Line) → next_line q ≡ Some l → cancelled_in q l.0 ≡ false
     → AgreeOn l.1.notes (recorded_now q) (repaired_now q) → P q → P (more q Keep))
-    → (n : ℕ) (p : ProgressValue) → AreNextUnmet n p → P p → P (with_kept p n)
-along P step zero p h at = subst P (with_choices p p.choices (p.choices ++ []) (sym (none_more p.choices))) at
-along P step (suc n) p h at =
-    by_rest (drop (length p.choices) p.recording.lines) refl h (along P step n (more p Keep))
+    → (n count : ℕ) (p : ProgressValue) → n ≤ count → AreNextUnmet count p → P p → P (with_kept p n)
+along P step zero count p le h at =
+    subst P (with_choices p p.choices (p.choices ++ []) (sym (none_more p.choices))) at
+along P step (suc n) zero p le h at = absurd (omega (arith, le))
+along P step (suc n) (suc count) p le h at =
+    by_rest (drop (length p.choices) p.recording.lines) refl h
+    (along P step n count (more p Keep) (omega (arith, le)))
   where
     by_rest : (rest : List Line) → drop (length p.choices) p.recording.lines ≡ rest
-        → AreUnmet (cancelled_in p) (suc n) rest (recorded_now p) (repaired_now p)
-        → (AreNextUnmet n (more p Keep) → P (more p Keep) → P (with_kept (more p Keep) n)) → P (with_kept p (suc n))
+        → AreUnmet (cancelled_in p) (suc count) rest (recorded_now p) (repaired_now p)
+        → (AreNextUnmet count (more p Keep) → P (more p Keep) → P (with_kept (more p Keep) n))
+        → P (with_kept p (suc n))
     by_rest [] e unmet later = absurd unmet
     by_rest (l ∷ rest) e unmet later =
         let next = line_at p.recording.lines (length p.choices) l rest e in
@@ -65,10 +64,11 @@ along P step (suc n) p h at =
         ∙ rest_at p.recording.lines (length p.choices) l rest e in
         let recorded = recorded_more p.recording.lines p.choices l Keep p.recording.first next in
         let repaired = repaired_more p.recording.lines p.choices l Keep p.recording.first next in
-        let unmet_rest = subst (λ ls. AreUnmet (cancelled_in p) n ls (recorded_now (more p Keep))
+        let unmet_rest = subst (λ ls. AreUnmet (cancelled_in p) count ls (recorded_now (more p Keep))
         (repaired_now (more p Keep))) (sym rest_is)
-        (subst (λ s. AreUnmet (cancelled_in p) n rest s (repaired_now (more p Keep))) (sym recorded)
-        (subst (λ t. AreUnmet (cancelled_in p) n rest (after l.1.notes (recorded_now p)) t) (sym repaired) unmet.2)) in
+        (subst (λ s. AreUnmet (cancelled_in p) count rest s (repaired_now (more p Keep))) (sym recorded)
+        (subst (λ t. AreUnmet (cancelled_in p) count rest (after l.1.notes (recorded_now p)) t) (sym repaired)
+        unmet.2)) in
         subst P (with_choices p ((p.choices ++ Keep ∷ []) ++ replicate n Keep) (p.choices ++ Keep ∷ replicate n Keep)
         (one_more p.choices (replicate n Keep) Keep))
         (later unmet_rest (step p l next unmet.0 unmet.1 at))
@@ -84,14 +84,15 @@ exact_more overlay q l next agreed exact =
     (sym (repaired_more q.recording.lines q.choices l Keep q.recording.first next))
     (unmet_step overlay (recorded_now q) (repaired_now q) l.1.notes exact agreed))
 
-exact_kept : (overlay : OverlayMap) (n : ℕ) (p : ProgressValue) → AreNextUnmet n p
+exact_kept : (overlay : OverlayMap) (n count : ℕ) (p : ProgressValue) → n ≤ count → AreNextUnmet count p
     → IsExact overlay (recorded_now p) (repaired_now p)
     → IsExact overlay (recorded_now (with_kept p n)) (repaired_now (with_kept p n))
 exact_kept overlay =
     along (λ q. IsExact overlay (recorded_now q) (repaired_now q))
     (λ q l next other agreed exact. exact_more overlay q l next agreed exact)
 
-keeps_kept : (overlay : OverlayMap) (met : List ℕ) (n : ℕ) (p : ProgressValue) → AreNextUnmet n p
+keeps_kept : (overlay : OverlayMap) (met : List ℕ) (n count : ℕ) (p : ProgressValue) → n ≤ count
+    → AreNextUnmet count p
     → Keeps p overlay met × IsWellFormed p.recording
     → Keeps (with_kept p n) overlay met × IsWellFormed p.recording
 keeps_kept overlay met =
@@ -120,7 +121,7 @@ module _ (p q : ProgressValue) (overlay : OverlayMap) (met : List ℕ) (r : Reco
   pub keeps_skipped : Keeps (record { recording = q.recording; cancel = q.cancel; choices = steps }) overlay met
   keeps_skipped =
       subst (λ cs. Keeps (record { recording = q.recording; cancel = q.cancel; choices = cs }) overlay met) (sym pushed)
-      (keeps_kept overlay met n q unmet_now
+      (keeps_kept overlay met n n q (omega arith) unmet_now
       (keeps, subst (λ (x : ProgressValue). IsWellFormed x.recording) (sym e) w)).0
 
   pub skips : IsSkip p (record { recording = q.recording; cancel = q.cancel; choices = steps })
@@ -133,7 +134,7 @@ module _ (p q : ProgressValue) (overlay : OverlayMap) (met : List ℕ) (r : Reco
         cancel = refl;
         choices = refl;
         unmet = unmet_now;
-        exact = λ o exact. exact_kept o n q unmet_now exact;
+        exact = λ k le o exact. exact_kept o k n q le unmet_now exact;
       }))
 
 -- ---- the loop of the repair

@@ -18,3 +18,5 @@ pub mod Unmet
 pub mod AlteredPaths
 pub mod Altered
 pub mod ChosenLines
+pub mod SoFar
+pub mod Overlays

@@ -7,4 +7,5 @@ pub mod Cancelling
 pub mod Settled
 pub mod Ground
 pub mod Skipping
+pub mod SoFar
 pub mod inner

@@ -1,7 +1,9 @@
 //! Laws about repairs, for the proofs of crates above. A law is a function without a body whose
 //! contract is the law.
 ghost use Rattle.std.specs.Prelude.{◌≡◌, ◌++◌, ℕ, Bool, List, IsTrue, length, map};
+ghost use Rattle.retro_tree.specs.Exact.{IsExact};
 ghost use Rattle.retro_tree.specs.Lawful.{IsLawful};
+ghost use Rattle.retro_tree.specs.Overlay.{OverlayMap};
 ghost use Rattle.retro_tree.specs.declared.state.State.{State};
 ghost use Rattle.retro_keep.specs.Recording.{AllRecorded, RecordingValue, sid_in};
 ghost use Rattle.retro_keep.specs.Edit.{is_among, lines_without};
@@ -42,4 +44,10 @@ pub fn repairs_in_turn_repair_both()
     ensures { (first second : List ℕ) (r : RecordingValue) (one two : Repair)
         → IsRepair (is_among first) r one → IsRepair (is_among second) one.recording two
         → IsRepairOf (is_among (first ++ second)) r two }
+{}
+
+/// States that two states have only one exact overlay.
+pub fn exact_overlays_are_one()
+    ensures { (one two : OverlayMap) (s t : State) → IsExact one s t → IsExact two s t
+        → one ≡ two }
 {}

@@ -47,7 +47,8 @@ pub use compensation::Compensation;
 pub use gate::{Gate, Quiet, Turn};
 pub use ground::Ground;
 pub use laws::{
-    repairs_come_to_the_whole_run, repairs_in_turn_leave_out_both, repairs_in_turn_repair_both,
+    exact_overlays_are_one, repairs_come_to_the_whole_run, repairs_in_turn_leave_out_both,
+    repairs_in_turn_repair_both,
 };
 pub use repair::Repair;
 pub use repair_fault::RepairFault;

@@ -18,6 +18,7 @@ ghost use Rattle.retro_redo.specs.Progress.{recorded_now, repaired_now};
 ghost use Rattle.retro_redo.specs.Repair.{IsRepair};
 ghost use Rattle.retro_redo.specs.Settled.{IsSettled};
 ghost use Rattle.retro_redo.specs.Skipping.{IsSkip};
+ghost use Rattle.retro_redo.specs.SoFar.{AreStatesOfRuns};
 
 use crate::cancelled::has_number;
 use crate::gate::{Gate, Turn};
@@ -120,8 +121,12 @@ impl<'a> Progress<'a> {
     /// Returns the overlay of exactly the cells in which the repaired state differs from the
     /// recorded one before the next line.
     pub(crate) fn overlay(&self) -> &Overlay
-        ensures { IsExact result.now (recorded_now self.now) (repaired_now self.now) }
+        ensures exact { IsExact result.now (recorded_now self.now) (repaired_now self.now) }
+        ensures runs { IsRecordingOf (script_in self.now.recording) self.now.recording
+            → AreStatesOfRuns self.now }
     {
+        // For the prover: the contract of `line` says that the recording is well formed.
+        let _ = self.line();
         &self.overlay
     }
 

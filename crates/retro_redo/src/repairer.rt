@@ -14,6 +14,7 @@ ghost use Rattle.retro_redo.specs.Progress.{recorded_now, repaired_now};
 ghost use Rattle.retro_redo.specs.Repair.{IsRepair};
 ghost use Rattle.retro_redo.specs.Settled.{IsSettled};
 ghost use Rattle.retro_redo.specs.Skipping.{IsSkip};
+ghost use Rattle.retro_redo.specs.SoFar.{AreStatesOfRuns};
 ghost use Rattle.retro_redo.specs.declared.repair_fault.RepairFault.TheVariants as faults;
 
 use crate::cancelled::{least_missing, number_set};
@@ -98,8 +99,13 @@ impl<'h, 'a> Repairer<'h, 'a> {
 
     /// Returns the overlay of exactly the cells in which the repaired state differs from the
     /// recorded one before the next line, or at the end if all lines are settled.
+    ///
+    /// If the recording is what running its lines gives, the recorded state is that of running the
+    /// settled lines, and the repaired one that of running those of them that aren't cancelled.
     pub fn overlay(&self) -> &Overlay
-        ensures { IsExact result.now (recorded_now self.now) (repaired_now self.now) }
+        ensures exact { IsExact result.now (recorded_now self.now) (repaired_now self.now) }
+        ensures runs { IsRecordingOf (script_in self.now.recording) self.now.recording
+            → AreStatesOfRuns self.now }
     {
         self.progress.overlay()
     }
