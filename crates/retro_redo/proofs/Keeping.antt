@@ -10,6 +10,7 @@ use Rattle.retro_tree.specs.Commit.{committed}
 use Rattle.retro_tree.specs.Notes.{AgreeOn, Holds, after}
 use Rattle.retro_tree.specs.Overlay.{OverlayMap}
 use Rattle.retro_tree.specs.State.{SameSessions}
+use Rattle.retro_tree.specs.declared.note.Note.{Note}
 use Rattle.retro_tree.specs.declared.overlay_entry.OverlayEntry.{OverlayEntry}
 use Rattle.retro_tree.specs.declared.state.State.{State}
 use Rattle.retro_tree.proofs.ExactOverlays.{exact_state}
@@ -116,18 +117,25 @@ repaired_is p q overlay met e keeps =
     let kept = subst (λ x. Keeps x overlay met) e keeps in
     exact_state overlay (recorded_now p) (repaired_now p) kept.exact (keeps_same_sessions p overlay met kept)
 
+pub holds_of : (p q : ProgressValue) (overlay : OverlayMap) (met : List ℕ) {X : Type 0} (r : Result Bool X)
+    (notes : List Note) (s : State) → q ≡ p → Keeps q overlay met → s ≡ recorded_now p
+    → IfOk r (λ b. (t : State) → IsExact overlay s t → SameSessions s t → IsTrue b ↔ Holds notes t)
+    → IfOk r (λ b. IsTrue b ↔ Holds notes (repaired_now p))
+holds_of p q overlay met (Err x) notes s e keeps recorded h = tt
+holds_of p q overlay met (Ok b) notes s e keeps recorded h =
+    let kept = subst (λ x. Keeps x overlay met) e keeps in
+    h (repaired_now p) (subst (λ x. IsExact overlay x (repaired_now p)) (sym recorded) kept.exact)
+    (subst (λ x. SameSessions x (repaired_now p)) (sym recorded) (keeps_same_sessions p overlay met kept))
+
 pub equiv_of : (p q : ProgressValue) (overlay : OverlayMap) (met : List ℕ) {X : Type 0} (r : Result Bool X) (k : Line)
     (s : State) → q ≡ p → Keeps q overlay met → s ≡ recorded_now p → next_line p ≡ Some k
     → IfOk r (λ b. (t : State) → IsExact overlay s t → SameSessions s t → IsTrue b ↔ Holds k.1.notes t)
     → (l : Line) → next_line p ≡ Some l → IfOk r (λ b. IsTrue b ↔ Holds l.1.notes (repaired_now p))
-equiv_of p q overlay met (Err x) k s e keeps recorded next h l is = tt
-equiv_of p q overlay met (Ok b) k s e keeps recorded next h l is =
-    let kept = subst (λ x. Keeps x overlay met) e keeps in
+equiv_of p q overlay met r k s e keeps recorded next h l is =
     let both : ◌≡◌ {A = Option Line} (Some k) (Some l) = sym next ∙ is in
     let same : k ≡ l = cc in
-    subst (λ (x : Line). IsTrue b ↔ Holds x.1.notes (repaired_now p)) same
-    (h (repaired_now p) (subst (λ x. IsExact overlay x (repaired_now p)) (sym recorded) kept.exact)
-    (subst (λ x. SameSessions x (repaired_now p)) (sym recorded) (keeps_same_sessions p overlay met kept)))
+    subst (λ (x : Line). IfOk r (λ b. IsTrue b ↔ Holds x.1.notes (repaired_now p))) same
+    (holds_of p q overlay met r k.1.notes s e keeps recorded h)
 
 -- whether a line is met, for the choice that it allows
 abbrev pub IsStepMet : Step → Noted → State → State → Bool → Type 0

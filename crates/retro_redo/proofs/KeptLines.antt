@@ -10,6 +10,7 @@ use Rattle.retro_keep.specs.Edit.{is_among}
 use Rattle.retro_keep.specs.Recording.{IsWellFormed, RecordingValue}
 use Rattle.retro_redo.specs.inner.Keeping.{Keeps}
 use Rattle.retro_redo.specs.Progress.{ProgressValue, cancelled_in, next_line, next_number, recorded_now, repaired_now}
+use Rattle.retro_redo.specs.Settling.{IsOneMore}
 use Rattle.retro_redo.specs.Skipping.{AreUnmet, IsSkip, with_kept}
 use Rattle.retro_redo.specs.declared.step.Step.{Step}
 use Rattle.retro_redo.specs.declared.step.Step.TheVariants.{Keep}
@@ -145,11 +146,12 @@ at_least [] rest = omega arith
 at_least (x ∷ steps) rest = let more_rest = at_least steps rest in omega (arith, more_rest)
 
 -- a turn of the loop, which settles one more line after the kept ones, leaves fewer
-pub fewer_left : (p m q : ProgressValue) (number : ℕ) → IsSkip p m → q.recording ≡ m.recording
-    → length q.choices ≡ length m.choices + 1 → next_number m ≡ Some number
+pub fewer_left : (p m q : ProgressValue) (number : ℕ) → IsSkip p m → IsOneMore m q → next_number m ≡ Some number
     → length q.recording.lines - length q.choices < length p.recording.lines - length p.choices
-fewer_left p m q number skip same one next =
-    let less = one_less m q same one (next_below m number next) in
+fewer_left p m q number skip one next =
+    let more = ap (λ (x : ProgressValue). length x.choices) one.1 ∙ length_more m.choices one.0 in
+    let less = one_less m q (ap (λ (x : ProgressValue). x.recording) one.1) (omega (arith, more)) (next_below m number next)
+    in
     let lines : length m.recording.lines ≡ length p.recording.lines =
     ap (λ (r : RecordingValue). length r.lines) skip.recording in
     let kept = subst (λ (cs : List Step). length p.choices ≤ length cs) (sym skip.choices)

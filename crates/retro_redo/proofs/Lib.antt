@@ -18,5 +18,6 @@ pub mod Unmet
 pub mod AlteredPaths
 pub mod Altered
 pub mod ChosenLines
+pub mod Meetings
 pub mod SoFar
 pub mod Overlays

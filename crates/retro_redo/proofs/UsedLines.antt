@@ -175,7 +175,7 @@ first_is_use c (l ∷ lines) n h = by_test (touches l.1.notes c) refl (first_is_
 
 -- ---- the next use above a number
 
-next_more : (n : ℕ) (c : Cell) (l : Line) (lines : List Line)
+pub next_more : (n : ℕ) (c : Cell) (l : Line) (lines : List Line)
     → next_use n c (l ∷ lines) ≡ first_more (touches l.1.notes c) (nat_lt n l.0) l.0 (next_use n c lines)
 next_more n c l lines =
     ap (first_above n) (numbers_of_more (λ (x : Line). touches x.1.notes c) l lines)

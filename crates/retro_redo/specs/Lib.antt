@@ -1,3 +1,4 @@
+pub mod Picks
 pub mod Moments
 pub mod Progress
 pub mod Final
@@ -8,4 +9,6 @@ pub mod Settled
 pub mod Ground
 pub mod Skipping
 pub mod SoFar
+pub mod Settling
+pub mod Meetings
 pub mod inner

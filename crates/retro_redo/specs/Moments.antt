@@ -1,6 +1,6 @@
 -- Two runs side by side: of all lines of a recording, and of the lines that aren't cancelled. Which
 -- lines are cancelled is a test on line numbers.
-use Rattle.std.specs.Prelude.{◌≡◌, ◌⊎◌, ℕ, Bool, true, false, not, List, [], ◌∷◌, if◌then◌else◌}
+use Rattle.std.specs.Prelude.{◌≡◌, ℕ, Bool, true, false, not, List, [], ◌∷◌, if◌then◌else◌}
 use Rattle.std.specs.List.{filter, flat_map}
 use Rattle.retro_tree.specs.Order.{text_eq}
 use Rattle.retro_tree.specs.Notes.{Holds}
@@ -9,6 +9,7 @@ use Rattle.retro_shell.specs.Line.{line}
 use Rattle.retro_keep.specs.declared.noted.Noted.{Noted}
 use Rattle.retro_keep.specs.declared.script.ScriptLine.{ScriptLine}
 use Rattle.retro_effects.specs.Meeting.{Met}
+use Rattle.retro_redo.specs.Picks.{PicksBy}
 use Rattle.retro_redo.specs.declared.compensation.Compensation.{Compensation}
 use Rattle.retro_redo.specs.declared.verdict.Verdict.{Verdict}
 use Rattle.retro_redo.specs.declared.verdict.Verdict.TheVariants.{Cancelled, Redone, Kept}
@@ -67,11 +68,12 @@ IsVerdict cancelled m Cancelled = cancelled m.number ≡ true
 IsVerdict cancelled m Redone = (cancelled m.number ≡ false) × (¬ (Holds m.noted.notes m.repaired))
 IsVerdict cancelled m Kept = (cancelled m.number ≡ false) × Holds m.noted.notes m.repaired
 
+abbrev pub moment_number : Moment → ℕ
+moment_number m = m.number
+
 -- the numbers of the moments that satisfy a condition, in order
 abbrev pub Picks : (Moment → Type 0) → List Moment → List ℕ → Type 0
-Picks P [] numbers = numbers ≡ []
-Picks P (m ∷ ms) numbers =
-    (P m × (rest : List ℕ) × (numbers ≡ m.number ∷ rest) × Picks P ms rest) ⊎ ((¬ (P m)) × Picks P ms numbers)
+Picks P ms numbers = PicksBy moment_number P ms numbers
 
 -- each line's number with its verdict, in order
 abbrev pub AreVerdicts : (ℕ → Bool) → List Moment → List (ℕ × Verdict) → Type 0

@@ -3,6 +3,7 @@ pub mod Altered
 pub mod AlteredCode
 pub mod GroundCode
 pub mod Keeping
+pub mod Meetings
 pub mod NextUses
 pub mod NextUsesCode
 pub mod ProgressCode

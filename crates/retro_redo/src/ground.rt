@@ -73,6 +73,13 @@ impl<'g, 'a> Ground<'g, 'a> {
         self.recording
     }
 
+    /// Returns the history of the recording.
+    pub fn history(&self) -> &'g History<'a>
+        ensures { result.now ≡ self.now.recording }
+    {
+        self.history
+    }
+
     /// Returns the overlay.
     pub fn overlay(&self) -> &'g Overlay
         ensures { result.now ≡ self.now.overlay }

@@ -36,6 +36,7 @@ mod repair;
 mod repair_fault;
 mod repairer;
 mod repairing;
+mod settlement;
 mod shown;
 mod skipping;
 mod step;
@@ -50,10 +51,12 @@ pub use laws::{
     exact_overlays_are_one, repairs_come_to_the_whole_run, repairs_in_turn_leave_out_both,
     repairs_in_turn_repair_both,
 };
+pub use progress::Progress;
 pub use repair::Repair;
 pub use repair_fault::RepairFault;
 pub use repairer::Repairer;
 pub use repairing::{repair_alone, repair_watched};
+pub use settlement::Settlement;
 pub use shown::Shown;
 pub use step::Step;
 pub use tally::Tally;

@@ -3,6 +3,8 @@ ghost use Rattle.std.specs.Prelude.{◌≡◌, ◌⊎◌, ℕ, [], IfOk, OnOk, t
 ghost use Rattle.std.specs.FinMap as map;
 ghost use Rattle.retro_tree.specs.Notes.{changes};
 ghost use Rattle.retro_tree.specs.declared.cell.Cell.{Cell as CellValue};
+ghost use Rattle.retro_history.specs.Index.{AreNumbered};
+ghost use Rattle.retro_redo.specs.inner.Meetings.{AddsNumbers, AreNumbersUntil};
 ghost use Rattle.retro_redo.specs.inner.NextUses.{AddsUses, AreSorted, HasNext, Prunes};
 ghost use Rattle.retro_redo.specs.inner.NextUses.{first_number, has_cell, has_use, is_first_over};
 ghost use Rattle.retro_redo.specs.inner.NextUses.{may_differ, starts_at};
@@ -168,6 +170,33 @@ impl NextUses {
         }
     }
 
+    /// Returns the numbers, up to `last`, of the lines that use a cell with an entry in the
+    /// overlay: from the cell's next use on, those of all lines that use it. Takes a few look-ups
+    /// for each of these lines and each such cell that it uses.
+    pub(crate) fn numbers_until(
+        &self,
+        alloc: Global,
+        history: &History<'_>,
+        overlay: &Overlay,
+        last: u32,
+    ) -> Result<BTreeSet<u32>, NoMem>
+        requires sorted { AreSorted self.now }
+        requires rising { AreNumbered history.now.lines }
+        ensures { IfOk result (λ numbers.
+            AreNumbersUntil last overlay.now history.now.lines self.now numbers.keys) }
+    {
+        let mut numbers = BTreeSet::new(alloc);
+        for used in self.uses.iter() {
+            if used.0 > last {
+                return Ok(numbers);
+            }
+            if overlay.get(&used.1).is_some() {
+                add_numbers(alloc, history, &used.1, used.0, last, &mut numbers)?;
+            }
+        }
+        Ok(numbers)
+    }
+
     /// Removes entries from the front of the set. Stops at the first entry that is of a line after
     /// `after` and whose cell has an entry in the overlay. Takes no memory.
     pub(crate) fn prune(&mut self, after: u32, overlay: &Overlay)
@@ -204,4 +233,28 @@ fn with_changed(cells: Vec<Cell>, notes: &Notes) -> Result<Vec<Cell>, NoMem>
         }
     }
     Ok(all)
+}
+
+/// Adds `from`, and the numbers after it of the lines that use a cell, up to `last`.
+fn add_numbers(
+    alloc: Global,
+    history: &History<'_>,
+    cell: &Cell,
+    from: u32,
+    last: u32,
+    numbers: &mut BTreeSet<u32>,
+) -> Result<(), NoMem>
+    requires { AreNumbered history.now.lines }
+    ensures { OnOk result (AddsNumbers from last cell.now history.now.lines
+        numbers.old.keys numbers.new.keys) }
+{
+    let mut next = Some(from);
+    while let Some(number) = next {
+        if number > last {
+            return Ok(());
+        }
+        numbers.insert(number)?;
+        next = history.next_use(alloc, cell, number)?;
+    }
+    Ok(())
 }

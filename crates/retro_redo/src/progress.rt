@@ -1,15 +1,18 @@
 //! The progress of a repair.
 ghost use Rattle.std.specs.Prelude.{◌≡◌, ◌↔◌, ◌∷◌, ◌++◌, [], IfOk, IfSome, None, IsSome};
-ghost use Rattle.std.specs.Prelude.{IsTrue, MatchBool, OnErr, OnOk, Some, ◌&&◌, not, false, ℕ};
+ghost use Rattle.std.specs.Prelude.{IsTrue, MatchBool, OnErr, OnOk, Some, ◌&&◌, ◌≤◌, length};
+ghost use Rattle.std.specs.Prelude.{not, false, ℕ};
 ghost use Rattle.std.specs.Option.{option_copied};
 ghost use Rattle.retro_tree.specs.Commit.{committed};
 ghost use Rattle.retro_tree.specs.Exact.{IsExact, IsTight};
 ghost use Rattle.retro_tree.specs.Notes.{AgreeOn, Holds, after};
 ghost use Rattle.retro_tree.specs.declared.state.State.{State};
 ghost use Rattle.retro_effects.specs.Meeting.{Met};
-ghost use Rattle.retro_keep.specs.Recording.{IsRecordingOf, IsWellFormed, script_in};
+ghost use Rattle.retro_keep.specs.Recording.{IsRecordingOf, IsWellFormed, number_in, script_in};
 ghost use Rattle.retro_keep.specs.declared.noted.Noted.{Noted as NotedValue};
 ghost use Rattle.retro_redo.specs.Cancelling.{AreLines};
+ghost use Rattle.retro_redo.specs.Meetings.{MeetsNow, lines_until};
+ghost use Rattle.retro_redo.specs.Picks.{PicksBy};
 ghost use Rattle.retro_redo.specs.Progress.{IsRunTaken, MayStep, ProgressValue};
 ghost use Rattle.retro_redo.specs.inner.NextUses.{starts_at};
 ghost use Rattle.retro_redo.specs.Progress.{cancelled_in, chosen, is_cancel};
@@ -46,7 +49,7 @@ use std::marker::Model;
 /// It doesn't know the recorded states and the history. A call that needs the recorded state before
 /// the next line takes it as a parameter, as a view or as the values of its cells.
 #[derive(Drop)]
-pub(crate) struct Progress<'a> {
+pub struct Progress<'a> {
     recording: &'a Recording,
     cancelled: BTreeSet<u32>,
     choices: Vec<Step>,
@@ -157,6 +160,20 @@ impl<'a> Progress<'a> {
         equiv(alloc, &line.1.notes, recorded, &self.overlay)
     }
 
+    /// Returns whether the notes of a run hold in the repaired state before the next line.
+    /// `recorded` is a view of the recorded state there.
+    pub(crate) fn fits<V: View>(
+        &self,
+        alloc: Global,
+        recorded: &V,
+        run: &Run,
+    ) -> Result<bool, NoMem>
+        requires { V.state recorded.now ≡ recorded_now self.now }
+        ensures { IfOk result (λ b. IsTrue b ↔ Holds run.now.notes (repaired_now self.now)) }
+    {
+        equiv(alloc, run.notes(), recorded, &self.overlay)
+    }
+
     /// Runs the next line again, in the repaired state. Calls the observer before and after the
     /// execution. `recorded` is a view of the recorded state before the line.
     pub(crate) fn redo<V: View, G: Gate>(
@@ -238,6 +255,39 @@ impl<'a> Progress<'a> {
         Ok(())
     }
 
+    /// Returns how many lines are settled.
+    pub(crate) fn settled_count(&self) -> usize
+        ensures { result ≡ length self.now.choices }
+    {
+        self.choices.len()
+    }
+
+    /// Returns the numbers of the lines to settle, up to the index `end`, that read or write a cell
+    /// in which the states differ before the next line. `history` is the recording's.
+    pub(crate) fn meetings_until(
+        &self,
+        alloc: Global,
+        history: &History<'_>,
+        end: usize,
+    ) -> Result<BTreeSet<u32>, NoMem>
+        requires history { history.now ≡ self.now.recording }
+        requires end { end ≤ length self.now.recording.lines }
+        ensures { IfOk result (λ numbers. PicksBy number_in (MeetsNow self.now)
+            (lines_until end self.now) numbers.keys) }
+    {
+        let lines = self.recording.lines();
+        if end <= self.choices.len() {
+            return Ok(BTreeSet::new(alloc));
+        }
+        let last = &lines[end - 1];
+        let numbers = self
+            .uses
+            .numbers_until(alloc, history, &self.overlay, last.0)?;
+        // For the prover: the contract of `iter` says that the numbers are in order.
+        let _ = numbers.iter();
+        Ok(numbers)
+    }
+
     /// Lends what guesses need. `history` is the recording's.
     pub(crate) fn ground<'g>(&'g self, history: &'g History<'a>) -> Ground<'g, 'a>
         requires { history.now ≡ self.now.recording }
@@ -256,8 +306,9 @@ impl<'a> Progress<'a> {
         has_number(&self.cancelled, number)
     }
 
-    /// Returns the repair. All lines must be settled.
-    pub(crate) fn finish(self, alloc: Global, tally: Tally) -> Result<Repair, NoMem>
+    /// Returns the repair. All lines must be settled. [`Repairer::finish`](crate::Repairer::finish)
+    /// says what it is.
+    pub fn finish(self, alloc: Global, tally: Tally) -> Result<Repair, NoMem>
         requires { next_line self ≡ None }
         ensures tally { IfOk result (λ repair. repair.tally ≡ tally) }
         ensures repair { IfOk result (λ repair.

@@ -1,19 +1,22 @@
 //! Repairs line by line.
-ghost use Rattle.std.specs.Prelude.{◌≡◌, ◌↔◌, ◌∷◌, ◌++◌, ◌+◌, length, [], IfErr};
+ghost use Rattle.std.specs.Prelude.{◌≡◌, ◌↔◌, ◌∷◌, ◌++◌, ◌≤◌, length, [], IfErr};
 ghost use Rattle.std.specs.Prelude.{IfOk, IsTrue, MatchBool, None, OnErr, OnOk, Some, false, ℕ};
 ghost use Rattle.retro_tree.specs.Exact.{IsExact};
 ghost use Rattle.retro_tree.specs.Notes.{AgreeOn, Holds};
 ghost use Rattle.retro_effects.specs.Meeting.{Met};
 ghost use Rattle.retro_keep.specs.Edit.{is_among};
-ghost use Rattle.retro_keep.specs.Recording.{IsRecordingOf, script_in};
+ghost use Rattle.retro_keep.specs.Recording.{IsRecordingOf, number_in, script_in};
 ghost use Rattle.retro_keep.specs.declared.noted.Noted.{Noted as NotedValue};
 ghost use Rattle.retro_redo.specs.Cancelling.{AreLines, Refuses};
 ghost use Rattle.retro_redo.specs.Ground.{shown_at};
+ghost use Rattle.retro_redo.specs.Meetings.{MeetsNow, lines_until};
+ghost use Rattle.retro_redo.specs.Picks.{PicksBy};
 ghost use Rattle.retro_redo.specs.Progress.{MayStep, cancelled_in, next_line, next_number};
 ghost use Rattle.retro_redo.specs.Progress.{recorded_now, repaired_now};
 ghost use Rattle.retro_redo.specs.Repair.{IsRepair};
 ghost use Rattle.retro_redo.specs.Settled.{IsSettled};
 ghost use Rattle.retro_redo.specs.Skipping.{IsSkip};
+ghost use Rattle.retro_redo.specs.Settling.{IsGuessOf, IsNewRun, IsOneMore, IsSettlement, IsStale};
 ghost use Rattle.retro_redo.specs.SoFar.{AreStatesOfRuns};
 ghost use Rattle.retro_redo.specs.declared.repair_fault.RepairFault.TheVariants as faults;
 
@@ -23,6 +26,7 @@ use crate::ground::Ground;
 use crate::progress::Progress;
 use crate::repair::Repair;
 use crate::repair_fault::RepairFault;
+use crate::settlement::Settlement;
 use crate::step::Step;
 use crate::tally::Tally;
 use retro_history::{At, History};
@@ -30,6 +34,7 @@ use retro_keep::Recording;
 use retro_shell::Run;
 use retro_tree::{NoMem, Overlay};
 use std::alloc::Global;
+use std::collections::BTreeSet;
 use std::marker::Model;
 
 /// A repair of a recording, line by line: each line is cancelled, kept or run again.
@@ -154,6 +159,14 @@ impl<'h, 'a> Repairer<'h, 'a> {
         self.progress.equiv(alloc, &self.recorded(number))
     }
 
+    /// Returns whether the notes of a run hold in the repaired state before the next line.
+    pub fn fits(&self, alloc: Global, number: u32, run: &Run) -> Result<bool, NoMem>
+        requires { next_number self.now ≡ Some number }
+        ensures { IfOk result (λ b. IsTrue b ↔ Holds run.now.notes (repaired_now self.now)) }
+    {
+        self.progress.fits(alloc, &self.recorded(number), run)
+    }
+
     /// Runs the next line again, in the repaired state. Calls the observer before and after the
     /// execution.
     pub fn redo<G: Gate>(&self, alloc: Global, number: u32, gate: &G) -> Result<Run, NoMem>
@@ -188,31 +201,63 @@ impl<'h, 'a> Repairer<'h, 'a> {
         self.progress.step(alloc, self.history, &recorded, step)
     }
 
-    /// Settles the next line. Cancels it if its number is cancelled, keeps it if it isn't met or if
-    /// its notes hold in the repaired state, and otherwise runs it again.
-    pub(crate) fn settle<G: Gate>(
+    /// Settles the next line, and returns how. Cancels it if its number is cancelled, and keeps it
+    /// if it isn't met or if its notes hold in the repaired state. Otherwise the line is stale: it
+    /// gets its guess if the guess's notes hold in the repaired state, and is run again if not.
+    ///
+    /// A guess must be a run of the line's text in its session.
+    pub fn settle<G: Gate>(
         &mut self,
         alloc: Global,
         number: u32,
+        guess: Option<Run>,
         gate: &G,
-    ) -> Result<(), NoMem>
-        requires { next_number self.old ≡ Some number }
-        ensures recording { OnOk result (self.new.recording ≡ self.old.recording) }
-        ensures cancel { OnOk result (self.new.cancel ≡ self.old.cancel) }
-        ensures choices { OnOk result
-            (length self.new.choices ≡ length self.old.choices + 1) }
+    ) -> Result<Settlement, NoMem>
+        requires next { next_number self.old ≡ Some number }
+        requires guess { (l : ℕ × NotedValue) → next_line self.old ≡ Some l → IsGuessOf l.1 guess }
+        ensures one { OnOk result (IsOneMore self.old self.new) }
+        ensures how { (l : ℕ × NotedValue) → next_line self.old ≡ Some l
+            → IfOk result (λ how. IsSettlement self.old l how) }
     {
         if self.is_cancelled(number) {
-            return self.step(alloc, number, Step::Cancel);
+            self.step(alloc, number, Step::Cancel)?;
+            return Ok(Settlement::Cancelled);
         }
         if !self.is_met(number) {
-            return self.step(alloc, number, Step::Keep);
+            self.step(alloc, number, Step::Keep)?;
+            return Ok(Settlement::Kept);
         }
         if self.equiv(alloc, number)? {
-            return self.step(alloc, number, Step::Keep);
+            self.step(alloc, number, Step::Keep)?;
+            return Ok(Settlement::Kept);
+        }
+        self.settle_stale(alloc, number, guess, gate)
+    }
+
+    /// Settles the next line, which is stale, and returns how: by its guess if the guess's notes
+    /// hold in the repaired state, and by a new run if not.
+    fn settle_stale<G: Gate>(
+        &mut self,
+        alloc: Global,
+        number: u32,
+        guess: Option<Run>,
+        gate: &G,
+    ) -> Result<Settlement, NoMem>
+        requires next { next_number self.old ≡ Some number }
+        requires stale { (l : ℕ × NotedValue) → next_line self.old ≡ Some l → IsStale self.old l }
+        requires guess { (l : ℕ × NotedValue) → next_line self.old ≡ Some l → IsGuessOf l.1 guess }
+        ensures one { OnOk result (IsOneMore self.old self.new) }
+        ensures how { IfOk result IsNewRun }
+    {
+        if let Some(run) = guess {
+            if self.fits(alloc, number, &run)? {
+                self.step(alloc, number, Step::Take(run))?;
+                return Ok(Settlement::TakenUp);
+            }
         }
         let run = self.redo(alloc, number, gate)?;
-        self.step(alloc, number, Step::Take(run))
+        self.step(alloc, number, Step::Take(run))?;
+        Ok(Settlement::Redone)
     }
 
     /// Keeps the next lines that are neither cancelled nor met, and returns the number of the line
@@ -225,6 +270,24 @@ impl<'h, 'a> Repairer<'h, 'a> {
     {
         self.progress.skip_unmet()?;
         Ok(self.next())
+    }
+
+    /// Returns how many lines are settled.
+    pub fn settled_count(&self) -> usize
+        ensures { result ≡ length self.now.choices }
+    {
+        self.progress.settled_count()
+    }
+
+    /// Returns the numbers of the lines to settle, up to the index `end`, that read or write a cell
+    /// in which the states differ before the next line. Takes a few look-ups for each of these
+    /// lines and each such cell that it uses, and reads no other line.
+    pub fn meetings_until(&self, alloc: Global, end: usize) -> Result<BTreeSet<u32>, NoMem>
+        requires { end ≤ length self.now.recording.lines }
+        ensures { IfOk result (λ numbers. PicksBy number_in (MeetsNow self.now)
+            (lines_until end self.now) numbers.keys) }
+    {
+        self.progress.meetings_until(alloc, self.history, end)
     }
 
     /// Lends the recording, the cancelled numbers, the history and the overlay, for guesses of
@@ -260,8 +323,9 @@ impl<'h, 'a> Repairer<'h, 'a> {
         Ok(self.into_progress().finish(alloc, tally)?)
     }
 
-    /// Returns the progress, without the history.
-    pub(crate) fn into_progress(self) -> Progress<'a>
+    /// Returns the progress without the history, which can then be dropped before the repair is
+    /// made.
+    pub fn into_progress(self) -> Progress<'a>
         ensures { result ≡ self.entry }
     {
         let Repairer {

@@ -89,7 +89,7 @@ fn settle_all<'a, G: Gate>(
     let history = History::of(alloc, recording)?;
     let mut repairer = Repairer::new(alloc, recording, &history, cancel)?;
     while let Some(number) = repairer.skip_unmet()? {
-        repairer.settle(alloc, number, gate)?;
+        repairer.settle(alloc, number, None, gate)?;
     }
     Ok(repairer.into_progress())
 }
