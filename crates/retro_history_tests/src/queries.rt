@@ -1,7 +1,6 @@
 //! Queries of a history, with fields and answers as the texts of rows.
-use crate::cells::{cell, value_text};
 use retro_history::History;
-use retro_rows::{fail, path, text};
+use retro_rows::{cell, fail, path, text, value_text};
 use retro_tree::{Cell, Listing, NoMem, Overlay, Path, Text, User, Value};
 use std::alloc::Global;
 use std::collections::BTreeSet;

@@ -3,12 +3,16 @@
 #![tactic(auto)]
 
 #[cfg(test)]
-mod counter;
+mod grounds;
 #[cfg(test)]
 mod recordings;
 #[cfg(test)]
 mod rows;
 #[cfg(test)]
+mod steps;
+#[cfg(test)]
 mod tables;
 #[cfg(test)]
 mod telling;
+#[cfg(test)]
+mod watch;

@@ -1,11 +1,14 @@
 //! The call that each row names, and the test that makes these calls.
-use crate::counter::Counter;
+use crate::grounds::{guessed, lent, meetings, shown};
 use crate::recordings::recording;
-use crate::tables::{IN_TURN, INCIDENTS};
-use crate::telling::{compensations, end, file, lines, outputs};
+use crate::steps::{steps, stops};
+use crate::tables::{GROUNDS, IN_TURN, INCIDENTS, STEPS};
+use crate::telling::{compensations, end, fault_text, file, lines, outputs};
+use crate::watch::Watch;
+use retro_history::History;
 use retro_keep::Recording;
 use retro_log::check;
-use retro_redo::{Repair, repair_alone, repair_watched};
+use retro_redo::{Repair, RepairFault, Repairer, repair_alone, repair_watched};
 use retro_rows::{Row, fail, numbers, path, rows};
 use std::alloc::Global;
 use std::test::Fail;
@@ -33,26 +36,13 @@ fn repaired_recording(alloc: Global, recording: &Recording, list: &str) -> Resul
     Ok(repaired(alloc, recording, list)?.recording)
 }
 
-/// Repairs a recording without some lines while an observer counts. Returns whether that succeeded.
-fn is_repaired(
-    alloc: Global,
-    recording: &Recording,
-    list: &str,
-    counter: &Counter,
-) -> Result<bool, Fail> {
-    let cancel = numbers(alloc, list)?;
-    Ok(repair_watched(alloc, recording, &cancel, counter).is_ok())
-}
-
-/// Returns how many lines a repair executes.
+/// Returns which lines a repair executes, each with its turn.
 fn executed(alloc: Global, recording: &Recording, list: &str) -> Result<String, Fail> {
-    let counter = Counter::new();
-    if !is_repaired(alloc, recording, list, &counter)? {
-        return fail("refused");
-    }
-    match counter.count() {
-        Some(count) => Ok(format!(in alloc; "{count}")?),
-        None => fail("an execution didn't end"),
+    let cancel = numbers(alloc, list)?;
+    let watch = Watch::new(alloc, 9)?;
+    match repair_watched(alloc, recording, &cancel, &watch) {
+        Ok(_) => Ok(watch.executions(alloc)?),
+        Err(_) => fail("refused"),
     }
 }
 
@@ -68,6 +58,58 @@ fn told(alloc: Global, repair: &Repair, call: &str, given: &[String]) -> Result<
     }
 }
 
+/// Returns the result of a call on a repair that has settled no line yet.
+fn stepped(
+    alloc: Global,
+    repairer: &mut Repairer<'_, '_>,
+    call: &str,
+    given: &[String],
+) -> Result<String, Fail> {
+    match (call, given) {
+        ("steps", []) => steps(alloc, repairer),
+        ("stops", []) => stops(alloc, repairer),
+        ("lent", [from, at]) => lent(alloc, repairer, from.parse()?, at),
+        ("shown", [from, number, at]) => {
+            shown(alloc, repairer, from.parse()?, number.parse()?, at)
+        }
+        ("guessed", [from, number]) => guessed(alloc, repairer, from.parse()?, number.parse()?),
+        ("meetings", [from, end]) => meetings(alloc, repairer, from.parse()?, end.parse()?),
+        _ => fail("no such call"),
+    }
+}
+
+/// Returns the result of a call on a repair, or its refusal.
+fn stepped_or_refused(
+    alloc: Global,
+    made: Result<Repairer<'_, '_>, RepairFault>,
+    call: &str,
+    given: &[String],
+) -> Result<String, Fail> {
+    match made {
+        Ok(mut repairer) => stepped(alloc, &mut repairer, call, given),
+        Err(fault) => Ok(fault_text(alloc, fault)?),
+    }
+}
+
+/// Returns the result of a call on the repair of a recording that is made step by step, or its
+/// refusal.
+fn by_steps(
+    alloc: Global,
+    recording: &Recording,
+    call: &str,
+    list: &str,
+    given: &[String],
+) -> Result<String, Fail> {
+    let history = History::of(alloc, recording)?;
+    let cancel = numbers(alloc, list)?;
+    stepped_or_refused(
+        alloc,
+        Repairer::new(alloc, recording, &history, &cancel),
+        call,
+        given,
+    )
+}
+
 /// Returns the result of a call on the repair of a recording without some lines.
 fn called(
     alloc: Global,
@@ -76,11 +118,13 @@ fn called(
     list: &str,
     given: &[String],
 ) -> Result<String, Fail> {
-    if call == "executed" {
-        return executed(alloc, recording, list);
+    match call {
+        "executed" => executed(alloc, recording, list),
+        "steps" | "stops" | "lent" | "shown" | "guessed" | "meetings" => {
+            by_steps(alloc, recording, call, list, given)
+        }
+        _ => told(alloc, &repaired(alloc, recording, list)?, call, given),
     }
-    let repair = repaired(alloc, recording, list)?;
-    told(alloc, &repair, call, given)
 }
 
 /// Returns the result of a call on the repair of a recording. If the list has two parts with `then`
@@ -120,7 +164,7 @@ fn hold(alloc: Global, table: &str) -> Result<(), Fail> {
 
 #[test]
 fn repairs_are_as_worked_out(rt: HostRuntime) -> Result<(), Fail> {
-    for table in [INCIDENTS, IN_TURN] {
+    for table in [INCIDENTS, IN_TURN, STEPS, GROUNDS] {
         hold(rt.alloc(), table)?;
     }
     Ok(())

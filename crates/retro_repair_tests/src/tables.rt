@@ -10,13 +10,13 @@ pub const INCIDENTS: &str = r##"
 given: %(EMPTY) :: 1 echo one >> /tmp/log;;2 echo two >> /tmp/log;;1 echo three >> /tmp/log;;\
   1 cat /tmp/log
 - lines: 2 => met 3 4, redone 4
-- executed: 2 => 1
+- executed: 2 => executed 4 place
 - file: 2 :: /tmp/log => one%(NL)three%(NL)
 - compensations: 2 => 4 [one%(NL)two%(NL)three%(NL)] [one%(NL)three%(NL)]
 
 given: %(EMPTY) :: 1 echo x > f;;1 echo x > f;;1 cat f
 - lines: 1 => met 2, redone
-- executed: 1 => 0
+- executed: 1 => executed
 - compensations: 1 => %(EMPTY)
 
 given: %(EMPTY) :: 1 echo z > f;;1 echo a > f; cat f
@@ -52,11 +52,12 @@ given: ,["/tmp/big","%(61*1048575)"] :: 1 echo -n a >> /tmp/big;;1 echo -n b >> 
 given: %(EMPTY) :: 1 mkdir d;;2 echo x > /h/d/v;;1 mv d e;;1 rm -r e;;1 cat d/v
 - lines: 2 => met 3 4, redone 3 4
 - compensations: 2 => %(EMPTY)
-- executed: 2 => 2
+- executed: 2 => executed 3 place 4 place
 
 given: %(EMPTY) :: 2 echo p > /tmp/k;;1 cat /tmp/k > a;;1 cat a /tmp/k;;1 cat /tmp/k;;\
   1 grep -F p /tmp/k
 - lines: 1 => met 2 3 4 5, redone 2 3 4 5
+- executed: 1 => executed 2 place 3 place 4 place 5 place
 - compensations: 1 => 2 [] [cat: /tmp/k: No such file or directory%(NL)]3 [p%(NL)p%(NL)]
   [cat: /tmp/k: No such file or directory%(NL)]4 [p%(NL)] [cat: /tmp/k: No such file or
   directory%(NL)]5 [p%(NL)] [grep: /tmp/k: No such file or directory%(NL)]
@@ -89,4 +90,73 @@ given: %(EMPTY) :: 1 echo one >> /tmp/log;;2 echo two >> /tmp/log;;1 echo three 
 given: %(EMPTY) :: 1 echo a > f;;1 cat f
 - lines: 1 2 => met, redone
 - compensations: 1 2 => 2 [a%(NL)] []
+"##;
+
+/// Repairs step by step: the overlay before each line, what becomes of the line, where skips stop,
+/// and the least of the numbers that no line has.
+pub const STEPS: &str = r##"
+given: %(EMPTY) :: 1 echo one >> /tmp/log;;2 echo two >> /tmp/log;;1 echo three >> /tmp/log;;\
+  1 cat /tmp/log
+- steps: 2 => 1 [] unmet, 2 [] cancelled, 3 [/tmp/log file 6f6e650a] met, 4 [/tmp/log file
+  6f6e650a74687265650a] redone, end [/tmp/log file 6f6e650a74687265650a]
+- stops: 2 => 2 after 1, 3 after 2, 4 after 3, end after 4
+- stops: 4 2 => 2 after 1, 3 after 2, 4 after 3, end after 4
+- steps: 9 2 7 => refused 21, line 7
+- steps: 5 => refused 21, line 5
+- steps: 0 4 => refused 21, line 0
+
+given: %(EMPTY) :: 1 echo x > f;;1 echo x > f;;1 cat f
+- steps: 1 => 1 [] cancelled, 2 [/h/f missing] met, 3 [] unmet, end []
+- steps: 1 1 => 1 [] cancelled, 2 [/h/f missing] met, 3 [] unmet, end []
+- stops: 1 => 1 after 0, 2 after 1, end after 3
+
+given: %(EMPTY) :: 1 cd /tmp;;1 echo hi > n;;2 cat /h/n;;1 cat n
+- steps: 1 => 1 [] cancelled, 2 [1 cwd /h] redone, 3 [/h/n file 68690a; /tmp/n missing; 1 cwd /h]
+  redone, 4 [/h/n file 68690a; /tmp/n missing; 1 cwd /h; 2 status 0] redone, end [/h/n file 68690a;
+  /tmp/n missing; 1 cwd /h; 2 status 0]
+
+given: %(EMPTY) :: 1 false;;1 if test $? = 0; then echo ok; else echo bad; fi
+- steps: 1 => 1 [] cancelled, 2 [1 status 0] redone, end []
+
+given: %(EMPTY) :: 1 mkdir d;;2 echo x > /h/d/v;;1 mv d e;;1 rm -r e;;1 cat d/v
+- stops: 2 => 2 after 1, 3 after 2, 4 after 3, end after 5
+
+given: %(EMPTY) :: 1 x=a;;1 echo $x
+- steps: 1 => 1 [] cancelled, 2 [1 x unset] redone, end [1 x unset]
+"##;
+
+/// What is lent for guesses, which lines may be worth one, and whether a guess fits at its turn.
+pub const GROUNDS: &str = r##"
+given: %(EMPTY) :: 2 echo p > /tmp/k;;1 cat /tmp/k > a;;1 cat a /tmp/k;;1 cat /tmp/k;;\
+  1 grep -F p /tmp/k
+- lent: 1 :: 1 :: /h/a => [] 5 lines, written by 2, cancelled
+- lent: 1 :: 2 :: /tmp/k => [/tmp/k missing] 5 lines, written by 1
+- shown: 1 :: 2 :: 3 :: /tmp/k => missing with
+- shown: 1 :: 2 :: 3 :: /tmp => dir with
+- shown: 1 :: 1 :: 3 :: /tmp => dir with k
+- shown: 1 :: 2 :: 3 :: /h/a => file 700a with
+- shown: 1 :: 3 :: 3 :: /h/a => file  with
+- meetings: 1 :: 1 :: 5 => lines
+- meetings: 1 :: 2 :: 5 => lines 2 3 4 5
+- meetings: 1 :: 2 :: 3 => lines 2 3
+- meetings: 1 :: 3 :: 2 => lines
+- guessed: 1 :: 2 :: 2 => fits: cat: /tmp/k: No such file or directory%(NL)
+- guessed: 1 :: 2 :: 3 => no fit: p%(NL)cat: /tmp/k: No such file or directory%(NL)
+- guessed: 1 :: 2 :: 4 => fits: cat: /tmp/k: No such file or directory%(NL)
+- guessed: 1 :: 2 :: 5 => fits: grep: /tmp/k: No such file or directory%(NL)
+- guessed: 1 :: 1 :: 2 => no fit: %(EMPTY)
+
+given: %(EMPTY) :: 1 echo one >> /tmp/log;;2 echo two >> /tmp/log;;1 echo three >> /tmp/log;;\
+  1 cat /tmp/log
+- meetings: 2 :: 3 :: 4 => lines 3 4
+- meetings: 2 :: 3 :: 3 => lines 3
+- guessed: 2 :: 3 :: 4 => no fit: one%(NL)
+- guessed: 2 :: 4 :: 4 => fits: one%(NL)three%(NL)
+
+given: %(EMPTY) :: 1 echo x > f;;1 echo x > f;;1 cat f
+- meetings: 1 :: 2 :: 3 => lines 2 3
+- meetings: 1 :: 3 :: 3 => lines
+- shown: 1 :: 2 :: 3 :: /h/f => missing with
+- guessed: 1 :: 2 :: 3 => no fit: cat: f: No such file or directory%(NL)
+- guessed: 1 :: 3 :: 3 => fits: x%(NL)
 "##;

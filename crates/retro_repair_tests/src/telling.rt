@@ -1,5 +1,5 @@
 //! What a repair answers, as the texts of rows.
-use retro_redo::{Compensation, Repair, Verdict};
+use retro_redo::{Compensation, Repair, RepairFault, Verdict};
 use retro_rows::{fail, text, utf8};
 use retro_tree::{NoMem, Path, State};
 use std::alloc::Global;
@@ -91,5 +91,14 @@ pub fn end(alloc: Global, state: &State, path: &Path) -> Result<String, Fail> {
     match state.file(path) {
         Some(bytes) => Ok(end_of(alloc, bytes.as_slice())?),
         None => fail("no file"),
+    }
+}
+
+/// Returns the number of a refusal, with the number of the line that is missing.
+pub fn fault_text(alloc: Global, fault: RepairFault) -> Result<String, NoMem> {
+    let refusal = fault.number();
+    match fault {
+        RepairFault::NoSuchLine(number) => format!(in alloc; "refused {refusal}, line {number}"),
+        _ => format!(in alloc; "refused {refusal}"),
     }
 }

@@ -33,6 +33,7 @@
 //! makes the call of a row (`rows.rt`), and tests that go over the rows of the tables.
 #![tactic(auto)]
 
+mod cells;
 mod failure;
 mod paths;
 mod row;
@@ -41,6 +42,7 @@ mod script;
 mod table;
 mod texts;
 
+pub use cells::{cell, cell_text, value_text};
 pub use failure::fail;
 pub use paths::{path, path_text};
 pub use row::Row;

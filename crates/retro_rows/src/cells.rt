@@ -1,6 +1,8 @@
 //! Cells and values as the texts of rows.
+use crate::failure::fail;
+use crate::paths::{path, path_text};
+use crate::texts::text;
 use hex::encode;
-use retro_rows::{fail, path, path_text, text};
 use retro_tree::{Cell, NoMem, Node, Text, Value, VarName};
 use std::alloc::Global;
 use std::test::Fail;
@@ -61,5 +63,15 @@ pub fn value_text(alloc: Global, value: &Value) -> Result<String, NoMem> {
         Value::Cwd(path) => path_text(alloc, path.names()),
         Value::Text(value) => variable_text(alloc, value),
         Value::Status(status) => format!(in alloc; "{status}"),
+    }
+}
+
+/// Returns the name of a cell, as [`cell`] reads it.
+pub fn cell_text(alloc: Global, cell: &Cell) -> Result<String, NoMem> {
+    match cell {
+        Cell::At(path) => path_text(alloc, path.names()),
+        Cell::Cwd(sid) => format!(in alloc; "{sid} cwd"),
+        Cell::Status(sid) => format!(in alloc; "{sid} status"),
+        Cell::Var(sid, name) => format!(in alloc; "{sid} {}", name.as_str()),
     }
 }
