@@ -1,0 +1,12 @@
+pub mod Places
+pub mod Picked
+pub mod Counting
+pub mod Kept
+pub mod Gaps
+pub mod Underway
+pub mod Stops
+pub mod Beginnings
+pub mod OneLine
+pub mod Shown
+pub mod Tallied
+pub mod Turns

@@ -1,0 +1,14 @@
+use Rattle.std.proofs.Common.{◌≡◌, ◌-◌, ℕ, length}
+use Rattle.retro_keep.specs.Edit.{is_among}
+use Rattle.retro_rounds.proofs.Turns.{AreUnderway}
+use Rattle.retro_rounds.proofs.repairing.settle_all.Given as goal
+
+abbrev pub invariant-loop-rounds : goal.invariant-loop-rounds
+invariant-loop-rounds g l = record {
+  recording : l.repairer.recording ≡ l.request.recording.now;
+  cancel : (n : ℕ) → is_among l.repairer.cancel n ≡ is_among l.request.cancel.now n;
+  underway : AreUnderway l.request.cuts.now l.repairer l.rounds;
+}
+
+abbrev pub decreases-loop-rounds : goal.decreases-loop-rounds
+decreases-loop-rounds g l = length l.repairer.recording.lines - length l.repairer.choices

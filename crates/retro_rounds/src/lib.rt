@@ -1,0 +1,27 @@
+//! Repairs in rounds: lines are run ahead of their turns, and confirmed in recorded order.
+//!
+//! [`repair`] answers what [`repair_alone`](retro_redo::repair_alone) answers, for every number of
+//! workers and every cut of the lines into pieces. Each piece is a round. When a round begins, the
+//! lines of its piece that are likely to be run again are found: its *jobs*. They are run ahead of
+//! their turns, in parallel, each over the state that it would have if no line of the piece changed
+//! anything else than was recorded. Such a run is a *guess*. Then the lines are settled one by one.
+//! A stale line takes its guess if the guess's notes hold in the repaired state, and is run again
+//! if not.
+//!
+//! A skip over unmet lines goes through whole pieces. It leaves the cells in which the two states
+//! differ unchanged, so it passes over no job, and a piece of which it leaves no line has no round.
+//!
+//! The tally of a repair says how many jobs there were and how they ended.
+#![tactic(auto)]
+
+mod attempt;
+mod attempts;
+mod guesses;
+mod jobs;
+mod pieces;
+mod repairing;
+mod request;
+mod rounds;
+
+pub use repairing::repair;
+pub use request::MAX_WORKERS;

@@ -1,0 +1,101 @@
+//! Repairs in rounds.
+ghost use Rattle.std.specs.Prelude.{◌≡◌, true, IfErr, IfOk, None, OnOk, ℕ};
+ghost use Rattle.retro_keep.specs.Edit.{is_among};
+ghost use Rattle.retro_keep.specs.Recording.{IsRecordingOf, script_in};
+ghost use Rattle.retro_redo.specs.Cancelling.{AreLines, Refuses};
+ghost use Rattle.retro_redo.specs.Progress.{next_line};
+ghost use Rattle.retro_redo.specs.Repair.{IsRepair};
+ghost use Rattle.retro_redo.specs.Settled.{AreSettled};
+ghost use Rattle.retro_rounds.specs.Refusals.{IsAccepted, IsRefusal, are_cuts};
+ghost use Rattle.retro_rounds.specs.Tally.{IsTally};
+ghost use Rattle.retro_rounds.specs.inner.Rounds.{IsTallied};
+
+use crate::request::Request;
+use crate::rounds::Rounds;
+use retro_history::History;
+use retro_keep::Recording;
+use retro_redo::{Gate, Progress, Repair, RepairFault, Repairer, Tally};
+use std::alloc::Global;
+use std::thread::Threads;
+
+/// Repairs a recording in rounds: returns what it would be without the lines whose numbers are in
+/// `cancel`. A number may be there twice. Only lines whose notes no longer hold are run again, and
+/// those that a round takes for such.
+///
+/// `cuts` are the numbers of lines of the pieces; the last one is that of all further pieces.
+/// `workers` is the number of threads beside this one. Neither changes the answer, and only `cuts`
+/// changes the jobs. The observer is called before and after each execution of a line, by several
+/// threads. If all other lines are run again at the end, their executions aren't observed.
+///
+/// For a recording that isn't what running its lines gives, the answer is as
+/// [`repair_alone`](retro_redo::repair_alone) says.
+///
+/// # Errors
+///
+/// The first of these that applies: `TooManyWorkers` over [`MAX_WORKERS`](crate::MAX_WORKERS),
+/// `NoCut` if `cuts` is empty or has a zero, `NoSuchLine` with the least of the numbers that no line
+/// has, and `OutOfMemory`. A guess that found no memory is no error: its line is run at its turn.
+pub fn repair<R: Threads + Sync, G: Gate + Sync>(
+    rt: &R,
+    alloc: Global,
+    recording: &Recording,
+    cancel: &[u32],
+    workers: usize,
+    cuts: &[u32],
+    gate: &G,
+) -> Result<Repair, RepairFault>
+    ensures repair { IfOk result (λ repair. IsRecordingOf (script_in recording.now) recording.now
+        → IsRepair (is_among cancel.now) recording.now repair) }
+    ensures settled { IfOk result (λ repair.
+        AreSettled (is_among cancel.now) recording.now repair) }
+    ensures tally { IfOk result (λ repair.
+        IsTally (is_among cancel.now) cuts.now recording.now repair.tally) }
+    ensures accepted { OnOk result (IsAccepted workers cuts.now cancel.now recording.now) }
+    ensures refused { IfErr result (λ fault.
+        IsRefusal workers cuts.now cancel.now recording.now fault) }
+{
+    let request = Request {
+        recording,
+        cancel,
+        cuts,
+    };
+    request.check(workers)?;
+    // For the prover: the contract of `lines` says that the recording is well formed.
+    let _ = recording.lines();
+    let (settled, tally) = settle_all(rt, alloc, &request, gate)?;
+    let repair = settled.finish(alloc, tally)?;
+    Ok(repair)
+}
+
+/// Settles all lines of a recording in rounds, and counts what became of the guesses. The history
+/// is dropped before the repaired recording is made, so the two don't take memory at the same time.
+fn settle_all<'a, R: Threads + Sync, G: Gate + Sync>(
+    rt: &R,
+    alloc: Global,
+    request: &Request<'a>,
+    gate: &G,
+) -> Result<(Progress<'a>, Tally), RepairFault>
+    requires cuts { are_cuts request.now.cuts.now ≡ true }
+    requires known { AreLines request.now.cancel.now request.now.recording.now }
+    ensures recording { IfOk result (λ settled.
+        settled.0.recording ≡ request.now.recording.now) }
+    ensures cancel { IfOk result (λ settled. (n : ℕ) → is_among settled.0.cancel n
+        ≡ is_among request.now.cancel.now n) }
+    ensures settled { IfOk result (λ settled. next_line settled.0 ≡ None) }
+    ensures tally { IfOk result (λ settled.
+        IsTallied request.now.cuts.now settled.0 settled.1) }
+    ensures refused { IfErr result (λ fault.
+        Refuses request.now.cancel.now request.now.recording.now fault) }
+{
+    // For the prover: the contract of `lines` says that the recording is well formed.
+    let _ = request.recording.lines();
+    let history = History::of(alloc, request.recording)?;
+    let mut repairer = Repairer::new(alloc, request.recording, &history, request.cancel)?;
+    let mut rounds = Rounds::new(alloc, request.cuts);
+    while let Some(number) = repairer.skip_unmet()? {
+        rounds.pass_to(number);
+        rounds.advance(rt, alloc, &repairer, gate)?;
+        rounds.settle(alloc, &mut repairer, number, gate)?;
+    }
+    Ok((repairer.into_progress(), rounds.finish()))
+}

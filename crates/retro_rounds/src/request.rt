@@ -1,0 +1,42 @@
+//! What a repair is asked.
+ghost use Rattle.std.specs.Prelude.{◌≡◌, IfErr, OnOk};
+ghost use Rattle.retro_rounds.specs.Refusals.{IsAccepted, IsRefusal};
+
+use crate::pieces::are_cuts;
+use retro_keep::Recording;
+use retro_redo::{RepairFault, least_missing};
+
+/// The greatest number of workers.
+pub const MAX_WORKERS: usize = 16;
+
+/// What is to be repaired, without which lines, and in which pieces.
+#[derive(Clone, Copy)]
+pub(crate) struct Request<'a> {
+    pub(crate) recording: &'a Recording,
+    /// The numbers of the cancelled lines. A number may be there twice.
+    pub(crate) cancel: &'a [u32],
+    /// The numbers of lines of the pieces. The last one is that of all further pieces.
+    pub(crate) cuts: &'a [u32],
+}
+
+impl Request<'_> {
+    /// Returns nothing if the request can be answered, and otherwise the first refusal: too many
+    /// workers, no cuts or a zero among them, or the least number that no line has.
+    pub(crate) fn check(&self, workers: usize) -> Result<(), RepairFault>
+        ensures ok { OnOk result
+            (IsAccepted workers self.now.cuts.now self.now.cancel.now self.now.recording.now) }
+        ensures err { IfErr result (λ fault.
+            IsRefusal workers self.now.cuts.now self.now.cancel.now self.now.recording.now fault) }
+    {
+        if workers > MAX_WORKERS {
+            return Err(RepairFault::TooManyWorkers);
+        }
+        if !are_cuts(self.cuts) {
+            return Err(RepairFault::NoCut);
+        }
+        match least_missing(self.recording, self.cancel) {
+            Some(number) => Err(RepairFault::NoSuchLine(number)),
+            None => Ok(()),
+        }
+    }
+}
