@@ -7,6 +7,8 @@ mod grounds;
 #[cfg(test)]
 mod recordings;
 #[cfg(test)]
+mod rounds;
+#[cfg(test)]
 mod rows;
 #[cfg(test)]
 mod steps;

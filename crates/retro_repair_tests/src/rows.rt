@@ -1,8 +1,9 @@
 //! The call that each row names, and the test that makes these calls.
 use crate::grounds::{guessed, lent, meetings, shown};
 use crate::recordings::recording;
+use crate::rounds::{Ask, repaired_in_rounds, rounds};
 use crate::steps::{steps, stops};
-use crate::tables::{GROUNDS, IN_TURN, INCIDENTS, STEPS};
+use crate::tables::{GROUNDS, IN_TURN, INCIDENTS, ROUNDS, STEPS};
 use crate::telling::{compensations, end, fault_text, file, lines, outputs};
 use crate::watch::Watch;
 use retro_history::History;
@@ -10,8 +11,9 @@ use retro_keep::Recording;
 use retro_log::check;
 use retro_redo::{Repair, RepairFault, Repairer, repair_alone, repair_watched};
 use retro_rows::{Row, fail, numbers, path, rows};
-use std::alloc::Global;
+use std::alloc::{AllocGlobal, Global};
 use std::test::Fail;
+use std::thread::Threads;
 
 /// Repairs a recording without some lines. Fails if the repair is refused.
 fn repair_without(alloc: Global, recording: &Recording, cancel: &[u32]) -> Result<Repair, Fail> {
@@ -110,62 +112,90 @@ fn by_steps(
     )
 }
 
-/// Returns the result of a call on the repair of a recording without some lines.
-fn called(
-    alloc: Global,
+/// Returns what a repair on one thread answers to a call. Fails if repairs in rounds answer
+/// something else, for one of the cuts.
+fn told_in_every_way<T: Threads + Sync + AllocGlobal>(
+    rt: &T,
     recording: &Recording,
     call: &str,
     list: &str,
     given: &[String],
 ) -> Result<String, Fail> {
-    match call {
-        "executed" => executed(alloc, recording, list),
-        "steps" | "stops" | "lent" | "shown" | "guessed" | "meetings" => {
-            by_steps(alloc, recording, call, list, given)
+    let alloc = rt.alloc();
+    let wanted = told(alloc, &repaired(alloc, recording, list)?, call, given)?;
+    for cuts in ["1", "2", "64", "1 4"] {
+        let repair = repaired_in_rounds(rt, recording, list, cuts)?;
+        if told(alloc, &repair, call, given)? != wanted {
+            return fail("another answer in rounds");
         }
-        _ => told(alloc, &repaired(alloc, recording, list)?, call, given),
+    }
+    Ok(wanted)
+}
+
+/// Returns the result of a call on the repair of a recording without some lines.
+fn called<T: Threads + Sync + AllocGlobal>(
+    rt: &T,
+    recording: &Recording,
+    call: &str,
+    list: &str,
+    given: &[String],
+) -> Result<String, Fail> {
+    match (call, given) {
+        ("executed", []) => executed(rt.alloc(), recording, list),
+        ("rounds", [workers, cuts]) => {
+            let ask = Ask {
+                cancel: list,
+                workers,
+                cuts,
+            };
+            rounds(rt, recording, &ask)
+        }
+        ("steps" | "stops" | "lent" | "shown" | "guessed" | "meetings", _) => {
+            by_steps(rt.alloc(), recording, call, list, given)
+        }
+        _ => told_in_every_way(rt, recording, call, list, given),
     }
 }
 
 /// Returns the result of a call on the repair of a recording. If the list has two parts with `then`
 /// between them, the recording of the first part's repair is repaired without the second part.
-fn called_in_turn(
-    alloc: Global,
+fn called_in_turn<T: Threads + Sync + AllocGlobal>(
+    rt: &T,
     recording: &Recording,
     call: &str,
     lists: &str,
     given: &[String],
 ) -> Result<String, Fail> {
     let Some((first, second)) = lists.split_once(" then ") else {
-        return called(alloc, recording, call, lists, given);
+        return called(rt, recording, call, lists, given);
     };
-    let once = repaired_recording(alloc, recording, first)?;
-    called(alloc, &once, call, second, given)
+    let once = repaired_recording(rt.alloc(), recording, first)?;
+    called(rt, &once, call, second, given)
 }
 
 /// Returns the result of a row's call.
-fn returned(alloc: Global, row: &Row) -> Result<String, Fail> {
+fn returned<T: Threads + Sync + AllocGlobal>(rt: &T, row: &Row) -> Result<String, Fail> {
     let [entries, lines, lists, given @ ..] = row.given.as_slice() else {
         return fail("no lines");
     };
-    let recording = recording(alloc, entries, lines)?;
-    called_in_turn(alloc, &recording, &row.call, lists, given)
+    let recording = recording(rt.alloc(), entries, lines)?;
+    called_in_turn(rt, &recording, &row.call, lists, given)
 }
 
 /// Makes the calls of a table. Fails with the first row whose call returns something else than it
 /// wants.
-fn hold(alloc: Global, table: &str) -> Result<(), Fail> {
-    for row in &rows(alloc, table)? {
-        let returned = returned(alloc, row)?;
-        row.compare(alloc, &returned)?;
+fn hold<T: Threads + Sync + AllocGlobal>(rt: &T, table: &str) -> Result<(), Fail> {
+    for row in &rows(rt.alloc(), table)? {
+        let returned = returned(rt, row)?;
+        row.compare(rt.alloc(), &returned)?;
     }
     Ok(())
 }
 
 #[test]
 fn repairs_are_as_worked_out(rt: HostRuntime) -> Result<(), Fail> {
-    for table in [INCIDENTS, IN_TURN, STEPS, GROUNDS] {
-        hold(rt.alloc(), table)?;
+    for table in [INCIDENTS, IN_TURN, STEPS, GROUNDS, ROUNDS] {
+        hold(&rt, table)?;
     }
     Ok(())
 }
