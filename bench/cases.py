@@ -73,4 +73,22 @@ def below(size):
     return [], [1], [(1, "mkdir d")] + [(1, f"echo a > d/f{at}") for at in range(size - 1)]
 
 
+def status(size):
+    """Each line asks for the status of the line before it."""
+    lines = [(1, "echo $? > f"), (1, "test $? = 0 || echo x >> g")]
+    return [], [1], [(1, "false")] + [lines[at % 2] for at in range(size - 1)]
+
+
+def fan(size):
+    """A fifth of the lines read one file of 10 KB, to which the first line appends."""
+    text = "".join(f"{at},abcdefghij,klmnopqrst\n" for at in range(400)).encode().hex()
+    tree = [["/d"], ["/d/f", text]] + [[f"/d{at}"] for at in range(100)]
+    reads = "cut -d , -f 1,3 d/f | grep -F 7,k > d{0}/found"
+    lines = [(1, "echo 7,x,k >> d/f")]
+    for at in range(1, size):
+        text = reads if at % 5 == 0 else "echo -n a >> d{0}/other"
+        lines.append((1, text.format(at % 100)))
+    return tree, [1], lines
+
+
 CASES = {"growing": growing, "spread": spread, "tree": tree_of, "mix": mix, "moving": moving}
