@@ -49,13 +49,17 @@ text = option_map (λ s. s.now)
 
 -- a parse that met a subcommand
 pub call_found : (words : List Text) (o : Option (Text × List Row)) (name : Text) (inner : Found)
-    (a : Option (Bor (List ℕ)))
+    (cancel workers cuts : Option (Bor (List ℕ)))
     → fault_of program words ≡ [] → o ≡ subcommand_of program words → o ≡ Some (name, rows_of inner)
-    → text a ≡ first_value inner (codes "cancel")
-    → call_in words ≡ Some (record { name = name; cancel = text a })
+    → text cancel ≡ first_value inner (codes "cancel")
+    → text workers ≡ first_value inner (codes "workers")
+    → text cuts ≡ first_value inner (codes "cuts")
+    → call_in words
+    ≡ Some (record { name = name; cancel = text cancel; workers = text workers; cuts = text cuts })
 unfolding call_in
-call_found words o name inner a none sub found ea =
-    rw (none, sym sub, found, ea, first_value-rows inner (codes "cancel")) refl
+call_found words o name inner cancel workers cuts none sub found ea eb ec =
+    let row = first_value-rows inner in
+    rw (none, sym sub, found, ea, eb, ec, row (codes "cancel"), row (codes "workers"), row (codes "cuts")) refl
 
 -- a parse that failed
 refused : {A : Type 0} (kinds : Kinds) (e : Error) (o : Option A) → HasKind kinds e → (kind_of e ≡ kind.OutOfMemory → ⊥)

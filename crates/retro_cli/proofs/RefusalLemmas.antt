@@ -1,16 +1,18 @@
 -- Which repairs are refused.
-use Rattle.std.proofs.Common.{◌≡◌, ◌∙◌, ◌==◌, ◌||◌, ℕ, Bool, true, false, List, [], ◌∷◌, Option, Some, None, option_map}
-use Rattle.std.proofs.Common.{Result, Ok, ap, cond, refl, sym}
+use Rattle.std.proofs.Common.{◌≡◌, ◌∙◌, ◌==◌, ◌||◌, ◌<◌, ◌≤◌, ℕ, Bool, true, false, List, [], ◌∷◌, Option, Some, None}
+use Rattle.std.proofs.Common.{Result, Ok, ap, arith, cond, nat_lt, option_map, refl, sym}
 use Rattle.std.proofs.lemmas.Bool.{eqb-true, true≢false}
 use Rattle.retro_keep.specs.Edit.{first_unknown, is_among}
 use Rattle.retro_keep.specs.Recording.{RecordingValue}
 use Rattle.retro_json.specs.declared.fault.Refusal.{Refusal}
-use Rattle.retro_redo.specs.Cancelling as repairs
 use Rattle.retro_redo.specs.Cancelling.{is_line}
 use Rattle.retro_redo.specs.declared.repair_fault.RepairFault.{RepairFault}
 use Rattle.retro_redo.specs.declared.repair_fault.RepairFault.TheVariants.{NoSuchLine, NoCut, TooManyWorkers}
 use Rattle.retro_redo.specs.declared.repair_fault.RepairFault.TheVariants.{OutOfMemory}
+use Rattle.retro_rounds.specs.Refusals.{IsAccepted, IsRefusal}
+use Rattle.retro_rounds.specs.declared.request.TheConstants.{MAX_WORKERS}
 use Rattle.retro_cli.specs.Program.{repair_refusal}
+use Rattle.retro_cli.specs.Words.{RepairOptions}
 use Rattle.retro_cli.specs.inner.Stop.{Refuses, stop_of_repair}
 use Rattle.retro_cli.specs.declared.stop.Stop.{Stop}
 use Rattle.retro_cli.specs.declared.stop.TheConstants.{UNKNOWN_LINE}
@@ -47,12 +49,47 @@ unknown_is_refused known cancelled n among missing = by_first (first_unknown kno
     by_first None e = absurd (true≢false (sym (all_known known cancelled e n among) ∙ missing))
     by_first (Some m) e = refl
 
+-- ---- none of the numbers is unknown if each is known
+
+among_first : (k : ℕ) (numbers : List ℕ) → is_among (k ∷ numbers) k ≡ true
+among_first k numbers = grind arith
+
+or_true : (a b : Bool) → b ≡ true → (a || b) ≡ true
+or_true true b h = refl
+or_true false b h = h
+
+none_unknown : (known : ℕ → Bool) (numbers : List ℕ) → ((n : ℕ) → is_among numbers n ≡ true → known n ≡ true)
+    → first_unknown known numbers ≡ None
+none_unknown known [] all = refl
+none_unknown known (k ∷ numbers) all =
+    let here : known k ≡ true = all k (among_first k numbers) in
+    rw here (none_unknown known numbers (λ n among. all n (or_true (k == n) (is_among numbers n) among)))
+
+-- ---- repairs
+
+few_workers : (workers : ℕ) → workers ≤ MAX_WORKERS → nat_lt MAX_WORKERS workers ≡ false
+few_workers workers h = search (arith, h)
+
+many_workers : (workers : ℕ) → MAX_WORKERS < workers → nat_lt MAX_WORKERS workers ≡ true
+many_workers workers h = search (arith, h)
+
 -- the fault of a repair stops the run as its request is refused
-pub fault_refuses : (cancelled : List ℕ) (log : Result RecordingValue Refusal) (r : RecordingValue)
-    (fault : RepairFault) (stop : Stop) → log ≡ Ok r → repairs.Refuses cancelled r fault → stop ≡ stop_of_repair fault
-    → Refuses stop (repair_refusal cancelled log)
-fault_refuses cancelled log r (NoSuchLine n) stop is h given =
-    rw (given, is) (unknown_is_refused (is_line r) cancelled n h.0 h.1)
-fault_refuses cancelled log r NoCut stop is h given = absurd h
-fault_refuses cancelled log r TooManyWorkers stop is h given = absurd h
-fault_refuses cancelled log r OutOfMemory stop is h given = rw given tt
+pub fault_refuses : (options : RepairOptions) (log : Result RecordingValue Refusal) (r : RecordingValue)
+    (fault : RepairFault) (stop : Stop) → log ≡ Ok r
+    → IsRefusal options.workers options.cuts options.cancel r fault → stop ≡ stop_of_repair fault
+    → Refuses stop (repair_refusal options log)
+fault_refuses options log r TooManyWorkers stop is h given =
+    rw (given, is, many_workers options.workers h) refl
+fault_refuses options log r NoCut stop is h given =
+    rw (given, is, few_workers options.workers h.0, h.1) refl
+fault_refuses options log r (NoSuchLine n) stop is h given =
+    rw (given, is, few_workers options.workers h.0, h.1)
+    (unknown_is_refused (is_line r) options.cancel n h.2.0 h.2.1)
+fault_refuses options log r OutOfMemory stop is h given = rw given tt
+
+-- nothing is refused of an accepted request
+pub accepted_is_not_refused : (options : RepairOptions) (log : Result RecordingValue Refusal) (r : RecordingValue)
+    → log ≡ Ok r → IsAccepted options.workers options.cuts options.cancel r → repair_refusal options log ≡ None
+accepted_is_not_refused options log r is h =
+    rw (is, few_workers options.workers h.workers_are, h.cuts_are, none_unknown (is_line r) options.cancel h.known)
+    refl

@@ -1,6 +1,7 @@
 -- What the program does: the first refusal of a command line and an input, the texts that answer a
 -- request, and what a run leaves. Each command adds a row to `request_refusal` and to `Answered`.
 use Rattle.std.specs.Prelude.{◌≡◌, ℕ, List, Option, Some, None, IsSome, IsOk, Result, Ok, Err, codes, option_map}
+use Rattle.std.specs.Prelude.{if◌then◌else◌, nat_lt, not}
 use Rattle.std.specs.Result.{result_err}
 use Rattle.std.specs.Io.KnownBytes.{Appends}
 use Rattle.retro_tree.specs.declared.state.State.{State}
@@ -11,7 +12,11 @@ use Rattle.retro_keep.specs.Recording.{RecordingValue, IsRecordingOf}
 use Rattle.retro_keep.specs.Recording as recordings
 use Rattle.retro_redo.specs.Cancelling.{AreLines, is_line}
 use Rattle.retro_redo.specs.Repair.{IsRepair, script_of_others}
+use Rattle.retro_redo.specs.RepairFault.{fault_number}
 use Rattle.retro_redo.specs.declared.repair.Repair.{Repair}
+use Rattle.retro_redo.specs.declared.repair_fault.RepairFault.TheVariants.{NoCut, TooManyWorkers}
+use Rattle.retro_rounds.specs.Refusals.{are_cuts}
+use Rattle.retro_rounds.specs.declared.request.TheConstants.{MAX_WORKERS}
 use Rattle.retro_log.specs.Document.{script_in, log_in}
 use Rattle.retro_log.specs.LogText.{log_text}
 use Rattle.retro_json.specs.Numbers.{refusal_number}
@@ -19,7 +24,8 @@ use Rattle.retro_json.specs.declared.fault.Refusal.{Refusal}
 use Rattle.retro_cli.specs.Output.{AppendsPart}
 use Rattle.retro_cli.specs.Report.{replay_text}
 use Rattle.retro_cli.specs.RepairReport.{repair_text}
-use Rattle.retro_cli.specs.Words.{Request, replay, record_script, check_log, repair, relog, request_in}
+use Rattle.retro_cli.specs.Words.{RepairOptions, Request, replay, record_script, check_log, repair, relog}
+use Rattle.retro_cli.specs.Words.{request_in}
 use Rattle.retro_cli.specs.declared.stop.TheConstants.{BAD_WORDS, UNKNOWN_LINE}
 use Rattle.retro_cli.specs.declared.exit.Exit.{Exit}
 use Rattle.retro_cli.specs.declared.exit.Exit.TheVariants as exits
@@ -100,19 +106,26 @@ pub record IsRepairedLog (cancelled : List ℕ) (input text : Text) : Type 0 whe
 abbrev pub document_refusal : {Y : Type 0} → Result Y Refusal → Option ℕ
 document_refusal document = option_map refusal_number (result_err document)
 
--- the number of the first refusal of a repair: of the log, then of the cancelled numbers
-abbrev pub repair_refusal : List ℕ → Result RecordingValue Refusal → Option ℕ
-repair_refusal cancelled (Ok recording) =
-    option_map (λ number. UNKNOWN_LINE) (first_unknown (is_line recording) cancelled)
-repair_refusal cancelled (Err refusal) = Some (refusal_number refusal)
+-- the number of the first refusal of a repair of a recording: too many workers, then no cuts or a
+-- zero among them, then a cancelled number that no line has
+abbrev pub options_refusal : RepairOptions → RecordingValue → Option ℕ
+options_refusal options recording =
+    if nat_lt MAX_WORKERS options.workers then Some (fault_number TooManyWorkers)
+    else if not (are_cuts options.cuts) then Some (fault_number NoCut)
+    else option_map (λ number. UNKNOWN_LINE) (first_unknown (is_line recording) options.cancel)
+
+-- the number of the first refusal of a repair: of the log, then of the options
+abbrev pub repair_refusal : RepairOptions → Result RecordingValue Refusal → Option ℕ
+repair_refusal options (Ok recording) = options_refusal options recording
+repair_refusal options (Err refusal) = Some (refusal_number refusal)
 
 -- the number of the first refusal of a request about an input
 abbrev pub request_refusal : Request → Text → Option ℕ
 request_refusal (replay cancelled) input = result_err (replay_answer cancelled input)
 request_refusal record_script input = document_refusal (script_in input)
 request_refusal check_log input = document_refusal (log_in input)
-request_refusal (repair cancelled) input = repair_refusal cancelled (log_in input)
-request_refusal (relog cancelled) input = repair_refusal cancelled (log_in input)
+request_refusal (repair options) input = repair_refusal options (log_in input)
+request_refusal (relog options) input = repair_refusal options (log_in input)
 
 abbrev pub refusal_in : Option Request → Text → Option ℕ
 refusal_in None input = Some BAD_WORDS
@@ -129,13 +142,14 @@ abbrev pub Answered : Request → Text → Exit → Text → Type 0
 Answered (replay cancelled) input exit text = (exit ≡ exits.Done) × (replay_answer cancelled input ≡ Ok text)
 Answered record_script input exit text = (exit ≡ exits.Done) × IsLogOf input text
 Answered check_log input exit text = IsVerdict input exit text
-Answered (repair cancelled) input exit text = (exit ≡ exits.Done) × IsRepairReport cancelled input text
-Answered (relog cancelled) input exit text = (exit ≡ exits.Done) × IsRepairedLog cancelled input text
+Answered (repair options) input exit text = (exit ≡ exits.Done) × IsRepairReport options.cancel input text
+Answered (relog options) input exit text = (exit ≡ exits.Done) × IsRepairedLog options.cancel input text
 
--- the answer to words about an input
+-- the answer to words about an input, of which nothing is refused
 pub record Answers (words : List Text) (input : Text) (exit : Exit) (text : Text) : Type 0 where
   pub request : Request
   pub words_ask : request_in words ≡ Some request
+  pub accepted : request_refusal request input ≡ None
   pub answered : Answered request input exit text
 
 -- ---- a run

@@ -6,7 +6,8 @@ use Rattle.clap.specs.Words.{App, Kinds, Row, Rule, Shape, Text, fault_of, first
 use Rattle.clap.specs.Words.{with_subcommand}
 use Rattle.clap.specs.declared.builder.action.ArgAction.TheVariants.{Set}
 use Rattle.retro_tree.specs.OutOfMemory.{UnlessOutOfMemory}
-use Rattle.retro_cli.specs.Numbers.{list_in}
+use Rattle.retro_cli.specs.Numbers.{list_in, number_in}
+use Rattle.retro_cli.specs.declared.repair_options.RepairOptions.{RepairOptions as OptionsValue}
 use Rattle.retro_cli.specs.declared.words.CommandCall.{CommandCall}
 use Rattle.retro_cli.specs.declared.words.Request.{Request as RequestValue}
 use Rattle.retro_cli.specs.declared.words.Request.TheVariants as requests
@@ -21,6 +22,11 @@ option name default = record (new_rule name) { long = Some name; action = Some S
 
 abbrev pub cancel : Rule
 cancel = option (codes "cancel") []
+
+-- the options of a repair
+abbrev pub repair_options : List Rule
+repair_options =
+    cancel ∷ option (codes "workers") (codes "0") ∷ option (codes "cuts") (codes "64") ∷ []
 
 abbrev pub command : Text → List Rule → Shape
 command name rules = record (new_app name).top { rules = rules }
@@ -48,18 +54,25 @@ script_program = with_command (with_command bare (codes "replay") (cancel ∷ []
 abbrev pub program : App
 program =
     with_command
-    (with_command (with_command script_program (codes "check") []) (codes "repair") (cancel ∷ [])) (codes "relog")
-    (cancel ∷ [])
+    (with_command (with_command script_program (codes "check") []) (codes "repair") repair_options) (codes "relog")
+    repair_options
 
 -- ---- the command in words, as `clap` reads them
 
--- a command's name, and the text of its option, if it has one
+-- a command's name, and the texts of the options that it has
 pub record Call : Type 0 where
   pub name : Text
   pub cancel : Option Text
+  pub workers : Option Text
+  pub cuts : Option Text
 
 abbrev pub call_of : Text × List Row → Call
-call_of p = record { name = p.0; cancel = first_of (codes "cancel") p.1 }
+call_of p = record {
+  name = p.0;
+  cancel = first_of (codes "cancel") p.1;
+  workers = first_of (codes "workers") p.1;
+  cuts = first_of (codes "cuts") p.1;
+}
 
 abbrev pub unless_fault : {A : Type 0} → Kinds → Option A → Option A
 unless_fault [] found = found
@@ -71,23 +84,41 @@ call_in words = unless_fault (fault_of program words) (option_map call_of (subco
 
 -- ---- what the words ask for
 
+-- how a log is to be repaired: without the lines that have these numbers, by so many threads beside
+-- the first one, and in pieces of so many lines
+pub record RepairOptions : Type 0 where
+  pub cancel : List ℕ
+  pub workers : ℕ
+  pub cuts : List ℕ
+
 -- a request: to run a script's lines without those that have these numbers, to record the lines of
--- a script, to check whether a log is a recording, or to repair a log without the lines that have
--- these numbers and answer the report of the repair or the log of the repaired recording
+-- a script, to check whether a log is a recording, or to repair a log and answer the report of the
+-- repair or the log of the repaired recording
 pub data Request : Type 0 where
   replay : List ℕ → Request
   record_script : Request
   check_log : Request
-  repair : List ℕ → Request
-  relog : List ℕ → Request
+  repair : RepairOptions → Request
+  relog : RepairOptions → Request
+
+-- the options with these values, or none if a value is missing
+abbrev pub options_with : Option (List ℕ) → Option ℕ → Option (List ℕ) → Option RepairOptions
+options_with (Some numbers) (Some count) (Some counts) =
+    Some (record { cancel = numbers; workers = count; cuts = counts })
+options_with _ _ _ = None
+
+abbrev pub options_of : Call → Option RepairOptions
+options_of g =
+    options_with (option_and_then list_in g.cancel) (option_and_then number_in g.workers)
+    (option_and_then list_in g.cuts)
 
 abbrev pub request_of : Call → Option Request
 request_of g =
     if pointwise nat_eq g.name (codes "replay") then option_map replay (option_and_then list_in g.cancel)
     else if pointwise nat_eq g.name (codes "record") then Some record_script
     else if pointwise nat_eq g.name (codes "check") then Some check_log
-    else if pointwise nat_eq g.name (codes "repair") then option_map repair (option_and_then list_in g.cancel)
-    else if pointwise nat_eq g.name (codes "relog") then option_map relog (option_and_then list_in g.cancel) else None
+    else if pointwise nat_eq g.name (codes "repair") then option_map repair (options_of g)
+    else if pointwise nat_eq g.name (codes "relog") then option_map relog (options_of g) else None
 
 -- what the words ask for, or none if they are bad
 unfoldable pub request_in : List Text → Option Request
@@ -96,14 +127,22 @@ request_in words = option_and_then request_of (call_in words)
 -- ---- values of the code
 
 abbrev pub call_view : CommandCall → Call
-call_view g = record { name = g.name.now; cancel = option_map (λ s. s.now) g.cancel }
+call_view g = record {
+  name = g.name.now;
+  cancel = option_map (λ s. s.now) g.cancel;
+  workers = option_map (λ s. s.now) g.workers;
+  cuts = option_map (λ s. s.now) g.cuts;
+}
+
+abbrev pub options_view : OptionsValue → RepairOptions
+options_view o = record { cancel = o.cancel.items; workers = o.workers; cuts = o.cuts.items }
 
 abbrev pub request_view : RequestValue → Request
 request_view (requests.Replay numbers) = replay numbers.items
 request_view requests.Record = record_script
 request_view requests.Check = check_log
-request_view (requests.Repair numbers) = repair numbers.items
-request_view (requests.Relog numbers) = relog numbers.items
+request_view (requests.Repair options) = repair (options_view options)
+request_view (requests.Relog options) = relog (options_view options)
 
 -- what a fault says of the words: that they are bad, or None if memory ran out
 abbrev pub not_found : {Y : Type 0} → WordsFault → Option (Option Y)

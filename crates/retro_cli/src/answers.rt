@@ -1,14 +1,16 @@
 //! Answers to requests. In each function `input` is the document that the program read.
-ghost use Rattle.std.specs.Prelude.{◌≡◌, Ok, IfOk, IfErr};
+ghost use Rattle.std.specs.Prelude.{◌≡◌, None, Ok, IfOk, IfErr, OnOk};
 ghost use Rattle.retro_cli.specs.Exit.{exit_of};
 ghost use Rattle.retro_cli.specs.Program.{Answered, IsLogOf, IsRepairReport, IsRepairedLog};
 ghost use Rattle.retro_cli.specs.Program.{IsVerdict, document_refusal, repair_refusal};
 ghost use Rattle.retro_cli.specs.Program.{replay_answer, request_refusal};
+ghost use Rattle.retro_cli.specs.inner.Repaired.{IsRepairOf};
 ghost use Rattle.retro_cli.specs.inner.Stop.{Refuses, ReturnsAs};
-ghost use Rattle.retro_cli.specs.Words.{request_view};
+ghost use Rattle.retro_cli.specs.Words.{options_view, request_view};
 ghost use Rattle.retro_log.specs.Document.{log_in, script_in};
 
 use crate::ending::Ending;
+use crate::repair_options::RepairOptions;
 use crate::repair_report::repair_report;
 use crate::replay::replay;
 use crate::report::replay_report;
@@ -16,7 +18,8 @@ use crate::stop::Stop;
 use crate::words::Request;
 use retro_keep::keep;
 use retro_log::{check, read_log, read_script, write_log};
-use retro_redo::repair_alone;
+use retro_redo::{Quiet, Repair};
+use retro_rounds::repair;
 use std::alloc::{AllocGlobal, Global};
 use std::thread::Threads;
 
@@ -58,32 +61,64 @@ fn check_input(alloc: Global, input: Vec<u8>) -> Result<(Vec<u8>, Ending), Stop>
     }
 }
 
-/// Returns the report of a repair of a log without the cancelled lines.
-#[tactic(auto, using(crate::proofs::RefusalLemmas::fault_refuses))]
-fn repair_input(alloc: Global, cancel: &[u32], input: Vec<u8>) -> Result<Vec<u8>, Stop>
-    ensures ok { IfOk result (λ text. IsRepairReport cancel.now input.items text.items) }
+/// Returns the repair of a log.
+fn repair_log<T: Threads + Sync + AllocGlobal>(
+    rt: &T,
+    options: &RepairOptions,
+    input: Vec<u8>,
+) -> Result<Repair, Stop>
+    ensures ok { IfOk result (λ repair.
+        IsRepairOf (options_view options.now) input.items repair) }
     ensures err { IfErr result (λ stop.
-        Refuses stop (repair_refusal cancel.now (log_in input.items))) }
+        Refuses stop (repair_refusal (options_view options.now) (log_in input.items))) }
 {
-    let recording = read_log(alloc, &input)?;
+    let recording = read_log(rt.alloc(), &input)?;
     drop(input);
-    let repair = repair_alone(alloc, &recording, cancel)?;
-    drop(recording);
-    Ok(repair_report(alloc, &repair)?)
+    Ok(repair(
+        rt,
+        rt.alloc(),
+        &recording,
+        &options.cancel,
+        options.workers,
+        &options.cuts,
+        &Quiet,
+    )?)
 }
 
-/// Returns the log of the repaired recording of a log without the cancelled lines.
-#[tactic(auto, using(crate::proofs::RefusalLemmas::fault_refuses))]
-fn relog_input(alloc: Global, cancel: &[u32], input: Vec<u8>) -> Result<Vec<u8>, Stop>
-    ensures ok { IfOk result (λ text. IsRepairedLog cancel.now input.items text.items) }
+/// Returns the report of a repair of a log.
+#[tactic(auto, using(crate::proofs::RefusalLemmas::accepted_is_not_refused))]
+fn repair_input<T: Threads + Sync + AllocGlobal>(
+    rt: &T,
+    options: &RepairOptions,
+    input: Vec<u8>,
+) -> Result<Vec<u8>, Stop>
+    ensures ok { IfOk result (λ text.
+        IsRepairReport (options_view options.now).cancel input.items text.items) }
+    ensures accepted { OnOk result
+        (repair_refusal (options_view options.now) (log_in input.items) ≡ None) }
     ensures err { IfErr result (λ stop.
-        Refuses stop (repair_refusal cancel.now (log_in input.items))) }
+        Refuses stop (repair_refusal (options_view options.now) (log_in input.items))) }
 {
-    let recording = read_log(alloc, &input)?;
-    drop(input);
-    let repair = repair_alone(alloc, &recording, cancel)?;
-    drop(recording);
-    Ok(write_log(alloc, &repair.recording)?)
+    let repair = repair_log(rt, options, input)?;
+    Ok(repair_report(rt.alloc(), &repair)?)
+}
+
+/// Returns the log of the repaired recording of a log.
+#[tactic(auto, using(crate::proofs::RefusalLemmas::accepted_is_not_refused))]
+fn relog_input<T: Threads + Sync + AllocGlobal>(
+    rt: &T,
+    options: &RepairOptions,
+    input: Vec<u8>,
+) -> Result<Vec<u8>, Stop>
+    ensures ok { IfOk result (λ text.
+        IsRepairedLog (options_view options.now).cancel input.items text.items) }
+    ensures accepted { OnOk result
+        (repair_refusal (options_view options.now) (log_in input.items) ≡ None) }
+    ensures err { IfErr result (λ stop.
+        Refuses stop (repair_refusal (options_view options.now) (log_in input.items))) }
+{
+    let repair = repair_log(rt, options, input)?;
+    Ok(write_log(rt.alloc(), &repair.recording)?)
 }
 
 /// Returns the text that answers a request, and how the program ends once the text is written.
@@ -94,6 +129,8 @@ pub(crate) fn answer<T: Threads + Sync + AllocGlobal>(
 ) -> Result<(Vec<u8>, Ending), Stop>
     ensures ok { IfOk result (λ answer.
         Answered (request_view request.now) input.items (exit_of (Ok answer.1)) answer.0.items) }
+    ensures accepted { OnOk result
+        (request_refusal (request_view request.now) input.items ≡ None) }
     ensures err { IfErr result (λ stop.
         Refuses stop (request_refusal (request_view request.now) input.items)) }
 {
@@ -101,7 +138,7 @@ pub(crate) fn answer<T: Threads + Sync + AllocGlobal>(
         Request::Replay { cancel } => Ok((replay_input(rt.alloc(), cancel, input)?, Ending::Done)),
         Request::Record => Ok((record_input(rt, input)?, Ending::Done)),
         Request::Check => Ok(check_input(rt.alloc(), input)?),
-        Request::Repair { cancel } => Ok((repair_input(rt.alloc(), cancel, input)?, Ending::Done)),
-        Request::Relog { cancel } => Ok((relog_input(rt.alloc(), cancel, input)?, Ending::Done)),
+        Request::Repair(options) => Ok((repair_input(rt, options, input)?, Ending::Done)),
+        Request::Relog(options) => Ok((relog_input(rt, options, input)?, Ending::Done)),
     }
 }

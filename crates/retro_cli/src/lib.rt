@@ -15,6 +15,7 @@ mod input;
 mod numbers;
 mod output;
 mod program;
+mod repair_options;
 mod repair_report;
 mod replay;
 mod report;

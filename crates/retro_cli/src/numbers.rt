@@ -1,4 +1,4 @@
-//! Lists of numbers on the command line.
+//! Numbers on the command line, and lists of them.
 ghost use Rattle.std.specs.Prelude.{◌≡◌, ◌==◌, IfOk, map};
 ghost use Rattle.std.specs.Str.{all_ascii_digits};
 ghost use Rattle.std.specs.List.{slice_split};
@@ -30,7 +30,7 @@ fn are_digits(text: &[u8]) -> bool
 /// Returns the decimal number that a text is, or `None` if the text isn't one to ten digits or the
 /// number is over 4,294,967,295.
 #[tactic(auto, unfolding(crate::specs::Numbers::number_in))]
-fn number_of(text: &str) -> Option<u32>
+pub(crate) fn number_of(text: &str) -> Option<u32>
     ensures { result ≡ number_in text.now }
 {
     if text.len() > MOST_DIGITS || !are_digits(text.as_bytes()) {

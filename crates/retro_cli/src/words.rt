@@ -1,14 +1,16 @@
 //! The request that the words of the command line make, as `clap` reads them.
-ghost use Rattle.std.specs.Prelude.{◌≡◌, ◌∷◌, [], false, map, option_and_then, IfOk, codes};
+ghost use Rattle.std.specs.Prelude.{◌≡◌, ◌∷◌, [], false, map, option_and_then, option_map, IfOk};
 ghost use Rattle.std.specs.Prelude.{string_bytes};
 ghost use Rattle.clap.specs.Words.{app_of, rule_of};
 ghost use Rattle.clap.specs.declared.builder.command.Command.TheViews.{out-Command as fields_of};
-ghost use Rattle.retro_cli.specs.Numbers.{list_in};
-ghost use Rattle.retro_cli.specs.Words.{option, cancel, command, bare, program, call_in, call_view};
+ghost use Rattle.retro_cli.specs.Numbers.{list_in, number_in};
+ghost use Rattle.retro_cli.specs.Words.{option, cancel, repair_options, command, bare, program};
+ghost use Rattle.retro_cli.specs.Words.{call_in, call_view, options_of, options_view};
 ghost use Rattle.retro_cli.specs.Words.{request_of, request_view, request_in, Means};
 ghost use Rattle.retro_cli.specs.declared.words.WordsFault.TheVariants as faults;
 
-use crate::numbers::list_of;
+use crate::numbers::{list_of, number_of};
+use crate::repair_options::RepairOptions;
 use clap::error::ErrorKind;
 use clap::{Arg, ArgAction, Command};
 use retro_tree::NoMem;
@@ -23,11 +25,10 @@ pub(crate) enum Request {
     Record,
     /// Check whether a log is a recording of its lines.
     Check,
-    /// Repair a log without the lines that have these numbers, and report the repair.
-    Repair { cancel: Vec<u32> },
-    /// Repair a log without the lines that have these numbers, and write the log of the repaired
-    /// recording.
-    Relog { cancel: Vec<u32> },
+    /// Repair a log, and report the repair.
+    Repair(RepairOptions),
+    /// Repair a log, and write the log of the repaired recording.
+    Relog(RepairOptions),
 }
 
 /// Why words make no request.
@@ -55,31 +56,45 @@ impl<T: Drop> From<AllocFailed<T>> for WordsFault {
     }
 }
 
-/// The command that words name, and the text of its option.
+/// The command that words name, and the texts of its options. An option that the command doesn't
+/// have is `None`.
 #[derive(Debug, Drop)]
 struct CommandCall<'a> {
     name: &'a str,
     cancel: Option<&'a str>,
+    workers: Option<&'a str>,
+    cuts: Option<&'a str>,
 }
 
-/// Returns the option `--cancel`, which takes one value and is empty by default.
-fn cancel_option<'a>(alloc: Global) -> Arg<'a>
-    ensures rule { rule_of result ≡ cancel }
+/// Returns an option that takes one value, with its default.
+fn value_option<'a>(alloc: Global, name: &'a str, default: &'a str) -> Arg<'a>
+    ensures rule { rule_of result ≡ option name.entry.now default.entry.now }
     ensures local { result.global ≡ false }
 {
-    Arg::new(alloc, "cancel")
-        .long("cancel")
+    Arg::new(alloc, name)
+        .long(name)
         .action(ArgAction::Set)
-        .default_value("")
+        .default_value(default)
 }
 
-/// Returns a command that has the option `--cancel`.
+/// Returns a command that has the option `--cancel`, which is empty by default.
 fn cancelling_command<'a>(alloc: Global, name: &'a str) -> Result<Command<'a>, NoMem>
     ensures shape { IfOk result (λ c.
         app_of c ≡ record { top = command name.entry.now (cancel ∷ []); subs = [] }) }
     ensures local { IfOk result (λ c. (fields_of c).has_globals ≡ false) }
 {
-    Command::new(alloc, name).arg(cancel_option(alloc))
+    Command::new(alloc, name).arg(value_option(alloc, "cancel", ""))
+}
+
+/// Returns a command that has the options of a repair: `--cancel`, `--workers` and `--cuts`.
+fn repairing_command<'a>(alloc: Global, name: &'a str) -> Result<Command<'a>, NoMem>
+    ensures shape { IfOk result (λ c.
+        app_of c ≡ record { top = command name.entry.now repair_options; subs = [] }) }
+    ensures local { IfOk result (λ c. (fields_of c).has_globals ≡ false) }
+{
+    cancelling_command(alloc, name)?
+        .arg(value_option(alloc, "workers", "0"))?
+        .arg(value_option(alloc, "cuts", "64"))
 }
 
 /// Returns a command without options.
@@ -109,8 +124,8 @@ fn program_command<'a>(alloc: Global) -> Result<Command<'a>, NoMem>
         .subcommand(cancelling_command(alloc, "replay")?)?
         .subcommand(plain_command(alloc, "record"))?
         .subcommand(plain_command(alloc, "check"))?
-        .subcommand(cancelling_command(alloc, "repair")?)?
-        .subcommand(cancelling_command(alloc, "relog")?)
+        .subcommand(repairing_command(alloc, "repair")?)?
+        .subcommand(repairing_command(alloc, "relog")?)
 }
 
 /// Returns the command that words name, as `clap` reads them. Fails with `BadWords` if `clap`
@@ -124,6 +139,8 @@ fn read_call<'a>(alloc: Global, words: &'a [String]) -> Result<CommandCall<'a>, 
             Some((name, inner)) => Ok(CommandCall {
                 name,
                 cancel: inner.get_str("cancel"),
+                workers: inner.get_str("workers"),
+                cuts: inner.get_str("cuts"),
             }),
             None => Err(WordsFault::BadWords),
         },
@@ -134,21 +151,42 @@ fn read_call<'a>(alloc: Global, words: &'a [String]) -> Result<CommandCall<'a>, 
     }
 }
 
-/// Returns the numbers of the lines to cancel. Fails with `BadWords` if the command has no option
-/// `--cancel`, or if its text isn't a list of numbers.
-fn cancelled_in(alloc: Global, call: &CommandCall<'_>) -> Result<Vec<u32>, WordsFault>
-    ensures { Means (λ v. v.items) result (option_and_then list_in (call_view call.now).cancel) }
+/// Returns the numbers of an option's list. Fails with `BadWords` if the command doesn't have the
+/// option, or if its text isn't a list of numbers.
+fn list_option(alloc: Global, text: Option<&str>) -> Result<Vec<u32>, WordsFault>
+    ensures { Means (λ v. v.items) result
+        (option_and_then list_in (option_map (λ s. s.now) text.entry)) }
 {
-    match call.cancel {
+    match text {
         Some(text) => list_of(alloc, text),
         None => Err(WordsFault::BadWords),
     }
 }
 
+/// Returns the number of an option. Fails with `BadWords` if the command doesn't have the option,
+/// or if its text isn't a number.
+fn number_option(text: Option<&str>) -> Result<u32, WordsFault>
+    ensures { Means (λ n. n) result (option_and_then number_in (option_map (λ s. s.now) text.entry)) }
+{
+    text.and_then(number_of).ok_or(WordsFault::BadWords)
+}
+
+/// Returns the options of a repair. Fails with `BadWords` if the command doesn't have them, or if
+/// one is malformed.
+fn options_of(alloc: Global, call: &CommandCall<'_>) -> Result<RepairOptions, WordsFault>
+    ensures { Means options_view result (options_of (call_view call.now)) }
+{
+    Ok(RepairOptions {
+        cancel: list_option(alloc, call.cancel)?,
+        workers: number_option(call.workers)? as usize,
+        cuts: list_option(alloc, call.cuts)?,
+    })
+}
+
 /// Returns the request that words make. The first word is the program's name.
 ///
 /// Fails with `BadWords` if `clap` refuses the words, as it does a request for help, or if the
-/// list of the cancelled numbers is malformed.
+/// value of an option is malformed.
 #[tactic(auto, unfolding(crate::specs::Words::request_in))]
 pub(crate) fn read_words(alloc: Global, words: &[String]) -> Result<Request, WordsFault>
     ensures { Means request_view result (request_in (map string_bytes words.now)) }
@@ -156,16 +194,12 @@ pub(crate) fn read_words(alloc: Global, words: &[String]) -> Result<Request, Wor
     let call = read_call(alloc, words)?;
     match call.name {
         "replay" => Ok(Request::Replay {
-            cancel: cancelled_in(alloc, &call)?,
+            cancel: list_option(alloc, call.cancel)?,
         }),
         "record" => Ok(Request::Record),
         "check" => Ok(Request::Check),
-        "repair" => Ok(Request::Repair {
-            cancel: cancelled_in(alloc, &call)?,
-        }),
-        "relog" => Ok(Request::Relog {
-            cancel: cancelled_in(alloc, &call)?,
-        }),
+        "repair" => Ok(Request::Repair(options_of(alloc, &call)?)),
+        "relog" => Ok(Request::Relog(options_of(alloc, &call)?)),
         _ => Err(WordsFault::BadWords),
     }
 }

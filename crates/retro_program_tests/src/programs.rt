@@ -103,6 +103,26 @@ pub fn run<T: Threads + Sync + AllocGlobal>(
     ended(rt.alloc(), exit, out)
 }
 
+/// Runs the program on the log of a script, without and with each of the further words. Returns
+/// what `run` returns if that is always the same, and otherwise what differs.
+pub fn run_with_each<T: Threads + Sync + AllocGlobal>(
+    rt: &T,
+    given: &str,
+    further: &[String],
+    script: &str,
+) -> Result<String, Fail> {
+    let log = written(rt, "retro record", input_named(script))?;
+    let answer = run(rt, given, &log)?;
+    for more in further {
+        let words = format!(in rt.alloc(); "{given} {more}")?;
+        let other = run(rt, &words, &log)?;
+        if other != answer {
+            return Ok(format!(in rt.alloc(); "with {more}: {other}")?);
+        }
+    }
+    Ok(answer)
+}
+
 /// Returns a line of session 1 with its number, as scripts write it.
 fn line_json(alloc: Global, number: usize, line: &str) -> Result<String, NoMem> {
     let line = Value::String(text(alloc, line)?).to_string(alloc)?;

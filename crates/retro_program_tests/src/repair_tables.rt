@@ -57,3 +57,86 @@ in turn: retro record :: retro repair --cancel 2,5 :: SHARED => 0 {"cancelled":[
   "outputs":[[1,""],[3,""],[4,"6f6e650a74687265650a"],[6,"6f6e650a74687265650a"]],"redone":[4,6],\
   "sessions":[[1,"/",0,[]],[2,"/tmp",0,[]]],"tree":[["/tmp"],["/tmp/log","6f6e650a74687265650a"]]}
 "##;
+
+/// Words for repairs with workers and cuts into pieces: what the program answers with each of some
+/// further words, and refusals.
+pub const OPTIONS: &str = r##"
+with each: retro repair --cancel 1 :: --cuts 64 :: --cuts 1,4 :: --cuts 1 :: --cuts 2
+  :: --cuts 3,1 :: --cuts 4294967295,4294967295 :: --workers 0 :: --workers 16 --cuts 64
+  :: --workers=3 --cuts=1,4 :: --cuts 0000000001 --workers 0000000016 :: READERS
+  => 0 {"cancelled":[1],"compensations":[[2,"",\
+  "6361743a202f746d702f6b3a204e6f20737563682066696c65206f72206469726563746f72790a"],[3,"700a700a",\
+  "6361743a202f746d702f6b3a204e6f20737563682066696c65206f72206469726563746f72790a"],[4,"700a",\
+  "6361743a202f746d702f6b3a204e6f20737563682066696c65206f72206469726563746f72790a"],[5,"700a",\
+  "677265703a202f746d702f6b3a204e6f20737563682066696c65206f72206469726563746f72790a"]],\
+  "met":[2,3,4,5],"outputs":[[2,\
+  "6361743a202f746d702f6b3a204e6f20737563682066696c65206f72206469726563746f72790a"],\
+  [3,"6361743a202f746d702f6b3a204e6f20737563682066696c65206f72206469726563746f72790a"],\
+  [4,"6361743a202f746d702f6b3a204e6f20737563682066696c65206f72206469726563746f72790a"],\
+  [5,"677265703a202f746d702f6b3a204e6f20737563682066696c65206f72206469726563746f72790a"]],\
+  "redone":[2,3,4,5],"sessions":[[1,"/h",2,[["HOME","/h"]]],[2,"/tmp",0,[["HOME","/tmp"]]]],\
+  "tree":[["/etc"],["/etc/passwd","726f6f743a783a303a303a723a2f3a2f62696e2f73680a616c6963653a78\
+  3a3130303a3130303a613a2f683a2f62696e2f73680a6d616c6c6f72793a783a3230303a3230303a6d3a2f746d70\
+  3a2f62696e2f73680a"],["/h"],["/h/a",""],["/tmp"]]}
+with each: retro relog --cancel 1 :: --cuts 64 :: --cuts 1,4 :: --cuts 1 :: --cuts 2
+  :: --cuts 3,1 :: --cuts 4294967295,4294967295 :: --workers 0 :: --workers 16 --cuts 64
+  :: --workers=3 --cuts=1,4 :: --cuts 0000000001 --workers 0000000016 :: READERS
+  => 0 {"lines":[[2,1,"cat /tmp/k > a",[["cwd","/h"],["canwrite","/h/a",0,"yes"],\
+  ["put","/h/a",["f",""]],["bytes","/tmp/k",[]],["setstatus",1]],\
+  "6361743a202f746d702f6b3a204e6f20737563682066696c65206f72206469726563746f72790a"],\
+  [3,1,"cat a /tmp/k",[["cwd","/h"],["bytes","/h/a",["f",""]],["bytes","/tmp/k",[]],\
+  ["setstatus",1]],\
+  "6361743a202f746d702f6b3a204e6f20737563682066696c65206f72206469726563746f72790a"],\
+  [4,1,"cat /tmp/k",[["bytes","/tmp/k",[]],["setstatus",1]],\
+  "6361743a202f746d702f6b3a204e6f20737563682066696c65206f72206469726563746f72790a"],\
+  [5,1,"grep -F p /tmp/k",[["bytes","/tmp/k",[]],["setstatus",2]],\
+  "677265703a202f746d702f6b3a204e6f20737563682066696c65206f72206469726563746f72790a"]],"log":1,\
+  "sessions":[[1,"/h",0,[["HOME","/h"]]],[2,"/tmp",0,[["HOME","/tmp"]]]],\
+  "tree":[["/etc"],["/etc/passwd","726f6f743a783a303a303a723a2f3a2f62696e2f73680a616c6963653a78\
+  3a3130303a3130303a613a2f683a2f62696e2f73680a6d616c6c6f72793a783a3230303a3230303a6d3a2f746d70\
+  3a2f62696e2f73680a"],["/h"],["/tmp"]]}
+run: retro repair --workers 17 :: LOG => 1 retro: refused 23
+run: retro repair --workers 4294967295 :: LOG => 1 retro: refused 23
+run: retro repair --cuts 0 :: LOG => 1 retro: refused 22
+run: retro repair --cuts %(EMPTY) :: LOG => 1 retro: refused 22
+run: retro repair --cuts= :: LOG => 1 retro: refused 22
+run: retro repair --cuts 1,0,2 :: LOG => 1 retro: refused 22
+run: retro repair --workers 17 --cuts 0 --cancel 99 :: LOG => 1 retro: refused 23
+run: retro repair --workers 16 --cuts 0 --cancel 99 :: LOG => 1 retro: refused 22
+run: retro repair --workers 16 --cuts 1 --cancel 99 :: LOG => 1 retro: refused 21
+run: retro repair --workers 17 --cuts 0 --cancel 99 :: [ => 1 retro: refused 12
+run: retro repair --workers 17 :: PAIR => 1 retro: refused 14
+run: retro repair --workers x :: LOG => 1 retro: refused 31
+run: retro repair --workers -1 :: LOG => 1 retro: refused 31
+run: retro repair --workers +1 :: LOG => 1 retro: refused 31
+run: retro repair --workers %(EMPTY) :: LOG => 1 retro: refused 31
+run: retro repair --workers= :: LOG => 1 retro: refused 31
+run: retro repair --workers :: LOG => 1 retro: refused 31
+run: retro repair --workers 1,2 :: LOG => 1 retro: refused 31
+run: retro repair --workers 4294967296 :: LOG => 1 retro: refused 31
+run: retro repair --workers 00000000001 :: LOG => 1 retro: refused 31
+run: retro repair --workers 1 --workers 1 :: LOG => 1 retro: refused 31
+run: retro repair --cuts x :: LOG => 1 retro: refused 31
+run: retro repair --cuts 1,,2 :: LOG => 1 retro: refused 31
+run: retro repair --cuts 1, :: LOG => 1 retro: refused 31
+run: retro repair --cuts :: LOG => 1 retro: refused 31
+run: retro repair --cuts 4294967296 :: LOG => 1 retro: refused 31
+run: retro repair --cuts 1 --cuts 1 :: LOG => 1 retro: refused 31
+run: retro repair --workers 17 --cuts x :: [ => 1 retro: refused 31
+run: retro relog --workers 17 :: LOG => 1 retro: refused 23
+run: retro relog --cuts 0 :: LOG => 1 retro: refused 22
+run: retro relog --cuts %(EMPTY) :: LOG => 1 retro: refused 22
+run: retro relog --workers 17 --cuts 0 --cancel 99 :: LOG => 1 retro: refused 23
+run: retro relog --workers 16 --cuts 0 --cancel 99 :: LOG => 1 retro: refused 22
+run: retro relog --workers 17 --cuts 0 --cancel 99 :: [ => 1 retro: refused 12
+run: retro relog --workers x :: LOG => 1 retro: refused 31
+run: retro relog --workers 1 --workers 1 :: LOG => 1 retro: refused 31
+run: retro relog --cuts 1,,2 :: LOG => 1 retro: refused 31
+run: retro replay --workers 1 :: PAIR => 1 retro: refused 31
+run: retro replay --cuts 1 :: PAIR => 1 retro: refused 31
+run: retro record --workers 1 :: PAIR => 1 retro: refused 31
+run: retro record --cuts 1 :: PAIR => 1 retro: refused 31
+run: retro check --workers 1 :: LOG => 1 retro: refused 31
+run: retro check --cuts 1 :: LOG => 1 retro: refused 31
+run: retro --workers 1 repair :: LOG => 1 retro: refused 31
+"##;

@@ -1,8 +1,8 @@
 //! The call that each row names, and the test that makes these calls.
 use crate::documents::{log, log_fronts, logged, note, script, script_part, without, written};
 use crate::log_tables::{LOG_LINES, LOGS, NOTES};
-use crate::programs::{run, run_in_turn, shell};
-use crate::repair_tables::REPAIRS;
+use crate::programs::{run, run_in_turn, run_with_each, shell};
+use crate::repair_tables::{OPTIONS, REPAIRS};
 use crate::tables::{DOCUMENTS, PROGRAMS, SHELL};
 use retro_rows::rows;
 use retro_tree::NoMem;
@@ -35,6 +35,7 @@ fn called<T: Threads + Sync + AllocGlobal>(
         ("shell", [entries, lines @ ..]) => shell(rt, entries, lines),
         ("run", [words, input]) => run(rt, words, input),
         ("in turn", [words @ .., last, input]) => run_in_turn(rt, words, last, input),
+        ("with each", [words, further @ .., script]) => run_with_each(rt, words, further, script),
         _ => Ok(document_called(rt.alloc(), call, given)?),
     }
 }
@@ -59,7 +60,10 @@ fn rows_hold(rt: HostRuntime) -> Result<(), Fail> {
 
 #[test]
 fn rows_of_repairs_hold(rt: HostRuntime) -> Result<(), Fail> {
-    hold(&rt, REPAIRS)
+    for table in [REPAIRS, OPTIONS] {
+        hold(&rt, table)?;
+    }
+    Ok(())
 }
 
 #[test]

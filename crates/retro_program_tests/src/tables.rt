@@ -276,6 +276,16 @@ const SHARED: &str = concat!(
     r#"[5,2,"echo four >> /tmp/log"],[6,1,"cat /tmp/log"]]}"#,
 );
 
+/// A script in which four lines read what line 1 of another session wrote.
+const READERS: &str = concat!(
+    r#"{"script":1,"tree":[["/etc"],["/etc/passwd","726f6f743a783a303a303a723a2f3a2f62696e2f"#,
+    "73680a616c6963653a783a3130303a3130303a613a2f683a2f62696e2f73680a6d616c6c6f72",
+    r#"793a783a3230303a3230303a6d3a2f746d703a2f62696e2f73680a"],["/h"],["/tmp"]],"#,
+    r#""sessions":[[1,"/h",0,[["HOME","/h"]]],[2,"/tmp",0,[["HOME","/tmp"]]]],"lines":["#,
+    r#"[1,2,"echo p > /tmp/k"],[2,1,"cat /tmp/k > a"],[3,1,"cat a /tmp/k"],"#,
+    r#"[4,1,"cat /tmp/k"],[5,1,"grep -F p /tmp/k"]]}"#,
+);
+
 /// Returns the input with a name. Any other text is itself.
 pub fn input_named(name: &str) -> &str {
     match name {
@@ -288,6 +298,7 @@ pub fn input_named(name: &str) -> &str {
             r#""lines":[[1,1,"echo a > f"],[2,1,"cat f"]]}"#
         ),
         "SHARED" => SHARED,
+        "READERS" => READERS,
         "EMPTY_LOG" => r#"{"log":1,"tree":[],"sessions":[],"lines":[]}"#,
         "LOG" => concat!(
             r#"{"lines":[[1,1,"echo a > f",[["cwd","/"],["canwrite","/f",0,"yes"],"#,

@@ -19,9 +19,9 @@ returns c =
     c.in_ok-subcommand-3.ensures.shape c.plain_command-2.ensures.local
     ∙ ap₂ with_subcommand two (ap top c.plain_command-2.ensures.shape) in
     let four =
-    c.in_ok-subcommand-4.ensures.shape c.in_ok-cancelling_command-2.ensures.local
-    ∙ ap₂ with_subcommand three (ap top c.in_ok-cancelling_command-2.ensures.shape) in
+    c.in_ok-subcommand-4.ensures.shape c.in_ok-repairing_command.ensures.local
+    ∙ ap₂ with_subcommand three (ap top c.in_ok-repairing_command.ensures.shape) in
     IfOk-weaker c.subcommand-5.result _ _
-    (λ m h. h.shape c.in_ok-cancelling_command-3.ensures.local
-    ∙ ap₂ with_subcommand four (ap top c.in_ok-cancelling_command-3.ensures.shape))
+    (λ m h. h.shape c.in_ok-repairing_command-2.ensures.local
+    ∙ ap₂ with_subcommand four (ap top c.in_ok-repairing_command-2.ensures.shape))
     c.subcommand-5.ensures
