@@ -22,10 +22,11 @@ use std::thread::Threads;
 /// `cancel`. A number may be there twice. Only lines whose notes no longer hold are run again, and
 /// those that a round takes for such.
 ///
-/// `cuts` are the numbers of lines of the pieces; the last one is that of all further pieces.
-/// `workers` is the number of threads beside this one. Neither changes the answer, and only `cuts`
-/// changes the jobs. The observer is called before and after each execution of a line, by several
-/// threads. If all other lines are run again at the end, their executions aren't observed.
+/// `cuts` are the numbers of lines of the pieces; the last one is that of all further pieces. With
+/// no `workers` the jobs are run on this thread, and otherwise on as many as there are processors.
+/// Neither changes the answer, and only `cuts` changes the jobs. The observer is called before and
+/// after each execution of a line, by the thread that runs it. If all other lines are run again at
+/// the end, their executions aren't observed.
 ///
 /// For a recording that isn't what running its lines gives, the answer is as
 /// [`repair_alone`](retro_redo::repair_alone) says.
@@ -58,8 +59,9 @@ pub fn repair<R: Threads + Sync, G: Gate + Sync>(
         recording,
         cancel,
         cuts,
+        workers,
     };
-    request.check(workers)?;
+    request.check()?;
     // For the prover: the contract of `lines` says that the recording is well formed.
     let _ = recording.lines();
     let (settled, tally) = settle_all(rt, alloc, &request, gate)?;
@@ -92,9 +94,10 @@ fn settle_all<'a, R: Threads + Sync, G: Gate + Sync>(
     let history = History::of(alloc, request.recording)?;
     let mut repairer = Repairer::new(alloc, request.recording, &history, request.cancel)?;
     let mut rounds = Rounds::new(alloc, request.cuts);
+    let threads = if request.workers == 0 { None } else { Some(rt) };
     while let Some(number) = repairer.skip_unmet()? {
         rounds.pass_to(number);
-        rounds.advance(rt, alloc, &repairer, gate)?;
+        rounds.advance(threads, alloc, &repairer, gate)?;
         rounds.settle(alloc, &mut repairer, number, gate)?;
     }
     Ok((repairer.into_progress(), rounds.finish()))

@@ -17,18 +17,22 @@ pub(crate) struct Request<'a> {
     pub(crate) cancel: &'a [u32],
     /// The numbers of lines of the pieces. The last one is that of all further pieces.
     pub(crate) cuts: &'a [u32],
+    /// The number of threads that run jobs beside this one.
+    pub(crate) workers: usize,
 }
 
 impl Request<'_> {
     /// Returns nothing if the request can be answered, and otherwise the first refusal: too many
     /// workers, no cuts or a zero among them, or the least number that no line has.
-    pub(crate) fn check(&self, workers: usize) -> Result<(), RepairFault>
+    pub(crate) fn check(&self) -> Result<(), RepairFault>
         ensures ok { OnOk result
-            (IsAccepted workers self.now.cuts.now self.now.cancel.now self.now.recording.now) }
+            (IsAccepted self.now.workers self.now.cuts.now self.now.cancel.now
+            self.now.recording.now) }
         ensures err { IfErr result (λ fault.
-            IsRefusal workers self.now.cuts.now self.now.cancel.now self.now.recording.now fault) }
+            IsRefusal self.now.workers self.now.cuts.now self.now.cancel.now
+            self.now.recording.now fault) }
     {
-        if workers > MAX_WORKERS {
+        if self.workers > MAX_WORKERS {
             return Err(RepairFault::TooManyWorkers);
         }
         if !are_cuts(self.cuts) {

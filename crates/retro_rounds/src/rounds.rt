@@ -62,7 +62,7 @@ impl<'c> Rounds<'c> {
     /// Begins the round of the piece that the next line is in, if the last round is over.
     pub(crate) fn advance<R: Threads + Sync, G: Gate + Sync>(
         &mut self,
-        rt: &R,
+        threads: Option<&R>,
         alloc: Global,
         repairer: &Repairer<'_, '_>,
         gate: &G,
@@ -82,7 +82,7 @@ impl<'c> Rounds<'c> {
         let lines = repairer.ground().recording().lines();
         self.pieces.find(settled);
         let end = self.pieces.end.min(lines.len());
-        let attempts = attempts_until(rt, alloc, repairer, end, gate)?;
+        let attempts = attempts_until(threads, alloc, repairer, end, gate)?;
         self.tally.jobs += attempts.len();
         self.attempts = Attempts::of(attempts);
         Ok(())
@@ -150,7 +150,7 @@ fn count(tally: &mut Tally, how: Settlement, was_made: bool)
 
 /// Makes an attempt at each line up to the index `end` that is likely to be run again.
 fn attempts_until<R: Threads + Sync, G: Gate + Sync>(
-    rt: &R,
+    threads: Option<&R>,
     alloc: Global,
     repairer: &Repairer<'_, '_>,
     end: usize,
@@ -167,5 +167,5 @@ fn attempts_until<R: Threads + Sync, G: Gate + Sync>(
     // For the prover: the contract of `lines` says that the recording is well formed.
     let _ = ground.recording().lines();
     let jobs = make_jobs(alloc, &ground, &numbers)?;
-    guesses_of(rt, alloc, &ground, &jobs, gate)
+    guesses_of(threads, alloc, &ground, &jobs, gate)
 }

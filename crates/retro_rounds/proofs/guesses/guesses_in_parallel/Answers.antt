@@ -3,7 +3,7 @@ use Rattle.std.specs.List.{AllZip}
 use Rattle.rayon.proofs.ListFacts.{IfOk-then}
 use Rattle.rayon.proofs.ToStd.{slice-AllZip}
 use Rattle.retro_rounds.specs.inner.Attempts.{IsAttemptAt}
-use Rattle.retro_rounds.proofs.guesses.guesses_of.Goals as goal
+use Rattle.retro_rounds.proofs.guesses.guesses_in_parallel.Goals as goal
 
 pub returns : goal.returns
 returns g c =
