@@ -107,6 +107,7 @@ options_with (Some numbers) (Some count) (Some counts) =
     Some (record { cancel = numbers; workers = count; cuts = counts })
 options_with _ _ _ = None
 
+-- the options of a repair, or none if the command doesn't have them or one is malformed
 abbrev pub options_of : Call → Option RepairOptions
 options_of g =
     options_with (option_and_then list_in g.cancel) (option_and_then number_in g.workers)

@@ -93,7 +93,7 @@ fn repair_input<T: Threads + Sync + AllocGlobal>(
     input: Vec<u8>,
 ) -> Result<Vec<u8>, Stop>
     ensures ok { IfOk result (λ text.
-        IsRepairReport (options_view options.now).cancel input.items text.items) }
+        IsRepairReport options.now.cancel.items input.items text.items) }
     ensures accepted { OnOk result
         (repair_refusal (options_view options.now) (log_in input.items) ≡ None) }
     ensures err { IfErr result (λ stop.
@@ -111,7 +111,7 @@ fn relog_input<T: Threads + Sync + AllocGlobal>(
     input: Vec<u8>,
 ) -> Result<Vec<u8>, Stop>
     ensures ok { IfOk result (λ text.
-        IsRepairedLog (options_view options.now).cancel input.items text.items) }
+        IsRepairedLog options.now.cancel.items input.items text.items) }
     ensures accepted { OnOk result
         (repair_refusal (options_view options.now) (log_in input.items) ≡ None) }
     ensures err { IfErr result (λ stop.
