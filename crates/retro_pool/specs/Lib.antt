@@ -1,0 +1,8 @@
+pub mod Turns
+pub mod Seats
+pub mod BoardFault
+pub mod Taken
+pub mod Jobs
+pub mod Guesses
+pub mod Work
+pub mod inner
