@@ -44,15 +44,16 @@ def copy_to(room):
                            check=True)
 
 
-def built_aside(room, name, crates, words):
-    """Builds the program `NAME.rt.txt` over some crates in a copy of the repository, and runs it
-    once on an empty log. Returns its file."""
+def built_aside(room, source, crates, words):
+    """Builds the program of the file `NAME.rt.txt`, given from the repository's top, over some
+    crates in a copy of the repository, and runs it once on an empty log. Returns its file."""
+    name = os.path.basename(source).removesuffix(".rt.txt")
     copy_to(room)
     with open(f"{room}/crates.txt", "a") as file:
         file.write(f"{name}: {crates}\n")
     crate = f"{room}/crates/{name}"
     os.makedirs(f"{crate}/src")
-    shutil.copy(f"{TOP}/bench/{name}.rt.txt", f"{crate}/src/main.rt")
+    shutil.copy(f"{TOP}/{source}", f"{crate}/src/main.rt")
     run = subprocess.run(["rt", "run", "--", *words], cwd=crate, input=EMPTY_LOG,
                          capture_output=True)
     if run.returncode != 0:

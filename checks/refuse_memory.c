@@ -11,13 +11,15 @@ void *__libc_realloc(void *block, size_t size);
 
 static size_t made;
 
+/* Threads may call this at once; the first call comes before the first thread. */
 static int is_refused(void) {
     static size_t refused;
-    if (made++ == 0) {
-        const char *number = getenv("REFUSE");
-        refused = number ? strtoul(number, NULL, 10) : 0;
+    size_t number = __atomic_add_fetch(&made, 1, __ATOMIC_SEQ_CST);
+    if (number == 1) {
+        const char *given = getenv("REFUSE");
+        refused = given ? strtoul(given, NULL, 10) : 0;
     }
-    return made == refused;
+    return number == refused;
 }
 
 void *malloc(size_t size) {

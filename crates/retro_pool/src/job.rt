@@ -34,7 +34,7 @@ impl Job {
     }
 
     /// Returns the number of the job's line.
-    pub(crate) fn number(&self) -> u32
+    pub fn number(&self) -> u32
         ensures { result ≡ self.now }
     {
         self.number

@@ -50,7 +50,7 @@ fn is_wanted(alloc: Global, ground: &Ground<'_, '_>, number: u32) -> Result<bool
 }
 
 /// Gives all jobs back.
-fn give_all_back(mut jobs: Vec<Job>) {
+pub fn give_all_back(mut jobs: Vec<Job>) {
     while let Some(job) = jobs.pop() {
         job.give_back();
     }

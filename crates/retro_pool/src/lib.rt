@@ -36,7 +36,7 @@ pub use board::{Board, MAX_THIEVES};
 pub use board_fault::BoardFault;
 pub use guess::Guess;
 pub use job::Job;
-pub use jobs::make_jobs;
+pub use jobs::{give_all_back, make_jobs};
 pub use laws::{settled_lists_are_in_the_order_of_dealing, settled_lists_rise};
 pub use owner::Owner;
 pub use seat::Seat;

@@ -5,6 +5,8 @@
 #[cfg(test)]
 mod grounds;
 #[cfg(test)]
+mod holding;
+#[cfg(test)]
 mod recordings;
 #[cfg(test)]
 mod rounds;

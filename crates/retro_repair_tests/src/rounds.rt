@@ -16,13 +16,14 @@ use std::thread::Threads;
 pub struct Ask<'a> {
     /// The numbers of the cancelled lines.
     pub cancel: &'a str,
+    /// Numbers of workers.
     pub workers: &'a str,
     /// The numbers of lines of the pieces.
     pub cuts: &'a str,
 }
 
 /// Returns the counts as a text.
-fn tally_text(alloc: Global, tally: &Tally) -> Result<String, NoMem> {
+pub fn tally_text(alloc: Global, tally: &Tally) -> Result<String, NoMem> {
     let Tally {
         jobs,
         taken_up,
@@ -45,24 +46,17 @@ fn list(alloc: Global, text: &str) -> Result<Vec<u32>, Fail> {
 
 /// Returns the tally of a repair in rounds and which lines it executes, each with its turn, or its
 /// refusal.
-pub fn rounds<T: Threads + Sync + AllocGlobal>(
+fn rounds_with<T: Threads + Sync + AllocGlobal>(
     rt: &T,
     recording: &Recording,
     ask: &Ask<'_>,
+    workers: usize,
 ) -> Result<String, Fail> {
     let alloc = rt.alloc();
     let cancel = list(alloc, ask.cancel)?;
     let cuts = list(alloc, ask.cuts)?;
     let watch = Watch::new(alloc, 9)?;
-    match repair(
-        rt,
-        alloc,
-        recording,
-        &cancel,
-        ask.workers.parse()?,
-        &cuts,
-        &watch,
-    ) {
+    match repair(rt, alloc, recording, &cancel, workers, &cuts, &watch) {
         Ok(repair) => {
             let counts = tally_text(alloc, &repair.tally)?;
             let executed = watch.executions(alloc)?;
@@ -72,18 +66,40 @@ pub fn rounds<T: Threads + Sync + AllocGlobal>(
     }
 }
 
-/// Returns the repair of a recording in pieces that `cuts` makes. Fails if the repair is refused,
+/// Returns the tally of a repair in rounds and which lines it executes, each with its turn, or its
+/// refusal. Fails if it isn't the same with each number of workers.
+pub fn rounds<T: Threads + Sync + AllocGlobal>(
+    rt: &T,
+    recording: &Recording,
+    ask: &Ask<'_>,
+) -> Result<String, Fail> {
+    let mut told = None;
+    for workers in numbers(rt.alloc(), ask.workers)? {
+        let now = rounds_with(rt, recording, ask, workers as usize)?;
+        match &told {
+            None => told = Some(now),
+            Some(before) if *before != now => return fail("another answer with more workers"),
+            Some(_) => {}
+        }
+    }
+    match told {
+        Some(told) => Ok(told),
+        None => fail("no workers"),
+    }
+}
+
+/// Returns a repair in rounds with one number of workers. Fails if the repair is refused,
 /// or if `check` refuses the repair's own recording.
 pub fn repaired_in_rounds<T: Threads + Sync + AllocGlobal>(
     rt: &T,
     recording: &Recording,
-    cancel: &str,
-    cuts: &str,
+    ask: &Ask<'_>,
 ) -> Result<Repair, Fail> {
     let alloc = rt.alloc();
-    let cancel = list(alloc, cancel)?;
-    let cuts = list(alloc, cuts)?;
-    let Ok(repair) = repair(rt, alloc, recording, &cancel, 0, &cuts, &Quiet) else {
+    let cancel = list(alloc, ask.cancel)?;
+    let cuts = list(alloc, ask.cuts)?;
+    let workers = ask.workers.parse()?;
+    let Ok(repair) = repair(rt, alloc, recording, &cancel, workers, &cuts, &Quiet) else {
         return fail("refused in rounds");
     };
     if check(alloc, &repair.recording)? {

@@ -10,7 +10,7 @@ use retro_history::History;
 use retro_keep::Recording;
 use retro_log::check;
 use retro_redo::{Repair, RepairFault, Repairer, repair_alone, repair_watched};
-use retro_rows::{Row, fail, numbers, path, rows};
+use retro_rows::{Row, fail, numbers, path, rows, text};
 use std::alloc::{AllocGlobal, Global};
 use std::test::Fail;
 use std::thread::Threads;
@@ -112,8 +112,24 @@ fn by_steps(
     )
 }
 
+/// Fails if a repair in rounds answers something else to a call.
+fn same_in_rounds<T: Threads + Sync + AllocGlobal>(
+    rt: &T,
+    recording: &Recording,
+    ask: &Ask<'_>,
+    (call, given): (&str, &[String]),
+    wanted: &str,
+) -> Result<(), Fail> {
+    let repair = repaired_in_rounds(rt, recording, ask)?;
+    if told(rt.alloc(), &repair, call, given)?.as_str() == wanted {
+        Ok(())
+    } else {
+        fail("another answer in rounds")
+    }
+}
+
 /// Returns what a repair on one thread answers to a call. Fails if repairs in rounds answer
-/// something else, for one of the cuts.
+/// something else, with some numbers of workers and some cuts.
 fn told_in_every_way<T: Threads + Sync + AllocGlobal>(
     rt: &T,
     recording: &Recording,
@@ -123,13 +139,40 @@ fn told_in_every_way<T: Threads + Sync + AllocGlobal>(
 ) -> Result<String, Fail> {
     let alloc = rt.alloc();
     let wanted = told(alloc, &repaired(alloc, recording, list)?, call, given)?;
-    for cuts in ["1", "2", "64", "1 4"] {
-        let repair = repaired_in_rounds(rt, recording, list, cuts)?;
-        if told(alloc, &repair, call, given)? != wanted {
-            return fail("another answer in rounds");
-        }
+    for (workers, cuts) in [("0", "1"), ("1", "2"), ("16", "64"), ("3", "1 4")] {
+        let ask = Ask {
+            cancel: list,
+            workers,
+            cuts,
+        };
+        same_in_rounds(rt, recording, &ask, (call, given), &wanted)?;
     }
     Ok(wanted)
+}
+
+/// Returns `yes` if repairs in rounds with each of the numbers of workers and each of the cuts
+/// answer what the repair on one thread does.
+fn alike<T: Threads + Sync + AllocGlobal>(
+    rt: &T,
+    recording: &Recording,
+    list: &str,
+) -> Result<String, Fail> {
+    let alloc = rt.alloc();
+    let alone = repaired(alloc, recording, list)?;
+    for call in ["lines", "outputs", "compensations"] {
+        let wanted = told(alloc, &alone, call, &[])?;
+        for workers in ["0", "1", "3", "16"] {
+            for cuts in ["1", "2", "64", "1 4"] {
+                let ask = Ask {
+                    cancel: list,
+                    workers,
+                    cuts,
+                };
+                same_in_rounds(rt, recording, &ask, (call, &[]), &wanted)?;
+            }
+        }
+    }
+    Ok(text(alloc, "yes")?)
 }
 
 /// Returns the result of a call on the repair of a recording without some lines.
@@ -142,6 +185,7 @@ fn called<T: Threads + Sync + AllocGlobal>(
 ) -> Result<String, Fail> {
     match (call, given) {
         ("executed", []) => executed(rt.alloc(), recording, list),
+        ("alike", []) => alike(rt, recording, list),
         ("rounds", [workers, cuts]) => {
             let ask = Ask {
                 cancel: list,

@@ -161,26 +161,22 @@ given: %(EMPTY) :: 1 echo x > f;;1 echo x > f;;1 cat f
 - guessed: 1 :: 3 :: 3 => fits: x%(NL)
 "##;
 
-/// Repairs in rounds: the cancelled numbers, the workers, and the numbers of lines of the pieces.
+/// Repairs in rounds: the cancelled numbers, numbers of workers, and the numbers of lines of the
+/// pieces.
 pub const ROUNDS: &str = r##"
 given: %(EMPTY) :: 2 echo p > /tmp/k;;1 cat /tmp/k > a;;1 cat a /tmp/k;;1 cat /tmp/k;;\
   1 grep -F p /tmp/k
-- rounds: 1 :: 0 :: 1 4 => 4 jobs: 3 taken up, 0 unused, 1 wrong, 0 given up, executed 2 guess 3
-  guess 4 guess 5 guess 3 place
-- rounds: 1 :: 1 :: 1 4 => 4 jobs: 3 taken up, 0 unused, 1 wrong, 0 given up, executed 2 guess 3
-  guess 4 guess 5 guess 3 place
-- rounds: 1 :: 3 :: 1 4 => 4 jobs: 3 taken up, 0 unused, 1 wrong, 0 given up, executed 2 guess 3
-  guess 4 guess 5 guess 3 place
-- rounds: 1 :: 16 :: 1 4 => 4 jobs: 3 taken up, 0 unused, 1 wrong, 0 given up, executed 2 guess 3
-  guess 4 guess 5 guess 3 place
-- rounds: 1 :: 0 :: 1 => 4 jobs: 4 taken up, 0 unused, 0 wrong, 0 given up, executed 2 guess 3 guess
-  4 guess 5 guess
-- rounds: 1 :: 0 :: 2 => 3 jobs: 3 taken up, 0 unused, 0 wrong, 0 given up, executed 3 guess 4 guess
-  5 guess 2 place
-- rounds: 1 :: 0 :: 64 => 0 jobs: 0 taken up, 0 unused, 0 wrong, 0 given up, executed 2 place 3 place
-  4 place 5 place
+- rounds: 1 :: 0 1 3 16 :: 1 4 => 4 jobs: 3 taken up, 0 unused, 1 wrong, 0 given up, executed 2
+  guess 3 guess 4 guess 5 guess 3 place
+- rounds: 1 :: 0 1 3 16 :: 1 => 4 jobs: 4 taken up, 0 unused, 0 wrong, 0 given up, executed 2 guess
+  3 guess 4 guess 5 guess
+- rounds: 1 :: 0 1 3 16 :: 2 => 3 jobs: 3 taken up, 0 unused, 0 wrong, 0 given up, executed 3 guess
+  4 guess 5 guess 2 place
+- rounds: 1 :: 0 1 3 16 :: 64 => 0 jobs: 0 taken up, 0 unused, 0 wrong, 0 given up, executed 2 place
+  3 place 4 place 5 place
 - rounds: 1 :: 16 :: 4294967295 4294967295 => 0 jobs: 0 taken up, 0 unused, 0 wrong, 0 given up,
   executed 2 place 3 place 4 place 5 place
+- alike: 1 => yes
 - rounds: 9 :: 17 :: 0 => refused 23
 - rounds: 9 :: 16 :: 0 => refused 22
 - rounds: 9 :: 16 :: 64 0 1 => refused 22
@@ -189,14 +185,17 @@ given: %(EMPTY) :: 2 echo p > /tmp/k;;1 cat /tmp/k > a;;1 cat a /tmp/k;;1 cat /t
 
 given: %(EMPTY) :: 1 echo one >> /tmp/log;;2 echo two >> /tmp/log;;1 echo three >> /tmp/log;;\
   1 cat /tmp/log
-- rounds: 2 :: 0 :: 64 => 0 jobs: 0 taken up, 0 unused, 0 wrong, 0 given up, executed 4 place
-- rounds: 2 :: 0 :: 2 => 1 jobs: 0 taken up, 0 unused, 1 wrong, 0 given up, executed 4 guess 4 place
+- rounds: 2 :: 0 3 :: 64 => 0 jobs: 0 taken up, 0 unused, 0 wrong, 0 given up, executed 4 place
+- rounds: 2 :: 0 3 :: 2 => 1 jobs: 0 taken up, 0 unused, 1 wrong, 0 given up, executed 4 guess 4
+  place
 
 given: %(EMPTY) :: 1 echo x > f;;1 echo x > f;;1 cat f
-- rounds: 1 :: 0 :: 64 => 0 jobs: 0 taken up, 0 unused, 0 wrong, 0 given up, executed
-- rounds: 1 :: 0 :: 1 2 => 1 jobs: 0 taken up, 1 unused, 0 wrong, 0 given up, executed 3 guess
-- rounds: 1 :: 0 :: 1 => 0 jobs: 0 taken up, 0 unused, 0 wrong, 0 given up, executed
+- rounds: 1 :: 0 1 3 16 :: 64 => 0 jobs: 0 taken up, 0 unused, 0 wrong, 0 given up, executed
+- rounds: 1 :: 0 1 3 16 :: 1 2 => 1 jobs: 0 taken up, 1 unused, 0 wrong, 0 given up, executed 3
+  guess
+- rounds: 1 :: 0 1 3 16 :: 1 => 0 jobs: 0 taken up, 0 unused, 0 wrong, 0 given up, executed
+- alike: 1 => yes
 
 given: %(EMPTY) :: 1 false;;1 if test $? = 0; then echo ok; else echo bad; fi
-- rounds: 1 :: 16 :: 1 => 1 jobs: 1 taken up, 0 unused, 0 wrong, 0 given up, executed 2 guess
+- rounds: 1 :: 0 16 :: 1 => 1 jobs: 1 taken up, 0 unused, 0 wrong, 0 given up, executed 2 guess
 "##;

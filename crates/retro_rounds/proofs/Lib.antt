@@ -10,3 +10,4 @@ pub mod OneLine
 pub mod Shown
 pub mod Tallied
 pub mod Turns
+pub mod Gathered

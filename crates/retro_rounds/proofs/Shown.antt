@@ -1,7 +1,7 @@
 -- The jobs of a round, by the overlay on the recorded states.
 use Rattle.std.proofs.Common.{◌≡◌, ◌∙◌, ℕ, zero, suc, ◌-◌, ◌≤◌, ◌<◌, cond, List, [], ◌∷◌}
 use Rattle.std.proofs.Common.{length, drop, Option, Some, None, option_map, refl, sym, ap, arith, subst}
-use Rattle.std.specs.List.{AllByRecursion, AllZip, slice_get}
+use Rattle.std.specs.List.{AllByRecursion, slice_get}
 use Rattle.std.specs.FinMap as finmap
 use Rattle.std.proofs.lemmas.Bool.{eq-eqb}
 use Rattle.retro_tree.specs.Cell.{value}
@@ -18,8 +18,9 @@ use Rattle.retro_tree.proofs.NoteLaws.{holds_where_agreed}
 use Rattle.retro_tree.proofs.Small.{some_same}
 use Rattle.retro_history.specs.Recorded.{recorded_before}
 use Rattle.retro_history.proofs.Lines.{RiseFrom, above, later}
-use Rattle.retro_keep.specs.Recording.{IsWellFormed, RecordingValue, noted_at, number_in}
+use Rattle.retro_keep.specs.Recording.{IsWellFormed, noted_at, number_in}
 use Rattle.retro_keep.specs.declared.noted.Noted.{Noted}
+use Rattle.retro_pool.specs.Jobs.{IsWanted}
 use Rattle.retro_redo.specs.Ground.{GroundValue, shown_at}
 use Rattle.retro_redo.specs.Meetings.{MeetsNow, lines_until}
 use Rattle.retro_redo.specs.Picks.{PicksBy}
@@ -29,9 +30,8 @@ use Rattle.retro_redo.proofs.Positions.{Line, not_none}
 use Rattle.retro_redo.proofs.UsedLines.{apart}
 use Rattle.retro_rounds.specs.Jobs.{IsShown}
 use Rattle.retro_rounds.specs.Pieces.{Start}
-use Rattle.retro_rounds.specs.inner.Attempts.{IsAttempt, IsAttemptAt, numbers_of}
+use Rattle.retro_rounds.specs.inner.Attempts.{IsAttempt}
 use Rattle.retro_rounds.specs.inner.Rounds.{IsJobNow, start_now}
-use Rattle.retro_rounds.specs.inner.Wanted.{IsWanted}
 use Rattle.retro_rounds.specs.declared.attempt.Attempt.{Attempt}
 use Rattle.retro_rounds.proofs.Picked.{all_front, all_map, all_rest, picks_twice}
 
@@ -162,17 +162,3 @@ module _ (p : ProgressValue) (overlay : OverlayMap) (exact : IsExact overlay (re
       (are_noted 0 p.recording.lines well.rising)))) met wanted
 
 -- ---- the attempts
-
-pub attempted : (r : RecordingValue) (jobs : List ℕ) (attempts : List Attempt) → AllZip (IsAttemptAt r) jobs attempts
-    → AllByRecursion (IsAttempt r) attempts
-attempted r [] [] h = tt
-attempted r [] (a ∷ attempts) h = absurd h
-attempted r (n ∷ jobs) [] h = absurd h
-attempted r (n ∷ jobs) (a ∷ attempts) h = (h.0.1, attempted r jobs attempts h.1)
-
-pub attempted_numbers : (r : RecordingValue) (jobs : List ℕ) (attempts : List Attempt)
-    → AllZip (IsAttemptAt r) jobs attempts → jobs ≡ numbers_of attempts
-attempted_numbers r [] [] h = refl
-attempted_numbers r [] (a ∷ attempts) h = absurd h
-attempted_numbers r (n ∷ jobs) [] h = absurd h
-attempted_numbers r (n ∷ jobs) (a ∷ attempts) h = λ i. sym h.0.0 i ∷ attempted_numbers r jobs attempts h.1 i

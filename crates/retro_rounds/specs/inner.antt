@@ -1,5 +1,5 @@
 -- Definitions that only private contracts, invariants and proofs name.
 pub mod Places
 pub mod Attempts
-pub mod Wanted
+pub mod Workers
 pub mod Rounds

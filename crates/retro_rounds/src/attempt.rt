@@ -1,9 +1,11 @@
 //! Runs of lines ahead of their turns.
-ghost use Rattle.std.specs.Prelude.{◌≡◌};
-ghost use Rattle.retro_rounds.specs.inner.Attempts.{IsAttemptAt};
+ghost use Rattle.std.specs.Prelude.{◌≡◌, All, IfOk, None};
+ghost use Rattle.retro_keep.specs.Recording.{RecordingValue};
+ghost use Rattle.retro_rounds.specs.inner.Attempts.{IsAttempt, IsGuessIn, numbers_of};
 
-use retro_redo::{Gate, Ground, Turn};
-use retro_shell::{Run, run_line};
+use retro_pool::{Guess, Job};
+use retro_shell::Run;
+use retro_tree::NoMem;
 use std::alloc::Global;
 
 /// What came of running a line ahead of its turn.
@@ -11,31 +13,44 @@ use std::alloc::Global;
 pub(crate) struct Attempt {
     /// The number of the line.
     pub(crate) number: u32,
-    /// The guess, or `None` if memory ran out.
+    /// The guess, or `None` if there is none.
     pub(crate) run: Option<Run>,
 }
 
-impl Attempt {
-    /// Runs the line with the given number over the combined state before it. Calls the observer
-    /// before and after the execution.
-    pub(crate) fn make<G: Gate>(
-        alloc: Global,
-        ground: &Ground<'_, '_>,
-        number: u32,
-        gate: &G,
-    ) -> Attempt
-        ensures { IsAttemptAt ground.now.recording number result }
-    {
-        let Some(noted) = ground.recording().run_of(number) else {
-            return Attempt { number, run: None };
-        };
-        let shown = ground.view(number);
-        gate.begin(number, Turn::Guess);
-        let run = run_line(alloc, &shown, noted.sid, noted.text.as_str());
-        gate.end(number, Turn::Guess);
-        Attempt {
-            number,
-            run: run.ok(),
-        }
+/// Returns an attempt without a guess for each of the jobs, in order.
+pub(crate) fn attempts_at(alloc: Global, jobs: &[Job]) -> Result<Vec<Attempt>, NoMem>
+    ensures numbers { IfOk result (λ attempts. numbers_of attempts.items ≡ jobs.now) }
+    ensures none { IfOk result (λ attempts. All (λ a. a.run ≡ None) attempts.items) }
+{
+    let mut attempts = Vec::with_capacity(alloc, jobs.len())?;
+    for job in jobs {
+        attempts.push(Attempt {
+            number: job.number(),
+            run: None,
+        })?;
+    }
+    Ok(attempts)
+}
+
+/// Gives guesses to the attempts at their lines.
+pub(crate) fn give_all(attempts: &mut [Attempt], guesses: Vec<Guess>)
+    ensures numbers { numbers_of attempts.new ≡ numbers_of attempts.old }
+    ensures right { (r : RecordingValue) → All (IsGuessIn r) guesses.items
+        → All (IsAttempt r) attempts.old → All (IsAttempt r) attempts.new }
+{
+    for guess in guesses {
+        give(attempts, guess);
+    }
+}
+
+/// Gives a guess to the attempt at its line, if there is one.
+fn give(attempts: &mut [Attempt], guess: Guess)
+    ensures numbers { numbers_of attempts.new ≡ numbers_of attempts.old }
+    ensures right { (r : RecordingValue) → IsGuessIn r guess → All (IsAttempt r) attempts.old
+        → All (IsAttempt r) attempts.new }
+{
+    let Guess { number, run } = guess;
+    if let Ok(place) = attempts.binary_search_by_key(&number, |attempt| attempt.number) {
+        attempts[place].run = Some(run);
     }
 }

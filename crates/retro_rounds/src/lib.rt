@@ -14,14 +14,17 @@
 //! The tally of a repair says how many jobs there were and how they ended.
 #![tactic(auto)]
 
+mod any_seat;
 mod attempt;
 mod attempts;
+mod crew;
 mod guesses;
 mod jobs;
 mod pieces;
 mod repairing;
 mod request;
 mod rounds;
+mod worker;
 
 pub use repairing::repair;
 pub use request::MAX_WORKERS;

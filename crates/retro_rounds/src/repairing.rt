@@ -10,6 +10,7 @@ ghost use Rattle.retro_rounds.specs.Refusals.{IsAccepted, IsRefusal, are_cuts};
 ghost use Rattle.retro_rounds.specs.Tally.{IsTally};
 ghost use Rattle.retro_rounds.specs.inner.Rounds.{IsTallied};
 
+use crate::crew::Crew;
 use crate::request::Request;
 use crate::rounds::Rounds;
 use retro_history::History;
@@ -22,11 +23,11 @@ use std::thread::Threads;
 /// `cancel`. A number may be there twice. Only lines whose notes no longer hold are run again, and
 /// those that a round takes for such.
 ///
-/// `cuts` are the numbers of lines of the pieces; the last one is that of all further pieces. With
-/// no `workers` the jobs are run on this thread, and otherwise on as many as there are processors.
-/// Neither changes the answer, and only `cuts` changes the jobs. The observer is called before and
-/// after each execution of a line, by the thread that runs it. If all other lines are run again at
-/// the end, their executions aren't observed.
+/// `cuts` are the numbers of lines of the pieces; the last one is that of all further pieces.
+/// `workers` is the greatest number of threads that run jobs beside this one. Neither changes the
+/// answer, and only `cuts` changes the jobs. The observer is called before and after each execution
+/// of a line, by the thread that runs it. If all other lines are run again at the end, their
+/// executions aren't observed.
 ///
 /// For a recording that isn't what running its lines gives, the answer is as
 /// [`repair_alone`](retro_redo::repair_alone) says.
@@ -94,10 +95,13 @@ fn settle_all<'a, R: Threads + Sync, G: Gate + Sync>(
     let history = History::of(alloc, request.recording)?;
     let mut repairer = Repairer::new(alloc, request.recording, &history, request.cancel)?;
     let mut rounds = Rounds::new(alloc, request.cuts);
-    let threads = if request.workers == 0 { None } else { Some(rt) };
+    let crew = Crew {
+        rt,
+        size: request.workers,
+    };
     while let Some(number) = repairer.skip_unmet()? {
         rounds.pass_to(number);
-        rounds.advance(threads, alloc, &repairer, gate)?;
+        rounds.advance(&crew, alloc, &repairer, gate)?;
         rounds.settle(alloc, &mut repairer, number, gate)?;
     }
     Ok((repairer.into_progress(), rounds.finish()))

@@ -17,7 +17,7 @@ pub(crate) struct Request<'a> {
     pub(crate) cancel: &'a [u32],
     /// The numbers of lines of the pieces. The last one is that of all further pieces.
     pub(crate) cuts: &'a [u32],
-    /// The number of threads that run jobs beside this one.
+    /// The greatest number of threads that run jobs beside this one.
     pub(crate) workers: usize,
 }
 

@@ -15,9 +15,11 @@ ghost use Rattle.retro_rounds.specs.inner.Rounds.{IsPassed, is_unused};
 
 use crate::attempt::Attempt;
 use crate::attempts::Attempts;
+use crate::crew::Crew;
 use crate::guesses::guesses_of;
-use crate::jobs::make_jobs;
+use crate::jobs::in_order;
 use crate::pieces::Pieces;
+use retro_pool::make_jobs;
 use retro_redo::{Gate, Repairer, Settlement, Tally};
 use retro_tree::NoMem;
 use std::alloc::Global;
@@ -62,7 +64,7 @@ impl<'c> Rounds<'c> {
     /// Begins the round of the piece that the next line is in, if the last round is over.
     pub(crate) fn advance<R: Threads + Sync, G: Gate + Sync>(
         &mut self,
-        threads: Option<&R>,
+        crew: &Crew<'_, R>,
         alloc: Global,
         repairer: &Repairer<'_, '_>,
         gate: &G,
@@ -82,7 +84,7 @@ impl<'c> Rounds<'c> {
         let lines = repairer.ground().recording().lines();
         self.pieces.find(settled);
         let end = self.pieces.end.min(lines.len());
-        let attempts = attempts_until(threads, alloc, repairer, end, gate)?;
+        let attempts = attempts_until(crew, alloc, repairer, end, gate)?;
         self.tally.jobs += attempts.len();
         self.attempts = Attempts::of(attempts);
         Ok(())
@@ -150,7 +152,7 @@ fn count(tally: &mut Tally, how: Settlement, was_made: bool)
 
 /// Makes an attempt at each line up to the index `end` that is likely to be run again.
 fn attempts_until<R: Threads + Sync, G: Gate + Sync>(
-    threads: Option<&R>,
+    crew: &Crew<'_, R>,
     alloc: Global,
     repairer: &Repairer<'_, '_>,
     end: usize,
@@ -166,6 +168,6 @@ fn attempts_until<R: Threads + Sync, G: Gate + Sync>(
     let ground = repairer.ground();
     // For the prover: the contract of `lines` says that the recording is well formed.
     let _ = ground.recording().lines();
-    let jobs = make_jobs(alloc, &ground, &numbers)?;
-    guesses_of(threads, alloc, &ground, &jobs, gate)
+    let jobs = make_jobs(alloc, &ground, in_order(alloc, &numbers)?.as_slice())?;
+    guesses_of(crew, alloc, &ground, jobs, gate)
 }

@@ -4,15 +4,12 @@ use Rattle.std.specs.List.{AllByRecursion}
 use Rattle.retro_keep.specs.Recording.{RecordingValue, noted_at}
 use Rattle.retro_keep.specs.declared.noted.Noted.{Noted}
 use Rattle.retro_redo.specs.Settling.{IsGuessOf}
+use Rattle.retro_pool.specs.declared.guess.Guess.{Guess}
 use Rattle.retro_rounds.specs.declared.attempt.Attempt.{Attempt}
 
 -- a run of the line that has the attempt's number, or none
 abbrev pub IsAttempt : RecordingValue → Attempt → Type 0
 IsAttempt r a = (noted : Noted) → noted_at a.number r.lines ≡ Some noted → IsGuessOf noted a.run
-
--- the same, of the line with a number
-abbrev pub IsAttemptAt : RecordingValue → ℕ → Attempt → Type 0
-IsAttemptAt r n a = (a.number ≡ n) × IsAttempt r a
 
 abbrev pub number_of : Attempt → ℕ
 number_of a = a.number
@@ -20,6 +17,10 @@ number_of a = a.number
 -- the lines that were attempted
 abbrev pub numbers_of : List Attempt → List ℕ
 numbers_of attempts = map number_of attempts
+
+-- a guess is a run of the line that has its number
+abbrev pub IsGuessIn : RecordingValue → Guess → Type 0
+IsGuessIn r guess = IsAttempt r (record { number = guess.number; run = Some guess.run })
 
 -- the first attempt is of another line than the one with a number
 abbrev pub IsOther : ℕ → List Attempt → Type 0
