@@ -1,4 +1,6 @@
-pub mod Edits
+pub mod Edited
+pub mod EditMaps
+pub mod EditTests
 pub mod Owning
 pub mod Parsing
 pub mod Parts

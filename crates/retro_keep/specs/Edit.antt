@@ -1,12 +1,18 @@
--- Scripts without some of their lines.
-use Rattle.std.specs.Prelude.{ℕ, Bool, not, ◌==◌, List, [], ◌∷◌, map, filter, Option, Some, None, Result, Ok, Err}
-use Rattle.std.specs.Prelude.{if◌then◌else◌}
-use Rattle.std.specs.List.{list_any}
+-- Edits of lines: a line is left out, or its text is replaced.
+use Rattle.std.specs.Prelude.{◌≡◌, ℕ, ◌≤◌, ◌<◌, Bool, true, false, not, ◌==◌, List, [], ◌∷◌, map}
+use Rattle.std.specs.Prelude.{filter, Option, Some, None, Result, Ok, Err, if◌then◌else◌, nat_lt, ⊤}
+use Rattle.std.specs.Prelude.{◌&&◌}
+use Rattle.std.specs.List.{flat_map, list_any}
+use Rattle.retro_tree.specs.Order.{text_eq}
 use Rattle.retro_tree.specs.OutOfMemory.{UnlessOutOfMemory}
 use Rattle.retro_keep.specs.Script.{ScriptValue, number_of}
+use Rattle.retro_keep.specs.declared.edit.Edit.{Edit}
+use Rattle.retro_keep.specs.declared.edit.Edit.TheVariants.{Cancel, Replace}
+use Rattle.retro_keep.specs.declared.edit_fault.EditFault.{EditFault}
+use Rattle.retro_keep.specs.declared.edit_fault.EditFault.TheVariants as faults
+use Rattle.retro_keep.specs.declared.edit_fault.EditRefusal.{EditRefusal}
+use Rattle.retro_keep.specs.declared.edit_fault.EditRefusal.TheVariants.{TwoEdits, NoSuchLine}
 use Rattle.retro_keep.specs.declared.script.ScriptLine.{ScriptLine}
-use Rattle.retro_keep.specs.declared.script.EditFault.{EditFault}
-use Rattle.retro_keep.specs.declared.script.EditFault.TheVariants.{UnknownLine, NoMem}
 
 abbrev pub is_number : ℕ → ℕ → Bool
 is_number n m = m == n
@@ -15,29 +21,114 @@ is_number n m = m == n
 abbrev pub is_among : List ℕ → ℕ → Bool
 is_among numbers n = list_any (is_number n) numbers
 
--- the first of the numbers that isn't known
-abbrev pub first_unknown : (ℕ → Bool) → List ℕ → Option ℕ
-first_unknown is_known [] = None
-first_unknown is_known (n ∷ ns) = if is_known n then first_unknown is_known ns else Some n
+-- ---- what edits make of lines
 
--- the lines that have none of the numbers
-abbrev pub lines_without : List ℕ → List ScriptLine → List ScriptLine
-lines_without numbers lines = filter (λ line. not (is_among numbers line.number)) lines
+-- the number of the line that an edit names
+abbrev pub edited_number : Edit → ℕ
+edited_number (Cancel n) = n
+edited_number (Replace n text) = n
 
-abbrev pub without_known : Option ℕ → List ℕ → ScriptValue → Result ScriptValue ℕ
-without_known None numbers script = Ok (record { first = script.first; lines = lines_without numbers script.lines })
-without_known (Some n) numbers script = Err n
+-- the first edit that names a line, or None if none does
+abbrev pub edit_of : List Edit → ℕ → Option Edit
+edit_of [] n = None
+edit_of (e ∷ edits) n = if edited_number e == n then Some e else edit_of edits n
 
--- a script without the lines that have these numbers, or the first of the numbers that no line has
-unfoldable pub without : List ℕ → ScriptValue → Result ScriptValue ℕ
-without numbers script =
-    without_known (first_unknown (is_among (map number_of script.lines)) numbers) numbers script
+-- The text that a line runs: its own if nothing edits it, no text if it is left out, and the new one
+-- if its text is replaced.
+abbrev pub text_run : Option Edit → List ℕ → Option (List ℕ)
+text_run None text = Some text
+text_run (Some (Cancel n)) text = None
+text_run (Some (Replace n new)) text = Some new
 
--- the refusal of a fault, or None if memory ran out
-abbrev pub unknown : EditFault → Option (Result ScriptValue ℕ)
-unknown (UnknownLine n) = Some (Err n)
-unknown NoMem = None
+-- the line that runs a text in the place of another one, or no line
+abbrev pub line_run : ScriptLine → Option (List ℕ) → List ScriptLine
+line_run l None = []
+line_run l (Some text) = record { number = l.number; sid = l.sid; text = text } ∷ []
 
--- the script that a definition says, or the number that no line has
-abbrev pub Edits : Result ScriptValue EditFault → Result ScriptValue ℕ → Type 0
-Edits result meant = UnlessOutOfMemory Ok unknown result meant
+-- The edited lines: each line with the text that it runs, without the lines that run none. Edits
+-- are given by the numbers of lines.
+abbrev pub edited : (ℕ → Option Edit) → List ScriptLine → List ScriptLine
+edited edit = flat_map (λ l. line_run l (text_run (edit l.number) l.text))
+
+-- ---- which edits are refused
+
+abbrev pub edit_eq : Edit → Edit → Bool
+edit_eq (Cancel n) (Cancel m) = n == m
+edit_eq (Replace n one) (Replace m two) = n == m && text_eq one two
+edit_eq _ _ = false
+
+abbrev pub is_edit : Option Edit → Edit → Bool
+is_edit None e = false
+is_edit (Some first) e = edit_eq first e
+
+-- the numbers of the edits that differ from the first one of their line
+abbrev pub twice_edited : List Edit → List ℕ
+twice_edited edits =
+    map edited_number (filter (λ e. not (is_edit (edit_of edits (edited_number e)) e)) edits)
+
+-- the edited numbers that no line has
+abbrev pub not_lines : (ℕ → Bool) → List Edit → List ℕ
+not_lines is_line edits = filter (λ n. not (is_line n)) (map edited_number edits)
+
+-- the lesser of two numbers, each of which may be missing
+abbrev pub sooner : Option ℕ → Option ℕ → Option ℕ
+sooner None n = n
+sooner (Some m) None = Some m
+sooner (Some m) (Some n) = Some (if nat_lt m n then m else n)
+
+-- the least of some numbers, or None if there are none
+abbrev pub least : List ℕ → Option ℕ
+least [] = None
+least (n ∷ numbers) = sooner (Some n) (least numbers)
+
+abbrev pub refusal_by : Option ℕ → Option ℕ → Result ⊤ EditRefusal
+refusal_by (Some n) missing = Err (TwoEdits n)
+refusal_by None (Some n) = Err (NoSuchLine n)
+refusal_by None None = Ok tt
+
+-- Whether edits can be made, or the first refusal: of the least number that two different edits
+-- name, and then of the least one that no line has.
+unfoldable pub edits_tested : (ℕ → Bool) → List Edit → Result ⊤ EditRefusal
+edits_tested is_line edits =
+    refusal_by (least (twice_edited edits)) (least (not_lines is_line edits))
+
+-- ---- edited scripts
+
+-- a script with its edited lines
+abbrev pub edited_script : (ℕ → Option Edit) → ScriptValue → ScriptValue
+edited_script edit script = record { first = script.first; lines = edited edit script.lines }
+
+-- whether a line of a script has a number
+abbrev pub has_line : ScriptValue → ℕ → Bool
+has_line script = is_among (map number_of script.lines)
+
+abbrev pub unless_refused : {A : Type 0} → Result ⊤ EditRefusal → A → Result A EditRefusal
+unless_refused (Ok _) a = Ok a
+unless_refused (Err refusal) a = Err refusal
+
+-- the edited script, or the first refusal
+unfoldable pub edit : List Edit → ScriptValue → Result ScriptValue EditRefusal
+edit edits script =
+    unless_refused (edits_tested (has_line script) edits) (edited_script (edit_of edits) script)
+
+-- the fault of a refusal
+abbrev pub fault_of : EditRefusal → EditFault
+fault_of (TwoEdits n) = faults.TwoEdits n
+fault_of (NoSuchLine n) = faults.NoSuchLine n
+
+-- what a fault says of the edits, or None if memory ran out
+abbrev pub refused : EditFault → Option (Result ScriptValue EditRefusal)
+refused (faults.TwoEdits n) = Some (Err (TwoEdits n))
+refused (faults.NoSuchLine n) = Some (Err (NoSuchLine n))
+refused faults.NoMem = None
+
+-- the result is the edited script or the refusal that a definition says
+abbrev pub IsEdited : Result ScriptValue EditFault → Result ScriptValue EditRefusal → Type 0
+IsEdited result meant = UnlessOutOfMemory Ok refused result meant
+
+-- ---- for searches
+
+-- the least number from another one on that satisfies a condition, or None if there is none
+abbrev pub IsNextFrom : (ℕ → Bool) → ℕ → Option ℕ → Type 0
+IsNextFrom p from None = (n : ℕ) → from ≤ n → p n ≡ false
+IsNextFrom p from (Some n) = (from ≤ n) × (p n ≡ true) × ((m : ℕ) → from ≤ m → m < n → p m ≡ false)

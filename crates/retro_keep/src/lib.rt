@@ -9,10 +9,19 @@
 //! them. [`Recording::new`] makes a recording of its parts, or refuses them.
 //! [`Recording::of_lawful`] also says why it refuses them.
 //!
+//! An [`Edit`] leaves out a line or replaces its text. [`Script::edit`] returns the edited script.
+//! An [`EditRefusal`] says why edits can't be made: two different edits name one line, or no line
+//! has an edited number. [`Recording::test_edits`] tests edits of a recording's lines. An
+//! [`EditFault`] is a refusal or `NoMem`. [`Edits`] finds the edit of a line by its number.
+//!
 //! If allocation fails, calls return `NoMem`, alone or as a variant of their error, and leave
 //! borrowed arguments unchanged.
 #![tactic(auto)]
 
+mod edit;
+mod edit_fault;
+mod edit_test;
+mod edits;
 mod laws;
 mod noted;
 mod numbered;
@@ -22,9 +31,12 @@ mod recording_fault;
 mod requirements;
 mod script;
 
-pub use laws::recordings_run_their_scripts;
+pub use edit::Edit;
+pub use edit_fault::{EditFault, EditRefusal};
+pub use edits::Edits;
+pub use laws::{edits_in_turn_edit_both, recordings_run_their_scripts};
 pub use noted::Noted;
 pub use recorder::{keep, keep_alone};
 pub use recording::Recording;
 pub use recording_fault::RecordingFault;
-pub use script::{EditFault, LinesFault, Script, ScriptFault, ScriptLine};
+pub use script::{LinesFault, Script, ScriptFault, ScriptLine};

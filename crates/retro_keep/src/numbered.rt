@@ -1,5 +1,6 @@
 //! What the numbers and sessions of lines must satisfy.
-ghost use Rattle.std.specs.Prelude.{◌≡◌, ℕ, map};
+ghost use Rattle.std.specs.Prelude.{◌≡◌, ℕ, IsTrue, map};
+ghost use Rattle.retro_keep.specs.Edit.{is_among};
 ghost use Rattle.retro_keep.specs.Recording.{number_in, sid_in};
 ghost use Rattle.retro_keep.specs.Script.{have_sessions, lines_tested, number_of, rises_from};
 ghost use Rattle.retro_keep.specs.Script.{sid_of};
@@ -92,4 +93,20 @@ pub(crate) fn test_lines<L: Numbered>(first: &State, lines: &[L]) -> Result<(), 
         return Err(LinesFault::UnknownSession);
     }
     Ok(())
+}
+
+/// Returns whether a line has a number. The lines' numbers must rise, and the number is found by
+/// binary search.
+pub(crate) fn has_number<L: Numbered>(lines: &[L], number: u32) -> bool
+    requires { IsTrue (rises_from 0 (map L.number lines.now)) }
+    ensures { result ≡ is_among (map L.number lines.now) number }
+{
+    lines
+        .binary_search_by_key(
+            &number,
+            |line: &L| -> u32
+                ensures { result ≡ L.number line.now }
+            { line.number() },
+        )
+        .is_ok()
 }

@@ -3,11 +3,15 @@ ghost use Rattle.std.specs.Prelude.{◌≡◌, ◌↔◌, IfErr, IfOk, IfSome, I
 ghost use Rattle.std.specs.List.{list_all};
 ghost use Rattle.std.specs.Option.{option_copied};
 ghost use Rattle.retro_tree.specs.Lawful.{IsLawful};
+ghost use Rattle.retro_keep.specs.Edit.{edits_tested};
 ghost use Rattle.retro_keep.specs.inner.Parts.{are_parts};
 ghost use Rattle.retro_keep.specs.Recording.{AllLinesAllowed, IsWellFormed, is_line_of_kind};
 ghost use Rattle.retro_keep.specs.Recording.{is_own_line, last_state, noted_at};
 ghost use Rattle.retro_keep.specs.RecordingFault.{IsFaultOf};
 
+use crate::edit::Edit;
+use crate::edit_fault::EditRefusal;
+use crate::edit_test::test_edits;
 use crate::noted::Noted;
 use crate::numbered::test_lines;
 use crate::recording_fault::RecordingFault;
@@ -152,6 +156,17 @@ impl Recording {
             Ok(index) => Some(&self.lines[index].1),
             Err(_) => None,
         }
+    }
+
+    /// Returns `Ok` if edits can be made of the lines, or the first refusal: of the least number
+    /// that two different edits name, and then of the least number that no line has. No memory is
+    /// allocated.
+    #[tactic(auto, using(crate::proofs::Searching::tested_at))]
+    pub fn test_edits(&self, edits: &[Edit]) -> Result<(), EditRefusal>
+        ensures { result
+            ≡ edits_tested (λ n. is_some (noted_at n self.now.lines)) edits.now }
+    {
+        test_edits(self.lines.as_slice(), edits)
     }
 
     /// Returns the state after the changes of all lines.

@@ -1,18 +1,19 @@
 //! Scripts.
-ghost use Rattle.std.specs.Prelude.{◌≡◌, ℕ, IfOk, filter, map, not, Ok};
-ghost use Rattle.std.specs.Ordering.{nat_cmp};
-ghost use Rattle.std.specs.BTreeSet.{contains};
+ghost use Rattle.std.specs.Prelude.{◌≡◌, ◌++◌, IfOk, OnOk, Ok};
+ghost use Rattle.std.specs.FinMap as map_of;
 ghost use Rattle.retro_tree.specs.Lawful.{IsLawful};
-ghost use Rattle.retro_keep.specs.Edit.{Edits, first_unknown, is_among, without};
-ghost use Rattle.retro_keep.specs.Script.{IsScript, Makes, number_of};
+ghost use Rattle.retro_keep.specs.Edit.{IsEdited, edit, edited, line_run, text_run};
+ghost use Rattle.retro_keep.specs.Script.{IsScript, Makes};
 ghost use Rattle.retro_keep.specs.Script.{script_fault, script_of, script_of_lines};
-ghost use Rattle.retro_keep.specs.declared.script.EditFault.TheVariants as edits;
 ghost use Rattle.retro_keep.specs.declared.script.ScriptFault.TheVariants as faults;
 
+use crate::edit::Edit;
+use crate::edit_fault::EditFault;
+use crate::edit_test::test_edits;
+use crate::edits::Edits;
 use crate::numbered::test_lines;
 use retro_tree::{NoMem, State, Text};
 use std::alloc::Global;
-use std::collections::BTreeSet;
 use std::marker::Model;
 use thiserror::Error;
 
@@ -74,25 +75,6 @@ impl From<LinesFault> for ScriptFault {
             LinesFault::NumbersNotRising => ScriptFault::NumbersNotRising,
             LinesFault::UnknownSession => ScriptFault::UnknownSession,
         }
-    }
-}
-
-/// Why lines can't be removed from a script.
-#[derive(Clone, Copy, Debug, Drop, PartialEq, Eq, Error)]
-pub enum EditFault {
-    /// No line has this number (refusal 21).
-    #[error("no line has the number {0}")]
-    UnknownLine(u32),
-    /// Allocation failed.
-    #[error("out of memory")]
-    NoMem,
-}
-
-impl From<NoMem> for EditFault {
-    ghost from_gives = { λ _ fault. fault ≡ edits.NoMem };
-
-    fn from(_error: NoMem) -> EditFault {
-        EditFault::NoMem
     }
 }
 
@@ -173,54 +155,52 @@ impl Script {
         (first, lines)
     }
 
-    /// Returns the script without the lines that have these numbers. If no line has one of the
-    /// numbers, the error has the first such number.
-    #[tactic(auto, using(crate::proofs::Edits::by_set), unfolding(crate::specs::Edit::without))]
-    pub fn without(self, alloc: Global, numbers: &[u32]) -> Result<Script, EditFault>
-        ensures { Edits result (without numbers.now self) }
+    /// Returns the script with edited lines, or the first refusal: of the least number that two
+    /// different edits name, and then of the least number that no line has. The edits are tested
+    /// before any memory is allocated.
+    #[tactic(auto, using(crate::proofs::Edited::edits_lines), unfolding(crate::specs::Edit::edit))]
+    pub fn edit(self, alloc: Global, edits: &[Edit]) -> Result<Script, EditFault>
+        ensures { IsEdited result (edit edits.now self) }
     {
-        let Script { first, mut lines } = self;
-        let known = line_numbers(alloc, lines.as_slice())?;
-        if let Some(number) = first_unknown(&known, numbers) {
-            return Err(EditFault::UnknownLine(number));
-        }
-        let removed = number_set(alloc, numbers)?;
-        remove_lines(&mut lines, &removed);
+        test_edits(&self.lines, edits)?;
+        let edits = Edits::of(alloc, edits)?;
+        let Script {
+            first,
+            lines: unedited,
+        } = self;
+        let lines = edit_lines(alloc, unedited, &edits)?;
         Ok(Script { first, lines })
     }
 }
 
-/// Returns the numbers of a list as a set.
-fn number_set(alloc: Global, numbers: &[u32]) -> Result<BTreeSet<u32>, NoMem>
-    ensures { IfOk result (λ set. (n : ℕ) → contains nat_cmp set n ≡ is_among numbers.now n) }
+/// Returns the edited lines. A line that no edit names is moved.
+fn edit_lines(
+    alloc: Global,
+    lines: Vec<ScriptLine>,
+    edits: &Edits,
+) -> Result<Vec<ScriptLine>, NoMem>
+    ensures { IfOk result (λ done. done.items ≡ edited (map_of.get edits.now) lines.items) }
 {
-    numbers.iter().copied().collect(alloc)
-}
-
-/// Returns the numbers of lines as a set.
-fn line_numbers(alloc: Global, lines: &[ScriptLine]) -> Result<BTreeSet<u32>, NoMem>
-    ensures { IfOk result (λ set. (n : ℕ) →
-        contains nat_cmp set n ≡ is_among (map number_of lines.now) n) }
-{
-    lines.iter().map(|line| line.number).collect(alloc)
-}
-
-/// Returns the first of the numbers that isn't known, or `None` if all are known.
-fn first_unknown(known: &BTreeSet<u32>, numbers: &[u32]) -> Option<u32>
-    ensures { result ≡ first_unknown (contains nat_cmp known.now) numbers.now }
-{
-    for number in numbers {
-        if !known.contains(number) {
-            return Some(*number);
-        }
+    let mut done = Vec::with_capacity(alloc, lines.len())?;
+    for line in lines {
+        push_edited(&mut done, line, edits)?;
     }
-    None
+    Ok(done)
 }
 
-/// Removes the lines that have these numbers.
-fn remove_lines(lines: &mut Vec<ScriptLine>, numbers: &BTreeSet<u32>)
-    ensures { lines.new.items
-        ≡ filter (λ line. not (contains nat_cmp numbers.now line.number)) lines.old.items }
+/// Appends a line as it is edited, unless it is left out.
+fn push_edited(done: &mut Vec<ScriptLine>, line: ScriptLine, edits: &Edits) -> Result<(), NoMem>
+    ensures { OnOk result (done.new.items ≡ done.old.items
+        ++ line_run line (text_run (map_of.get edits.now line.number) line.text)) }
 {
-    lines.retain(|line| !numbers.contains(&line.number));
+    match edits.get(line.number) {
+        None => done.push(line)?,
+        Some(Edit::Cancel(_)) => {}
+        Some(Edit::Replace(_, text)) => done.push(ScriptLine {
+            number: line.number,
+            sid: line.sid,
+            text: text.copy()?,
+        })?,
+    }
+    Ok(())
 }
