@@ -1,5 +1,5 @@
 -- The lines as chosen make a recording, if no kept line changes a path near an altered one.
-use Rattle.std.proofs.Common.{◌≡◌, ◌∙◌, ℕ, Bool, false, List, [], ◌∷◌, ◌++◌, map, refl, sym, ap, IsTrue, nat_lt}
+use Rattle.std.proofs.Common.{◌≡◌, ◌∙◌, ℕ, false, List, [], ◌∷◌, ◌++◌, Option, map, refl, sym, ap, IsTrue, nat_lt}
 use Rattle.std.specs.BTreeMap.{is_at}
 use Rattle.std.specs.FinMap as finmap
 use Rattle.std.specs.List.{list_all, list_any}
@@ -17,6 +17,7 @@ use Rattle.retro_shell.specs.Runs.{RunValue}
 use Rattle.retro_keep.specs.Recording.{AllLinesAllowed, IsWellFormed, RecordingValue}
 use Rattle.retro_keep.specs.Recording.{is_line_of_kind, is_own_line, number_in, sid_in}
 use Rattle.retro_keep.specs.Script.{have_sessions, rises_from}
+use Rattle.retro_keep.specs.declared.edit.Edit.{Edit}
 use Rattle.retro_keep.proofs.Recorded.{held_of_kind, known_after}
 use Rattle.retro_redo.specs.inner.Altered.{altered_paths, changed_paths, has_path, is_near}
 use Rattle.retro_redo.specs.inner.Altered.{kept_paths, keeps_near}
@@ -54,22 +55,22 @@ rest_own first l lines h = record {
   own = both_true (is_own_line l) _ h.own;
 }
 
-chosen_own : (cancelled : ℕ → Bool) (first : State) (lines : List Line) (steps : List Step) (s t : State)
-    → Settles cancelled lines steps s t → AreOwn first lines → AreOwn first (lines_chosen lines steps)
-chosen_own cancelled first [] steps s t settles h = record { known = refl; own = refl }
-chosen_own cancelled first (l ∷ lines) [] s t settles h = record { known = refl; own = refl }
-chosen_own cancelled first (l ∷ lines) (Cancel ∷ steps) s t settles h =
-    chosen_own cancelled first lines steps _ _ settles.2 (rest_own first l lines h)
-chosen_own cancelled first (l ∷ lines) (Keep ∷ steps) s t settles h =
-    let rest = chosen_own cancelled first lines steps _ _ settles.2 (rest_own first l lines h) in
+chosen_own : (edit : ℕ → Option Edit) (first : State) (lines : List Line) (steps : List Step) (s t : State)
+    → Settles edit lines steps s t → AreOwn first lines → AreOwn first (lines_chosen lines steps)
+chosen_own edit first [] steps s t settles h = record { known = refl; own = refl }
+chosen_own edit first (l ∷ lines) [] s t settles h = record { known = refl; own = refl }
+chosen_own edit first (l ∷ lines) (Cancel ∷ steps) s t settles h =
+    chosen_own edit first lines steps _ _ settles.2 (rest_own first l lines h)
+chosen_own edit first (l ∷ lines) (Keep ∷ steps) s t settles h =
+    let rest = chosen_own edit first lines steps _ _ settles.2 (rest_own first l lines h) in
     record {
       known = and_true _ _ (first_true (finmap.contains_key first.sessions l.1.sid) _ h.known) rest.known;
       own = and_true _ _ (first_true (is_own_line l) _ h.own) rest.own;
     }
-chosen_own cancelled first (l ∷ lines) (Take run ∷ steps) s t settles h =
-    let rest = chosen_own cancelled first lines steps _ _ settles.2 (rest_own first l lines h) in
+chosen_own edit first (l ∷ lines) (Take run ∷ steps) s t settles h =
+    let rest = chosen_own edit first lines steps _ _ settles.2 (rest_own first l lines h) in
     record {
-      known = and_true _ _ (ap (finmap.contains_key first.sessions) settles.0.2
+      known = and_true _ _ (ap (finmap.contains_key first.sessions) settles.0.1.0
           ∙ first_true (finmap.contains_key first.sessions l.1.sid) _ h.known) rest.known;
       own = and_true _ _ settles.1.own rest.own;
     }
@@ -165,42 +166,42 @@ after_taken altered l run lines steps s t h allowed =
       far = h.far;
     }
 
-chosen_allowed : (cancelled : ℕ → Bool) (altered : List PathValue) (lines : List Line) (steps : List Step) (s t : State)
-    → Settles cancelled lines steps s t → IsAhead altered lines steps s t
+chosen_allowed : (edit : ℕ → Option Edit) (altered : List PathValue) (lines : List Line) (steps : List Step) (s t : State)
+    → Settles edit lines steps s t → IsAhead altered lines steps s t
     → IsAllowed (lines_chosen lines steps) t
-chosen_allowed cancelled altered [] steps s t settles h = record { allowed = tt; of_kind = refl }
-chosen_allowed cancelled altered (l ∷ lines) [] s t settles h = record { allowed = tt; of_kind = refl }
-chosen_allowed cancelled altered (l ∷ lines) (Cancel ∷ steps) s t settles h =
-    chosen_allowed cancelled altered lines steps (after l.1.notes s) t settles.2
+chosen_allowed edit altered [] steps s t settles h = record { allowed = tt; of_kind = refl }
+chosen_allowed edit altered (l ∷ lines) [] s t settles h = record { allowed = tt; of_kind = refl }
+chosen_allowed edit altered (l ∷ lines) (Cancel ∷ steps) s t settles h =
+    chosen_allowed edit altered lines steps (after l.1.notes s) t settles.2
     (after_cancelled altered l lines steps s t h)
-chosen_allowed cancelled altered (l ∷ lines) (Keep ∷ steps) s t settles h =
+chosen_allowed edit altered (l ∷ lines) (Keep ∷ steps) s t settles h =
     let allowed = kept_allowed altered l lines steps s t h in
-    let rest = chosen_allowed cancelled altered lines steps (after l.1.notes s) (after l.1.notes t) settles.2
+    let rest = chosen_allowed edit altered lines steps (after l.1.notes s) (after l.1.notes t) settles.2
     (after_kept altered l lines steps s t h allowed) in
     record {
       allowed = (allowed, rest.allowed);
       of_kind = and_true _ _ (first_true (is_line_of_kind l) _ h.of_kind) rest.of_kind;
     }
-chosen_allowed cancelled altered (l ∷ lines) (Take run ∷ steps) s t settles h =
-    let has = ap (finmap.contains_key t.sessions) settles.0.2
+chosen_allowed edit altered (l ∷ lines) (Take run ∷ steps) s t settles h =
+    let has = ap (finmap.contains_key t.sessions) settles.0.1.0
     ∙ first_true (finmap.contains_key t.sessions l.1.sid) _ h.known in
-    let allowed : AllAllowed run.notes t = settles.1.certified.allowed t h.lawful has settles.0.4 in
-    let rest = chosen_allowed cancelled altered lines steps (after l.1.notes s) (after run.notes t) settles.2
+    let allowed : AllAllowed run.notes t = settles.1.certified.allowed t h.lawful has settles.0.2 in
+    let rest = chosen_allowed edit altered lines steps (after l.1.notes s) (after run.notes t) settles.2
     (after_taken altered l run lines steps s t h allowed) in
     record {
       allowed = (allowed, rest.allowed);
-      of_kind = and_true _ _ (held_of_kind run.notes t settles.0.4) rest.of_kind;
+      of_kind = and_true _ _ (held_of_kind run.notes t settles.0.2) rest.of_kind;
     }
 
 -- ---- the recording
 
-pub recording_far : (cancelled : ℕ → Bool) (r : RecordingValue) (steps : List Step) → IsWellFormed r
-    → Settles cancelled r.lines steps r.first r.first → keeps_near r.lines steps ≡ false
+pub recording_far : (edit : ℕ → Option Edit) (r : RecordingValue) (steps : List Step) → IsWellFormed r
+    → Settles edit r.lines steps r.first r.first → keeps_near r.lines steps ≡ false
     → IsWellFormed (recording_chosen r steps)
-recording_far cancelled r steps w settles far =
-    let named = chosen_own cancelled r.first r.lines steps r.first r.first settles
+recording_far edit r steps w settles far =
+    let named = chosen_own edit r.first r.lines steps r.first r.first settles
     (record { known = w.known; own = w.own }) in
-    let changes = chosen_allowed cancelled (altered_paths r.lines steps) r.lines steps r.first r.first settles (record {
+    let changes = chosen_allowed edit (altered_paths r.lines steps) r.lines steps r.first r.first settles (record {
       agree = λ p e. refl;
       sessions = λ k. refl;
       lawful = w.lawful;

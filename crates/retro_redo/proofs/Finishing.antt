@@ -1,30 +1,34 @@
 -- The end of a repair: all lines are settled.
-use Rattle.std.proofs.Common.{◌≡◌, ◌∙◌, ℕ, Bool, true, false, not, List, [], ◌∷◌, length, map, Option, Some, None}
+use Rattle.std.proofs.Common.{◌≡◌, ◌∙◌, ℕ, Bool, not, List, [], ◌∷◌, length, map, Option, Some, None}
 use Rattle.std.proofs.Common.{Result, Ok, Err}
 use Rattle.std.proofs.Common.{IsTrue, arith, refl, sym, ap, ap₂, cond, subst, nat_lt, ◌<◌}
 use Rattle.std.proofs.Common.{IfOk, ◌↔◌}
+use Rattle.std.specs.FinMap as finmap
 use Rattle.std.specs.Option.{is_some}
 use Rattle.std.proofs.lemmas.Bool.{false≢true, ltb-true, lt-ltb}
 use Rattle.retro_tree.specs.Commit.{committed}
 use Rattle.retro_tree.specs.Overlay.{OverlayMap}
 use Rattle.retro_tree.specs.declared.state.State.{State}
 use Rattle.retro_tree.proofs.Small.{first_true, both_true, and_true}
-use Rattle.retro_keep.specs.Edit.{is_among}
+use Rattle.retro_keep.specs.Edit.{edit_of}
 use Rattle.retro_keep.specs.Recording.{AllRecorded, IsRecordingOf, IsWellFormed, RecordingValue, last_state}
 use Rattle.retro_keep.specs.Recording.{number_in, output_in}
 use Rattle.retro_keep.specs.Recording.{script_in, script_line, sid_in}
 use Rattle.retro_keep.specs.Script.{IsScript, ScriptValue, have_sessions, number_of, rises_from, script_of_lines}
 use Rattle.retro_keep.specs.Script.{sid_of}
+use Rattle.retro_keep.specs.declared.edit.Edit.{Edit}
 use Rattle.retro_keep.specs.declared.script.LinesFault.{LinesFault}
 use Rattle.retro_keep.specs.declared.script.LinesFault.TheVariants as lines_faults
 use Rattle.retro_keep.specs.declared.script.ScriptLine.{ScriptLine}
+use Rattle.retro_keep.proofs.Edited.{script_edited}
 use Rattle.retro_keep.proofs.Recorded.{well_formed}
 use Rattle.retro_redo.specs.Final.{IsFinal}
 use Rattle.retro_redo.specs.inner.Keeping.{Keeps}
-use Rattle.retro_redo.specs.Moments.{AreVerdicts, IsMet, Picks, others}
-use Rattle.retro_redo.specs.Progress.{ProgressValue, cancelled_in, lines_chosen, next_line, repaired_now}
+use Rattle.retro_redo.specs.Editing.{EditMap}
+use Rattle.retro_redo.specs.Moments.{AreVerdicts, IsMet, Picks}
+use Rattle.retro_redo.specs.Progress.{ProgressValue, edit_in, lines_chosen, next_line, repaired_now}
 use Rattle.retro_redo.specs.Progress.{repaired_after, repaired_recording}
-use Rattle.retro_redo.specs.Repair.{IsRepair, IsRunAgain, moments_of, script_of_others}
+use Rattle.retro_redo.specs.Repair.{IsRepair, IsRunAgain, edited_lines, moments_of, script_now}
 use Rattle.retro_redo.specs.Settled.{AreSettled, IsSettled}
 use Rattle.retro_redo.specs.Progress.{compensations_chosen, settled, verdicts_chosen}
 use Rattle.retro_redo.specs.declared.repair.Repair.{Repair}
@@ -34,7 +38,7 @@ use Rattle.retro_redo.proofs.Final.{settles_final}
 use Rattle.retro_redo.proofs.Keeping.{repaired_is}
 use Rattle.retro_redo.proofs.Positions.{Line, all_settled, recorded_all}
 
--- ---- the script of the other lines
+-- ---- the script of the edited lines
 
 numbers_are : (lines : List Line) → map number_of (map script_line lines) ≡ map number_in lines
 numbers_are [] = refl
@@ -51,57 +55,28 @@ rises_from_less m n (number ∷ numbers) less rising =
     let above = ltb-true n number (first_true (nat_lt n number) _ rising) in
     and_true _ _ (lt-ltb m number (omega arith)) (both_true (nat_lt n number) _ rising)
 
-rises_with : (n : ℕ) (l : ScriptLine) (kept : List ScriptLine) (b : Bool) → nat_lt n l.number ≡ true
-    → IsTrue (rises_from l.number (map number_of kept))
-    → IsTrue (rises_from n (map number_of (cond b (l ∷ kept) kept)))
-rises_with n l kept true above later = and_true _ _ above later
-rises_with n l kept false above later = rises_from_less n l.number _ (ltb-true n l.number above) later
+pub script_edited_lines : (edit : ℕ → Option Edit) (r : RecordingValue) → IsWellFormed r → IsScript (script_now edit r)
+script_edited_lines edit r w =
+    script_edited edit (script_in r) (record {
+      lawful = w.lawful;
+      rising = ap (rises_from 0) (numbers_are r.lines) ∙ w.rising;
+      known = ap (have_sessions r.first) (sids_are r.lines) ∙ w.known;
+    })
 
-rises_others : (cancelled : ℕ → Bool) (n : ℕ) (lines : List ScriptLine) → IsTrue (rises_from n (map number_of lines))
-    → IsTrue (rises_from n (map number_of (others cancelled lines)))
-rises_others cancelled n [] rising = refl
-rises_others cancelled n (l ∷ lines) rising =
-    rises_with n l (others cancelled lines) (not (cancelled l.number)) (first_true (nat_lt n l.number) _ rising)
-    (rises_others cancelled l.number lines (both_true (nat_lt n l.number) _ rising))
-
-known_with : (first : State) (l : ScriptLine) (lines kept : List ScriptLine) (b : Bool)
-    → IsTrue (have_sessions first (map sid_of (l ∷ lines))) → IsTrue (have_sessions first (map sid_of kept))
-    → IsTrue (have_sessions first (map sid_of (cond b (l ∷ kept) kept)))
-known_with first l lines kept true known later =
-    and_true _ _ (first_true _ (have_sessions first (map sid_of lines)) known) later
-known_with first l lines kept false known later = later
-
-known_others : (first : State) (cancelled : ℕ → Bool) (lines : List ScriptLine)
-    → IsTrue (have_sessions first (map sid_of lines))
-    → IsTrue (have_sessions first (map sid_of (others cancelled lines)))
-known_others first cancelled [] known = refl
-known_others first cancelled (l ∷ lines) known =
-    known_with first l lines (others cancelled lines) (not (cancelled l.number)) known
-    (known_others first cancelled lines (both_true _ (have_sessions first (map sid_of lines)) known))
-
-pub script_others : (cancelled : ℕ → Bool) (r : RecordingValue) → IsWellFormed r
-    → IsScript (script_of_others cancelled r)
-script_others cancelled r w = record {
-  lawful = w.lawful;
-  rising = rises_others cancelled 0 (map script_line r.lines) (ap (rises_from 0) (numbers_are r.lines) ∙ w.rising);
-  known = known_others r.first cancelled (map script_line r.lines)
-      (ap (have_sessions r.first) (sids_are r.lines) ∙ w.known);
-}
-
--- the code makes this script of the lines that aren't cancelled
-pub script_made : (cancelled : ℕ → Bool) (r : RecordingValue) (first : State) (lines : List ScriptLine)
-    → IsWellFormed r → first ≡ r.first → lines ≡ others cancelled (map script_line r.lines)
-    → script_of_lines first lines ≡ Ok (script_of_others cancelled r)
+-- the code makes this script of the edited lines
+pub script_made : (edit : ℕ → Option Edit) (r : RecordingValue) (first : State) (lines : List ScriptLine)
+    → IsWellFormed r → first ≡ r.first → lines ≡ edited_lines edit r
+    → script_of_lines first lines ≡ Ok (script_now edit r)
 unfolding script_of_lines
-script_made cancelled r first lines w e f =
-    let is = script_others cancelled r w in
+script_made edit r first lines w e f =
+    let is = script_edited_lines edit r w in
     ap₂ script_of_lines e f
     ∙ ap (λ b. cond (not b) (Err lines_faults.NumbersNotRising) (if_known
-    (have_sessions r.first (map sid_of (others cancelled (map script_line r.lines)))))) is.rising
+    (have_sessions r.first (map sid_of (edited_lines edit r))))) is.rising
     ∙ ap if_known is.known
   where
     if_known : Bool → Result ScriptValue LinesFault
-    if_known b = cond (not b) (Err lines_faults.UnknownSession) (Ok (script_of_others cancelled r))
+    if_known b = cond (not b) (Err lines_faults.UnknownSession) (Ok (script_now edit r))
 
 pub no_fault : {A E : Type 0} (x : A) (e : E) → Ok x ≡ Err e → ⊥
 no_fault x e h = cc
@@ -121,24 +96,24 @@ numbers_of script r is = sym (numbers_are r.lines) ∙ ap (map number_of) is.lin
 pub all_chosen : (p q : ProgressValue) (overlay : OverlayMap) (met : List ℕ) → q ≡ p → Keeps q overlay met
     → next_line p ≡ None → length q.choices ≡ length q.recording.lines
 all_chosen p q overlay met e keeps ended =
-    all_settled (cancelled_in q) q.recording.lines q.choices q.recording.first q.recording.first keeps.settles
+    all_settled (edit_in q) q.recording.lines q.choices q.recording.first q.recording.first keeps.settles
     (ap next_line e ∙ ended)
 
 module _ (p : ProgressValue) (overlay : OverlayMap) (met : List ℕ) (keeps : Keeps p overlay met)
     (w : IsWellFormed p.recording) (ended : next_line p ≡ None)
     (is : IsRecordingOf (script_in p.recording) p.recording) where
   all : length p.choices ≡ length p.recording.lines
-  all = all_settled (cancelled_in p) p.recording.lines p.choices p.recording.first p.recording.first keeps.settles ended
+  all = all_settled (edit_in p) p.recording.lines p.choices p.recording.first p.recording.first keeps.settles ended
 
-  final : IsFinal (cancelled_in p) p.recording.lines p.choices p.recording.first p.recording.first
-  final = settles_final (cancelled_in p) p.recording.lines p.choices p.recording.first p.recording.first is.recorded
+  final : IsFinal (edit_in p) p.recording.lines p.choices p.recording.first p.recording.first
+  final = settles_final (edit_in p) p.recording.lines p.choices p.recording.first p.recording.first is.recorded
       w.lawful w.known keeps.settles all
 
   -- the lines as chosen are a recording's
   pub chosen_well_formed : IsWellFormed (repaired_recording p)
   chosen_well_formed =
-      well_formed (script_of_others (cancelled_in p) p.recording) (lines_chosen p.recording.lines p.choices)
-      (script_others (cancelled_in p) p.recording w) final.lines_are final.recorded
+      well_formed (script_now (edit_in p) p.recording) (lines_chosen p.recording.lines p.choices)
+      (script_edited_lines (edit_in p) p.recording w) final.lines_are final.recorded
 
   pub is_repair : (repair : Repair)
       → repair.recording ≡ repaired_recording p
@@ -146,7 +121,7 @@ module _ (p : ProgressValue) (overlay : OverlayMap) (met : List ℕ) (keeps : Ke
       → repair.outputs.items ≡ map output_in repair.recording.lines
       → repair.verdicts.items ≡ verdicts_chosen p.recording.lines p.choices
       → repair.compensations.items ≡ compensations_chosen p.recording.lines p.choices
-      → repair.met.items ≡ met → IsRepair (cancelled_in p) p.recording repair
+      → repair.met.items ≡ met → IsRepair (edit_in p) p.recording repair
   is_repair repair recording state outputs verdicts compensated met_are =
       let chosen = lines_chosen p.recording.lines p.choices in
       let state_is : repair.state ≡ repaired_now p = state
@@ -157,10 +132,10 @@ module _ (p : ProgressValue) (overlay : OverlayMap) (met : List ℕ) (keeps : Ke
       record {
         outcome_is = ap₂ (λ s os. (s, os)) state_is outputs_are ∙ sym final.outcome_is;
         compensated = compensated ∙ sym final.compensated;
-        verdicts_are = subst (λ vs. AreVerdicts (cancelled_in p) (moments_of (cancelled_in p) p.recording) vs)
+        verdicts_are = subst (λ vs. AreVerdicts (edit_in p) (moments_of (edit_in p) p.recording) vs)
             (sym verdicts) final.verdicts;
-        met_are = subst (λ ns. Picks (IsMet (cancelled_in p)) (moments_of (cancelled_in p) p.recording) ns)
-            (sym met_are) (subst (λ ms. Picks (IsMet (cancelled_in p)) ms met) (sym final.on_the_way) keeps.are_met);
+        met_are = subst (λ ns. Picks (IsMet (edit_in p)) (moments_of (edit_in p) p.recording) ns)
+            (sym met_are) (subst (λ ms. Picks (IsMet (edit_in p)) ms met) (sym final.on_the_way) keeps.are_met);
         recording_is = record {
           first = ap (λ (r : RecordingValue). r.first) recording;
           lines = ap (λ (r : RecordingValue). map script_line r.lines) recording ∙ final.lines_are;
@@ -207,10 +182,10 @@ module _ (p q : ProgressValue) (overlay : OverlayMap) (met : List ℕ) (e : q �
         ∙ exact.1 (chosen_well_formed q overlay met keeps w ended_in (is_in is)))
 
     -- each line has its choice, and the lines as chosen make no recording
-    pub settled_again : found ≡ None → (repair : Repair) → IsRunAgain (cancelled_in q) q.recording repair
-        → IsSettled (cancelled_in p) p.recording p.choices repair
+    pub settled_again : found ≡ None → (repair : Repair) → IsRunAgain (edit_in q) q.recording repair
+        → IsSettled (edit_in p) p.recording p.choices repair
     settled_again none repair again =
-        subst (λ (x : ProgressValue). IsSettled (cancelled_in x) x.recording x.choices repair) e (record {
+        subst (λ (x : ProgressValue). IsSettled (edit_in x) x.recording x.choices repair) e (record {
           settles = keeps.settles;
           all = all_chosen p q overlay met e keeps ended;
           chosen = λ well. absurd (false≢true (sym (ap is_some none) ∙ exact.1 well));
@@ -224,9 +199,9 @@ module _ (p q : ProgressValue) (overlay : OverlayMap) (met : List ℕ) (e : q �
         → repair.outputs.items ≡ map output_in repair.recording.lines
         → repair.verdicts.items ≡ verdicts_chosen q.recording.lines q.choices
         → repair.compensations.items ≡ compensations_chosen q.recording.lines q.choices
-        → repair.met.items ≡ met → IsSettled (cancelled_in p) p.recording p.choices repair
+        → repair.met.items ≡ met → IsSettled (edit_in p) p.recording p.choices repair
     settled_found repair r some recording state outputs verdicts compensated met_are =
-        subst (λ (x : ProgressValue). IsSettled (cancelled_in x) x.recording x.choices repair) e (record {
+        subst (λ (x : ProgressValue). IsSettled (edit_in x) x.recording x.choices repair) e (record {
           settles = keeps.settles;
           all = all_chosen p q overlay met e keeps ended;
           chosen = λ well. record {
@@ -236,7 +211,7 @@ module _ (p q : ProgressValue) (overlay : OverlayMap) (met : List ℕ) (e : q �
             outputs_are = outputs ∙ ap (λ (x : RecordingValue). map output_in x.lines) recording;
             compensated = compensated;
             verdicts_are = verdicts;
-            met_are = subst (λ ns. Picks (IsMet (cancelled_in q))
+            met_are = subst (λ ns. Picks (IsMet (edit_in q))
                 (settled q.recording.lines q.choices q.recording.first q.recording.first) ns) (sym met_are)
                 keeps.are_met;
           };
@@ -249,27 +224,27 @@ module _ (p q : ProgressValue) (overlay : OverlayMap) (met : List ℕ) (e : q �
         → repair.outputs.items ≡ map output_in repair.recording.lines
         → repair.verdicts.items ≡ verdicts_chosen q.recording.lines q.choices
         → repair.compensations.items ≡ compensations_chosen q.recording.lines q.choices
-        → repair.met.items ≡ met → IsRepair (cancelled_in p) p.recording repair
+        → repair.met.items ≡ met → IsRepair (edit_in p) p.recording repair
     repair_found repair is recording state outputs verdicts compensated met_are =
-        subst (λ x. IsRepair (cancelled_in x) x.recording repair) e
+        subst (λ x. IsRepair (edit_in x) x.recording repair) e
         (is_repair q overlay met keeps w ended_in (is_in is) repair recording state outputs verdicts compensated
         met_are)
 
--- the same numbers are cancelled
-pub repair_same : (a b : List ℕ) (r q : RecordingValue) (repair : Repair)
-    → ((n : ℕ) → is_among a n ≡ is_among b n) → r ≡ q
-    → (IsRecordingOf (script_in r) r → IsRepair (is_among a) r repair)
-    → IsRecordingOf (script_in q) q → IsRepair (is_among b) q repair
-repair_same a b r q repair same e h is =
-    subst (λ (x : ℕ → Bool). IsRepair x q repair) (λ i n. same n i)
-    (subst (λ (x : RecordingValue). IsRepair (is_among a) x repair) e
+-- the same lines are edited alike
+pub repair_same : (a : EditMap) (edits : List Edit) (r q : RecordingValue) (repair : Repair)
+    → ((n : ℕ) → finmap.get a n ≡ edit_of edits n) → r ≡ q
+    → (IsRecordingOf (script_in r) r → IsRepair (finmap.get a) r repair)
+    → IsRecordingOf (script_in q) q → IsRepair (edit_of edits) q repair
+repair_same a edits r q repair same e h is =
+    subst (λ (x : ℕ → Option Edit). IsRepair x q repair) (λ i n. same n i)
+    (subst (λ (x : RecordingValue). IsRepair (finmap.get a) x repair) e
     (h (subst (λ (x : RecordingValue). IsRecordingOf (script_in x) x) (sym e) is)))
 
-pub settled_same : (a b : List ℕ) (r q : RecordingValue) (steps : List Step) (repair : Repair)
-    → ((n : ℕ) → is_among a n ≡ is_among b n) → r ≡ q → IsSettled (is_among a) r steps repair
-    → AreSettled (is_among b) q repair
-settled_same a b r q steps repair same e h = (
+pub settled_same : (a : EditMap) (edits : List Edit) (r q : RecordingValue) (steps : List Step) (repair : Repair)
+    → ((n : ℕ) → finmap.get a n ≡ edit_of edits n) → r ≡ q → IsSettled (finmap.get a) r steps repair
+    → AreSettled (edit_of edits) q repair
+settled_same a edits r q steps repair same e h = (
   steps,
-  subst (λ (x : ℕ → Bool). IsSettled x q steps repair) (λ i n. same n i)
-      (subst (λ (x : RecordingValue). IsSettled (is_among a) x steps repair) e h),
+  subst (λ (x : ℕ → Option Edit). IsSettled x q steps repair) (λ i n. same n i)
+      (subst (λ (x : RecordingValue). IsSettled (finmap.get a) x steps repair) e h),
 )

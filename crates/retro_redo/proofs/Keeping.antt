@@ -1,30 +1,30 @@
 -- The progress of a repair: at its start, and with one more line settled.
-use Rattle.std.proofs.Common.{◌≡◌, ◌∙◌, ◌⊎◌, inl, inr, ℕ, Bool, true, false, List, [], ◌∷◌, ◌++◌, length, Option, Some}
-use Rattle.std.proofs.Common.{refl, sym, ap, subst}
+use Rattle.std.proofs.Common.{◌≡◌, ◌∙◌, ◌⊎◌, inl, inr, ℕ, Bool, Bor, true, false, List, [], ◌∷◌, ◌++◌, length, not, Option, None}
+use Rattle.std.proofs.Common.{Some, refl, sym, ap, subst}
 use Rattle.std.proofs.Common.{IfOk, IsTrue, MatchBool, Ok, Err, Result, ◌↔◌}
-use Rattle.std.proofs.lemmas.Bool.{true≢false}
+use Rattle.std.proofs.lemmas.Bool.{false≢true}
 use Rattle.std.specs.FinMap as finmap
+use Rattle.std.specs.Option.{IsSome, is_some, option_copied}
 use Rattle.retro_tree.specs.Cell.{value}
 use Rattle.retro_tree.specs.Exact.{IsDifference, IsExact}
 use Rattle.retro_tree.specs.Commit.{committed}
-use Rattle.retro_tree.specs.Notes.{AgreeOn, Holds, after}
+use Rattle.retro_tree.specs.Notes.{Holds, after}
 use Rattle.retro_tree.specs.Overlay.{OverlayMap}
 use Rattle.retro_tree.specs.State.{SameSessions}
 use Rattle.retro_tree.specs.declared.note.Note.{Note}
 use Rattle.retro_tree.specs.declared.overlay_entry.OverlayEntry.{OverlayEntry}
 use Rattle.retro_tree.specs.declared.state.State.{State}
 use Rattle.retro_tree.proofs.ExactOverlays.{exact_state}
-use Rattle.retro_effects.specs.Meeting.{Met}
-use Rattle.retro_keep.specs.Edit.{is_among}
+use Rattle.retro_shell.specs.Runs.{RunValue}
 use Rattle.retro_keep.specs.Recording.{IsWellFormed, RecordingValue, are_own, is_own_line}
-use Rattle.retro_keep.specs.declared.noted.Noted.{Noted}
-use Rattle.retro_redo.specs.Cancelling.{AreLines}
+use Rattle.retro_redo.specs.Editing.{AreLines, EditMap}
 use Rattle.retro_redo.specs.inner.Keeping.{Keeps}
-use Rattle.retro_redo.specs.Moments.{IsMet, Picks}
-use Rattle.retro_redo.specs.Progress.{IsRunTaken, MayStep, ProgressValue, cancelled_in, chosen, is_cancel, next_line}
+use Rattle.retro_redo.specs.Moments.{IsMet, IsMetBy, IsUnmetBy, Picks, new_text, text_now}
+use Rattle.retro_redo.specs.Progress.{IsNewRunOf, IsRunTaken, MayStep, ProgressValue, chosen, edit_in, next_line}
 use Rattle.retro_redo.specs.Progress.{recorded_after, recorded_now, repaired_after, repaired_now, settled_now}
 use Rattle.retro_redo.specs.declared.step.Step.{Step}
 use Rattle.retro_redo.specs.declared.step.Step.TheVariants.{Cancel, Keep, Take}
+use Rattle.retro_redo.proofs.EditCases.{unmet_not_met}
 use Rattle.retro_redo.proofs.Positions.{Line, moment, picks_met, picks_unmet, recorded_more, recorded_none}
 use Rattle.retro_redo.proofs.Positions.{repaired_more}
 use Rattle.retro_redo.proofs.Positions.{repaired_none, settled_more, settled_none, settles_more, settles_none}
@@ -32,16 +32,16 @@ use Rattle.retro_redo.proofs.Sessions.{all_get, own_notes_keep_sessions, session
 
 -- ---- no line settled
 
-pub keeps_new : (r : RecordingValue) (cancel : List ℕ) (overlay : OverlayMap) → AreLines cancel r
-    → overlay ≡ finmap.empty → Keeps (record { recording = r; cancel = cancel; choices = [] }) overlay []
-keeps_new r cancel overlay known e = record {
-  settles = settles_none (is_among cancel) r.lines r.first r.first;
+pub keeps_new : (r : RecordingValue) (edits : EditMap) (overlay : OverlayMap) → AreLines edits r
+    → overlay ≡ finmap.empty → Keeps (record { recording = r; edits = edits; choices = [] }) overlay []
+keeps_new r edits overlay known e = record {
+  settles = settles_none (finmap.get edits) r.lines r.first r.first;
   exact = λ c.
       subst (λ (o : Option OverlayEntry). IsDifference o (value c (recorded_after r.lines [] r.first))
       (value c (repaired_after r.lines [] r.first)))
       (sym (ap (λ (o : OverlayMap). finmap.get o c) e ∙ finmap.get-empty _ c))
       (ap (value c) (recorded_none r.lines r.first ∙ sym (repaired_none r.lines r.first)));
-  are_met = subst (λ ms. Picks (IsMet (is_among cancel)) ms []) (sym (settled_none r.lines r.first r.first)) refl;
+  are_met = subst (λ ms. Picks (IsMet (finmap.get edits)) ms []) (sym (settled_none r.lines r.first r.first)) refl;
   recorded_sessions = λ k. ap (λ (s : State). finmap.contains_key s.sessions k) (recorded_none r.lines r.first);
   repaired_sessions = λ k. ap (λ (s : State). finmap.contains_key s.sessions k) (repaired_none r.lines r.first);
   known = known;
@@ -51,34 +51,34 @@ keeps_new r cancel overlay known e = record {
 
 -- the progress with one more choice
 abbrev pub more : ProgressValue → Step → ProgressValue
-more p step = record { recording = p.recording; cancel = p.cancel; choices = p.choices ++ step ∷ [] }
+more p step = record { recording = p.recording; edits = p.edits; choices = p.choices ++ step ∷ [] }
 
 -- the met numbers with those of the next line: its own, if it is met
 abbrev pub IsMetMore : ProgressValue → Line → List ℕ → List ℕ → Type 0
 IsMetMore p l met new =
-    (IsMet (cancelled_in p) (moment l (recorded_now p) (repaired_now p)) × (new ≡ met ++ l.0 ∷ []))
-    ⊎ ((¬ (IsMet (cancelled_in p) (moment l (recorded_now p) (repaired_now p)))) × (new ≡ met))
+    (IsMet (edit_in p) (moment l (recorded_now p) (repaired_now p)) × (new ≡ met ++ l.0 ∷ []))
+    ⊎ ((¬ (IsMet (edit_in p) (moment l (recorded_now p) (repaired_now p)))) × (new ≡ met))
 
-picks_more : (p : ProgressValue) (l : Line) (met new : List ℕ) → Picks (IsMet (cancelled_in p)) (settled_now p) met
+picks_more : (p : ProgressValue) (l : Line) (met new : List ℕ) → Picks (IsMet (edit_in p)) (settled_now p) met
     → IsMetMore p l met new
-    → Picks (IsMet (cancelled_in p)) (settled_now p ++ moment l (recorded_now p) (repaired_now p) ∷ []) new
+    → Picks (IsMet (edit_in p)) (settled_now p ++ moment l (recorded_now p) (repaired_now p) ∷ []) new
 picks_more p l met new h (inl m) =
-    subst (Picks (IsMet (cancelled_in p)) _) (sym m.1) (picks_met (IsMet (cancelled_in p)) (settled_now p) _ met h m.0)
+    subst (Picks (IsMet (edit_in p)) _) (sym m.1) (picks_met (IsMet (edit_in p)) (settled_now p) _ met h m.0)
 picks_more p l met new h (inr m) =
-    subst (Picks (IsMet (cancelled_in p)) _) (sym m.1)
-    (picks_unmet (IsMet (cancelled_in p)) (settled_now p) _ met h m.0)
+    subst (Picks (IsMet (edit_in p)) _) (sym m.1)
+    (picks_unmet (IsMet (edit_in p)) (settled_now p) _ met h m.0)
 
 chosen_own : (p : ProgressValue) (l : Line) (step : Step) (s t : State) → are_own l.1.sid l.1.notes ≡ true
-    → MayStep (cancelled_in p) s t l step → IsRunTaken step
+    → MayStep (edit_in p) s t l step → IsRunTaken step
     → finmap.contains_key t.sessions l.1.sid ≡ true → SameSessions (after (chosen step l.1) t) t
 chosen_own p l Cancel s t own may run has = λ k. refl
 chosen_own p l Keep s t own may run has = own_notes_keep_sessions l.1.sid l.1.notes t own has
 chosen_own p l (Take taken) s t own may run has =
-    own_notes_keep_sessions taken.sid taken.notes t run.own (ap (finmap.contains_key t.sessions) may.2 ∙ has)
+    own_notes_keep_sessions taken.sid taken.notes t run.own (ap (finmap.contains_key t.sessions) may.1.0 ∙ has)
 
 pub keeps_more : (p : ProgressValue) (overlay new : OverlayMap) (met new_met : List ℕ) (l : Line) (step : Step)
     → Keeps p overlay met → IsWellFormed p.recording → next_line p ≡ Some l
-    → MayStep (cancelled_in p) (recorded_now p) (repaired_now p) l step → IsRunTaken step
+    → MayStep (edit_in p) (recorded_now p) (repaired_now p) l step → IsRunTaken step
     → IsExact new (after l.1.notes (recorded_now p)) (after (chosen step l.1) (repaired_now p))
     → IsMetMore p l met new_met → Keeps (more p step) new new_met
 keeps_more p overlay new met new_met l step keeps well next may run exact is_met =
@@ -89,10 +89,10 @@ keeps_more p overlay new met new_met l step keeps well next may run exact is_met
     let has = session_get first lines (length p.choices) l well.known next in
     let own : are_own l.1.sid l.1.notes ≡ true = all_get is_own_line lines (length p.choices) l well.own next in
     record {
-      settles = settles_more (cancelled_in p) lines p.choices l step first first next keeps.settles may run;
+      settles = settles_more (edit_in p) lines p.choices l step first first next keeps.settles may run;
       exact = subst (λ s. IsExact new s (repaired_now (more p step))) (sym recorded)
           (subst (λ t. IsExact new (after l.1.notes (recorded_now p)) t) (sym repaired) exact);
-      are_met = subst (λ ms. Picks (IsMet (cancelled_in p)) ms new_met)
+      are_met = subst (λ ms. Picks (IsMet (edit_in p)) ms new_met)
           (sym (settled_more lines p.choices l step first first next))
           (picks_more p l met new_met keeps.are_met is_met);
       recorded_sessions = λ k. ap (λ (s : State). finmap.contains_key s.sessions k) recorded
@@ -128,70 +128,89 @@ holds_of p q overlay met (Ok b) notes s e keeps recorded h =
     (subst (λ x. SameSessions x (repaired_now p)) (sym recorded) (keeps_same_sessions p overlay met kept))
 
 pub equiv_of : (p q : ProgressValue) (overlay : OverlayMap) (met : List ℕ) {X : Type 0} (r : Result Bool X) (k : Line)
-    (s : State) → q ≡ p → Keeps q overlay met → s ≡ recorded_now p → next_line p ≡ Some k
+    (s : State) → q ≡ p → Keeps q overlay met → s ≡ recorded_now p → next_line p ≡ Some k → edit_in p k.0 ≡ None
     → IfOk r (λ b. (t : State) → IsExact overlay s t → SameSessions s t → IsTrue b ↔ Holds k.1.notes t)
-    → (l : Line) → next_line p ≡ Some l → IfOk r (λ b. IsTrue b ↔ Holds l.1.notes (repaired_now p))
-equiv_of p q overlay met r k s e keeps recorded next h l is =
+    → (l : Line) → next_line p ≡ Some l
+    → IfOk r (λ b. IsTrue b ↔ ((edit_in p l.0 ≡ None) × Holds l.1.notes (repaired_now p)))
+equiv_of p q overlay met r k s e keeps recorded next none h l is =
     let both : ◌≡◌ {A = Option Line} (Some k) (Some l) = sym next ∙ is in
     let same : k ≡ l = cc in
-    subst (λ (x : Line). IfOk r (λ b. IsTrue b ↔ Holds x.1.notes (repaired_now p))) same
-    (holds_of p q overlay met r k.1.notes s e keeps recorded h)
+    subst (λ (x : Line). IfOk r (λ b. IsTrue b ↔ ((edit_in p x.0 ≡ None) × Holds x.1.notes (repaired_now p)))) same
+    (with_none r (holds_of p q overlay met r k.1.notes s e keeps recorded h))
+  where
+    with_none : {Y : Type 0} (x : Result Bool Y) → IfOk x (λ b. IsTrue b ↔ Holds k.1.notes (repaired_now p))
+        → IfOk x (λ b. IsTrue b ↔ ((edit_in p k.0 ≡ None) × Holds k.1.notes (repaired_now p)))
+    with_none (Err y) g = tt
+    with_none (Ok b) g = ((λ b_is. (none, g.0 b_is)), (λ both. g.1 both.1))
 
--- whether a line is met, for the choice that it allows
-abbrev pub IsStepMet : Step → Noted → State → State → Bool → Type 0
-IsStepMet step noted s t met =
-    MatchBool met ((is_cancel step ≡ false) × Met noted.notes s t) ((is_cancel step ≡ true) ⊎ AgreeOn noted.notes s t)
+-- an edited line isn't kept
+pub not_equiv : (p : ProgressValue) (k : Line) → next_line p ≡ Some k → is_some (edit_in p k.0) ≡ true → (l : Line)
+    → next_line p ≡ Some l → IsTrue false ↔ ((edit_in p l.0 ≡ None) × Holds l.1.notes (repaired_now p))
+not_equiv p k next edited l is =
+    let both : ◌≡◌ {A = Option Line} (Some k) (Some l) = sym next ∙ is in
+    let same : k ≡ l = cc in (
+      (λ never. absurd (false≢true never)),
+      (λ kept. absurd (false≢true (sym (ap is_some (ap (λ (x : Line). edit_in p x.0) same ∙ kept.0)) ∙ edited))),
+    )
 
-pub step_met : (b : Bool) (step : Step) (noted : Noted) (s t : State) → is_cancel step ≡ false
-    → MatchBool b (Met noted.notes s t) (AgreeOn noted.notes s t) → IsStepMet step noted s t b
-step_met true step noted s t e h = (e, h)
-step_met false step noted s t e h = inr h
+-- a run of the text of the next line's new runs, in its session
+pub new_run_of : (p : ProgressValue) (k : Line) {X : Type 0} (r : Result RunValue X) (text : List ℕ)
+    → next_line p ≡ Some k → IfOk r (λ run. run.sid ≡ k.1.sid) → IfOk r (λ run. run.text ≡ text)
+    → text ≡ new_text (edit_in p) k → (l : Line) → next_line p ≡ Some l → IfOk r (IsNewRunOf (edit_in p) l)
+new_run_of p k (Err x) text next sid same is l next_is = tt
+new_run_of p k (Ok run) text next sid same is l next_is =
+    let both : ◌≡◌ {A = Option Line} (Some k) (Some l) = sym next ∙ next_is in
+    let one : k ≡ l = cc in
+    subst (λ (x : Line). IsNewRunOf (edit_in p) x run) one (sid, same ∙ is)
 
-other : (cancelled : ℕ → Bool) (s t : State) (l : Line) (step : Step) → MayStep cancelled s t l step
-    → is_cancel step ≡ false → cancelled l.0 ≡ false
-other cancelled s t l Cancel may e = absurd (true≢false e)
-other cancelled s t l Keep may e = may.0
-other cancelled s t l (Take run) may e = may.0
+-- the next line is cancelled if it runs no text
+pub cancelled_of : (p : ProgressValue) (k : Line) (o : Option (Bor (List ℕ))) (b : Bool) → next_line p ≡ Some k
+    → option_copied o ≡ text_now (edit_in p) k → is_some o ≡ not b → (l : Line) → next_line p ≡ Some l
+    → MatchBool b (text_now (edit_in p) l ≡ None) (IsSome (text_now (edit_in p) l))
+cancelled_of p k o b next same is l next_is =
+    let both : ◌≡◌ {A = Option Line} (Some k) (Some l) = sym next ∙ next_is in
+    let one : k ≡ l = cc in
+    subst (λ (x : Line). MatchBool b (text_now (edit_in p) x ≡ None) (IsSome (text_now (edit_in p) x))) one
+    (subst (λ (t : Option (List ℕ)). MatchBool b (t ≡ None) (IsSome t)) same (by_case o b is))
+  where
+    by_case : (x : Option (Bor (List ℕ))) (y : Bool) → is_some x ≡ not y
+        → MatchBool y (option_copied x ≡ None) (IsSome (option_copied x))
+    by_case None true f = refl
+    by_case None false f = absurd (false≢true f)
+    by_case (Some text) true f = absurd (false≢true (sym f))
+    by_case (Some text) false f = refl
 
-not_met : (cancelled : ℕ → Bool) (s t : State) (l : Line) (step : Step) → MayStep cancelled s t l step
-    → ((is_cancel step ≡ true) ⊎ AgreeOn l.1.notes s t) → IsMet cancelled (moment l s t) → ⊥
-not_met cancelled s t l Cancel may (inl e) met = true≢false (sym may ∙ met.0)
-not_met cancelled s t l Keep may (inl e) met = true≢false (sym e)
-not_met cancelled s t l (Take run) may (inl e) met = true≢false (sym e)
-not_met cancelled s t l step may (inr agreed) met = met.1.2 (agreed met.1.0 met.1.1)
+-- what is known of the next line by whether it is met
+abbrev pub IsDecided : ProgressValue → Line → Bool → Type 0
+IsDecided p l b =
+    MatchBool b (IsMetBy (edit_in p l.0) l.1.notes (recorded_now p) (repaired_now p))
+    (IsUnmetBy (edit_in p l.0) l.1.notes (recorded_now p) (repaired_now p))
 
-module _ (p q : ProgressValue) (overlay : OverlayMap) (met new : List ℕ) (b : Bool) (l : Line) (step : Step)
-    (e : q ≡ p) (keeps : Keeps q overlay met) (next : next_line p ≡ Some l)
-    (may : (k : Line) → next_line p ≡ Some k
-    → MayStep (cancelled_in p) (recorded_now p) (repaired_now p) k step)
-    (decided : (s t : State) → IsExact overlay s t → IsStepMet step l.1 s t b) where
-  exact : IsExact overlay (recorded_now p) (repaired_now p)
-  exact = subst (λ x. IsExact overlay (recorded_now x) (repaired_now x)) e keeps.exact
-
+module _ (p : ProgressValue) (met new : List ℕ) (b : Bool) (l : Line) (next : next_line p ≡ Some l)
+    (decided : (k : Line) → next_line p ≡ Some k → IsDecided p k b) where
   pub met_more : b ≡ true → new ≡ met ++ l.0 ∷ [] → IsMetMore p l met new
-  met_more is pushed =
-      let m = subst (IsStepMet step l.1 (recorded_now p) (repaired_now p)) is
-      (decided (recorded_now p) (repaired_now p) exact) in
-      inl ((other (cancelled_in p) (recorded_now p) (repaired_now p) l step (may l next) m.0, m.1), pushed)
+  met_more is pushed = inl (subst (IsDecided p l) is (decided l next), pushed)
 
   pub unmet_more : b ≡ false → new ≡ met → IsMetMore p l met new
   unmet_more is same =
-      let m = subst (IsStepMet step l.1 (recorded_now p) (repaired_now p)) is
-      (decided (recorded_now p) (repaired_now p) exact) in
-      inr (not_met (cancelled_in p) (recorded_now p) (repaired_now p) l step (may l next) m, same)
+      inr (
+        unmet_not_met (edit_in p l.0) l.1.notes (recorded_now p) (repaired_now p)
+            (subst (IsDecided p l) is (decided l next)),
+        same,
+      )
 
 -- the progress after a step
 pub steps_more : (p q : ProgressValue) (overlay new : OverlayMap) (met new_met : List ℕ) (steps : List Step) (l : Line)
     (step : Step) (s : State) → (e : q ≡ p) → Keeps q overlay met → IsWellFormed p.recording
     → next_line p ≡ Some l → s ≡ recorded_now p
     → ((k : Line) → next_line p ≡ Some k
-    → MayStep (cancelled_in p) (recorded_now p) (repaired_now p) k step)
+    → MayStep (edit_in p) (recorded_now p) (repaired_now p) k step)
     → IsRunTaken step
     → ((t : State) → IsExact overlay s t → IsExact new (after l.1.notes s) (after (chosen step l.1) t))
     → steps ≡ q.choices ++ step ∷ [] → IsMetMore p l met new_met
-    → Keeps (record { recording = q.recording; cancel = q.cancel; choices = steps }) new new_met
+    → Keeps (record { recording = q.recording; edits = q.edits; choices = steps }) new new_met
 steps_more p q overlay new met new_met steps l step s e keeps well next recorded may run exact pushed is_met =
-    subst (λ cs. Keeps (record { recording = q.recording; cancel = q.cancel; choices = cs }) new new_met) (sym pushed)
+    subst (λ cs. Keeps (record { recording = q.recording; edits = q.edits; choices = cs }) new new_met) (sym pushed)
     (subst (λ x. Keeps (more x step) new new_met) (sym e)
     (keeps_more p overlay new met new_met l step kept well next (may l next) run advanced is_met))
   where

@@ -1,20 +1,23 @@
 -- Lines kept without being looked at: what a repair keeps.
-use Rattle.std.proofs.Common.{◌≡◌, ◌∙◌, inl, inr, ℕ, zero, suc, false, List, [], ◌∷◌, ◌++◌, drop, length, Some}
+use Rattle.std.proofs.Common.{◌≡◌, ◌∙◌, inl, inr, ℕ, zero, suc, List, [], ◌∷◌, ◌++◌, drop, length, None, Option, Some}
 use Rattle.std.proofs.Common.{replicate, refl, sym, ap, subst, arith, ◌≤◌, ◌<◌, ◌-◌}
+use Rattle.std.specs.FinMap as finmap
 use Rattle.retro_tree.specs.Exact.{IsExact}
 use Rattle.retro_tree.specs.Notes.{after, AgreeOn}
 use Rattle.retro_tree.specs.Overlay.{OverlayMap}
 use Rattle.retro_tree.specs.declared.state.State.{State}
 use Rattle.retro_tree.proofs.ExactOverlays.{unmet_step}
-use Rattle.retro_keep.specs.Edit.{is_among}
 use Rattle.retro_keep.specs.Recording.{IsWellFormed, RecordingValue}
+use Rattle.retro_keep.specs.declared.edit.Edit.{Edit}
 use Rattle.retro_redo.specs.inner.Keeping.{Keeps}
-use Rattle.retro_redo.specs.Progress.{ProgressValue, cancelled_in, next_line, next_number, recorded_now, repaired_now}
+use Rattle.retro_redo.specs.Progress.{ProgressValue, edit_in, next_line, next_number, recorded_now, repaired_now}
 use Rattle.retro_redo.specs.Settling.{IsOneMore}
 use Rattle.retro_redo.specs.Skipping.{AreUnmet, IsSkip, with_kept}
 use Rattle.retro_redo.specs.declared.step.Step.{Step}
 use Rattle.retro_redo.specs.declared.step.Step.TheVariants.{Keep}
+use Rattle.retro_redo.specs.Moments.{IsMetBy, IsUnmetBy}
 use Rattle.retro_redo.proofs.Before.{next_below, one_less}
+use Rattle.retro_redo.proofs.EditCases.{unmet_not_met}
 use Rattle.retro_redo.proofs.Keeping.{keeps_more, more}
 use Rattle.retro_redo.proofs.Positions.{Line, recorded_more, repaired_more}
 use Rattle.retro_redo.proofs.UsedLines.{line_at, rest_at}
@@ -32,18 +35,18 @@ none_more [] = refl
 none_more (x ∷ steps) = ap (λ cs. x ∷ cs) (none_more steps)
 
 with_choices : (p : ProgressValue) (a b : List Step) → a ≡ b
-    → ◌≡◌ {A = ProgressValue} (record { recording = p.recording; cancel = p.cancel; choices = a })
-    (record { recording = p.recording; cancel = p.cancel; choices = b })
-with_choices p a b e = λ i. record { recording = p.recording; cancel = p.cancel; choices = e i }
+    → ◌≡◌ {A = ProgressValue} (record { recording = p.recording; edits = p.edits; choices = a })
+    (record { recording = p.recording; edits = p.edits; choices = b })
+with_choices p a b e = λ i. record { recording = p.recording; edits = p.edits; choices = e i }
 
--- the next lines are unmet, up to one that is cancelled or met
+-- the next lines are unmet, up to one that is edited or met
 abbrev pub AreNextUnmet : ℕ → ProgressValue → Type 0
 AreNextUnmet n p =
-    AreUnmet (cancelled_in p) n (drop (length p.choices) p.recording.lines) (recorded_now p) (repaired_now p)
+    AreUnmet (edit_in p) n (drop (length p.choices) p.recording.lines) (recorded_now p) (repaired_now p)
 
 -- what one unmet line keeps, the first of them keep
 along : (P : ProgressValue → Type 0)
-    → ((q : ProgressValue) (l : Line) → next_line q ≡ Some l → cancelled_in q l.0 ≡ false
+    → ((q : ProgressValue) (l : Line) → next_line q ≡ Some l → edit_in q l.0 ≡ None
     → AgreeOn l.1.notes (recorded_now q) (repaired_now q) → P q → P (more q Keep))
     → (n count : ℕ) (p : ProgressValue) → n ≤ count → AreNextUnmet count p → P p → P (with_kept p n)
 along P step zero count p le h at =
@@ -54,7 +57,7 @@ along P step (suc n) (suc count) p le h at =
     (along P step n count (more p Keep) (omega (arith, le)))
   where
     by_rest : (rest : List Line) → drop (length p.choices) p.recording.lines ≡ rest
-        → AreUnmet (cancelled_in p) (suc count) rest (recorded_now p) (repaired_now p)
+        → AreUnmet (edit_in p) (suc count) rest (recorded_now p) (repaired_now p)
         → (AreNextUnmet count (more p Keep) → P (more p Keep) → P (with_kept (more p Keep) n))
         → P (with_kept p (suc n))
     by_rest [] e unmet later = absurd unmet
@@ -65,10 +68,10 @@ along P step (suc n) (suc count) p le h at =
         ∙ rest_at p.recording.lines (length p.choices) l rest e in
         let recorded = recorded_more p.recording.lines p.choices l Keep p.recording.first next in
         let repaired = repaired_more p.recording.lines p.choices l Keep p.recording.first next in
-        let unmet_rest = subst (λ ls. AreUnmet (cancelled_in p) count ls (recorded_now (more p Keep))
+        let unmet_rest = subst (λ ls. AreUnmet (edit_in p) count ls (recorded_now (more p Keep))
         (repaired_now (more p Keep))) (sym rest_is)
-        (subst (λ s. AreUnmet (cancelled_in p) count rest s (repaired_now (more p Keep))) (sym recorded)
-        (subst (λ t. AreUnmet (cancelled_in p) count rest (after l.1.notes (recorded_now p)) t) (sym repaired)
+        (subst (λ s. AreUnmet (edit_in p) count rest s (repaired_now (more p Keep))) (sym recorded)
+        (subst (λ t. AreUnmet (edit_in p) count rest (after l.1.notes (recorded_now p)) t) (sym repaired)
         unmet.2)) in
         subst P (with_choices p ((p.choices ++ Keep ∷ []) ++ replicate n Keep) (p.choices ++ Keep ∷ replicate n Keep)
         (one_more p.choices (replicate n Keep) Keep))
@@ -92,6 +95,14 @@ exact_kept overlay =
     along (λ q. IsExact overlay (recorded_now q) (repaired_now q))
     (λ q l next other agreed exact. exact_more overlay q l next agreed exact)
 
+-- a line that isn't edited and whose cells agree isn't met
+not_met : (q : ProgressValue) (l : Line) → edit_in q l.0 ≡ None
+    → AgreeOn l.1.notes (recorded_now q) (repaired_now q)
+    → IsMetBy (edit_in q l.0) l.1.notes (recorded_now q) (repaired_now q) → ⊥
+not_met q l other agreed =
+    unmet_not_met (edit_in q l.0) l.1.notes (recorded_now q) (repaired_now q)
+    (subst (λ (o : Option Edit). IsUnmetBy o l.1.notes (recorded_now q) (repaired_now q)) (sym other) agreed)
+
 keeps_kept : (overlay : OverlayMap) (met : List ℕ) (n count : ℕ) (p : ProgressValue) → n ≤ count
     → AreNextUnmet count p
     → Keeps p overlay met × IsWellFormed p.recording
@@ -101,7 +112,7 @@ keeps_kept overlay met =
     (λ q l next other agreed at. (
       keeps_more q overlay overlay met met l Keep at.0 at.1 next (other, inl agreed) tt
           (unmet_step overlay (recorded_now q) (repaired_now q) l.1.notes at.0.exact agreed)
-          (inr ((λ m. m.1.2 (agreed m.1.0 m.1.1)), refl)),
+          (inr (not_met q l other agreed, refl)),
       at.1,
     ))
 
@@ -110,29 +121,29 @@ keeps_kept overlay met =
 module _ (p q : ProgressValue) (overlay : OverlayMap) (met : List ℕ) (r : RecordingValue) (place n : ℕ)
     (steps : List Step) (e : q ≡ p) (keeps : Keeps q overlay met) (w : IsWellFormed p.recording)
     (same : r ≡ p.recording) (at : place ≡ length q.choices)
-    (unmet : (s t : State) → IsExact overlay s t → AreUnmet (is_among q.cancel) n (drop place r.lines) s t)
+    (unmet : (s t : State) → IsExact overlay s t → AreUnmet (finmap.get q.edits) n (drop place r.lines) s t)
     (pushed : steps ≡ q.choices ++ replicate n Keep) where
   unmet_now : AreNextUnmet n q
   unmet_now =
-      subst (λ k. AreUnmet (is_among q.cancel) n (drop k q.recording.lines) (recorded_now q) (repaired_now q)) at
-      (subst (λ (x : RecordingValue). AreUnmet (is_among q.cancel) n (drop place x.lines) (recorded_now q)
+      subst (λ k. AreUnmet (finmap.get q.edits) n (drop k q.recording.lines) (recorded_now q) (repaired_now q)) at
+      (subst (λ (x : RecordingValue). AreUnmet (finmap.get q.edits) n (drop place x.lines) (recorded_now q)
       (repaired_now q)) (same ∙ sym (ap (λ (x : ProgressValue). x.recording) e))
       (unmet (recorded_now q) (repaired_now q) keeps.exact))
 
-  pub keeps_skipped : Keeps (record { recording = q.recording; cancel = q.cancel; choices = steps }) overlay met
+  pub keeps_skipped : Keeps (record { recording = q.recording; edits = q.edits; choices = steps }) overlay met
   keeps_skipped =
-      subst (λ cs. Keeps (record { recording = q.recording; cancel = q.cancel; choices = cs }) overlay met) (sym pushed)
+      subst (λ cs. Keeps (record { recording = q.recording; edits = q.edits; choices = cs }) overlay met) (sym pushed)
       (keeps_kept overlay met n n q (omega arith) unmet_now
       (keeps, subst (λ (x : ProgressValue). IsWellFormed x.recording) (sym e) w)).0
 
-  pub skips : IsSkip p (record { recording = q.recording; cancel = q.cancel; choices = steps })
+  pub skips : IsSkip p (record { recording = q.recording; edits = q.edits; choices = steps })
   skips =
-      subst (λ x. IsSkip x (record { recording = q.recording; cancel = q.cancel; choices = steps })) e
-      (subst (λ cs. IsSkip q (record { recording = q.recording; cancel = q.cancel; choices = cs })) (sym pushed)
+      subst (λ x. IsSkip x (record { recording = q.recording; edits = q.edits; choices = steps })) e
+      (subst (λ cs. IsSkip q (record { recording = q.recording; edits = q.edits; choices = cs })) (sym pushed)
       (record {
         count = n;
         recording = refl;
-        cancel = refl;
+        edits = refl;
         choices = refl;
         unmet = unmet_now;
         exact = λ k le o exact. exact_kept o k n q le unmet_now exact;

@@ -1,7 +1,9 @@
 pub mod Final
 pub mod Positions
+pub mod EditCases
 pub mod Sessions
 pub mod Keeping
+pub mod Accepting
 pub mod Choices
 pub mod Finishing
 pub mod Numbers
@@ -19,5 +21,7 @@ pub mod AlteredPaths
 pub mod Altered
 pub mod ChosenLines
 pub mod Meetings
+pub mod StopNumbers
+pub mod EditedNumbers
 pub mod SoFar
 pub mod Overlays

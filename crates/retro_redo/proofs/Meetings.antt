@@ -1,6 +1,7 @@
 -- The numbers of the lines to settle that use a cell in which the two states differ.
-use Rattle.std.proofs.Common.{◌≡◌, ◌∙◌, ◌⊎◌, inl, inr, ℕ, zero, suc, ◌<◌, ◌≤◌, ◌-◌, ◌+◌, ◌==◌, Bool, true, false, ◌&&◌}
-use Rattle.std.proofs.Common.{cond, nat_lt, nat_cmp, List, [], ◌∷◌, drop, take, length, Option, Some, None, IfSome, refl}
+use Rattle.std.proofs.Common.{◌≡◌, ◌∙◌, ◌⊎◌, inl, inr, ℕ, zero, suc, ◌<◌, ◌≤◌, ◌-◌, ◌+◌, ◌==◌, Bool, true}
+use Rattle.std.proofs.Common.{false, ◌&&◌}
+use Rattle.std.proofs.Common.{cond, nat_lt, nat_cmp, List, [], ◌∷◌, drop, take, Option, Some, None, IfSome, refl}
 use Rattle.std.proofs.Common.{sym, ap, arith, subst, Less}
 use Rattle.std.specs.List.{AllByRecursion, list_any, slice_get}
 use Rattle.std.specs.List.Sorted.{IsStrictlySortedBy}
@@ -11,30 +12,21 @@ use Rattle.std.specs.FinMap.{contains_key-keys}
 use Rattle.std.specs.Cmp.{unsigned_ties}
 use Rattle.std.proofs.lemmas.Bool.{true≢false, eq-eqb, eqb-true, lt-ltb, ltb-true}
 use Rattle.std.proofs.lemmas.Grind.{common_steps}
-use Rattle.retro_tree.specs.Exact.{IsExact}
 use Rattle.retro_tree.specs.Notes.{cell_eq, touches}
 use Rattle.retro_tree.specs.Overlay.{OverlayMap}
 use Rattle.retro_tree.specs.declared.cell.Cell.{Cell}
-use Rattle.retro_tree.specs.declared.state.State.{State}
-use Rattle.retro_effects.specs.Meeting.{Met}
 use Rattle.retro_tree.proofs.NoteLaws.{cell_itself, same_cells}
 use Rattle.retro_tree.proofs.Small.{and_true, both_true, first_true, or_first, or_last, some_same}
 use Rattle.retro_keep.specs.Edit.{is_among}
 use Rattle.retro_history.specs.Index.{meets, next_use, numbers_of}
 use Rattle.retro_history.proofs.Lines.{RiseFrom, above, first_more, later, numbers_of_more}
-use Rattle.retro_keep.specs.Recording.{IsWellFormed, number_in}
-use Rattle.retro_redo.specs.inner.Keeping.{KeepsUses}
-use Rattle.retro_redo.specs.Meetings.{MeetsNow, lines_until}
-use Rattle.retro_redo.specs.Picks.{PicksBy}
 use Rattle.retro_redo.specs.inner.Meetings.{AddsNumbers, AreNumbersUntil, IsUsedBy}
-use Rattle.retro_redo.specs.Progress.{ProgressValue, recorded_now, repaired_now}
 use Rattle.retro_redo.specs.inner.NextUses.{AreSorted, Use, first_use, has_use, is_use, use_cmp}
 use Rattle.retro_redo.proofs.Entries.{has_none, head_has, least, or_rest, same_use, sorted_tail}
-use Rattle.retro_redo.proofs.KeptUses.{agree, differ}
 use Rattle.retro_redo.proofs.Numbers.{contains_among}
 use Rattle.retro_redo.proofs.Positions.{Line, not_none}
-use Rattle.retro_redo.proofs.UsedLines.{above_at, apart, first_at_head, first_past, later_use, next_more, rise_from}
-use Rattle.retro_redo.proofs.UsedLines.{use_above, use_past}
+use Rattle.retro_redo.proofs.UsedLines.{above_at, apart, first_at_head, first_past, later_use}
+use Rattle.retro_redo.proofs.UsedLines.{next_more, rise_from, use_above, use_past}
 
 -- ---- numbers in a set
 
@@ -514,7 +506,7 @@ at_picked p n (l ∷ lines) (inr h) =
     by_test false g = g
 
 -- a use at a number that isn't below another use from a place on is from that place on
-use_from : (low : ℕ) (lines : List Line) (k n m : ℕ) (c d : Cell) → RiseFrom low lines
+pub use_from : (low : ℕ) (lines : List Line) (k n m : ℕ) (c d : Cell) → RiseFrom low lines
     → is_use m d (drop k lines) ≡ true → m ≤ n → is_use n c lines ≡ true → is_use n c (drop k lines) ≡ true
 use_from low lines zero n m c d rise other le used = used
 use_from low [] (suc k) n m c d rise other le used = used
@@ -528,13 +520,13 @@ use_from low (l ∷ lines) (suc k) n m c d rise other le used =
     past : l.0 < m → is_use n c lines ≡ true
     past less = use_past l lines n c (apart l.0 n (omega (arith, less, le))) used
 
-use_back : (lines : List Line) (k n : ℕ) (c : Cell) → is_use n c (drop k lines) ≡ true → is_use n c lines ≡ true
+pub use_back : (lines : List Line) (k n : ℕ) (c : Cell) → is_use n c (drop k lines) ≡ true → is_use n c lines ≡ true
 use_back lines zero n c used = used
 use_back [] (suc k) n c used = used
 use_back (l ∷ lines) (suc k) n c used = later_use l lines n c (use_back lines k n c used)
 
 -- a use up to the number of a line is by a line up to it
-use_within : (low : ℕ) (p : Line → Bool) (lines : List Line) (j n : ℕ) (c : Cell) (d : Line) → RiseFrom low lines
+pub use_within : (low : ℕ) (p : Line → Bool) (lines : List Line) (j n : ℕ) (c : Cell) (d : Line) → RiseFrom low lines
     → slice_get lines j ≡ Some d → n ≤ d.0 → ((l : Line) → touches l.1.notes c ≡ true → p l ≡ true)
     → is_use n c lines ≡ true → IsLineAt p n (take (suc j) lines)
 use_within low p [] j n c d rise at le passes used = absurd (true≢false (sym used))
@@ -559,7 +551,7 @@ use_within low p (l ∷ lines) j n c d rise at le passes used =
     by_test false e rest = after_it j at (or_rest _ _ e used) rest
 
 -- a line up to another isn't above its number, and one that meets an overlay uses a cell with an entry
-within_use : (low : ℕ) (overlay : OverlayMap) (lines : List Line) (j n : ℕ) (d : Line) → RiseFrom low lines
+pub within_use : (low : ℕ) (overlay : OverlayMap) (lines : List Line) (j n : ℕ) (d : Line) → RiseFrom low lines
     → slice_get lines j ≡ Some d → IsLineAt (meets (finmap.keys overlay)) n (take (suc j) lines)
     → (n ≤ d.0) × (c : Cell) × (is_use n c lines ≡ true) × (finmap.contains_key overlay c ≡ true)
 within_use low overlay [] j n d rise at h = absurd h
@@ -581,7 +573,7 @@ within_use low overlay (l ∷ lines) (suc j) n d rise at (inr h) =
     (r.0, r.1, later_use l lines n r.1 r.2, r.3)
 
 -- the first use of a cell isn't after another
-first_soon : (low : ℕ) (c : Cell) (lines : List Line) (n : ℕ) → RiseFrom low lines → is_use n c lines ≡ true
+pub first_soon : (low : ℕ) (c : Cell) (lines : List Line) (n : ℕ) → RiseFrom low lines → is_use n c lines ≡ true
     → (k : ℕ) × (first_use c lines ≡ Some k) × (k ≤ n)
 first_soon low c [] n rise used = absurd (true≢false (sym used))
 first_soon low c (l ∷ lines) n rise used =
@@ -605,138 +597,3 @@ first_soon low c (l ∷ lines) n rise used =
     by_test false e rest =
         let r = rest (not_here e ((l.0 == n) && touches l.1.notes c) refl) in
         (r.0, first_past l lines c e ∙ r.1, r.2)
-
--- The numbers that the entries give are those of the lines from a place on, up to another, that use a cell with an
--- entry in the overlay.
-meetings_are : (overlay : OverlayMap) (lines : List Line) (k j : ℕ) (d : Line) (uses : List Use) (numbers : List ℕ)
-    → RiseFrom 0 lines → KeepsUses overlay (drop k lines) uses → slice_get (drop k lines) j ≡ Some d
-    → IsStrictlySortedBy nat_cmp numbers → AreNumbersUntil d.0 overlay lines uses numbers
-    → numbers ≡ numbers_of (meets (finmap.keys overlay)) (take (suc j) (drop k lines))
-meetings_are overlay lines k j d uses numbers rise keeps at sorted found =
-    same_numbers numbers (numbers_of p piece) sorted (picked_sorted 0 p piece (front_rises 0 (suc j) rest rising)) there
-    back
-  where
-    rest : List Line
-    rest = drop k lines
-
-    piece : List Line
-    piece = take (suc j) (drop k lines)
-
-    p : Line → Bool
-    p = meets (finmap.keys overlay)
-
-    rising : RiseFrom 0 (drop k lines)
-    rising = rise_from 0 lines k rise
-
-    front_rises : (b n : ℕ) (ls : List Line) → RiseFrom b ls → RiseFrom b (take n ls)
-    front_rises b zero ls r = refl
-    front_rises b (suc n) [] r = refl
-    front_rises b (suc n) (l ∷ ls) r =
-        and_true _ _ (lt-ltb b l.0 (above b l ls r)) (front_rises l.0 n ls (later b l ls r))
-
-    meets_key_of : (c : Cell) → finmap.contains_key overlay c ≡ true → (l : Line) → touches l.1.notes c ≡ true
-        → meets (finmap.keys overlay) l ≡ true
-    meets_key_of c key l touched = key_meets overlay l c touched key
-
-    there : (n : ℕ) → is_among numbers n ≡ true → is_among (numbers_of (meets (finmap.keys overlay)) (take (suc j) (drop k lines))) n ≡ true
-    there n has =
-        let u = found.only n has in
-        at_picked (meets (finmap.keys overlay)) n (take (suc j) (drop k lines))
-        (use_within 0 (meets (finmap.keys overlay)) (drop k lines) j n u.2 d rising at u.0 (meets_key_of u.2 u.4)
-        (by_case n u.1 u.2 u.3 u.5))
-      where
-        by_case : (n m : ℕ) (c : Cell) → has_use m c uses ≡ true → ((n ≡ m) ⊎ ((m < n) × (is_use n c lines ≡ true)))
-            → is_use n c (drop k lines) ≡ true
-        by_case n m c has (inl e) =
-            subst (λ x. is_use x c (drop k lines) ≡ true) (sym e) (keeps.sound m c has)
-        by_case n m c has (inr h) =
-            let less = h.0 in
-            use_from 0 lines k n m c c rise (keeps.sound m c has) (omega (arith, less)) h.1
-
-    back : (n : ℕ) → is_among (numbers_of (meets (finmap.keys overlay)) (take (suc j) (drop k lines))) n ≡ true → is_among numbers n ≡ true
-    back n has =
-        let w = within_use 0 overlay (drop k lines) j n d rising at
-        (picked_at (meets (finmap.keys overlay)) n (take (suc j) (drop k lines)) has) in
-        let first = first_soon 0 w.1 (drop k lines) n rising w.2 in
-        found.all n first.0 w.1 (keeps.complete w.1 first.0 w.3 first.1) w.3 first.2 w.0
-        (inr (use_back lines k n w.1 w.2))
-
--- ---- the end of the code
-
-get_drop : (k j : ℕ) (lines : List Line) → slice_get (drop k lines) j ≡ slice_get lines (k + j)
-get_drop zero j lines = ap (slice_get lines) (omega arith)
-get_drop (suc k) j [] = no_line j (suc k + j)
-  where
-    no_line : (a b : ℕ) → ◌≡◌ {A = Option Line} (slice_get [] a) (slice_get [] b)
-    no_line zero zero = refl
-    no_line zero (suc b) = refl
-    no_line (suc a) zero = refl
-    no_line (suc a) (suc b) = refl
-get_drop (suc k) j (l ∷ lines) =
-    get_drop k j lines ∙ ap (slice_get (l ∷ lines)) (shifted k j)
-  where
-    shifted : (a b : ℕ) → suc (a + b) ≡ suc a + b
-    shifted a b = omega arith
-
-meetings_done : (p : ProgressValue) (overlay : OverlayMap) (uses : List Use) (numbers : List ℕ) (end : ℕ) (d : Line)
-    → KeepsUses overlay (drop (length p.choices) p.recording.lines) uses → IsWellFormed p.recording
-    → length p.choices < end → slice_get p.recording.lines (end - 1) ≡ Some d → IsStrictlySortedBy nat_cmp numbers
-    → AreNumbersUntil d.0 overlay p.recording.lines uses numbers
-    → numbers ≡ numbers_of (meets (finmap.keys overlay)) (lines_until end p)
-meetings_done p overlay uses numbers end d keeps_uses well less at sorted found =
-    let k = length p.choices in
-    let j = end - suc (length p.choices) in
-    let place : k + j ≡ end - 1 = omega (arith, less) in
-    let count : suc j ≡ end - k = omega (arith, less) in
-    meetings_are overlay p.recording.lines k j d uses numbers well.rising keeps_uses
-    (get_drop k j p.recording.lines ∙ ap (slice_get p.recording.lines) place ∙ at) sorted found
-    ∙ ap (λ n. numbers_of (meets (finmap.keys overlay)) (take n (drop k p.recording.lines))) count
-
--- ---- the lines that they are of
-
-picks_filtered : (P : Line → Type 0) (test : Line → Bool) (lines : List Line) → ((l : Line) → test l ≡ true → P l)
-    → ((l : Line) → P l → test l ≡ true) → PicksBy number_in P lines (numbers_of test lines)
-picks_filtered P test [] passed passes = refl
-picks_filtered P test (l ∷ lines) passed passes =
-    subst (PicksBy number_in P (l ∷ lines)) (sym (numbers_of_more test l lines))
-    (by_test (test l) refl (picks_filtered P test lines passed passes))
-  where
-    by_test : (b : Bool) → test l ≡ b → PicksBy number_in P lines (numbers_of test lines)
-        → PicksBy number_in P (l ∷ lines) (cond b (l.0 ∷ numbers_of test lines) (numbers_of test lines))
-    by_test true e rest = inl (passed l e, numbers_of test lines, refl, rest)
-    by_test false e rest = inr ((λ p. true≢false (sym (passes l p) ∙ e)), rest)
-
--- a line uses a cell with an entry in an exact overlay if it uses one in which the states differ
-module _ (overlay : OverlayMap) (s t : State) (exact : IsExact overlay s t) where
-  met_by_key : (l : Line) → meets (finmap.keys overlay) l ≡ true → Met l.1.notes s t
-  met_by_key l h = let key = meets_key overlay l h in (key.0, key.1, differ overlay s t exact key.0 key.2)
-
-  key_of_met : (l : Line) → Met l.1.notes s t → meets (finmap.keys overlay) l ≡ true
-  key_of_met l m = key_meets overlay l m.0 m.1 (by_test (finmap.contains_key overlay m.0) refl)
-    where
-      by_test : (b : Bool) → finmap.contains_key overlay m.0 ≡ b → finmap.contains_key overlay m.0 ≡ true
-      by_test true e = e
-      by_test false e = absurd (m.2 (agree overlay s t exact m.0 e))
-
-pub meetings_picked : (p : ProgressValue) (overlay : OverlayMap) (uses : List Use) (numbers : List ℕ) (end : ℕ)
-    (d : Line) → IsExact overlay (recorded_now p) (repaired_now p)
-    → KeepsUses overlay (drop (length p.choices) p.recording.lines) uses → IsWellFormed p.recording
-    → length p.choices < end → slice_get p.recording.lines (end - 1) ≡ Some d → IsStrictlySortedBy nat_cmp numbers
-    → AreNumbersUntil d.0 overlay p.recording.lines uses numbers
-    → PicksBy number_in (MeetsNow p) (lines_until end p) numbers
-meetings_picked p overlay uses numbers end d exact keeps_uses well less at sorted found =
-    subst (PicksBy number_in (MeetsNow p) (lines_until end p))
-    (sym (meetings_done p overlay uses numbers end d keeps_uses well less at sorted found))
-    (picks_filtered (MeetsNow p) (meets (finmap.keys overlay)) (lines_until end p)
-    (λ l h. met_by_key overlay (recorded_now p) (repaired_now p) exact l h)
-    (λ l h. key_of_met overlay (recorded_now p) (repaired_now p) exact l h))
-
--- no line is left before an index up to which all are settled
-pub none_picked : (p : ProgressValue) (end : ℕ) (numbers : List ℕ) → end ≤ length p.choices → numbers ≡ []
-    → PicksBy number_in (MeetsNow p) (lines_until end p) numbers
-none_picked p end numbers le e =
-    subst (λ n. PicksBy number_in (MeetsNow p) (take n (drop (length p.choices) p.recording.lines)) numbers)
-    (none end (length p.choices) le) e
-  where
-    none : (a b : ℕ) → a ≤ b → 0 ≡ a - b
-    none a b h = omega (arith, h)

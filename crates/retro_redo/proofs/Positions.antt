@@ -1,10 +1,11 @@
 -- One more line settled: the states, the choices and the moments.
-use Rattle.std.proofs.Common.{◌≡◌, ◌∙◌, inl, inr, ℕ, Bool, List, [], ◌∷◌, ◌++◌, length, Some, None}
+use Rattle.std.proofs.Common.{◌≡◌, ◌∙◌, inl, inr, ℕ, List, [], ◌∷◌, ◌++◌, length, Option, Some, None}
 use Rattle.std.proofs.Common.{suc, refl, ap, arith, subst}
 use Rattle.std.specs.List.{slice_get}
 use Rattle.retro_tree.specs.Notes.{after}
 use Rattle.retro_tree.specs.declared.state.State.{State}
 use Rattle.retro_keep.specs.Recording.{last_state}
+use Rattle.retro_keep.specs.declared.edit.Edit.{Edit}
 use Rattle.retro_keep.specs.declared.noted.Noted.{Noted}
 use Rattle.retro_redo.specs.Moments.{Moment, Picks}
 use Rattle.retro_redo.specs.Progress.{IsRunTaken, MayStep, Settles, chosen, recorded_after, repaired_after, settled}
@@ -29,9 +30,9 @@ pub settled_none : (lines : List Line) (s t : State) → settled lines [] s t �
 settled_none [] s t = refl
 settled_none (l ∷ lines) s t = refl
 
-pub settles_none : (cancelled : ℕ → Bool) (lines : List Line) (s t : State) → Settles cancelled lines [] s t
-settles_none cancelled [] s t = tt
-settles_none cancelled (l ∷ lines) s t = tt
+pub settles_none : (edit : ℕ → Option Edit) (lines : List Line) (s t : State) → Settles edit lines [] s t
+settles_none edit [] s t = tt
+settles_none edit (l ∷ lines) s t = tt
 
 -- ---- one line more
 pub recorded_more : (lines : List Line) (steps : List Step) (l : Line) (step : Step) (s : State)
@@ -67,19 +68,19 @@ settled_more (k ∷ lines) [] l step s t next =
 settled_more (k ∷ lines) (d ∷ steps) l step s t next =
     ap (λ ms. moment k s t ∷ ms) (settled_more lines steps l step (after k.1.notes s) (after (chosen d k.1) t) next)
 
-pub settles_more : (cancelled : ℕ → Bool) (lines : List Line) (steps : List Step) (l : Line) (step : Step) (s t : State)
-    → slice_get lines (length steps) ≡ Some l → Settles cancelled lines steps s t
-    → MayStep cancelled (recorded_after lines steps s) (repaired_after lines steps t) l step → IsRunTaken step
-    → Settles cancelled lines (steps ++ step ∷ []) s t
-settles_more cancelled [] steps l step s t next h may run = absurd (not_none l next)
-settles_more cancelled (k ∷ lines) [] l step s t next h may run =
+pub settles_more : (edit : ℕ → Option Edit) (lines : List Line) (steps : List Step) (l : Line) (step : Step) (s t : State)
+    → slice_get lines (length steps) ≡ Some l → Settles edit lines steps s t
+    → MayStep edit (recorded_after lines steps s) (repaired_after lines steps t) l step → IsRunTaken step
+    → Settles edit lines (steps ++ step ∷ []) s t
+settles_more edit [] steps l step s t next h may run = absurd (not_none l next)
+settles_more edit (k ∷ lines) [] l step s t next h may run =
     let e : l ≡ k = cc in (
-      subst (λ (x : Line). MayStep cancelled s t x step) e may,
+      subst (λ (x : Line). MayStep edit s t x step) e may,
       run,
-      settles_none cancelled lines (after k.1.notes s) (after (chosen step k.1) t),
+      settles_none edit lines (after k.1.notes s) (after (chosen step k.1) t),
     )
-settles_more cancelled (k ∷ lines) (d ∷ steps) l step s t next h may run =
-    (h.0, h.1, settles_more cancelled lines steps l step (after k.1.notes s) (after (chosen d k.1) t) next h.2 may run)
+settles_more edit (k ∷ lines) (d ∷ steps) l step s t next h may run =
+    (h.0, h.1, settles_more edit lines steps l step (after k.1.notes s) (after (chosen d k.1) t) next h.2 may run)
 
 -- ---- picked moments
 pub picks_met : (P : Moment → Type 0) (ms : List Moment) (m : Moment) (ns : List ℕ) → Picks P ms ns → P m
@@ -96,13 +97,13 @@ picks_unmet P (k ∷ ms) m ns (inl h) p = inl (h.0, h.1, h.2, picks_unmet P ms m
 picks_unmet P (k ∷ ms) m ns (inr h) p = inr (h.0, picks_unmet P ms m ns h.1 p)
 
 -- ---- all lines settled
-pub all_settled : (cancelled : ℕ → Bool) (lines : List Line) (steps : List Step) (s t : State)
-    → Settles cancelled lines steps s t → slice_get lines (length steps) ≡ None → length steps ≡ length lines
-all_settled cancelled [] [] s t h next = refl
-all_settled cancelled [] (step ∷ steps) s t h next = absurd h
-all_settled cancelled (l ∷ lines) [] s t h next = cc
-all_settled cancelled (l ∷ lines) (step ∷ steps) s t h next =
-    ap suc (all_settled cancelled lines steps (after l.1.notes s) (after (chosen step l.1) t) h.2 next)
+pub all_settled : (edit : ℕ → Option Edit) (lines : List Line) (steps : List Step) (s t : State)
+    → Settles edit lines steps s t → slice_get lines (length steps) ≡ None → length steps ≡ length lines
+all_settled edit [] [] s t h next = refl
+all_settled edit [] (step ∷ steps) s t h next = absurd h
+all_settled edit (l ∷ lines) [] s t h next = cc
+all_settled edit (l ∷ lines) (step ∷ steps) s t h next =
+    ap suc (all_settled edit lines steps (after l.1.notes s) (after (chosen step l.1) t) h.2 next)
 
 pub recorded_all : (lines : List Line) (steps : List Step) (s : State) → length steps ≡ length lines
     → recorded_after lines steps s ≡ last_state lines s

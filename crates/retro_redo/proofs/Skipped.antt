@@ -1,5 +1,5 @@
--- Lines that a repair keeps without looking at them: those before the next cancelled number and the
--- next use.
+-- Lines that a repair keeps without looking at them: those before the next edited number and the next
+-- use.
 use Rattle.std.proofs.Common.{◌≡◌, ◌∙◌, ◌⊎◌, inl, inr, ℕ, zero, suc, ◌<◌, ◌≤◌, ◌==◌, Bool, true, false}
 use Rattle.std.proofs.Common.{nat_lt, cond, List, [], ◌∷◌, drop, length, Option, Some, None, refl, sym, ap, arith}
 use Rattle.std.proofs.Common.{subst}
@@ -15,15 +15,14 @@ use Rattle.retro_tree.specs.declared.cell.Cell.{Cell}
 use Rattle.retro_tree.specs.declared.state.State.{State}
 use Rattle.retro_tree.proofs.ExactOverlays.{unmet_step}
 use Rattle.retro_tree.proofs.Small.{some_same}
-use Rattle.retro_effects.specs.Meeting.{Met}
 use Rattle.retro_history.proofs.Lines.{RiseFrom, later}
-use Rattle.retro_keep.specs.Edit.{is_among}
+use Rattle.retro_keep.specs.Edit.{IsNextFrom, sooner}
 use Rattle.retro_keep.specs.Recording.{RecordingValue, noted_at}
-use Rattle.retro_redo.specs.Cancelling.{AreLines}
+use Rattle.retro_redo.specs.Editing.{AreLines, EditMap}
 use Rattle.retro_redo.specs.inner.Keeping.{KeepsUses}
 use Rattle.retro_redo.specs.inner.NextUses.{AreSorted, IsFirstIn, Use, first_number, has_use}
-use Rattle.retro_redo.specs.Skipping.{AreUnmet}
-use Rattle.retro_redo.specs.inner.Stops.{IsNextAmong, sooner}
+use Rattle.retro_redo.specs.Skipping.{AreUnmet, IsStop}
+use Rattle.retro_redo.proofs.EditCases.{none_there}
 use Rattle.retro_redo.proofs.Entries.{has_none, head_has, least}
 use Rattle.retro_redo.proofs.KeptUses.{agree_at, keeps_past, met_at}
 use Rattle.retro_redo.proofs.Positions.{Line, not_none}
@@ -57,15 +56,16 @@ one_of_both (Some a) (Some b) stop h = by_test (nat_lt a b) h
     by_test true h = inl h
     by_test false h = inr h
 
-not_cancelled : (cancel : List ℕ) (low : ℕ) (one : Option ℕ) (n : ℕ) → IsNextAmong cancel low one → low ≤ n
-    → IsUnder n one → is_among cancel n ≡ false
-not_cancelled cancel low None n h le under = h n le
-not_cancelled cancel low (Some a) n h le under = h.2 n le under
+not_edited : (edits : EditMap) (low : ℕ) (one : Option ℕ) (n : ℕ) → IsNextFrom (finmap.contains_key edits) low one
+    → low ≤ n → IsUnder n one → finmap.get edits n ≡ None
+not_edited edits low None n h le under = none_there (finmap.get edits n) (h n le)
+not_edited edits low (Some a) n h le under = none_there (finmap.get edits n) (h.2 n le under)
 
-is_cancelled : (cancel : List ℕ) (low : ℕ) (one : Option ℕ) (stop : ℕ) → IsNextAmong cancel low one
-    → one ≡ Some stop → is_among cancel stop ≡ true
-is_cancelled cancel low None stop h e = absurd (not_none stop e)
-is_cancelled cancel low (Some a) stop h e = subst (λ n. is_among cancel n ≡ true) (some_same a stop e) h.1
+is_edited : (edits : EditMap) (low : ℕ) (one : Option ℕ) (stop : ℕ) → IsNextFrom (finmap.contains_key edits) low one
+    → one ≡ Some stop → finmap.contains_key edits stop ≡ true
+is_edited edits low None stop h e = absurd (not_none stop e)
+is_edited edits low (Some a) stop h e =
+    subst (λ n. finmap.contains_key edits n ≡ true) (some_same a stop e) h.1
 
 no_entry : (uses : List Use) (n : ℕ) (c : Cell) → AreSorted uses → IsUnder n (first_number uses)
     → has_use n c uses ≡ true → ⊥
@@ -111,22 +111,22 @@ some_under stop (l ∷ lines) (suc n) le parted = (
   ),
 )
 
-module _ (cancel : List ℕ) (overlay : OverlayMap) (uses : List Use) (low : ℕ) (one : Option ℕ)
-    (next : IsNextAmong cancel low one) where
-  -- if the next cancelled number comes first, one of the lines has it
+module _ (edits : EditMap) (overlay : OverlayMap) (uses : List Use) (low : ℕ) (one : Option ℕ)
+    (next : IsNextFrom (finmap.contains_key edits) low one) where
+  -- if the next edited number comes first, one of the lines has it
   abbrev HasLine : List Line → Type 0
   HasLine lines = (stop : ℕ) → one ≡ Some stop → is_some (noted_at stop lines) ≡ true
 
   at_stop : (l : Line) (lines : List Line) (stop : ℕ) → RiseFrom l.0 lines → HasLine (l ∷ lines)
       → KeepsUses overlay (l ∷ lines) uses → stop ≤ l.0
       → (one ≡ Some stop) ⊎ (first_number uses ≡ Some stop) → (s t : State) → IsExact overlay s t
-      → (is_among cancel l.0 ≡ true) ⊎ Met l.1.notes s t
+      → IsStop (finmap.get edits) l s t
   at_stop l lines stop rise has keeps high (inl e) s t exact = by_test (l.0 == stop) refl
     where
-      by_test : (b : Bool) → (l.0 == stop) ≡ b → (is_among cancel l.0 ≡ true) ⊎ Met l.1.notes s t
+      by_test : (b : Bool) → (l.0 == stop) ≡ b → IsStop (finmap.get edits) l s t
       by_test true f =
-          inl (subst (λ n. is_among cancel n ≡ true) (sym (eqb-true l.0 stop f))
-          (is_cancelled cancel low one stop next e))
+          inl (subst (λ n. finmap.contains_key edits n ≡ true) (sym (eqb-true l.0 stop f))
+          (is_edited edits low one stop next e))
       by_test false f =
           let more = number_above l.0 stop lines rise
           (sym (ap (λ b. is_some (cond b (Some l.1) (noted_at stop lines))) f) ∙ has stop e) in
@@ -136,7 +136,7 @@ module _ (cancel : List ℕ) (overlay : OverlayMap) (uses : List Use) (low : ℕ
       entry : Entry overlay uses stop
       entry = first_entry overlay uses stop keeps.first e
 
-      by_test : (b : Bool) → (l.0 == stop) ≡ b → (is_among cancel l.0 ≡ true) ⊎ Met l.1.notes s t
+      by_test : (b : Bool) → (l.0 == stop) ≡ b → IsStop (finmap.get edits) l s t
       by_test true f =
           inr (met_at overlay l lines uses rise keeps entry.0
           (subst (λ n. has_use n entry.0 uses ≡ true) (sym (eqb-true l.0 stop f)) entry.1) entry.2 s t exact)
@@ -146,7 +146,7 @@ module _ (cancel : List ℕ) (overlay : OverlayMap) (uses : List Use) (low : ℕ
 
   pub skipped : (n m : ℕ) (lines : List Line) → RiseFrom m lines → AllByRecursion (λ l. low ≤ l.0) lines
       → HasLine lines → AreUnder (sooner one (first_number uses)) n lines → KeepsUses overlay lines uses
-      → ((s t : State) → IsExact overlay s t → AreUnmet (is_among cancel) n lines s t)
+      → ((s t : State) → IsExact overlay s t → AreUnmet (finmap.get edits) n lines s t)
       × KeepsUses overlay (drop n lines) uses
   skipped zero m [] rise from has under keeps = (λ s t exact. tt, keeps)
   skipped zero m (l ∷ lines) rise from has under keeps = (
@@ -155,7 +155,7 @@ module _ (cancel : List ℕ) (overlay : OverlayMap) (uses : List Use) (low : ℕ
   )
     where
       by_stop : (stop : Option ℕ) → sooner one (first_number uses) ≡ stop → ¬ (IsUnder l.0 stop) → (s t : State)
-          → IsExact overlay s t → (is_among cancel l.0 ≡ true) ⊎ Met l.1.notes s t
+          → IsExact overlay s t → IsStop (finmap.get edits) l s t
       by_stop None e under s t exact = absurd (under tt)
       by_stop (Some stop) e under s t exact =
           at_stop l lines stop (later m l lines rise) has keeps (not_less l.0 stop under)
@@ -172,7 +172,7 @@ module _ (cancel : List ℕ) (overlay : OverlayMap) (uses : List Use) (low : ℕ
       let rest = skipped n l.0 lines rising from.1 (has_rest both.0) under.1
       (keeps_past overlay l lines uses rising keeps none) in (
         λ s t exact. (
-          not_cancelled cancel low one l.0 next from.0 both.0,
+          not_edited edits low one l.0 next from.0 both.0,
           agreed s t exact,
           rest.0 (after l.1.notes s) (after l.1.notes t) (unmet_step overlay s t l.1.notes exact (agreed s t exact)),
         ),
@@ -183,20 +183,21 @@ module _ (cancel : List ℕ) (overlay : OverlayMap) (uses : List Use) (low : ℕ
       has_rest under stop e = past_line stop l lines (subst (IsUnder l.0) e under) (has stop e)
 
 -- from a place on
-pub skipped_from : (cancel : List ℕ) (overlay : OverlayMap) (uses : List Use) (r : RecordingValue) (from : ℕ) (l : Line)
-    (one : Option ℕ) (n : ℕ) → RiseFrom 0 r.lines → slice_get r.lines from ≡ Some l → AreLines cancel r
-    → IsNextAmong cancel l.0 one → AreUnder (sooner one (first_number uses)) n (drop from r.lines)
+pub skipped_from : (edits : EditMap) (overlay : OverlayMap) (uses : List Use) (r : RecordingValue) (from : ℕ) (l : Line)
+    (one : Option ℕ) (n : ℕ) → RiseFrom 0 r.lines → slice_get r.lines from ≡ Some l → AreLines edits r
+    → IsNextFrom (finmap.contains_key edits) l.0 one → AreUnder (sooner one (first_number uses)) n (drop from r.lines)
     → KeepsUses overlay (drop from r.lines) uses
-    → ((s t : State) → IsExact overlay s t → AreUnmet (is_among cancel) n (drop from r.lines) s t)
+    → ((s t : State) → IsExact overlay s t → AreUnmet (finmap.get edits) n (drop from r.lines) s t)
     × KeepsUses overlay (drop n (drop from r.lines)) uses
-skipped_from cancel overlay uses r from l one n rise at known next under keeps =
-    skipped cancel overlay uses l.0 one next n 0 (drop from r.lines) (rise_from 0 r.lines from rise)
+skipped_from edits overlay uses r from l one n rise at known next under keeps =
+    skipped edits overlay uses l.0 one next n 0 (drop from r.lines) (rise_from 0 r.lines from rise)
     (subst (AllByRecursion (λ (x : Line). l.0 ≤ x.0)) (sym (from_line r.lines from l at))
     (omega arith, all_from l.0 l.0 (drop (suc from) r.lines) (omega arith) (rise_after 0 r.lines from l rise at)))
     (λ stop e.
     line_from 0 stop r.lines from l rise at (at_least one stop next e)
-    (known stop (is_cancelled cancel l.0 one stop next e))) under keeps
+    (known stop (is_edited edits l.0 one stop next e))) under keeps
   where
-    at_least : (one : Option ℕ) (stop : ℕ) → IsNextAmong cancel l.0 one → one ≡ Some stop → l.0 ≤ stop
+    at_least : (one : Option ℕ) (stop : ℕ) → IsNextFrom (finmap.contains_key edits) l.0 one → one ≡ Some stop
+        → l.0 ≤ stop
     at_least None stop h e = absurd (not_none stop e)
     at_least (Some a) stop h e = subst (λ n. l.0 ≤ n) (some_same a stop e) h.0

@@ -1,5 +1,5 @@
 -- The states between two steps are those of running the settled lines.
-use Rattle.std.proofs.Common.{◌≡◌, ◌∙◌, ℕ, zero, suc, Bool, List, [], ◌∷◌, length, map, take, refl, sym, ap, subst}
+use Rattle.std.proofs.Common.{◌≡◌, ◌∙◌, ℕ, zero, suc, List, [], ◌∷◌, Option, length, map, take, refl, sym, ap, subst}
 use Rattle.std.proofs.Common.{IsTrue}
 use Rattle.std.specs.FinMap as finmap
 use Rattle.retro_tree.specs.Notes.{after}
@@ -10,8 +10,9 @@ use Rattle.retro_keep.specs.Recording.{AllRecorded, IsRecordingOf, IsWellFormed,
 use Rattle.retro_keep.specs.Recording.{script_line, sid_in}
 use Rattle.retro_keep.specs.Runs.{Output, after_line, outcome}
 use Rattle.retro_keep.specs.Script.{have_sessions}
+use Rattle.retro_keep.specs.declared.edit.Edit.{Edit}
 use Rattle.retro_redo.specs.inner.Keeping.{Keeps}
-use Rattle.retro_redo.specs.Progress.{ProgressValue, Settles, cancelled_in, chosen, recorded_after, repaired_after}
+use Rattle.retro_redo.specs.Progress.{ProgressValue, Settles, edit_in, chosen, recorded_after, repaired_after}
 use Rattle.retro_redo.specs.SoFar.{AreStatesOfRuns}
 use Rattle.retro_redo.specs.declared.step.Step.{Step}
 use Rattle.retro_redo.proofs.Final.{settles_final}
@@ -19,35 +20,35 @@ use Rattle.retro_redo.proofs.Positions.{Line, recorded_none, repaired_none}
 
 -- ---- the settled lines alone
 
-taken : (cancelled : ℕ → Bool) (lines : List Line) (steps : List Step) (s t : State)
-    → Settles cancelled lines steps s t → Settles cancelled (take (length steps) lines) steps s t
-taken cancelled lines [] s t h = tt
-taken cancelled [] (step ∷ steps) s t h = absurd h
-taken cancelled (l ∷ lines) (step ∷ steps) s t h =
-    (h.0, h.1, taken cancelled lines steps (after l.1.notes s) (after (chosen step l.1) t) h.2)
+taken : (edit : ℕ → Option Edit) (lines : List Line) (steps : List Step) (s t : State)
+    → Settles edit lines steps s t → Settles edit (take (length steps) lines) steps s t
+taken edit lines [] s t h = tt
+taken edit [] (step ∷ steps) s t h = absurd h
+taken edit (l ∷ lines) (step ∷ steps) s t h =
+    (h.0, h.1, taken edit lines steps (after l.1.notes s) (after (chosen step l.1) t) h.2)
 
-length_taken : (cancelled : ℕ → Bool) (lines : List Line) (steps : List Step) (s t : State)
-    → Settles cancelled lines steps s t → length steps ≡ length (take (length steps) lines)
-length_taken cancelled lines [] s t h = refl
-length_taken cancelled [] (step ∷ steps) s t h = absurd h
-length_taken cancelled (l ∷ lines) (step ∷ steps) s t h =
-    ap suc (length_taken cancelled lines steps (after l.1.notes s) (after (chosen step l.1) t) h.2)
+length_taken : (edit : ℕ → Option Edit) (lines : List Line) (steps : List Step) (s t : State)
+    → Settles edit lines steps s t → length steps ≡ length (take (length steps) lines)
+length_taken edit lines [] s t h = refl
+length_taken edit [] (step ∷ steps) s t h = absurd h
+length_taken edit (l ∷ lines) (step ∷ steps) s t h =
+    ap suc (length_taken edit lines steps (after l.1.notes s) (after (chosen step l.1) t) h.2)
 
-recorded_taken : (cancelled : ℕ → Bool) (lines : List Line) (steps : List Step) (s t : State)
-    → Settles cancelled lines steps s t
+recorded_taken : (edit : ℕ → Option Edit) (lines : List Line) (steps : List Step) (s t : State)
+    → Settles edit lines steps s t
     → recorded_after lines steps s ≡ last_state (take (length steps) lines) s
-recorded_taken cancelled lines [] s t h = recorded_none lines s
-recorded_taken cancelled [] (step ∷ steps) s t h = absurd h
-recorded_taken cancelled (l ∷ lines) (step ∷ steps) s t h =
-    recorded_taken cancelled lines steps (after l.1.notes s) (after (chosen step l.1) t) h.2
+recorded_taken edit lines [] s t h = recorded_none lines s
+recorded_taken edit [] (step ∷ steps) s t h = absurd h
+recorded_taken edit (l ∷ lines) (step ∷ steps) s t h =
+    recorded_taken edit lines steps (after l.1.notes s) (after (chosen step l.1) t) h.2
 
-repaired_taken : (cancelled : ℕ → Bool) (lines : List Line) (steps : List Step) (s t : State)
-    → Settles cancelled lines steps s t
+repaired_taken : (edit : ℕ → Option Edit) (lines : List Line) (steps : List Step) (s t : State)
+    → Settles edit lines steps s t
     → repaired_after (take (length steps) lines) steps t ≡ repaired_after lines steps t
-repaired_taken cancelled lines [] s t h = sym (repaired_none lines t)
-repaired_taken cancelled [] (step ∷ steps) s t h = absurd h
-repaired_taken cancelled (l ∷ lines) (step ∷ steps) s t h =
-    repaired_taken cancelled lines steps (after l.1.notes s) (after (chosen step l.1) t) h.2
+repaired_taken edit lines [] s t h = sym (repaired_none lines t)
+repaired_taken edit [] (step ∷ steps) s t h = absurd h
+repaired_taken edit (l ∷ lines) (step ∷ steps) s t h =
+    repaired_taken edit lines steps (after l.1.notes s) (after (chosen step l.1) t) h.2
 
 recorded_front : (n : ℕ) (lines : List Line) (s : State) → AllRecorded lines s → AllRecorded (take n lines) s
 recorded_front zero lines s h = tt
@@ -81,14 +82,14 @@ states_of_runs p overlay met keeps well is =
     let n = length p.choices in
     let front = take (length p.choices) p.recording.lines in
     let recorded = recorded_front n all first is.recorded in
-    let final = settles_final (cancelled_in p) front steps first first recorded well.lawful
-    (known_front n all first well.known) (taken (cancelled_in p) all steps first first keeps.settles)
-    (length_taken (cancelled_in p) all steps first first keeps.settles) in
+    let final = settles_final (edit_in p) front steps first first recorded well.lawful
+    (known_front n all first well.known) (taken (edit_in p) all steps first first keeps.settles)
+    (length_taken (edit_in p) all steps first first keeps.settles) in
     record {
-      recorded_is = recorded_taken (cancelled_in p) all steps first first keeps.settles
+      recorded_is = recorded_taken (edit_in p) all steps first first keeps.settles
           ∙ sym (last_of_run front first recorded);
       repaired_is = sym (ap (λ (x : State × List Output). x.0) final.outcome_is
-          ∙ repaired_taken (cancelled_in p) all steps first first keeps.settles);
+          ∙ repaired_taken (edit_in p) all steps first first keeps.settles);
     }
 
 -- the same of the progress as contracts see it, where q is the progress as its fields are

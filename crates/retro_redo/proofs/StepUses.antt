@@ -1,7 +1,7 @@
 -- The next uses of cells at a step of a repair, where q is the progress as its fields are, and p as
 -- contracts see it.
-use Rattle.std.proofs.Common.{◌≡◌, ◌∙◌, ℕ, suc, Bool, true, false, ◌&&◌, not, List, [], ◌∷◌, ◌++◌, drop, length}
-use Rattle.std.proofs.Common.{◌+◌, replicate, Some, MatchBool, inl, inr, refl, sym, ap, subst}
+use Rattle.std.proofs.Common.{◌≡◌, ◌∙◌, ℕ, suc, Bool, true, List, [], ◌∷◌, ◌++◌, drop, length}
+use Rattle.std.proofs.Common.{◌+◌, replicate, Some, MatchBool, sym, ap, subst}
 use Rattle.std.specs.List.{slice_get}
 use Rattle.std.specs.FinMap as finmap
 use Rattle.std.specs.Option.{is_some}
@@ -18,11 +18,10 @@ use Rattle.retro_keep.specs.Recording.{IsWellFormed, RecordingValue}
 use Rattle.retro_redo.specs.inner.Keeping.{Keeps, KeepsUses}
 use Rattle.retro_redo.specs.inner.NextUses.{AddsUses, HasNext, Prunes, Use, has_cell, has_use}
 use Rattle.retro_redo.specs.inner.NextUses.{may_differ, starts_at}
-use Rattle.retro_redo.specs.Progress.{ProgressValue, chosen, is_cancel, next_line, recorded_now, repaired_now}
+use Rattle.retro_redo.specs.Progress.{ProgressValue, chosen, next_line, recorded_now, repaired_now}
 use Rattle.retro_redo.specs.declared.step.Step.{Step}
 use Rattle.retro_redo.specs.declared.step.Step.TheVariants.{Keep}
 use Rattle.retro_redo.proofs.Entries.{has_none, no_uses_sorted}
-use Rattle.retro_redo.proofs.Keeping.{IsStepMet}
 use Rattle.retro_redo.proofs.KeptLines.{length_more}
 use Rattle.retro_redo.proofs.KeptUses.{entry_from, keeps_settled, keeps_unsettled, met_by_start}
 use Rattle.retro_redo.proofs.Positions.{Line}
@@ -61,19 +60,6 @@ module _ (p q : ProgressValue) (overlay : OverlayMap) (uses : List Use) (l : Lin
       subst (λ x. MatchBool x (Met l.1.notes s t) (AgreeOn l.1.notes s t)) (sym is)
       (met_by_start overlay l (drop (suc k) lines) uses (rise_after 0 lines k l rising next_here)
       (subst (λ ls. KeepsUses overlay ls uses) (from_line lines k l next_here) keeps) s t exact)
-
-  pub next_step_met : (b : Bool) (step : Step) → b ≡ (not (is_cancel step) && starts_at l.0 uses) → (s t : State)
-      → IsExact overlay s t → IsStepMet step l.1 s t b
-  next_step_met b step is s t exact = subst (IsStepMet step l.1 s t) (sym is) (by_test (is_cancel step) refl)
-    where
-      decide : (x : Bool) → is_cancel step ≡ false → MatchBool x (Met l.1.notes s t) (AgreeOn l.1.notes s t)
-          → IsStepMet step l.1 s t x
-      decide true f h = (f, h)
-      decide false f h = inr h
-
-      by_test : (x : Bool) → is_cancel step ≡ x → IsStepMet step l.1 s t (not x && starts_at l.0 uses)
-      by_test true f = inl f
-      by_test false f = decide (starts_at l.0 uses) f (next_met (starts_at l.0 uses) refl s t exact)
 
   module _ (r : RecordingValue) (mid : List Use) (same : r ≡ p.recording) (adds : AddsUses l.0 r.lines uses mid) where
     lines_are : r.lines ≡ q.recording.lines
@@ -131,9 +117,9 @@ skipped_uses choices lines overlay uses place n steps at keeps pushed =
 -- what is kept, if nothing changes
 pub keeps_same : (q : ProgressValue) (overlay same_overlay : OverlayMap) (met same_met : List ℕ) (steps : List Step)
     → Keeps q overlay met → steps ≡ q.choices → same_met ≡ met → same_overlay ≡ overlay
-    → Keeps (record { recording = q.recording; cancel = q.cancel; choices = steps }) same_overlay same_met
+    → Keeps (record { recording = q.recording; edits = q.edits; choices = steps }) same_overlay same_met
 keeps_same q overlay same_overlay met same_met steps keeps choices_are met_is overlay_is =
-    subst (λ (cs : List Step). Keeps (record { recording = q.recording; cancel = q.cancel; choices = cs }) same_overlay
+    subst (λ (cs : List Step). Keeps (record { recording = q.recording; edits = q.edits; choices = cs }) same_overlay
     same_met) (sym choices_are)
     (subst (λ (ms : List ℕ). Keeps q same_overlay ms) (sym met_is)
     (subst (λ (o : OverlayMap). Keeps q o met) (sym overlay_is) keeps))

@@ -1,10 +1,10 @@
 pub mod Picks
+pub mod Editing
 pub mod Moments
 pub mod Progress
 pub mod Final
 pub mod RepairFault
 pub mod Repair
-pub mod Cancelling
 pub mod Settled
 pub mod Ground
 pub mod Skipping

@@ -1,30 +1,27 @@
 -- The progress of a repair: the choices made so far, and the states that they make.
-use Rattle.std.specs.Prelude.{◌≡◌, ℕ, Bool, true, false, List, [], ◌∷◌, ◌++◌, ◌⊎◌, Option, length, option_map}
+use Rattle.std.specs.Prelude.{◌≡◌, ℕ, List, [], ◌∷◌, ◌++◌, ◌⊎◌, Option, None, length, option_map}
+use Rattle.std.specs.FinMap as map
 use Rattle.std.specs.List.{slice_get}
 use Rattle.retro_tree.specs.Notes.{after, AgreeOn, Holds}
 use Rattle.retro_tree.specs.declared.note.Note.{Note}
 use Rattle.retro_tree.specs.declared.state.State.{State}
 use Rattle.retro_shell.specs.Runs.{IsRun, RunValue}
-use Rattle.retro_keep.specs.Edit.{is_among}
 use Rattle.retro_keep.specs.Recording.{RecordingValue}
+use Rattle.retro_keep.specs.declared.edit.Edit.{Edit}
 use Rattle.retro_keep.specs.declared.noted.Noted.{Noted}
-use Rattle.retro_redo.specs.Moments.{Moment, compensation}
+use Rattle.retro_redo.specs.Editing.{EditMap}
+use Rattle.retro_redo.specs.Moments.{IsStaleBy, Moment, compensation, new_text, text_now}
 use Rattle.retro_redo.specs.declared.compensation.Compensation.{Compensation}
 use Rattle.retro_redo.specs.declared.step.Step.{Step}
 use Rattle.retro_redo.specs.declared.step.Step.TheVariants.{Cancel, Keep, Take}
 use Rattle.retro_redo.specs.declared.verdict.Verdict.{Verdict}
 use Rattle.retro_redo.specs.declared.verdict.Verdict.TheVariants.{Cancelled, Redone, Kept}
 
--- the recording, the cancelled numbers, and the choices for the first lines
+-- the recording, its edits, and the choices for the first lines
 pub record ProgressValue : Type 0 where
   pub recording : RecordingValue
-  pub cancel : List ℕ
+  pub edits : EditMap
   pub choices : List Step
-
-abbrev pub is_cancel : Step → Bool
-is_cancel Cancel = true
-is_cancel Keep = false
-is_cancel (Take run) = false
 
 -- the notes that a line has in the repaired state, by its choice
 abbrev pub chosen : Step → Noted → List Note
@@ -61,9 +58,9 @@ repaired_now p = repaired_after p.recording.lines p.choices p.recording.first
 abbrev pub settled_now : ProgressValue → List Moment
 settled_now p = settled p.recording.lines p.choices p.recording.first p.recording.first
 
--- whether the line with a number is cancelled
-abbrev pub cancelled_in : ProgressValue → ℕ → Bool
-cancelled_in p = is_among p.cancel
+-- the edit of the line with a number, or None if nothing edits it
+abbrev pub edit_in : ProgressValue → ℕ → Option Edit
+edit_in p = map.get p.edits
 
 -- the next line to settle, and its number
 abbrev pub next_line : ProgressValue → Option (ℕ × Noted)
@@ -74,15 +71,18 @@ next_number p = option_map (λ l. l.0) (next_line p)
 
 -- ---- which choices a line allows
 
--- A line whose number is cancelled is cancelled. Any other line is kept if its notes agree with
--- both states or hold in the repaired one. If they don't hold there, a run of its session and its
--- text may be taken whose notes do.
-abbrev pub MayStep : (ℕ → Bool) → State → State → ℕ × Noted → Step → Type 0
-MayStep cancelled s t l Cancel = cancelled l.0 ≡ true
-MayStep cancelled s t l Keep = (cancelled l.0 ≡ false) × (AgreeOn l.1.notes s t ⊎ Holds l.1.notes t)
-MayStep cancelled s t l (Take run) =
-    (cancelled l.0 ≡ false) × (¬ (Holds l.1.notes t)) × (run.sid ≡ l.1.sid) × (run.text ≡ l.1.text)
-    × Holds run.notes t
+-- a new run of a line: of its new text in its session
+abbrev pub IsNewRunOf : (ℕ → Option Edit) → ℕ × Noted → RunValue → Type 0
+IsNewRunOf edit l run = (run.sid ≡ l.1.sid) × (run.text ≡ new_text edit l)
+
+-- A line that runs no text is cancelled. A line that nothing edits is kept if its notes agree with
+-- both states or hold in the repaired one. A stale line may be given a new run whose notes hold in
+-- the repaired state.
+abbrev pub MayStep : (ℕ → Option Edit) → State → State → ℕ × Noted → Step → Type 0
+MayStep edit s t l Cancel = text_now edit l ≡ None
+MayStep edit s t l Keep = (edit l.0 ≡ None) × (AgreeOn l.1.notes s t ⊎ Holds l.1.notes t)
+MayStep edit s t l (Take run) =
+    IsStaleBy (edit l.0) l.1.notes t × IsNewRunOf edit l run × Holds run.notes t
 
 -- the guarantee of the type of runs for a taken run
 abbrev pub IsRunTaken : Step → Type 0
@@ -91,12 +91,12 @@ IsRunTaken Keep = Unit {0}
 IsRunTaken (Take run) = IsRun run
 
 -- each choice is one that its line allows
-abbrev pub Settles : (ℕ → Bool) → List (ℕ × Noted) → List Step → State → State → Type 0
-Settles cancelled lines [] s t = Unit {0}
-Settles cancelled [] (step ∷ steps) s t = ⊥
-Settles cancelled (l ∷ lines) (step ∷ steps) s t =
-    MayStep cancelled s t l step × IsRunTaken step
-    × Settles cancelled lines steps (after l.1.notes s) (after (chosen step l.1) t)
+abbrev pub Settles : (ℕ → Option Edit) → List (ℕ × Noted) → List Step → State → State → Type 0
+Settles edit lines [] s t = Unit {0}
+Settles edit [] (step ∷ steps) s t = ⊥
+Settles edit (l ∷ lines) (step ∷ steps) s t =
+    MayStep edit s t l step × IsRunTaken step
+    × Settles edit lines steps (after l.1.notes s) (after (chosen step l.1) t)
 
 -- ---- what the choices give
 

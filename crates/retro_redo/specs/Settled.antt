@@ -1,7 +1,8 @@
 -- What the choices for all lines give, for any recording: also for one whose notes aren't those of
 -- running its lines.
-use Rattle.std.specs.Prelude.{◌≡◌, ℕ, Bool, List, length, map}
+use Rattle.std.specs.Prelude.{◌≡◌, ℕ, List, length, map, Option}
 use Rattle.retro_keep.specs.Recording.{IsWellFormed, RecordingValue, output_in}
+use Rattle.retro_keep.specs.declared.edit.Edit.{Edit}
 use Rattle.retro_redo.specs.Moments.{IsMet, Picks}
 use Rattle.retro_redo.specs.Progress.{Settles, compensations_chosen, lines_chosen, repaired_after, settled}
 use Rattle.retro_redo.specs.Progress.{verdicts_chosen}
@@ -16,24 +17,24 @@ recording_chosen r steps = record { first = r.first; lines = lines_chosen r.line
 -- The repaired recording has the lines as chosen. State and outputs are those of its notes, and the
 -- met lines are those that read or write a cell in which the recorded and the repaired state
 -- differ.
-pub record IsByChoices (cancelled : ℕ → Bool) (r : RecordingValue) (steps : List Step) (repair : Repair)
+pub record IsByChoices (edit : ℕ → Option Edit) (r : RecordingValue) (steps : List Step) (repair : Repair)
     : Type 0 where
   pub recording_is : repair.recording ≡ recording_chosen r steps
   pub state_is : repair.state ≡ repaired_after r.lines steps r.first
   pub outputs_are : repair.outputs.items ≡ map output_in (lines_chosen r.lines steps)
   pub compensated : repair.compensations.items ≡ compensations_chosen r.lines steps
   pub verdicts_are : repair.verdicts.items ≡ verdicts_chosen r.lines steps
-  pub met_are : Picks (IsMet cancelled) (settled r.lines steps r.first r.first) repair.met.items
+  pub met_are : Picks (IsMet edit) (settled r.lines steps r.first r.first) repair.met.items
 
 -- Each line has a choice that it allows. The repair is what the choices give, if the lines as
--- chosen make a recording. Otherwise all other lines are run again.
-pub record IsSettled (cancelled : ℕ → Bool) (r : RecordingValue) (steps : List Step) (repair : Repair)
+-- chosen make a recording. Otherwise all edited lines are run again.
+pub record IsSettled (edit : ℕ → Option Edit) (r : RecordingValue) (steps : List Step) (repair : Repair)
     : Type 0 where
-  pub settles : Settles cancelled r.lines steps r.first r.first
+  pub settles : Settles edit r.lines steps r.first r.first
   pub all : length steps ≡ length r.lines
-  pub chosen : IsWellFormed (recording_chosen r steps) → IsByChoices cancelled r steps repair
-  pub again : ¬ (IsWellFormed (recording_chosen r steps)) → IsRunAgain cancelled r repair
+  pub chosen : IsWellFormed (recording_chosen r steps) → IsByChoices edit r steps repair
+  pub again : ¬ (IsWellFormed (recording_chosen r steps)) → IsRunAgain edit r repair
 
 -- some choices settle the lines and give the repair
-abbrev pub AreSettled : (ℕ → Bool) → RecordingValue → Repair → Type 0
-AreSettled cancelled r repair = (steps : List Step) × IsSettled cancelled r steps repair
+abbrev pub AreSettled : (ℕ → Option Edit) → RecordingValue → Repair → Type 0
+AreSettled edit r repair = (steps : List Step) × IsSettled edit r steps repair

@@ -7,4 +7,3 @@ pub mod Meetings
 pub mod NextUses
 pub mod NextUsesCode
 pub mod ProgressCode
-pub mod Stops

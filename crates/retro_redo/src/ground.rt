@@ -2,25 +2,22 @@
 ghost use Rattle.std.specs.Prelude.{◌≡◌};
 ghost use Rattle.retro_tree.specs.Overlay.{Fits, Overlays};
 ghost use Rattle.retro_history.specs.Recorded.{recorded_before};
-ghost use Rattle.retro_keep.specs.Edit.{is_among};
 ghost use Rattle.retro_redo.specs.Ground.{shown_at};
 
-use crate::cancelled::has_number;
 use crate::shown::Shown;
 use retro_history::History;
-use retro_keep::Recording;
+use retro_keep::{Edits, Recording};
 use retro_tree::Overlay;
-use std::collections::BTreeSet;
 use std::marker::Model;
 
 /// What a repair lends for guesses, which are runs of lines ahead of their turns.
 ///
-/// It borrows the recording, its history, the cancelled numbers, and the exact overlay: the cells
-/// in which the repaired state differs from the recorded one before the next line to settle.
+/// It borrows the recording, its history, the edits, and the exact overlay: the cells in which the
+/// repaired state differs from the recorded one before the next line to settle.
 #[derive(Drop)]
 pub struct Ground<'g, 'a> {
     recording: &'a Recording,
-    cancelled: &'g BTreeSet<u32>,
+    edits: &'g Edits,
     history: &'g History<'a>,
     overlay: &'g Overlay,
 }
@@ -37,7 +34,7 @@ impl<'g, 'a> Model for Ground<'g, 'a> {
 
     ghost view = { λ a. record {
       recording = a.recording.now;
-      cancel = a.cancelled.now.keys;
+      edits = a.edits.now;
       overlay = a.overlay.now;
     } };
 
@@ -45,22 +42,22 @@ impl<'g, 'a> Model for Ground<'g, 'a> {
 }
 
 impl<'g, 'a> Ground<'g, 'a> {
-    /// Returns the ground with the given recording, history, cancelled numbers and overlay.
+    /// Returns the ground with the given recording, edits, history and overlay.
     pub(crate) fn new(
         recording: &'a Recording,
-        cancelled: &'g BTreeSet<u32>,
+        edits: &'g Edits,
         history: &'g History<'a>,
         overlay: &'g Overlay,
     ) -> Ground<'g, 'a>
         requires history { history.now ≡ recording.now }
         requires fits { Fits overlay.now }
         ensures recording { result.recording ≡ recording.now }
-        ensures cancel { result.cancel ≡ cancelled.now.keys }
+        ensures edits { result.edits ≡ edits.now }
         ensures overlay { result.overlay ≡ overlay.now }
     {
         Ground {
             recording,
-            cancelled,
+            edits,
             history,
             overlay,
         }
@@ -87,11 +84,11 @@ impl<'g, 'a> Ground<'g, 'a> {
         self.overlay
     }
 
-    /// Returns whether the line with the given number is cancelled.
-    pub fn is_cancelled(&self, number: u32) -> bool
-        ensures { result ≡ is_among self.now.cancel number }
+    /// Returns the edits.
+    pub fn edits(&self) -> &'g Edits
+        ensures { result.now ≡ self.now.edits }
     {
-        has_number(self.cancelled, number)
+        self.edits
     }
 
     /// Returns a view of the combined state before the line with the given number: the overlay on

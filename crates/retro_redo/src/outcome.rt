@@ -1,8 +1,9 @@
 //! The parts of a repair that follow from the steps of all lines.
-ghost use Rattle.std.specs.Prelude.{◌≡◌, ◌↔◌, ◌++◌, Bool, IfOk, IfSome, IsTrue, OnOk, is_some};
-ghost use Rattle.std.specs.Prelude.{length, map, ℕ};
+ghost use Rattle.std.specs.Prelude.{◌≡◌, ◌↔◌, ◌++◌, IfOk, IfSome, IsTrue, OnOk, Option};
+ghost use Rattle.std.specs.Prelude.{is_some, length, map, ℕ};
 ghost use Rattle.retro_tree.specs.Commit.{committed};
 ghost use Rattle.retro_keep.specs.Recording.{IsWellFormed, last_state, output_in};
+ghost use Rattle.retro_keep.specs.declared.edit.Edit.{Edit};
 ghost use Rattle.retro_redo.specs.Progress.{Settles, compensations_chosen, line_chosen};
 ghost use Rattle.retro_redo.specs.Progress.{lines_chosen, noted_of, output_chosen};
 ghost use Rattle.retro_redo.specs.Progress.{repaired_after, verdict_of, verdicts_chosen};
@@ -29,7 +30,7 @@ pub(crate) fn chosen_recording(
     choices: Vec<Step>,
     overlay: Overlay,
 ) -> Result<Option<Recording>, NoMem>
-    requires settles { (cancelled : ℕ → Bool) × Settles cancelled recording.now.lines choices.items
+    requires settles { (edit : ℕ → Option Edit) × Settles edit recording.now.lines choices.items
         recording.now.first recording.now.first }
     requires all { length choices.items ≡ length recording.now.lines }
     requires last { committed overlay (last_state recording.now.lines recording.now.first)

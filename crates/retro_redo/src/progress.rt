@@ -1,43 +1,40 @@
 //! The progress of a repair.
-ghost use Rattle.std.specs.Prelude.{◌≡◌, ◌↔◌, ◌∷◌, ◌++◌, [], IfOk, IfSome, None, IsSome};
-ghost use Rattle.std.specs.Prelude.{IsTrue, MatchBool, OnErr, OnOk, Some, ◌&&◌, ◌≤◌, length};
-ghost use Rattle.std.specs.Prelude.{not, false, ℕ};
+ghost use Rattle.std.specs.Prelude.{◌≡◌, ◌↔◌, ◌∷◌, ◌++◌, [], IfOk, None, IsSome};
+ghost use Rattle.std.specs.Prelude.{IsTrue, MatchBool, OnErr, OnOk, Some, ◌≤◌, length, false, ℕ};
 ghost use Rattle.std.specs.Option.{option_copied};
 ghost use Rattle.retro_tree.specs.Commit.{committed};
 ghost use Rattle.retro_tree.specs.Exact.{IsExact, IsTight};
-ghost use Rattle.retro_tree.specs.Notes.{AgreeOn, Holds, after};
+ghost use Rattle.retro_tree.specs.Notes.{Holds, after};
 ghost use Rattle.retro_tree.specs.declared.state.State.{State};
-ghost use Rattle.retro_effects.specs.Meeting.{Met};
 ghost use Rattle.retro_keep.specs.Recording.{IsRecordingOf, IsWellFormed, number_in, script_in};
 ghost use Rattle.retro_keep.specs.declared.noted.Noted.{Noted as NotedValue};
-ghost use Rattle.retro_redo.specs.Cancelling.{AreLines};
-ghost use Rattle.retro_redo.specs.Meetings.{MeetsNow, lines_until};
+ghost use Rattle.retro_redo.specs.Editing.{AreLines};
+ghost use Rattle.retro_redo.specs.Meetings.{StopsNow, lines_until};
+ghost use Rattle.retro_redo.specs.Moments.{IsMetBy, IsUnmetBy, new_text, text_now};
 ghost use Rattle.retro_redo.specs.Picks.{PicksBy};
-ghost use Rattle.retro_redo.specs.Progress.{IsRunTaken, MayStep, ProgressValue};
-ghost use Rattle.retro_redo.specs.inner.NextUses.{starts_at};
-ghost use Rattle.retro_redo.specs.Progress.{cancelled_in, chosen, is_cancel};
-ghost use Rattle.retro_redo.specs.Progress.{next_line, next_number};
+ghost use Rattle.retro_redo.specs.Progress.{IsNewRunOf, MayStep, ProgressValue};
+ghost use Rattle.retro_redo.specs.Progress.{chosen, edit_in, next_line, next_number};
 ghost use Rattle.retro_redo.specs.Progress.{recorded_now, repaired_now};
 ghost use Rattle.retro_redo.specs.Repair.{IsRepair};
 ghost use Rattle.retro_redo.specs.Settled.{IsSettled};
 ghost use Rattle.retro_redo.specs.Skipping.{IsSkip};
 ghost use Rattle.retro_redo.specs.SoFar.{AreStatesOfRuns};
 
-use crate::cancelled::has_number;
+use crate::edited::run_edited;
 use crate::gate::{Gate, Turn};
 use crate::ground::Ground;
 use crate::next_uses::NextUses;
-use crate::others::run_others;
 use crate::outcome::{chosen_recording, compensations, outputs, verdicts};
 use crate::repair::Repair;
 use crate::skipping::{push_kept, unmet_lines};
 use crate::step::Step;
+use crate::stops::{add_edited, is_met_by};
 use crate::tally::Tally;
 use retro_effects::{Cells, Combined, advance, advance_both, equiv};
 use retro_history::History;
-use retro_keep::{Noted, Recording};
+use retro_keep::{Edits, Noted, Recording};
 use retro_shell::{Run, run_line};
-use retro_tree::{NoMem, Notes, Overlay, View};
+use retro_tree::{NoMem, Notes, Overlay, Text, View};
 use std::alloc::Global;
 use std::collections::BTreeSet;
 use std::marker::Model;
@@ -51,7 +48,7 @@ use std::marker::Model;
 #[derive(Drop)]
 pub struct Progress<'a> {
     recording: &'a Recording,
-    cancelled: BTreeSet<u32>,
+    edits: Edits,
     choices: Vec<Step>,
     overlay: Overlay,
     uses: NextUses,
@@ -70,13 +67,13 @@ impl<'a> Model for Progress<'a> {
 
     ghost view = { λ a. record {
       recording = a.recording.now;
-      cancel = a.cancelled.keys;
+      edits = a.edits;
       choices = a.choices.items;
     } };
 
     ghost invariant = { λ a. Keeps (record {
       recording = a.recording.now;
-      cancel = a.cancelled.keys;
+      edits = a.edits;
       choices = a.choices.items;
     }) a.overlay a.met.items
         × KeepsUses a.overlay (drop (length a.choices.items) a.recording.now.lines) a.uses };
@@ -84,18 +81,14 @@ impl<'a> Model for Progress<'a> {
 
 impl<'a> Progress<'a> {
     /// Returns the progress of a repair that has settled no line. Takes no memory.
-    pub(crate) fn new(
-        alloc: Global,
-        recording: &'a Recording,
-        cancelled: BTreeSet<u32>,
-    ) -> Progress<'a>
-        requires { AreLines cancelled.keys recording.now }
+    pub(crate) fn new(alloc: Global, recording: &'a Recording, edits: Edits) -> Progress<'a>
+        requires { AreLines edits recording.now }
         ensures { result
-            ≡ record { recording = recording.now; cancel = cancelled.keys; choices = [] } }
+            ≡ record { recording = recording.now; edits = edits; choices = [] } }
     {
         Progress {
             recording,
-            cancelled,
+            edits,
             choices: Vec::new(alloc),
             overlay: Overlay::new(alloc),
             uses: NextUses::new(alloc),
@@ -133,30 +126,49 @@ impl<'a> Progress<'a> {
         &self.overlay
     }
 
-    /// Returns whether the next line is met: whether it reads or writes a cell in which the states
-    /// differ.
+    /// Returns whether the next line is cancelled.
+    pub(crate) fn is_cancelled(&self) -> bool
+        requires { IsSome (next_line self.now) }
+        ensures { (l : ℕ × NotedValue) → next_line self.now ≡ Some l
+            → MatchBool result (text_now (edit_in self.now) l ≡ None)
+            (IsSome (text_now (edit_in self.now) l)) }
+    {
+        let line = self.line().unwrap();
+        self.edits.text_run(line.0, &line.1.text).is_none()
+    }
+
+    /// Returns whether the next line is met: whether its text is replaced, or it isn't edited and
+    /// reads or writes a cell in which the states differ.
     pub(crate) fn is_met(&self) -> bool
         requires { IsSome (next_line self.now) }
-        ensures met { (l : ℕ × NotedValue) → next_line self.now ≡ Some l
-            → MatchBool result (Met l.1.notes (recorded_now self.now) (repaired_now self.now))
-            (AgreeOn l.1.notes (recorded_now self.now) (repaired_now self.now)) }
+        ensures met { (l : ℕ × NotedValue) → next_line self.now ≡ Some l → MatchBool result
+            (IsMetBy (edit_in self.now l.0) l.1.notes (recorded_now self.now)
+            (repaired_now self.now))
+            (IsUnmetBy (edit_in self.now l.0) l.1.notes (recorded_now self.now)
+            (repaired_now self.now)) }
         ensures holds { IsRecordingOf (script_in self.now.recording) self.now.recording
-            → (l : ℕ × NotedValue) → next_line self.now ≡ Some l → result ≡ false
+            → (l : ℕ × NotedValue) → next_line self.now ≡ Some l
+            → edit_in self.now l.0 ≡ None → result ≡ false
             → Holds l.1.notes (repaired_now self.now) }
     {
         let line = self.line().unwrap();
-        self.uses.has_use_at(line.0)
+        let is_used = self.uses.has_use_at(line.0);
+        is_met_by(self.edits.get(line.0), is_used)
     }
 
-    /// Returns whether the notes of the next line hold in the repaired state. `recorded` is a view
-    /// of the recorded state before the line.
+    /// Returns whether the next line isn't edited and its notes hold in the repaired state.
+    /// `recorded` is a view of the recorded state before the line.
     pub(crate) fn equiv<V: View>(&self, alloc: Global, recorded: &V) -> Result<bool, NoMem>
         requires next { IsSome (next_line self.now) }
         requires recorded { V.state recorded.now ≡ recorded_now self.now }
         ensures { (l : ℕ × NotedValue) → next_line self.now ≡ Some l
-            → IfOk result (λ b. IsTrue b ↔ Holds l.1.notes (repaired_now self.now)) }
+            → IfOk result (λ b. IsTrue b
+            ↔ ((edit_in self.now l.0 ≡ None) × Holds l.1.notes (repaired_now self.now))) }
     {
         let line = self.line().unwrap();
+        if self.edits.get(line.0).is_some() {
+            return Ok(false);
+        }
         equiv(alloc, &line.1.notes, recorded, &self.overlay)
     }
 
@@ -174,8 +186,9 @@ impl<'a> Progress<'a> {
         equiv(alloc, run.notes(), recorded, &self.overlay)
     }
 
-    /// Runs the next line again, in the repaired state. Calls the observer before and after the
-    /// execution. `recorded` is a view of the recorded state before the line.
+    /// Runs the next line again, in the repaired state: its new text if it has one. Calls the
+    /// observer before and after the execution. `recorded` is a view of the recorded state before
+    /// the line.
     pub(crate) fn redo<V: View, G: Gate>(
         &self,
         alloc: Global,
@@ -184,18 +197,26 @@ impl<'a> Progress<'a> {
     ) -> Result<Run, NoMem>
         requires next { IsSome (next_line self.now) }
         requires recorded { V.state recorded.now ≡ recorded_now self.now }
-        ensures sid { (l : ℕ × NotedValue) → next_line self.now ≡ Some l
-            → IfOk result (λ run. run.sid ≡ l.1.sid) }
-        ensures text { (l : ℕ × NotedValue) → next_line self.now ≡ Some l
-            → IfOk result (λ run. run.text ≡ l.1.text) }
+        ensures new_run { (l : ℕ × NotedValue) → next_line self.now ≡ Some l
+            → IfOk result (λ run. IsNewRunOf (edit_in self.now) l run) }
         ensures holds { IfOk result (λ run. Holds run.notes (repaired_now self.now)) }
     {
         let line = self.line().unwrap();
+        let text = self.text_of(line);
         let repaired = Combined::new(recorded, &self.overlay);
         gate.begin(line.0, Turn::Place);
-        let run = run_line(alloc, &repaired, line.1.sid, line.1.text.as_str());
+        let run = run_line(alloc, &repaired, line.1.sid, text.as_str());
         gate.end(line.0, Turn::Place);
         run
+    }
+
+    /// Returns the text of a new run of a line: its new text if its text is replaced, and its own
+    /// text if not.
+    fn text_of<'t>(&'t self, line: &'t (u32, Noted)) -> &'t Text
+        ensures { result.now ≡ new_text (edit_in self.now) line.now }
+    {
+        let new = self.edits.text_run(line.0, &line.1.text);
+        new.unwrap_or(&line.1.text)
     }
 
     /// Settles the next line by `step`. `history` is the recording's, and `recorded` has the values
@@ -211,15 +232,14 @@ impl<'a> Progress<'a> {
         requires next { IsSome (next_line self.old) }
         requires recorded { C.state recorded.now ≡ recorded_now self.old }
         requires may { (l : ℕ × NotedValue) → next_line self.old ≡ Some l
-            → MayStep (cancelled_in self.old) (recorded_now self.old)
-            (repaired_now self.old) l step }
+            → MayStep (edit_in self.old) (recorded_now self.old) (repaired_now self.old) l step }
         ensures ok { OnOk result
             (self.new ≡ record self.old { choices = self.old.choices ++ step ∷ [] }) }
         ensures err { OnErr result (self.new ≡ self.old) }
     {
-        check_run(&step);
+        step.check_run();
+        let is_met = self.is_met();
         let line = self.line().unwrap();
-        let is_met = is_step_met(&step, line.0, &self.uses);
         let cells = self.uses.cells_to_renew(alloc, &self.overlay, line, &step)?;
         self.choices.reserve(1)?;
         self.met.reserve(1)?;
@@ -242,7 +262,7 @@ impl<'a> Progress<'a> {
         Ok(())
     }
 
-    /// Settles the next lines by keeping them, up to the first one that is cancelled or met.
+    /// Settles the next lines by keeping them, up to the first one that is edited or met.
     pub(crate) fn skip_unmet(&mut self) -> Result<(), NoMem>
         ensures ok { OnOk result (IsSkip self.old self.new) }
         ensures err { OnErr result (self.new ≡ self.old) }
@@ -250,7 +270,7 @@ impl<'a> Progress<'a> {
         // For the prover: the contract of `line` says that the recording is well formed.
         let _ = self.line();
         let settled = self.choices.len();
-        let count = unmet_lines(self.recording, settled, &self.cancelled, &self.uses);
+        let count = unmet_lines(self.recording, settled, &self.edits, &self.uses);
         push_kept(&mut self.choices, count)?;
         Ok(())
     }
@@ -262,9 +282,10 @@ impl<'a> Progress<'a> {
         self.choices.len()
     }
 
-    /// Returns the numbers of the lines to settle, up to the index `end`, that read or write a cell
-    /// in which the states differ before the next line. `history` is the recording's.
-    pub(crate) fn meetings_until(
+    /// Returns the numbers of the lines to settle, up to the index `end`, that are edited or that
+    /// read or write a cell in which the states differ before the next line. `history` is the
+    /// recording's.
+    pub(crate) fn stops_until(
         &self,
         alloc: Global,
         history: &History<'_>,
@@ -272,17 +293,20 @@ impl<'a> Progress<'a> {
     ) -> Result<BTreeSet<u32>, NoMem>
         requires history { history.now ≡ self.now.recording }
         requires end { end ≤ length self.now.recording.lines }
-        ensures { IfOk result (λ numbers. PicksBy number_in (MeetsNow self.now)
+        ensures { IfOk result (λ numbers. PicksBy number_in (StopsNow self.now)
             (lines_until end self.now) numbers.keys) }
     {
         let lines = self.recording.lines();
-        if end <= self.choices.len() {
+        let settled = self.choices.len();
+        if end <= settled {
             return Ok(BTreeSet::new(alloc));
         }
+        let next = &lines[settled];
         let last = &lines[end - 1];
-        let numbers = self
+        let mut numbers = self
             .uses
             .numbers_until(alloc, history, &self.overlay, last.0)?;
+        add_edited(&self.edits, next.0, last.0, &mut numbers)?;
         // For the prover: the contract of `iter` says that the numbers are in order.
         let _ = numbers.iter();
         Ok(numbers)
@@ -292,18 +316,18 @@ impl<'a> Progress<'a> {
     pub(crate) fn ground<'g>(&'g self, history: &'g History<'a>) -> Ground<'g, 'a>
         requires { history.now ≡ self.now.recording }
         ensures recording { result.recording ≡ self.now.recording }
-        ensures cancel { result.cancel ≡ self.now.cancel }
+        ensures edits { result.edits ≡ self.now.edits }
         ensures exact { IsExact result.overlay (recorded_now self.now) (repaired_now self.now) }
         ensures shows { committed result.overlay (recorded_now self.now) ≡ repaired_now self.now }
     {
-        Ground::new(self.recording, &self.cancelled, history, &self.overlay)
+        Ground::new(self.recording, &self.edits, history, &self.overlay)
     }
 
-    /// Returns whether the line with the given number is cancelled.
-    pub(crate) fn is_cancelled(&self, number: u32) -> bool
-        ensures { result ≡ cancelled_in self.now number }
+    /// Returns the edits.
+    pub(crate) fn edits(&self) -> &Edits
+        ensures { result.now ≡ self.now.edits }
     {
-        has_number(&self.cancelled, number)
+        &self.edits
     }
 
     /// Returns the repair. All lines must be settled. [`Repairer::finish`](crate::Repairer::finish)
@@ -313,13 +337,13 @@ impl<'a> Progress<'a> {
         ensures tally { IfOk result (λ repair. repair.tally ≡ tally) }
         ensures repair { IfOk result (λ repair.
             IsRecordingOf (script_in self.entry.recording) self.entry.recording
-            → IsRepair (cancelled_in self.entry) self.entry.recording repair) }
-        ensures settled { IfOk result (λ repair. IsSettled (cancelled_in self.entry)
+            → IsRepair (edit_in self.entry) self.entry.recording repair) }
+        ensures settled { IfOk result (λ repair. IsSettled (edit_in self.entry)
             self.entry.recording self.entry.choices repair) }
     {
         let Progress {
             recording,
-            cancelled,
+            edits,
             choices,
             overlay,
             uses: _,
@@ -329,7 +353,7 @@ impl<'a> Progress<'a> {
         let verdicts = verdicts(alloc, lines, choices.as_slice())?;
         let compensations = compensations(alloc, lines, choices.as_slice())?;
         let Some(repaired) = chosen_recording(alloc, recording, choices, overlay)? else {
-            return run_others(alloc, recording, &cancelled, tally);
+            return run_edited(alloc, recording, &edits, tally);
         };
         let outputs = outputs(alloc, repaired.lines())?;
         let state = repaired.last().copy()?;
@@ -343,25 +367,6 @@ impl<'a> Progress<'a> {
             recording: repaired,
         })
     }
-}
-
-/// Tells the prover that a step's run has what its type guarantees: its notes certify its line. The
-/// function changes nothing. The contract of `Run::sid` states the guarantee, so the call is
-/// enough.
-fn check_run(step: &Step)
-    ensures { IsRunTaken step.now }
-{
-    if let Step::Take(run) = step {
-        let _ = run.sid();
-    }
-}
-
-/// Returns whether the next line counts as met if it is settled by `step`. `number` is its number.
-/// A cancelled line doesn't count.
-fn is_step_met(step: &Step, number: u32, uses: &NextUses) -> bool
-    ensures { result ≡ (not (is_cancel step.now) && starts_at number uses.now) }
-{
-    !step.is_cancel() && uses.has_use_at(number)
 }
 
 /// Advances an exact overlay over a line that is settled by `step`. `recorded` has the values of

@@ -1,14 +1,18 @@
 //! Refusals of repairs.
 ghost use Rattle.std.specs.Prelude.{◌≡◌};
-ghost use Rattle.retro_redo.specs.RepairFault.{fault_number};
+ghost use Rattle.retro_redo.specs.RepairFault.{fault_number, fault_of};
 ghost use Rattle.retro_redo.specs.declared.repair_fault.RepairFault.TheVariants as faults;
 
+use retro_keep::EditRefusal;
 use retro_tree::NoMem;
 use thiserror::Error;
 
 /// Why a repair is refused.
 #[derive(Clone, Copy, Debug, Drop, PartialEq, Eq, Error)]
 pub enum RepairFault {
+    /// Two different edits name this line (refusal 26).
+    #[error("two different edits of line {0}")]
+    TwoEdits(u32),
     /// No line has this number (refusal 21).
     #[error("no line has the number {0}")]
     NoSuchLine(u32),
@@ -24,11 +28,12 @@ pub enum RepairFault {
 }
 
 impl RepairFault {
-    /// Returns the number of the refusal, from 21 to 24.
+    /// Returns the number of the refusal: from 21 to 24, or 26.
     pub fn number(&self) -> u8
         ensures { result ≡ fault_number self.now }
     {
         match self {
+            RepairFault::TwoEdits(_) => 26,
             RepairFault::NoSuchLine(_) => 21,
             RepairFault::NoCut => 22,
             RepairFault::TooManyWorkers => 23,
@@ -42,5 +47,16 @@ impl From<NoMem> for RepairFault {
 
     fn from(_error: NoMem) -> RepairFault {
         RepairFault::OutOfMemory
+    }
+}
+
+impl From<EditRefusal> for RepairFault {
+    ghost from_gives = { λ refusal fault. fault ≡ fault_of refusal };
+
+    fn from(refusal: EditRefusal) -> RepairFault {
+        match refusal {
+            EditRefusal::TwoEdits(number) => RepairFault::TwoEdits(number),
+            EditRefusal::NoSuchLine(number) => RepairFault::NoSuchLine(number),
+        }
     }
 }

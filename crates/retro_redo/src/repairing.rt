@@ -1,13 +1,12 @@
 //! Repairs on one thread.
 ghost use Rattle.std.specs.Prelude.{◌≡◌, IfErr, IfOk, None, OnOk, ℕ};
-ghost use Rattle.retro_keep.specs.Edit.{is_among};
+ghost use Rattle.retro_keep.specs.Edit.{edit_of};
 ghost use Rattle.retro_keep.specs.Recording.{IsRecordingOf, script_in};
-ghost use Rattle.retro_redo.specs.Cancelling.{AreLines, Refuses};
-ghost use Rattle.retro_redo.specs.Progress.{next_line};
+ghost use Rattle.retro_redo.specs.Editing.{AreAccepted, Refuses};
+ghost use Rattle.retro_redo.specs.Progress.{edit_in, next_line};
 ghost use Rattle.retro_redo.specs.Repair.{IsRepair, no_guesses};
 ghost use Rattle.retro_redo.specs.Settled.{AreSettled};
 
-use crate::cancelled::least_missing;
 use crate::gate::{Gate, Quiet};
 use crate::progress::Progress;
 use crate::repair::Repair;
@@ -15,55 +14,57 @@ use crate::repair_fault::RepairFault;
 use crate::repairer::Repairer;
 use crate::tally::Tally;
 use retro_history::History;
-use retro_keep::Recording;
+use retro_keep::{Edit, Recording};
 use std::alloc::Global;
 
-/// Repairs a recording on one thread: returns what it would be without the lines whose numbers are
-/// in `cancel`. A number may be there twice. Only lines whose notes no longer hold are run again.
+/// Repairs a recording on one thread: returns what it would be if its lines were edited so. An edit
+/// may be in the list twice. Only lines whose text is replaced or whose notes no longer hold are
+/// run again.
 ///
 /// If the recording is what running its lines gives, the repair's state and outputs are those of
-/// running the other lines. A recording from elsewhere needn't be that. Then the repair settles
+/// running the edited lines. A recording from elsewhere needn't be that. Then the repair settles
 /// each line by a step that the line allows, as [`Repairer::step`] says, and returns what these
-/// steps make of the recorded notes. If the resulting changes aren't lawful, it runs all other
+/// steps make of the recorded notes. If the resulting changes aren't lawful, it runs all edited
 /// lines again instead.
 ///
 /// # Errors
 ///
-/// `NoSuchLine` with the least of the numbers that no line has.
+/// `TwoEdits` with the least number that two different edits name. Otherwise `NoSuchLine` with the
+/// least edited number that no line has.
 pub fn repair_alone(
     alloc: Global,
     recording: &Recording,
-    cancel: &[u32],
+    edits: &[Edit],
 ) -> Result<Repair, RepairFault>
     ensures repair { IfOk result (λ repair. IsRecordingOf (script_in recording.now) recording.now
-        → IsRepair (is_among cancel.now) recording.now repair) }
+        → IsRepair (edit_of edits.now) recording.now repair) }
     ensures settled { IfOk result (λ repair.
-        AreSettled (is_among cancel.now) recording.now repair) }
+        AreSettled (edit_of edits.now) recording.now repair) }
     ensures tally { IfOk result (λ repair. repair.tally ≡ no_guesses) }
-    ensures known { OnOk result (AreLines cancel.now recording.now) }
-    ensures refused { IfErr result (λ fault. Refuses cancel.now recording.now fault) }
+    ensures known { OnOk result (AreAccepted edits.now recording.now) }
+    ensures refused { IfErr result (λ fault. Refuses edits.now recording.now fault) }
 {
-    repair_watched(alloc, recording, cancel, &Quiet)
+    repair_watched(alloc, recording, edits, &Quiet)
 }
 
 /// Repairs a recording on one thread, as [`repair_alone`] does. Calls an observer before and after
-/// each execution of a stale line. If all other lines are run again at the end, their executions
+/// each execution of a stale line. If all edited lines are run again at the end, their executions
 /// aren't observed.
 pub fn repair_watched<G: Gate>(
     alloc: Global,
     recording: &Recording,
-    cancel: &[u32],
+    edits: &[Edit],
     gate: &G,
 ) -> Result<Repair, RepairFault>
     ensures repair { IfOk result (λ repair. IsRecordingOf (script_in recording.now) recording.now
-        → IsRepair (is_among cancel.now) recording.now repair) }
+        → IsRepair (edit_of edits.now) recording.now repair) }
     ensures settled { IfOk result (λ repair.
-        AreSettled (is_among cancel.now) recording.now repair) }
+        AreSettled (edit_of edits.now) recording.now repair) }
     ensures tally { IfOk result (λ repair. repair.tally ≡ no_guesses) }
-    ensures known { OnOk result (AreLines cancel.now recording.now) }
-    ensures refused { IfErr result (λ fault. Refuses cancel.now recording.now fault) }
+    ensures known { OnOk result (AreAccepted edits.now recording.now) }
+    ensures refused { IfErr result (λ fault. Refuses edits.now recording.now fault) }
 {
-    let settled = settle_all(alloc, recording, cancel, gate)?;
+    let settled = settle_all(alloc, recording, edits, gate)?;
     let repair = settled.finish(alloc, Tally::none())?;
     Ok(repair)
 }
@@ -73,21 +74,19 @@ pub fn repair_watched<G: Gate>(
 fn settle_all<'a, G: Gate>(
     alloc: Global,
     recording: &'a Recording,
-    cancel: &[u32],
+    edits: &[Edit],
     gate: &G,
 ) -> Result<Progress<'a>, RepairFault>
     ensures recording { IfOk result (λ settled. settled.recording ≡ recording.now) }
-    ensures cancel { IfOk result (λ settled.
-        (n : ℕ) → is_among settled.cancel n ≡ is_among cancel.now n) }
+    ensures edits { IfOk result (λ settled.
+        (n : ℕ) → edit_in settled n ≡ edit_of edits.now n) }
     ensures settled { IfOk result (λ settled. next_line settled ≡ None) }
-    ensures known { OnOk result (AreLines cancel.now recording.now) }
-    ensures refused { IfErr result (λ fault. Refuses cancel.now recording.now fault) }
+    ensures known { OnOk result (AreAccepted edits.now recording.now) }
+    ensures refused { IfErr result (λ fault. Refuses edits.now recording.now fault) }
 {
-    if let Some(number) = least_missing(recording, cancel) {
-        return Err(RepairFault::NoSuchLine(number));
-    }
+    recording.test_edits(edits)?;
     let history = History::of(alloc, recording)?;
-    let mut repairer = Repairer::new(alloc, recording, &history, cancel)?;
+    let mut repairer = Repairer::new(alloc, recording, &history, edits)?;
     while let Some(number) = repairer.skip_unmet()? {
         repairer.settle(alloc, number, None, gate)?;
     }

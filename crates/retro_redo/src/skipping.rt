@@ -1,39 +1,38 @@
 //! Lines that a repair keeps without reading them.
 ghost use Rattle.std.specs.Prelude.{◌≡◌, ◌<◌, ◌≤◌, ◌++◌, drop, IfSome, length};
 ghost use Rattle.std.specs.Prelude.{OnErr, OnOk, replicate};
+ghost use Rattle.std.specs.FinMap as map_of;
 ghost use Rattle.std.specs.List.{slice_get};
 ghost use Rattle.std.specs.Option.{option_copied};
 ghost use Rattle.retro_tree.specs.Exact.{IsExact};
 ghost use Rattle.retro_tree.specs.Overlay.{OverlayMap};
 ghost use Rattle.retro_tree.specs.declared.state.State.{State};
-ghost use Rattle.retro_keep.specs.Edit.{is_among};
-ghost use Rattle.retro_redo.specs.Cancelling.{AreLines};
+ghost use Rattle.retro_keep.specs.Edit.{sooner};
+ghost use Rattle.retro_redo.specs.Editing.{AreLines};
 ghost use Rattle.retro_redo.specs.inner.Keeping.{KeepsUses};
 ghost use Rattle.retro_redo.specs.Skipping.{AreUnmet};
 ghost use Rattle.retro_redo.specs.declared.step.Step.TheVariants as steps;
 
-use crate::cancelled::{number_from, sooner};
 use crate::next_uses::NextUses;
 use crate::step::Step;
-use retro_keep::{Noted, Recording};
+use retro_keep::{Edits, Noted, Recording};
 use retro_tree::NoMem;
-use std::collections::BTreeSet;
 
-/// Returns how many lines in a row are neither cancelled nor met, from the index `from` on. `uses`
-/// has the next uses of the cells in which the states differ, among the lines from `from` on.
+/// Returns how many lines in a row are neither edited nor met, from the index `from` on. `uses` has
+/// the next uses of the cells in which the states differ, among the lines from `from` on.
 ///
-/// No line's notes are read. The next line that is cancelled or met is found by its number.
+/// No line's notes are read. The next line that is edited or met is found by its number.
 pub(crate) fn unmet_lines(
     recording: &Recording,
     from: usize,
-    cancelled: &BTreeSet<u32>,
+    edits: &Edits,
     uses: &NextUses,
 ) -> usize
-    requires { AreLines cancelled.now.keys recording.now }
+    requires { AreLines edits.now recording.now }
     ensures { let rest = drop from recording.now.lines in (overlay : OverlayMap)
         → KeepsUses overlay rest uses.now
         → ((s t : State) → IsExact overlay s t
-        → AreUnmet (is_among cancelled.now.keys) result rest s t)
+        → AreUnmet (map_of.get edits.now) result rest s t)
         × KeepsUses overlay (drop result rest) uses.now }
 {
     let lines = recording.lines();
@@ -41,9 +40,20 @@ pub(crate) fn unmet_lines(
         return 0;
     };
     let rest = lines_from(lines, from);
-    match sooner(number_from(cancelled, line.0), uses.next()) {
+    match sooner(edits.next_from(line.0), uses.next()) {
         None => rest.len(),
         Some(number) => rest.partition_point(|line| line.0 < number),
+    }
+}
+
+/// Returns the lesser of two numbers, or the only one that is given.
+fn sooner(one: Option<u32>, two: Option<u32>) -> Option<u32>
+    ensures { result ≡ sooner one two }
+{
+    match (one, two) {
+        (Some(one), Some(two)) => Some(if one < two { one } else { two }),
+        (Some(only), None) | (None, Some(only)) => Some(only),
+        (None, None) => None,
     }
 }
 

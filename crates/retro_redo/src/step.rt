@@ -1,6 +1,5 @@
 //! The steps of a repair.
-ghost use Rattle.std.specs.Prelude.{◌≡◌};
-ghost use Rattle.retro_redo.specs.Progress.{is_cancel};
+ghost use Rattle.retro_redo.specs.Progress.{IsRunTaken};
 
 use retro_shell::Run;
 
@@ -16,10 +15,14 @@ pub enum Step {
 }
 
 impl Step {
-    /// Returns whether the step cancels the line.
-    pub(crate) fn is_cancel(&self) -> bool
-        ensures { result ≡ is_cancel self.now }
+    /// Tells the prover that the step's run has what its type guarantees: its notes certify its
+    /// line. The function changes nothing. The contract of `Run::sid` states the guarantee, so the
+    /// call is enough.
+    pub(crate) fn check_run(&self)
+        ensures { IsRunTaken self.now }
     {
-        matches!(self, Step::Cancel)
+        if let Step::Take(run) = self {
+            let _ = run.sid();
+        }
     }
 }

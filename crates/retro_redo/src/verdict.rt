@@ -5,8 +5,9 @@
 pub enum Verdict {
     /// The line is cancelled.
     Cancelled,
-    /// The line was run again, since its notes no longer hold.
+    /// The line was run again, since its text is replaced or its notes no longer hold.
     Redone,
-    /// The line is kept: its notes still hold, so it prints and changes what was recorded.
+    /// The line is kept: it isn't edited and its notes still hold, so it prints and changes what was
+    /// recorded.
     Kept,
 }

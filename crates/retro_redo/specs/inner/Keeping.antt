@@ -6,22 +6,22 @@ use Rattle.retro_tree.specs.Overlay.{OverlayMap}
 use Rattle.retro_tree.specs.State.{SameSessions}
 use Rattle.retro_tree.specs.declared.cell.Cell.{Cell}
 use Rattle.retro_history.specs.Index.{Line}
-use Rattle.retro_redo.specs.Cancelling.{AreLines}
+use Rattle.retro_redo.specs.Editing.{AreLines}
 use Rattle.retro_redo.specs.Moments.{IsMet, Picks}
 use Rattle.retro_redo.specs.inner.NextUses.{AreSorted, IsFirstIn, Use, first_use, has_use, is_use}
-use Rattle.retro_redo.specs.Progress.{ProgressValue, Settles, cancelled_in, recorded_now, repaired_now, settled_now}
+use Rattle.retro_redo.specs.Progress.{ProgressValue, Settles, edit_in, recorded_now, repaired_now, settled_now}
 
 -- Each choice is one that its line allows. The overlay has entries for exactly the cells in which
 -- the recorded and the repaired state differ. The met numbers are those of the settled lines that
--- are met. Both states have the sessions of the first. Each cancelled number is a line's.
+-- are met. Both states have the sessions of the first. Each edited number is a line's.
 pub record Keeps (p : ProgressValue) (overlay : OverlayMap) (met : List ℕ) : Type 0 where
   pub settles :
-      Settles (cancelled_in p) p.recording.lines p.choices p.recording.first p.recording.first
+      Settles (edit_in p) p.recording.lines p.choices p.recording.first p.recording.first
   pub exact : IsExact overlay (recorded_now p) (repaired_now p)
-  pub are_met : Picks (IsMet (cancelled_in p)) (settled_now p) met
+  pub are_met : Picks (IsMet (edit_in p)) (settled_now p) met
   pub recorded_sessions : SameSessions (recorded_now p) p.recording.first
   pub repaired_sessions : SameSessions (repaired_now p) p.recording.first
-  pub known : AreLines p.cancel p.recording
+  pub known : AreLines p.edits p.recording
 
 -- Each cell with an entry in the overlay has an entry at the first of the lines to settle that uses
 -- it. Each entry is at one of these lines, which uses its cell. The first entry's cell has an entry

@@ -1,13 +1,14 @@
 use Rattle.std.proofs.Common.{ap, sym, ◌∙◌}
-use Rattle.retro_keep.specs.Edit.{is_among}
-use Rattle.retro_redo.specs.Progress.{ProgressValue}
+use Rattle.std.specs.FinMap as finmap
+use Rattle.retro_redo.specs.Editing.{EditMap}
+use Rattle.retro_redo.specs.Progress.{ProgressValue, edit_in}
 use Rattle.retro_redo.proofs.KeptLines.{fewer_left}
 use Rattle.retro_redo.proofs.repairing.settle_all.Goals as goal
 
 pub loop-repairer-smaller : goal.loop-repairer-smaller
 loop-repairer-smaller g c =
-    fewer_left c.loop-repairer.repairer c.skip_unmet.new.self c.settle.new.self c.in-Some-2.number
-    c.in_ok-number.ensures.ok c.in_ok-settle.ensures.one (sym c.in_ok-number.ensures.next ∙ c.in-Some-2.is)
+    fewer_left c.loop-repairer.repairer c.skip_unmet.new.self c.settle.new.self c.in-Some.number
+    c.in_ok-number.ensures.ok c.in_ok-settle.ensures.one (sym c.in_ok-number.ensures.next ∙ c.in-Some.is)
 
 pub loop-repairer-preserved : goal.loop-repairer-preserved
 loop-repairer-preserved g c =
@@ -16,6 +17,6 @@ loop-repairer-preserved g c =
     record {
       recording = ap (λ (x : ProgressValue). x.recording) one.1 ∙ skip.recording
           ∙ c.loop-repairer.invariant.recording;
-      cancel = λ n. ap (λ (x : ProgressValue). is_among x.cancel n) one.1 ∙ ap (λ ns. is_among ns n) skip.cancel
-          ∙ c.loop-repairer.invariant.cancel n;
+      edits = λ n. ap (λ (x : ProgressValue). edit_in x n) one.1 ∙ ap (λ (m : EditMap). finmap.get m n) skip.edits
+          ∙ c.loop-repairer.invariant.edits n;
     }

@@ -1,11 +1,12 @@
 use Rattle.std.proofs.Common.{◌≡◌, ◌-◌, ℕ, length}
-use Rattle.retro_keep.specs.Edit.{is_among}
+use Rattle.retro_keep.specs.Edit.{edit_of}
+use Rattle.retro_redo.specs.Progress.{edit_in}
 use Rattle.retro_redo.proofs.repairing.settle_all.Given as goal
 
 abbrev pub invariant-loop-repairer : goal.invariant-loop-repairer
 invariant-loop-repairer g l = record {
   recording : l.repairer.recording ≡ l.recording;
-  cancel : (n : ℕ) → is_among l.repairer.cancel n ≡ is_among l.cancel n;
+  edits : (n : ℕ) → edit_in l.repairer n ≡ edit_of l.edits n;
 }
 
 abbrev pub decreases-loop-repairer : goal.decreases-loop-repairer

@@ -1,12 +1,12 @@
 use Rattle.std.proofs.Common.{◌≡◌, ◌∙◌, List, None, Option, Some, ap, drop, length, nat_lt, rules, subst, sym, ℕ}
+use Rattle.std.specs.FinMap as finmap
 use Rattle.std.specs.List.{slice_get}
 use Rattle.std.specs.List.Sorted.{IsNonDecreasingBy}
 use Rattle.std.specs.Option.{option_copied}
 use Rattle.std.proofs.lemmas.List.Sorted.{IsPartitionedBy-ltb, IsPartitionPoint-from_clause}
-use Rattle.retro_keep.specs.Edit.{is_among}
+use Rattle.retro_keep.specs.Edit.{sooner}
 use Rattle.retro_redo.specs.inner.NextUses.{first_number}
 use Rattle.retro_redo.specs.Skipping.{AreUnmet}
-use Rattle.retro_redo.specs.inner.Stops.{sooner}
 use Rattle.retro_redo.proofs.Finishing.{none_is}
 use Rattle.retro_redo.proofs.Positions.{Line}
 use Rattle.retro_redo.proofs.Skipped.{AreUnder, all_under, skipped_from, some_under}
@@ -20,7 +20,7 @@ returns-in_default c =
     (sym (ap (λ (ls : List Line). slice_get ls c.args.from) c.lines-lines.ensures.value) ∙ sym c.line_at.ensures.line
     ∙ ap option_copied (none_is c.line_at.result c.in_default.not-Some)) in
     λ overlay keeps. (
-      λ s t exact. subst (λ ls. AreUnmet (is_among c.args.cancelled.now.keys) 0 ls s t) (sym none) tt,
+      λ s t exact. subst (λ ls. AreUnmet (finmap.get c.args.edits.now) 0 ls s t) (sym none) tt,
       keeps,
     )
 
@@ -28,15 +28,15 @@ pub returns-in-None : goal.returns-in-None
 returns-in-None c =
     let lines = c.args.recording.now.lines in
     let from = c.args.from in
-    let one = c.number_from.result in
+    let one = c.next_from.result in
     let rest_is = c.lines_from-rest.ensures ∙ ap (drop from) c.lines-lines.ensures.value in
     let stop_is : sooner one (first_number c.args.uses.now) ≡ None =
     ap (sooner one) (sym c.next.ensures) ∙ sym c.in-None.ensures in
     λ overlay keeps.
-    skipped_from c.args.cancelled.now.keys overlay c.args.uses.now c.args.recording.now from c.in-Some.line.now one
+    skipped_from c.args.edits.now overlay c.args.uses.now c.args.recording.now from c.in-Some.line.now one
     (length c.lines_from-rest.result.now) c.lines-lines.ensures.well_formed.rising
     (sym (ap (λ (ls : List Line). slice_get ls from) c.lines-lines.ensures.value) ∙ sym c.line_at.ensures.line
-    ∙ ap option_copied c.in-Some.is) c.requires c.number_from.ensures
+    ∙ ap option_copied c.in-Some.is) c.requires c.next_from.ensures
     (subst (λ (o : Option ℕ). AreUnder o (length c.lines_from-rest.result.now) (drop from lines)) (sym stop_is)
     (subst (AreUnder None (length c.lines_from-rest.result.now)) rest_is (all_under c.lines_from-rest.result.now)))
     keeps
@@ -45,7 +45,7 @@ pub returns-in-Some-sooner : goal.returns-in-Some-sooner
 returns-in-Some-sooner c =
     let lines = c.args.recording.now.lines in
     let from = c.args.from in
-    let one = c.number_from.result in
+    let one = c.next_from.result in
     let number = c.in-Some-sooner.number in
     let n = c.partition_point.result in
     let rise = c.lines-lines.ensures.well_formed.rising in
@@ -58,10 +58,10 @@ returns-in-Some-sooner c =
     (subst (IsNonDecreasingBy (λ (x : Line). x.0)) (sym rest_is) (numbers_rise 0 lines from rise)))
     (λ a r g called. search rules) in
     λ overlay keeps.
-    skipped_from c.args.cancelled.now.keys overlay c.args.uses.now c.args.recording.now from c.in-Some.line.now one n
+    skipped_from c.args.edits.now overlay c.args.uses.now c.args.recording.now from c.in-Some.line.now one n
     rise
     (sym (ap (λ (ls : List Line). slice_get ls from) c.lines-lines.ensures.value) ∙ sym c.line_at.ensures.line
-    ∙ ap option_copied c.in-Some.is) c.requires c.number_from.ensures
+    ∙ ap option_copied c.in-Some.is) c.requires c.next_from.ensures
     (subst (λ (o : Option ℕ). AreUnder o n (drop from lines)) (sym stop_is)
     (subst (AreUnder (Some number) n) rest_is
     (some_under number c.lines_from-rest.result.now n c.partition_point.ensures.bound parted))) keeps

@@ -35,14 +35,14 @@ chosen_recording-requires-clause-last c =
 
 pub returns-in_default-clause-repair : goal.returns-in_default-clause-repair
 returns-in_default-clause-repair c =
-    if_ok_all c.run_others.result (λ repair is. absurd
+    if_ok_all c.run_edited.result (λ repair is. absurd
     (found_none c.args.self _ c.self.inside.overlay c.self.inside.met.items c.self.view_is c.self.invariant.0
     c.lines-lines.ensures.well_formed c.requires c.in_ok-repaired.field-0 c.in_ok-repaired.ensures.exact
     (none_is c.in_ok-repaired.field-0 c.in_default.not-Some) is))
 
 pub returns-in_default-clause-settled : goal.returns-in_default-clause-settled
 returns-in_default-clause-settled c =
-    if_ok_map c.run_others.result c.run_others.ensures.again (λ repair again.
+    if_ok_map c.run_edited.result c.run_edited.ensures.again (λ repair again.
     settled_again c.args.self _ c.self.inside.overlay c.self.inside.met.items c.self.view_is c.self.invariant.0
     c.lines-lines.ensures.well_formed c.requires c.in_ok-repaired.field-0 c.in_ok-repaired.ensures.exact
     (none_is c.in_ok-repaired.field-0 c.in_default.not-Some) repair again)
