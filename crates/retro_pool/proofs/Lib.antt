@@ -4,3 +4,4 @@ pub mod Seats
 pub mod Whole
 pub mod Ordered
 pub mod Worked
+pub mod Wanted

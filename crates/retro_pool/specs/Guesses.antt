@@ -4,16 +4,16 @@ use Rattle.retro_tree.specs.Notes.{Holds}
 use Rattle.retro_shell.specs.Runs.{IsRun, RunValue}
 use Rattle.retro_keep.specs.Recording.{noted_at}
 use Rattle.retro_keep.specs.declared.noted.Noted.{Noted}
-use Rattle.retro_redo.specs.Ground.{GroundValue, shown_at}
+use Rattle.retro_redo.specs.Ground.{GroundValue, edit_lent, shown_at}
+use Rattle.retro_redo.specs.Progress.{IsNewRunOf}
 use Rattle.retro_pool.specs.declared.guess.Guess.{Guess}
 
--- A run of the line with a number: of its text in its session. Its notes hold in the combined state
--- before the line, and they certify the line.
+-- A new run of the line with a number. Its notes hold in the combined state before the line, and they
+-- certify the run.
 pub record IsRunOf (g : GroundValue) (number : ℕ) (run : RunValue) : Type 0 where
   pub noted : Noted
   pub line : noted_at number g.recording.lines ≡ Some noted
-  pub sid : run.sid ≡ noted.sid
-  pub text : run.text ≡ noted.text
+  pub new_run : IsNewRunOf (edit_lent g) (number, noted) run
   pub holds : Holds run.notes (shown_at number g)
   pub certified : IsRun run
 

@@ -1,6 +1,6 @@
 //! Jobs: lines to run ahead of their turns.
 ghost use Rattle.std.specs.Prelude.{◌≡◌, true, IfOk};
-ghost use Rattle.retro_redo.specs.Cancelling.{is_line};
+ghost use Rattle.retro_redo.specs.Editing.{is_line};
 ghost use Rattle.retro_pool.specs.Guesses.{IsGuess, IsRunOf};
 
 use crate::guess::Guess;
@@ -40,8 +40,9 @@ impl Job {
         self.number
     }
 
-    /// Runs the job's line over the combined state before it. Calls the observer before and after
-    /// the execution. The ground's recording must have the line.
+    /// Runs the job's line over the combined state before it: its new text if the ground's edits
+    /// replace its text, and its own text if not. Calls the observer before and after the
+    /// execution. The ground's recording must have the line.
     pub fn run<G: Gate>(
         self,
         alloc: Global,
@@ -66,8 +67,8 @@ impl Job {
     }
 }
 
-/// Runs the line with the given number over the combined state before it. Calls the observer before
-/// and after the execution.
+/// Runs the line with the given number over the combined state before it, with its new text if it
+/// has one. Calls the observer before and after the execution.
 fn run_ahead<G: Gate>(
     alloc: Global,
     ground: &Ground<'_, '_>,
@@ -78,9 +79,11 @@ fn run_ahead<G: Gate>(
     ensures { IfOk result (λ run. IsRunOf ground.now number run) }
 {
     let noted = ground.recording().run_of(number).unwrap();
+    let edited = ground.edits().text_run(number, &noted.text);
+    let text = edited.unwrap_or(&noted.text);
     let shown = ground.view(number);
     gate.begin(number, Turn::Guess);
-    let run = run_line(alloc, &shown, noted.sid, noted.text.as_str());
+    let run = run_line(alloc, &shown, noted.sid, text.as_str());
     gate.end(number, Turn::Guess);
     let run = run?;
     // For the prover: the contract of `sid` says what the type guarantees.

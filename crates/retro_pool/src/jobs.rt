@@ -4,13 +4,15 @@ ghost use Rattle.retro_redo.specs.Picks.{PicksBy};
 ghost use Rattle.retro_pool.specs.Jobs.{IsWanted};
 
 use crate::job::Job;
+use retro_keep::Edit;
 use retro_redo::Ground;
 use retro_shell::holds;
 use retro_tree::NoMem;
 use std::alloc::Global;
 
-/// Returns a job for each of the numbers whose line isn't cancelled and whose notes don't hold in
-/// the combined state before it, in order. A number that no line has gets no job.
+/// Returns a job for each of the numbers whose line is stale in the combined state before it, in
+/// order: a line whose text is replaced, and a line that nothing edits and whose notes don't hold
+/// there. A number that no line has gets no job.
 pub fn make_jobs(alloc: Global, ground: &Ground<'_, '_>, numbers: &[u32]) -> Result<Vec<Job>, NoMem>
     ensures { IfOk result (λ jobs.
         PicksBy (λ n. n) (IsWanted ground.now) numbers.now jobs.items) }
@@ -34,8 +36,7 @@ pub fn make_jobs(alloc: Global, ground: &Ground<'_, '_>, numbers: &[u32]) -> Res
     Ok(jobs)
 }
 
-/// Returns whether the line with the given number isn't cancelled, and its notes don't hold in the
-/// combined state before it.
+/// Returns whether the line with the given number is stale in the combined state before it.
 fn is_wanted(alloc: Global, ground: &Ground<'_, '_>, number: u32) -> Result<bool, NoMem>
     ensures { IfOk result (λ b.
         MatchBool b (IsWanted ground.now number) (¬ (IsWanted ground.now number))) }
@@ -43,10 +44,11 @@ fn is_wanted(alloc: Global, ground: &Ground<'_, '_>, number: u32) -> Result<bool
     let Some(noted) = ground.recording().run_of(number) else {
         return Ok(false);
     };
-    if ground.is_cancelled(number) {
-        return Ok(false);
+    match ground.edits().get(number) {
+        Some(Edit::Cancel(_)) => Ok(false),
+        Some(Edit::Replace(_, _)) => Ok(true),
+        None => Ok(!holds(alloc, &noted.notes, &ground.view(number))?),
     }
-    Ok(!holds(alloc, &noted.notes, &ground.view(number))?)
 }
 
 /// Gives all jobs back.

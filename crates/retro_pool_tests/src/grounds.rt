@@ -1,9 +1,9 @@
 //! The recording and the ground of the tests.
 use retro_history::History;
-use retro_keep::{Recording, Script, keep_alone};
+use retro_keep::{Edit, Recording, Script, keep_alone};
 use retro_log::read_script;
 use retro_pool::{Job, make_jobs};
-use retro_redo::{Quiet, Repairer};
+use retro_redo::{Ground, Quiet, Repairer};
 use retro_rows::{fail, script_of};
 use std::alloc::Global;
 use std::test::Fail;
@@ -39,16 +39,20 @@ pub fn settle_first(alloc: Global, repairer: &mut Repairer<'_, '_>) -> Result<()
     }
 }
 
+/// Returns the jobs among the lines with the numbers 1 to 6, by a ground.
+pub fn jobs_on(alloc: Global, ground: &Ground<'_, '_>) -> Result<Vec<Job>, Fail> {
+    let numbers: [u32; 6] = [1, 2, 3, 4, 5, 6];
+    let jobs = make_jobs(alloc, ground, &numbers)?;
+    Ok(jobs)
+}
+
 /// Returns the jobs among the lines of a recording, and among a number that no line has, once its
 /// first line is settled as cancelled.
 pub fn jobs_of(alloc: Global, lines: &str) -> Result<Vec<Job>, Fail> {
     let recording = recording_of(alloc, lines)?;
     let history = History::of(alloc, &recording)?;
-    let cancel: [u32; 1] = [1];
-    let mut repairer = Repairer::new(alloc, &recording, &history, &cancel)?;
+    let edits: [Edit; 1] = [Edit::Cancel(1)];
+    let mut repairer = Repairer::new(alloc, &recording, &history, &edits)?;
     settle_first(alloc, &mut repairer)?;
-    let ground = repairer.ground();
-    let numbers: [u32; 6] = [1, 2, 3, 4, 5, 6];
-    let jobs = make_jobs(alloc, &ground, &numbers)?;
-    Ok(jobs)
+    jobs_on(alloc, &repairer.ground())
 }

@@ -1,4 +1,4 @@
-//! Tests of boards of jobs, over the ground of a small recording whose first line is cancelled.
+//! Tests of boards of jobs, over the grounds of small recordings whose first line is cancelled.
 #![tactic(auto)]
 
 #[cfg(test)]

@@ -2,12 +2,13 @@
 ghost use Rattle.std.specs.Prelude.{List, ℕ, []};
 
 use crate::boards::deal_all;
-use crate::grounds::{LINES, jobs_of, recording_of, settle_first};
+use crate::grounds::{LINES, jobs_of, jobs_on, recording_of, settle_first};
 use retro_history::History;
+use retro_keep::Edit;
 use retro_pool::{Board, Guess, Seat, Taken, Thief, work};
 use retro_redo::{Gate, Ground, Quiet, Repairer, Turn};
 use retro_rows::{fail, text, utf8};
-use retro_tree::NoMem;
+use retro_tree::{NoMem, Text};
 use std::alloc::Global;
 use std::sync::atomic::{AtomicU32, Ordering};
 use std::test::Fail;
@@ -108,8 +109,8 @@ fn worked_thrice<G: Gate>(
 fn worked_over<G: Gate>(alloc: Global, lines: &str, gate: &G) -> Result<String, Fail> {
     let recording = recording_of(alloc, lines)?;
     let history = History::of(alloc, &recording)?;
-    let cancel: [u32; 1] = [1];
-    let mut repairer = Repairer::new(alloc, &recording, &history, &cancel)?;
+    let edits: [Edit; 1] = [Edit::Cancel(1)];
+    let mut repairer = Repairer::new(alloc, &recording, &history, &edits)?;
     settle_first(alloc, &mut repairer)?;
     let ground = repairer.ground();
     worked_thrice(alloc, &ground, gate)
@@ -136,12 +137,57 @@ fn jobs_of_other_recordings_are_given_back(rt: HostRuntime) -> Result<(), Fail> 
     Ok(())
 }
 
+/// Lines of which the first is settled as cancelled. Then the notes of the lines that read what it
+/// wrote don't hold, and those of the third and of the last one hold.
+const EDITED: &str = concat!(
+    "2 echo p > /tmp/k;;1 cat /tmp/k;;1 echo b;;1 cat /tmp/k;;1 cat /tmp/k;;",
+    "1 echo c"
+);
+
+/// What the jobs of `EDITED` print if the third line and the fifth one have other texts and the
+/// fourth one is cancelled.
+const EDITED_GUESSES: &str = concat!(
+    "0 without; 2: cat: /tmp/k: No such file or directory\n",
+    "3: z\n",
+    "5: y\n"
+);
+
+/// Works on the jobs of `EDITED` over its own ground. Returns the guesses as a text.
+fn worked_edited(alloc: Global) -> Result<String, Fail> {
+    let recording = recording_of(alloc, EDITED)?;
+    let history = History::of(alloc, &recording)?;
+    let edits: [Edit; 4] = [
+        Edit::Cancel(1),
+        Edit::Replace(3, Text::of(text(alloc, "echo z")?)),
+        Edit::Cancel(4),
+        Edit::Replace(5, Text::of(text(alloc, "echo y")?)),
+    ];
+    let mut repairer = Repairer::new(alloc, &recording, &history, &edits)?;
+    settle_first(alloc, &mut repairer)?;
+    let ground = repairer.ground();
+    let (mut owner, mut thieves) = Board::new(alloc, 1, 6)?;
+    let Some(mut thief) = thieves.pop() else {
+        return fail("no thief");
+    };
+    if deal_all(&mut owner, jobs_on(alloc, &ground)?).is_some() {
+        return fail("full");
+    }
+    worked(alloc, &mut thief, &ground, &Quiet, 6)
+}
+
+#[test]
+fn jobs_run_the_new_texts_of_replaced_lines(rt: HostRuntime) -> Result<(), Fail> {
+    let told = worked_edited(rt.alloc())?;
+    assert_eq!(rt; told.as_str(), EDITED_GUESSES);
+    Ok(())
+}
+
 /// Works on a seat that is always busy. Returns how many jobs gave no guess, and how many did.
 fn worked_in_vain(alloc: Global) -> Result<(usize, usize), Fail> {
     let recording = recording_of(alloc, LINES)?;
     let history = History::of(alloc, &recording)?;
-    let cancel: [u32; 1] = [1];
-    let repairer = Repairer::new(alloc, &recording, &history, &cancel)?;
+    let edits: [Edit; 1] = [Edit::Cancel(1)];
+    let repairer = Repairer::new(alloc, &recording, &history, &edits)?;
     let ground = repairer.ground();
     let mut guesses = Vec::with_capacity(alloc, 4)?;
     let mut busy = Busy;

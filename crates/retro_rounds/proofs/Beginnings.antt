@@ -6,7 +6,7 @@ use Rattle.std.specs.List.{AllByRecursion}
 use Rattle.retro_keep.specs.Recording.{number_in}
 use Rattle.retro_redo.specs.Meetings.{lines_until}
 use Rattle.retro_redo.specs.Picks.{PicksBy}
-use Rattle.retro_redo.specs.Progress.{ProgressValue, cancelled_in, recorded_now, repaired_now}
+use Rattle.retro_redo.specs.Progress.{ProgressValue, edit_in, recorded_now, repaired_now}
 use Rattle.retro_redo.specs.Progress.{settled_now}
 use Rattle.retro_redo.specs.declared.tally.Tally.{Tally}
 use Rattle.retro_redo.proofs.Positions.{Line}
@@ -17,6 +17,7 @@ use Rattle.retro_rounds.specs.inner.Places.{after_lines}
 use Rattle.retro_rounds.specs.inner.Rounds.{IsAdvanced, IsBegun, IsJobNow, IsJobOf, IsOwn}
 use Rattle.retro_rounds.specs.declared.attempt.Attempt.{Attempt}
 use Rattle.retro_rounds.specs.declared.rounds.Rounds.{Rounds}
+use Rattle.retro_rounds.proofs.ByEdits.{met_along}
 use Rattle.retro_rounds.proofs.Counting.{AreCounted}
 use Rattle.retro_rounds.proofs.Kept.{DifferAlike}
 use Rattle.retro_rounds.proofs.Picked.{picks_same}
@@ -29,7 +30,8 @@ alike_jobs : (p : ProgressValue) (start : Start) (l : Line) → DifferAlike star
     → (IsJobNow p l → IsJobOf p start l) × (IsJobOf p start l → IsJobNow p l)
 alike_jobs p start l alike = (
   λ job. (
-    (job.0.0, (job.0.1.0, job.0.1.1, λ e. job.0.1.2 ((alike job.0.1.0).0 e))),
+    met_along l.1.notes (edit_in p l.0) (recorded_now p) (repaired_now p) start.recorded start.repaired
+        (λ met. (met.0, met.1, λ e. met.2 ((alike met.0).0 e))) job.0,
     job.1,
     λ c. (
       λ e. (job.2 c).0 ((alike c).0 e),
@@ -38,7 +40,8 @@ alike_jobs p start l alike = (
     job.3,
   ),
   λ job. (
-    (job.0.0, (job.0.1.0, job.0.1.1, λ e. job.0.1.2 ((alike job.0.1.0).1 e))),
+    met_along l.1.notes (edit_in p l.0) start.recorded start.repaired (recorded_now p) (repaired_now p)
+        (λ met. (met.0, met.1, λ e. met.2 ((alike met.0).1 e))) job.0,
     job.1,
     λ c. (
       λ e. (job.2 c).0 ((alike c).1 e),
@@ -124,7 +127,7 @@ begins cuts p old new stop over begun = by_mode stop.mode
           few = stop.few;
           sum = omega (arith, made, sum, none, unspent);
           cuts_are = begun.cuts;
-          counted = subst (AreCounted (cancelled_in p) cuts (IsOwn p.recording) (settled_now p) stop.left stop.start
+          counted = subst (AreCounted (edit_in p) cuts (IsOwn p.recording) (settled_now p) stop.left stop.start
               stop.rest_now stop.jobs) (sym (ap (λ (t : Tally). t.unused) begun.tally)) stop.counted;
           within = begun.within;
           next = stop.next ∙ begun.place;

@@ -1,12 +1,14 @@
 -- Counts of lines in pieces, from line to line.
-use Rattle.std.proofs.Common.{◌≡◌, inl, inr, ℕ, zero, suc, ◌+◌, Bool, List, [], ◌∷◌, ◌++◌}
+use Rattle.std.proofs.Common.{◌≡◌, inl, inr, ℕ, zero, suc, ◌+◌, List, [], ◌∷◌, ◌++◌, Option, None}
 use Rattle.std.proofs.Common.{refl, sym, arith, subst, append_assoc}
 use Rattle.retro_tree.specs.Notes.{Holds}
-use Rattle.retro_redo.specs.Moments.{Moment}
+use Rattle.retro_keep.specs.declared.edit.Edit.{Edit}
+use Rattle.retro_redo.specs.Moments.{IsStaleBy, Moment}
 use Rattle.retro_rounds.specs.Jobs.{IsJob, IsUnused}
 use Rattle.retro_rounds.specs.Pieces.{InPiece, Start, from_within, in_pieces, start_at}
 use Rattle.retro_rounds.specs.Tally.{IsCount}
 use Rattle.retro_rounds.specs.inner.Places.{after_line}
+use Rattle.retro_rounds.proofs.ByEdits.{fresh_or_stale}
 
 -- the start of the next line's piece
 abbrev pub start_of : ℕ → Start → Moment → Start
@@ -49,48 +51,48 @@ module _ (P : InPiece → Type 0) (cuts : List ℕ) (done : List Moment) (left :
 -- ---- jobs and unused ones together
 
 -- j jobs and u unused ones are among the settled lines, the latter under a premise
-pub record AreCounted (cancelled : ℕ → Bool) (cuts : List ℕ) (own : Type 0) (done : List Moment) (left : ℕ) (start : Start)
+pub record AreCounted (edit : ℕ → Option Edit) (cuts : List ℕ) (own : Type 0) (done : List Moment) (left : ℕ) (start : Start)
     (rest : List ℕ) (j u : ℕ) : Type 0 where
-  pub jobs : Counts (IsJob cancelled) cuts done left start rest j
-  pub unused : own → Counts (IsUnused cancelled) cuts done left start rest u
+  pub jobs : Counts (IsJob edit) cuts done left start rest j
+  pub unused : own → Counts (IsUnused edit) cuts done left start rest u
 
-pub same_counted : (cancelled : ℕ → Bool) (cuts : List ℕ) (own : Type 0) (done more : List Moment) (left l2 : ℕ)
+pub same_counted : (edit : ℕ → Option Edit) (cuts : List ℕ) (own : Type 0) (done more : List Moment) (left l2 : ℕ)
     (start : Start) (rest : List ℕ) (j j2 u u2 : ℕ) → done ≡ more → left ≡ l2 → j ≡ j2 → u ≡ u2
-    → AreCounted cancelled cuts own done left start rest j u → AreCounted cancelled cuts own more l2 start rest j2 u2
-same_counted cancelled cuts own done more left l2 start rest j j2 u u2 d l e f =
-    subst (λ (x : List Moment × ℕ × ℕ × ℕ). AreCounted cancelled cuts own x.0 x.1 start rest x.2 x.3)
+    → AreCounted edit cuts own done left start rest j u → AreCounted edit cuts own more l2 start rest j2 u2
+same_counted edit cuts own done more left l2 start rest j j2 u u2 d l e f =
+    subst (λ (x : List Moment × ℕ × ℕ × ℕ). AreCounted edit cuts own x.0 x.1 start rest x.2 x.3)
     (λ i. (d i, l i, e i, f i))
 
-module _ (cancelled : ℕ → Bool) (cuts : List ℕ) (own : Type 0) (done : List Moment) (left : ℕ) (start : Start)
-    (rest : List ℕ) (m : Moment) (j u : ℕ) (so_far : AreCounted cancelled cuts own done left start rest j u) where
+module _ (edit : ℕ → Option Edit) (cuts : List ℕ) (own : Type 0) (done : List Moment) (left : ℕ) (start : Start)
+    (rest : List ℕ) (m : Moment) (j u : ℕ) (so_far : AreCounted edit cuts own done left start rest j u) where
   abbrev NextCounted : ℕ → ℕ → Type 0
-  NextCounted k v = AreCounted cancelled cuts own (done ++ m ∷ []) (after_line left rest).left (start_of left start m)
+  NextCounted k v = AreCounted edit cuts own (done ++ m ∷ []) (after_line left rest).left (start_of left start m)
       (after_line left rest).cuts k v
 
   -- the next line is no job
-  pub no_job : ¬ (IsJob cancelled (beside left start m)) → NextCounted j u
+  pub no_job : ¬ (IsJob edit (beside left start m)) → NextCounted j u
   no_job not_here = record {
-    jobs = counts_same (IsJob cancelled) cuts done left start rest m j so_far.jobs not_here;
+    jobs = counts_same (IsJob edit) cuts done left start rest m j so_far.jobs not_here;
     unused = λ o.
-        counts_same (IsUnused cancelled) cuts done left start rest m u (so_far.unused o) (λ both. not_here both.0);
+        counts_same (IsUnused edit) cuts done left start rest m u (so_far.unused o) (λ both. not_here both.0);
   }
 
-  -- the next line is a job, and its notes hold at its turn
-  pub unused_job : IsJob cancelled (beside left start m) → (own → Holds m.noted.notes m.repaired)
-      → NextCounted (j + 1) (u + 1)
-  unused_job holds_here holds = record {
-    jobs = counts_more (IsJob cancelled) cuts done left start rest m j so_far.jobs holds_here;
+  -- the next line is a job, and it is kept at its turn
+  pub unused_job : IsJob edit (beside left start m)
+      → (own → (edit m.number ≡ None) × Holds m.noted.notes m.repaired) → NextCounted (j + 1) (u + 1)
+  unused_job holds_here kept = record {
+    jobs = counts_more (IsJob edit) cuts done left start rest m j so_far.jobs holds_here;
     unused = λ o.
-        counts_more (IsUnused cancelled) cuts done left start rest m u (so_far.unused o)
-        (holds_here, (holds_here.0.0, holds o));
+        counts_more (IsUnused edit) cuts done left start rest m u (so_far.unused o)
+        (holds_here, kept o);
   }
 
-  -- the next line is a job, and its notes don't hold at its turn
-  pub other_job : IsJob cancelled (beside left start m) → (own → ¬ (Holds m.noted.notes m.repaired))
-      → NextCounted (j + 1) u
-  other_job holds_here not_holds = record {
-    jobs = counts_more (IsJob cancelled) cuts done left start rest m j so_far.jobs holds_here;
+  -- the next line is a job, and it is stale at its turn
+  pub other_job : IsJob edit (beside left start m)
+      → (own → IsStaleBy (edit m.number) m.noted.notes m.repaired) → NextCounted (j + 1) u
+  other_job holds_here stale = record {
+    jobs = counts_more (IsJob edit) cuts done left start rest m j so_far.jobs holds_here;
     unused = λ o.
-        counts_same (IsUnused cancelled) cuts done left start rest m u (so_far.unused o)
-        (λ both. not_holds o both.1.1);
+        counts_same (IsUnused edit) cuts done left start rest m u (so_far.unused o)
+        (λ both. fresh_or_stale m.noted.notes (edit m.number) m.repaired both.1.0 both.1.1 (stale o));
   }

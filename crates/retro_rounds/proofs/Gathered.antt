@@ -1,22 +1,24 @@
 -- Guesses and seats come back from the workers.
-use Rattle.std.proofs.Common.{◌≡◌, ◌∙◌, All, Bool, List, None, Some, [], ◌∷◌, ◌++◌, ap, if◌then◌else◌, subst, sym, true, false}
+use Rattle.std.proofs.Common.{◌≡◌, ◌∙◌, ℕ, All, Bool, List, Option, None, Some, [], ◌∷◌, ◌++◌, if◌then◌else◌, subst, sym, true, false}
 use Rattle.std.proofs.lemmas.List.Elements.{All-nil, All-push, All-weaker}
 use Rattle.retro_pool.specs.Guesses.{IsGuess}
 use Rattle.retro_pool.specs.declared.guess.Guess.{Guess}
 use Rattle.retro_keep.specs.Recording.{RecordingValue}
+use Rattle.retro_keep.specs.declared.edit.Edit.{Edit}
 use Rattle.retro_keep.specs.declared.noted.Noted.{Noted}
-use Rattle.retro_redo.specs.Ground.{GroundValue}
+use Rattle.retro_redo.specs.Ground.{GroundValue, edit_lent}
+use Rattle.retro_redo.specs.Progress.{IsNewRunOf}
 use Rattle.retro_redo.specs.Settling.{IsGuessOf}
 use Rattle.retro_rounds.specs.declared.attempt.Attempt.{Attempt}
 use Rattle.retro_rounds.specs.declared.worker.Worker.{Worker}
 use Rattle.retro_rounds.specs.inner.Attempts.{IsAttempt, IsGuessIn}
 use Rattle.retro_rounds.specs.inner.Workers.{HasGuesses}
 
-pub guess_in : (g : GroundValue) (guess : Guess) → IsGuess g guess → IsGuessIn g.recording guess
+pub guess_in : (g : GroundValue) (guess : Guess) → IsGuess g guess → IsGuessIn (edit_lent g) g.recording guess
 guess_in g guess is = λ noted at.
     let both : Some is.noted ≡ Some noted = sym is.line ∙ at in
     let same : is.noted ≡ noted = cc in
-    (is.sid ∙ ap (λ (n : Noted). n.sid) same, is.text ∙ ap (λ (n : Noted). n.text) same)
+    subst (λ (n : Noted). IsNewRunOf (edit_lent g) (guess.number, n) guess.run) same is.new_run
 
 -- an item was pushed, or there was no room
 pub all_pushed : {X : Type 0} (P : X → Type 0) (b : Bool) (xs : List X) (x : X) → All P xs → P x
@@ -24,8 +26,8 @@ pub all_pushed : {X : Type 0} (P : X → Type 0) (b : Bool) (xs : List X) (x : X
 all_pushed P true xs x all here = All-push P xs x all here
 all_pushed P false xs x all here = all
 
-pub none_right : (r : RecordingValue) (a : Attempt) → a.run ≡ None → IsAttempt r a
-none_right r a none = λ noted at. subst (IsGuessOf noted) (sym none) tt
+pub none_right : (edit : ℕ → Option Edit) (r : RecordingValue) (a : Attempt) → a.run ≡ None → IsAttempt edit r a
+none_right edit r a none = λ noted at. subst (IsGuessOf edit (a.number, noted)) (sym none) tt
 
 -- workers that have no guess
 pub idle_all : (g : GroundValue) (ws : List Worker) → All (λ w. w.guesses.items ≡ []) ws → All (HasGuesses g) ws

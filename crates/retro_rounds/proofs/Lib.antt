@@ -1,5 +1,6 @@
 pub mod Places
 pub mod Picked
+pub mod ByEdits
 pub mod Counting
 pub mod Kept
 pub mod Gaps

@@ -3,12 +3,13 @@ use Rattle.std.proofs.Common.{◌≡◌, ◌∙◌, inl, inr, ℕ, zero, suc, �
 use Rattle.std.proofs.Common.{◌++◌, length, take, drop, Some, option_map, refl, sym, ap, arith}
 use Rattle.std.proofs.Common.{subst}
 use Rattle.std.specs.List.{AllByRecursion}
+use Rattle.std.specs.Option.{IsSome}
 use Rattle.retro_history.specs.Recorded.{recorded_before}
 use Rattle.retro_keep.specs.Recording.{IsWellFormed, number_in}
 use Rattle.retro_redo.specs.Meetings.{lines_until}
-use Rattle.retro_redo.specs.Moments.{Moment}
+use Rattle.retro_redo.specs.Moments.{Moment, text_now}
 use Rattle.retro_redo.specs.Picks.{PicksBy}
-use Rattle.retro_redo.specs.Progress.{ProgressValue, cancelled_in, next_line, next_number, recorded_now, repaired_now}
+use Rattle.retro_redo.specs.Progress.{ProgressValue, edit_in, next_line, next_number, recorded_now, repaired_now}
 use Rattle.retro_redo.specs.Progress.{settled_now}
 use Rattle.retro_redo.specs.Settling.{IsOneMore}
 use Rattle.retro_redo.specs.declared.step.Step.{Step}
@@ -27,6 +28,7 @@ use Rattle.retro_rounds.specs.inner.Rounds.{IsSpentOn}
 use Rattle.retro_rounds.specs.declared.attempt.Attempt.{Attempt}
 use Rattle.retro_rounds.specs.declared.pieces.Pieces.{Pieces}
 use Rattle.retro_rounds.specs.declared.rounds.Rounds.{Rounds}
+use Rattle.retro_rounds.proofs.ByEdits.{met_runs}
 use Rattle.retro_rounds.proofs.Counting.{AreCounted, beside, no_job, other_job, start_of}
 use Rattle.retro_rounds.proofs.Counting.{unused_job}
 use Rattle.retro_rounds.proofs.Picked.{all_front, picks_all}
@@ -73,24 +75,28 @@ module _ (cuts : List ℕ) (p : ProgressValue) (old new : Rounds) (number : ℕ)
   before =
       before_next p l.0 well (ap (option_map (λ (x : Line). x.0)) here)
 
-  job_here : IsJobOf p start l → IsJob (cancelled_in p) (beside is.left is.start m)
-  job_here job = subst (λ s. IsJobLine (cancelled_in p) start s l) before job
+  job_here : IsJobOf p start l → IsJob (edit_in p) (beside is.left is.start m)
+  job_here job = subst (λ s. IsJobLine (edit_in p) start s l) before job
 
-  job_there : IsJob (cancelled_in p) (beside is.left is.start m) → IsJobOf p start l
-  job_there job = subst (λ s. IsJobLine (cancelled_in p) start s l) (sym before) job
+  job_there : IsJob (edit_in p) (beside is.left is.start m) → IsJobOf p start l
+  job_there job = subst (λ s. IsJobLine (edit_in p) start s l) (sym before) job
+
+  -- a job runs a text
+  runs : IsJobOf p start l → IsSome (text_now (edit_in p) l)
+  runs job = met_runs l.1.notes (edit_in p l.0) start.recorded start.repaired l.1.text job.0
 
   -- what holds then, if the counts are so
   abbrev CountedOn : ℕ → ℕ → Type 0
-  CountedOn j u = AreCounted (cancelled_in p) cuts (IsOwn p.recording) (settled_now p ++ m ∷ [])
+  CountedOn j u = AreCounted (edit_in p) cuts (IsOwn p.recording) (settled_now p ++ m ∷ [])
       (after_line is.left is.rest_now).left start (after_line is.left is.rest_now).cuts j u
 
   counted_on : (j u v : ℕ) → u ≡ v → CountedOn j u
-      → AreCounted (cancelled_in p) cuts (IsOwn p.recording) (settled_now more)
+      → AreCounted (edit_in p) cuts (IsOwn p.recording) (settled_now more)
       (old.pieces.end - length more.choices) start old.pieces.cuts.now j v
   counted_on j u v same counted =
       let at = one_more in
       let left : old.pieces.end - suc (length p.choices) ≡ old.pieces.end - length more.choices = omega (arith, at) in
-      subst (λ (x : List Moment × ℕ × List ℕ × ℕ). AreCounted (cancelled_in p) cuts (IsOwn p.recording) x.0 x.1 start x.2 j x.3)
+      subst (λ (x : List Moment × ℕ × List ℕ × ℕ). AreCounted (edit_in p) cuts (IsOwn p.recording) x.0 x.1 start x.2 j x.3)
       (λ i. (
         sym (settled_more p.recording.lines p.choices l step p.recording.first p.recording.first here) i,
         (ap (λ (x : Place). x.left) is.next ∙ left) i,
@@ -100,7 +106,7 @@ module _ (cuts : List ℕ) (p : ProgressValue) (old new : Rounds) (number : ℕ)
 
   underway : (rest_jobs : List ℕ) (waiting : List Attempt) (tally : Tally) (j u : ℕ)
       → PicksBy number_in (IsJobOf p start) (lines_until old.pieces.end more) rest_jobs → rest_jobs ≡ numbers_of waiting
-      → AllByRecursion (IsAttempt p.recording) waiting → tally.jobs ≡ j + length waiting → j ≤ suc (length p.choices)
+      → AllByRecursion (IsAttempt (edit_in p) p.recording) waiting → tally.jobs ≡ j + length waiting → j ≤ suc (length p.choices)
       → tally.jobs ≡ spent tally + length waiting → u ≡ tally.unused → CountedOn j u
       → IsUnderway cuts more old.pieces.end old.pieces.cuts.now waiting tally
   underway rest_jobs waiting tally j u picked same attempts jobs few sum unused counted =
@@ -142,7 +148,7 @@ module _ (cuts : List ℕ) (p : ProgressValue) (old new : Rounds) (number : ℕ)
           let few = is.few in
           underway (numbers_of old.attempts.queue.items) old.attempts.queue.items old.tally is.jobs old.tally.unused h.1 refl
           is.attempts is.jobs_are (omega (arith, few)) is.sum refl
-          (no_job (cancelled_in p) cuts (IsOwn p.recording) (settled_now p) is.left is.start is.rest_now m is.jobs
+          (no_job (edit_in p) cuts (IsOwn p.recording) (settled_now p) is.left is.start is.rest_now m is.jobs
           old.tally.unused is.counted (λ job. h.0 (job_there job)))
 
   -- the attempt was taken
@@ -156,8 +162,8 @@ module _ (cuts : List ℕ) (p : ProgressValue) (old new : Rounds) (number : ℕ)
       here_first : numbers_of old.attempts.queue.items ≡ a.number ∷ numbers_of new.attempts.queue.items
       here_first = ap numbers_of split
 
-      attempts : AllByRecursion (IsAttempt p.recording) new.attempts.queue.items
-      attempts = (subst (AllByRecursion (IsAttempt p.recording)) split is.attempts).1
+      attempts : AllByRecursion (IsAttempt (edit_in p) p.recording) new.attempts.queue.items
+      attempts = (subst (AllByRecursion (IsAttempt (edit_in p) p.recording)) split is.attempts).1
 
       count : length old.attempts.queue.items ≡ suc (length new.attempts.queue.items)
       count = ap (λ (xs : List Attempt). length xs) split
@@ -193,8 +199,8 @@ module _ (cuts : List ℕ) (p : ProgressValue) (old new : Rounds) (number : ℕ)
           underway h.1 new.attempts.queue.items new.tally (is.jobs + 1) (old.tally.unused + 1) h.3 rest_jobs attempts
           (omega (arith, jobs, jobs_were, length_was)) (omega (arith, few))
           (omega (arith, jobs, sum_was, more_spent, length_was)) (sym unused)
-          (unused_job (cancelled_in p) cuts (IsOwn p.recording) (settled_now p) is.left is.start is.rest_now m is.jobs
-          old.tally.unused is.counted (job_here h.0) (λ own. on.1 l here h.0.0.0 own))
+          (unused_job (edit_in p) cuts (IsOwn p.recording) (settled_now p) is.left is.start is.rest_now m is.jobs
+          old.tally.unused is.counted (job_here h.0) (λ own. on.1 l here (runs h.0) own))
       by_pick (inl h) (inr on) =
           let rest_jobs : h.1 ≡ numbers_of new.attempts.queue.items =
           let both : l.0 ∷ h.1 ≡ a.number ∷ numbers_of new.attempts.queue.items = sym h.2 ∙ here_first in cc in
@@ -208,8 +214,8 @@ module _ (cuts : List ℕ) (p : ProgressValue) (old new : Rounds) (number : ℕ)
           underway h.1 new.attempts.queue.items new.tally (is.jobs + 1) old.tally.unused h.3 rest_jobs attempts
           (omega (arith, jobs, jobs_were, length_was)) (omega (arith, few))
           (omega (arith, jobs, sum_was, more_spent, length_was)) (sym unused)
-          (other_job (cancelled_in p) cuts (IsOwn p.recording) (settled_now p) is.left is.start is.rest_now m is.jobs
-          old.tally.unused is.counted (job_here h.0) (λ own. on.1 l here h.0.0.0 own))
+          (other_job (edit_in p) cuts (IsOwn p.recording) (settled_now p) is.left is.start is.rest_now m is.jobs
+          old.tally.unused is.counted (job_here h.0) (λ own. on.1 l here (runs h.0) own))
 
   settled_by : IsCountedBy p number old new → Result
   settled_by (inl h) = unattempted h.0 h.1 h.2

@@ -22,9 +22,10 @@ use Rattle.retro_keep.specs.Recording.{IsWellFormed, noted_at, number_in}
 use Rattle.retro_keep.specs.declared.noted.Noted.{Noted}
 use Rattle.retro_pool.specs.Jobs.{IsWanted}
 use Rattle.retro_redo.specs.Ground.{GroundValue, shown_at}
-use Rattle.retro_redo.specs.Meetings.{MeetsNow, lines_until}
+use Rattle.retro_redo.specs.Meetings.{StopsNow, lines_until}
+use Rattle.retro_redo.specs.Moments.{IsStaleBy}
 use Rattle.retro_redo.specs.Picks.{PicksBy}
-use Rattle.retro_redo.specs.Progress.{ProgressValue, next_line, next_number, recorded_now, repaired_now}
+use Rattle.retro_redo.specs.Progress.{ProgressValue, edit_in, next_line, next_number, recorded_now, repaired_now}
 use Rattle.retro_redo.specs.Settling.{IsGuessOf}
 use Rattle.retro_redo.proofs.Positions.{Line, not_none}
 use Rattle.retro_redo.proofs.UsedLines.{apart}
@@ -33,6 +34,7 @@ use Rattle.retro_rounds.specs.Pieces.{Start}
 use Rattle.retro_rounds.specs.inner.Attempts.{IsAttempt}
 use Rattle.retro_rounds.specs.inner.Rounds.{IsJobNow, start_now}
 use Rattle.retro_rounds.specs.declared.attempt.Attempt.{Attempt}
+use Rattle.retro_rounds.proofs.ByEdits.{met_stop, stale_along, stop_met}
 use Rattle.retro_rounds.proofs.Picked.{all_front, all_map, all_rest, picks_twice}
 
 -- ---- the shown state
@@ -105,18 +107,20 @@ noted_next lines k l rise at = one lines k (are_noted 0 lines rise) at
         subst (λ (y : Line). noted_at y.0 lines ≡ Some y.1) (some_same x l e) h.0
     one (x ∷ ls) (suc j) h e = one ls j h.1 e
 
--- the attempt at the next line is one of its text in its session
+-- the attempt at the next line has a new run of it, or none
 pub guess_next : (p : ProgressValue) (number : ℕ) (a : Attempt) (l : Line) → IsWellFormed p.recording
-    → next_number p ≡ Some number → next_line p ≡ Some l → a.number ≡ number → IsAttempt p.recording a
-    → IsGuessOf l.1 a.run
+    → next_number p ≡ Some number → next_line p ≡ Some l → a.number ≡ number → IsAttempt (edit_in p) p.recording a
+    → IsGuessOf (edit_in p) l a.run
 guess_next p number a l well next here named is =
     let named_l : l.0 ≡ number = some_same l.0 number (sym (ap (option_map (λ (x : Line). x.0)) here) ∙ next) in
-    is l.1 (ap (λ n. noted_at n p.recording.lines) (named ∙ sym named_l)
-    ∙ noted_next p.recording.lines (length p.choices) l well.rising here)
+    let same : a.number ≡ l.0 = named ∙ sym named_l in
+    subst (λ n. IsGuessOf (edit_in p) (n, l.1) a.run) same
+    (is l.1 (ap (λ n. noted_at n p.recording.lines) same
+    ∙ noted_next p.recording.lines (length p.choices) l well.rising here))
 
 -- what a repair lends before the next line, with some overlay
 abbrev pub ground_now : ProgressValue → OverlayMap → GroundValue
-ground_now p overlay = record { recording = p.recording; cancel = p.cancel; overlay = overlay }
+ground_now p overlay = record { recording = p.recording; edits = p.edits; overlay = overlay }
 
 module _ (p : ProgressValue) (overlay : OverlayMap) (exact : IsExact overlay (recorded_now p) (repaired_now p)) where
   shown_is : (n : ℕ) → IsShown (start_now p) (recorded_before n p.recording) (shown_at n (ground_now p overlay))
@@ -125,40 +129,38 @@ module _ (p : ProgressValue) (overlay : OverlayMap) (exact : IsExact overlay (re
       (fits_overlays overlay (recorded_before n p.recording) (exact_fits overlay (recorded_now p) (repaired_now p) exact))
 
   wanted_jobs : (l : Line) → noted_at l.0 p.recording.lines ≡ Some l.1
-      → (MeetsNow p l → IsWanted (ground_now p overlay) l.0 → IsJobNow p l)
-      × (IsJobNow p l → MeetsNow p l × IsWanted (ground_now p overlay) l.0)
+      → (StopsNow p l → IsWanted (ground_now p overlay) l.0 → IsJobNow p l)
+      × (IsJobNow p l → StopsNow p l × IsWanted (ground_now p overlay) l.0)
   wanted_jobs l here = (
-    λ met wanted.
-        let same : wanted.0 ≡ l.1 = some_same wanted.0 l.1 (sym wanted.1 ∙ here) in (
-          (wanted.2, met),
+    λ stops wanted.
+        let same : wanted.0 ≡ l.1 = some_same wanted.0 l.1 (sym wanted.1 ∙ here) in
+        let stale : IsStaleBy (edit_in p l.0) l.1.notes (shown_at l.0 (ground_now p overlay)) =
+        subst (λ (noted : Noted). IsStaleBy (edit_in p l.0) noted.notes (shown_at l.0 (ground_now p overlay))) same
+        wanted.2 in (
+          stop_met l.1.notes (edit_in p l.0) (recorded_now p) (repaired_now p) (shown_at l.0 (ground_now p overlay)) stops
+              stale,
           shown_at l.0 (ground_now p overlay),
           shown_is l.0,
-          (
-            wanted.2,
-            subst (λ (noted : Noted). ¬ (Holds noted.notes (shown_at l.0 (ground_now p overlay)))) same wanted.3,
-          ),
+          stale,
         ),
     λ job. (
-      job.0.1,
+      met_stop l.1.notes (edit_in p l.0) (recorded_now p) (repaired_now p) job.0,
       (
         l.1,
         here,
-        job.0.0,
-        λ holds.
-            job.3.1 (holds_shown overlay (start_now p) (recorded_before l.0 p.recording) (shown_at l.0 (ground_now p overlay))
-            job.1 l exact (shown_is l.0) job.2 holds),
+        stale_along l.1.notes (edit_in p l.0) job.1 (shown_at l.0 (ground_now p overlay))
+            (holds_shown overlay (start_now p) (recorded_before l.0 p.recording) (shown_at l.0 (ground_now p overlay))
+            job.1 l exact (shown_is l.0) job.2) job.3,
       ),
     ),
   )
 
   pub made_jobs : (end : ℕ) (ns js : List ℕ) → IsWellFormed p.recording
-      → PicksBy number_in (MeetsNow p) (lines_until end p) ns → PicksBy (λ n. n) (IsWanted (ground_now p overlay)) ns js
+      → PicksBy number_in (StopsNow p) (lines_until end p) ns → PicksBy (λ n. n) (IsWanted (ground_now p overlay)) ns js
       → PicksBy number_in (IsJobNow p) (lines_until end p) js
-  made_jobs end ns js well met wanted =
-      picks_twice number_in (MeetsNow p) (IsJobNow p) (IsWanted (ground_now p overlay)) (lines_until end p) ns js
+  made_jobs end ns js well stops wanted =
+      picks_twice number_in (StopsNow p) (IsJobNow p) (IsWanted (ground_now p overlay)) (lines_until end p) ns js
       (all_front _ (end - length p.choices) (drop (length p.choices) p.recording.lines)
       (all_rest _ (length p.choices) p.recording.lines
       (all_map (λ (l : Line). noted_at l.0 p.recording.lines ≡ Some l.1) _ p.recording.lines (λ l here. wanted_jobs l here)
-      (are_noted 0 p.recording.lines well.rising)))) met wanted
-
--- ---- the attempts
+      (are_noted 0 p.recording.lines well.rising)))) stops wanted

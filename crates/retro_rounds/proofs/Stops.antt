@@ -1,4 +1,4 @@
--- A skip to the next line that is cancelled or met, and to the end.
+-- A skip to the next line that is edited or met, and to the end.
 use Rattle.std.proofs.Common.{◌≡◌, ◌∙◌, ◌⊎◌, inl, inr, ℕ, zero, suc, ◌+◌, ◌-◌, ◌≤◌, ◌<◌, Bool, true, false, List, [], ◌∷◌}
 use Rattle.std.proofs.Common.{◌++◌, length, take, drop, Option, Some, None, option_map, refl, sym, ap, arith}
 use Rattle.std.proofs.Common.{nat_lt, subst}
@@ -13,7 +13,7 @@ use Rattle.retro_keep.specs.Recording.{IsWellFormed, number_in}
 use Rattle.retro_redo.specs.Meetings.{lines_until}
 use Rattle.retro_redo.specs.Moments.{Moment}
 use Rattle.retro_redo.specs.Picks.{PicksBy}
-use Rattle.retro_redo.specs.Progress.{ProgressValue, cancelled_in, next_line, next_number, recorded_now, repaired_now}
+use Rattle.retro_redo.specs.Progress.{ProgressValue, edit_in, next_line, next_number, recorded_now, repaired_now}
 use Rattle.retro_redo.specs.Progress.{settled_now}
 use Rattle.retro_redo.specs.Skipping.{AreUnmet, with_kept}
 use Rattle.retro_redo.specs.declared.tally.Tally.{Tally}
@@ -100,7 +100,7 @@ number_line (Some l) n e = (l, refl, some_same l.0 n e)
 
 module _ (cuts : List ℕ) (p : ProgressValue) (end : ℕ) (rest : List ℕ) (waiting : List Attempt) (tally : Tally)
     (under : IsUnderway cuts p end rest waiting tally) (well : IsWellFormed p.recording) (n : ℕ)
-    (unmet : AreUnmet (cancelled_in p) n (drop (length p.choices) p.recording.lines) (recorded_now p) (repaired_now p))
+    (unmet : AreUnmet (edit_in p) n (drop (length p.choices) p.recording.lines) (recorded_now p) (repaired_now p))
   where
     abbrev lines : List Line
     lines = drop (length p.choices) p.recording.lines
@@ -108,12 +108,12 @@ module _ (cuts : List ℕ) (p : ProgressValue) (end : ℕ) (rest : List ℕ) (wa
     abbrev q : ProgressValue
     q = with_kept p n
 
-    abbrev gap : AfterGap (cancelled_in p) p.recording cuts (IsOwn p.recording) n lines (recorded_now p) (repaired_now p)
+    abbrev gap : AfterGap (edit_in p) p.recording cuts (IsOwn p.recording) n lines (recorded_now p) (repaired_now p)
         (settled_now p) (end - length p.choices) under.start rest (numbers_of waiting) under.jobs tally.unused
     gap =
-        over_gap (cancelled_in p) p.recording cuts (IsOwn p.recording) n lines (recorded_now p) (repaired_now p)
+        over_gap (edit_in p) p.recording cuts (IsOwn p.recording) n lines (recorded_now p) (repaired_now p)
         (settled_now p) (end - length p.choices) under.start rest (numbers_of waiting) under.jobs tally.unused
-        (unmet_agreed (cancelled_in p) n lines (recorded_now p) (repaired_now p) unmet)
+        (unmet_agreed (edit_in p) n lines (recorded_now p) (repaired_now p) unmet)
         (before_left p.recording p.choices well)
         (λ own. recorded_left p.recording.lines p.choices p.recording.first own.recorded) under.picked under.counted
 
@@ -129,10 +129,10 @@ module _ (cuts : List ℕ) (p : ProgressValue) (end : ℕ) (rest : List ℕ) (wa
           (drop-drop n (length p.choices) p.recording.lines ∙ ap (λ k. drop k p.recording.lines) (sym settled_at)) i,
         )) gap.later_are
 
-    counted_now : AreCounted (cancelled_in p) cuts (IsOwn p.recording) (settled_now q) gap.left_now gap.start_now gap.rest_now
+    counted_now : AreCounted (edit_in p) cuts (IsOwn p.recording) (settled_now q) gap.left_now gap.start_now gap.rest_now
         (under.jobs + length gap.gone) (tally.unused + length gap.gone)
     counted_now =
-        same_counted (cancelled_in p) cuts (IsOwn p.recording)
+        same_counted (edit_in p) cuts (IsOwn p.recording)
         (settled_now p ++ kept_moments n lines (recorded_now p) (repaired_now p)) (settled_now q) gap.left_now gap.left_now
         gap.start_now gap.rest_now _ _ _ _
         (sym (settled_kept p.recording.lines p.choices n p.recording.first p.recording.first)) refl refl refl gap.counted
@@ -252,13 +252,13 @@ module _ (cuts : List ℕ) (p : ProgressValue) (end : ℕ) (rest : List ℕ) (wa
           left = gap.left_now;
           start = gap.start_now;
           rest_now = gap.rest_now;
-          attempts = all_right _ gone new (subst (AllByRecursion (IsAttempt p.recording)) split under.attempts);
+          attempts = all_right _ gone new (subst (AllByRecursion (IsAttempt (edit_in p) p.recording)) split under.attempts);
           jobs = under.jobs + length gap.gone;
           jobs_are = omega (arith, jobs, both, fewer);
           few = omega (arith, few, gap_few, at);
           sum = omega (arith, sum, both);
           cuts_are = under.cuts_are;
-          counted = subst (λ k. AreCounted (cancelled_in p) cuts (IsOwn p.recording) (settled_now q) gap.left_now gap.start_now
+          counted = subst (λ k. AreCounted (edit_in p) cuts (IsOwn p.recording) (settled_now q) gap.left_now gap.start_now
               gap.rest_now (under.jobs + length gap.gone) (tally.unused + k)) (sym fewer) counted_now;
           next = next_place;
           mode = mode_now new same.1;
@@ -292,9 +292,9 @@ module _ (cuts : List ℕ) (p : ProgressValue) (end : ℕ) (rest : List ℕ) (wa
         let unused_is : tally.unused + length gap.gone ≡ tally.unused + length waiting = omega (arith, all) in
         record {
           adds_up = omega (arith, sum);
-          jobs_are = subst (IsCount (IsJob (cancelled_in p)) (in_pieces cuts (settled_now q))) jobs_is
-              (count_all (IsJob (cancelled_in p)) (under.jobs + length gap.gone) counted_now.jobs);
+          jobs_are = subst (IsCount (IsJob (edit_in p)) (in_pieces cuts (settled_now q))) jobs_is
+              (count_all (IsJob (edit_in p)) (under.jobs + length gap.gone) counted_now.jobs);
           unused_are = λ own.
-              subst (IsCount (IsUnused (cancelled_in p)) (in_pieces cuts (settled_now q))) unused_is
-              (count_all (IsUnused (cancelled_in p)) (tally.unused + length gap.gone) (counted_now.unused own));
+              subst (IsCount (IsUnused (edit_in p)) (in_pieces cuts (settled_now q))) unused_is
+              (count_all (IsUnused (edit_in p)) (tally.unused + length gap.gone) (counted_now.unused own));
         }

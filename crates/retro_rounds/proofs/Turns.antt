@@ -24,7 +24,7 @@ AreStopped cuts p rounds =
 kept : (p q : ProgressValue) (skip : IsSkip p q) → q ≡ with_kept p skip.count
 kept p q skip = λ i. record {
   recording = skip.recording i;
-  cancel = skip.cancel i;
+  edits = skip.edits i;
   choices = skip.choices i;
 }
 

@@ -7,7 +7,7 @@ use Rattle.retro_keep.specs.Recording.{number_in}
 use Rattle.retro_redo.specs.Meetings.{lines_until}
 use Rattle.retro_redo.specs.Moments.{Moment}
 use Rattle.retro_redo.specs.Picks.{PicksBy}
-use Rattle.retro_redo.specs.Progress.{ProgressValue, cancelled_in, recorded_now, repaired_now}
+use Rattle.retro_redo.specs.Progress.{ProgressValue, edit_in, recorded_now, repaired_now}
 use Rattle.retro_redo.specs.Progress.{settled, settled_now}
 use Rattle.retro_redo.specs.Repair.{no_guesses}
 use Rattle.retro_redo.specs.declared.step.Step.{Step}
@@ -36,28 +36,28 @@ pub record IsUnderway (cuts : List ℕ) (p : ProgressValue) (end : ℕ) (rest : 
   pub start : Start
   pub within : length p.choices ≤ end
   pub picked : PicksBy number_in (IsJobOf p start) (lines_until end p) (numbers_of waiting)
-  pub attempts : AllByRecursion (IsAttempt p.recording) waiting
+  pub attempts : AllByRecursion (IsAttempt (edit_in p) p.recording) waiting
   pub jobs : ℕ
   pub jobs_are : tally.jobs ≡ jobs + length waiting
   pub few : jobs ≤ length p.choices
   pub sum : tally.jobs ≡ spent tally + length waiting
   pub cuts_are : are_cuts rest ≡ true
-  pub counted : AreCounted (cancelled_in p) cuts (IsOwn p.recording) (settled_now p) (end - length p.choices) start rest
+  pub counted : AreCounted (edit_in p) cuts (IsOwn p.recording) (settled_now p) (end - length p.choices) start rest
       jobs tally.unused
 
--- the same before a line that is cancelled or met, which may be in a later piece
+-- the same before a line that is edited or met, which may be in a later piece
 pub record IsStopped (cuts : List ℕ) (p : ProgressValue) (end : ℕ) (rest : List ℕ) (waiting : List Attempt) (tally : Tally)
     : Type 0 where
   pub left : ℕ
   pub start : Start
   pub rest_now : List ℕ
-  pub attempts : AllByRecursion (IsAttempt p.recording) waiting
+  pub attempts : AllByRecursion (IsAttempt (edit_in p) p.recording) waiting
   pub jobs : ℕ
   pub jobs_are : tally.jobs ≡ jobs + length waiting
   pub few : jobs ≤ length p.choices
   pub sum : tally.jobs ≡ spent tally + length waiting
   pub cuts_are : are_cuts rest ≡ true
-  pub counted : AreCounted (cancelled_in p) cuts (IsOwn p.recording) (settled_now p) left start rest_now jobs
+  pub counted : AreCounted (edit_in p) cuts (IsOwn p.recording) (settled_now p) left start rest_now jobs
       tally.unused
   pub next : after_line left rest_now
       ≡ after_lines (suc (length p.choices) - end) (record { left = end - suc (length p.choices); cuts = rest })
@@ -75,13 +75,13 @@ pub record IsReady (cuts : List ℕ) (p : ProgressValue) (end : ℕ) (rest : Lis
   pub left : ℕ
   pub start : Start
   pub rest_now : List ℕ
-  pub attempts : AllByRecursion (IsAttempt p.recording) waiting
+  pub attempts : AllByRecursion (IsAttempt (edit_in p) p.recording) waiting
   pub jobs : ℕ
   pub jobs_are : tally.jobs ≡ jobs + length waiting
   pub few : jobs ≤ length p.choices
   pub sum : tally.jobs ≡ spent tally + length waiting
   pub cuts_are : are_cuts rest ≡ true
-  pub counted : AreCounted (cancelled_in p) cuts (IsOwn p.recording) (settled_now p) left start rest_now jobs
+  pub counted : AreCounted (edit_in p) cuts (IsOwn p.recording) (settled_now p) left start rest_now jobs
       tally.unused
   pub within : length p.choices < end
   pub next : after_line left rest_now ≡ record { left = end - suc (length p.choices); cuts = rest }
@@ -108,8 +108,8 @@ starts p cuts none are = record {
   sum = refl;
   cuts_are = are;
   counted = record {
-    jobs = from_none (IsJob (cancelled_in p));
-    unused = λ o. from_none (IsUnused (cancelled_in p));
+    jobs = from_none (IsJob (edit_in p));
+    unused = λ o. from_none (IsUnused (edit_in p));
   };
 }
   where

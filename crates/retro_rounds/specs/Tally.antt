@@ -1,6 +1,7 @@
 -- What the tally of a repair in rounds counts.
-use Rattle.std.specs.Prelude.{◌≡◌, ◌⊎◌, ℕ, ◌+◌, Bool, List, [], ◌∷◌}
+use Rattle.std.specs.Prelude.{◌≡◌, ◌⊎◌, ℕ, ◌+◌, List, [], ◌∷◌, Option}
 use Rattle.retro_keep.specs.Recording.{IsRecordingOf, RecordingValue, script_in}
+use Rattle.retro_keep.specs.declared.edit.Edit.{Edit}
 use Rattle.retro_redo.specs.Repair.{moments_of}
 use Rattle.retro_redo.specs.declared.tally.Tally.{Tally}
 use Rattle.retro_rounds.specs.Jobs.{IsJob, IsUnused}
@@ -17,9 +18,9 @@ spent tally = tally.taken_up + tally.unused + tally.wrong + tally.given_up
 
 -- Each job ended in one way. If the recording is what running its lines gives, then the jobs are
 -- counted, and the unused ones are those whose line is kept.
-pub record IsTally (cancelled : ℕ → Bool) (cuts : List ℕ) (r : RecordingValue) (tally : Tally) : Type 0 where
+pub record IsTally (edit : ℕ → Option Edit) (cuts : List ℕ) (r : RecordingValue) (tally : Tally) : Type 0 where
   pub adds_up : tally.jobs ≡ spent tally
   pub jobs_are : IsRecordingOf (script_in r) r
-      → IsCount (IsJob cancelled) (in_pieces cuts (moments_of cancelled r)) tally.jobs
+      → IsCount (IsJob edit) (in_pieces cuts (moments_of edit r)) tally.jobs
   pub unused_are : IsRecordingOf (script_in r) r
-      → IsCount (IsUnused cancelled) (in_pieces cuts (moments_of cancelled r)) tally.unused
+      → IsCount (IsUnused edit) (in_pieces cuts (moments_of edit r)) tally.unused

@@ -1,6 +1,7 @@
 //! Runs of lines ahead of their turns.
-ghost use Rattle.std.specs.Prelude.{◌≡◌, All, IfOk, None};
+ghost use Rattle.std.specs.Prelude.{◌≡◌, ℕ, All, IfOk, None, Option};
 ghost use Rattle.retro_keep.specs.Recording.{RecordingValue};
+ghost use Rattle.retro_keep.specs.declared.edit.Edit.{Edit};
 ghost use Rattle.retro_rounds.specs.inner.Attempts.{IsAttempt, IsGuessIn, numbers_of};
 
 use retro_pool::{Guess, Job};
@@ -35,8 +36,9 @@ pub(crate) fn attempts_at(alloc: Global, jobs: &[Job]) -> Result<Vec<Attempt>, N
 /// Gives guesses to the attempts at their lines.
 pub(crate) fn give_all(attempts: &mut [Attempt], guesses: Vec<Guess>)
     ensures numbers { numbers_of attempts.new ≡ numbers_of attempts.old }
-    ensures right { (r : RecordingValue) → All (IsGuessIn r) guesses.items
-        → All (IsAttempt r) attempts.old → All (IsAttempt r) attempts.new }
+    ensures right { (edit : ℕ → Option Edit) → (r : RecordingValue)
+        → All (IsGuessIn edit r) guesses.items → All (IsAttempt edit r) attempts.old
+        → All (IsAttempt edit r) attempts.new }
 {
     for guess in guesses {
         give(attempts, guess);
@@ -46,8 +48,8 @@ pub(crate) fn give_all(attempts: &mut [Attempt], guesses: Vec<Guess>)
 /// Gives a guess to the attempt at its line, if there is one.
 fn give(attempts: &mut [Attempt], guess: Guess)
     ensures numbers { numbers_of attempts.new ≡ numbers_of attempts.old }
-    ensures right { (r : RecordingValue) → IsGuessIn r guess → All (IsAttempt r) attempts.old
-        → All (IsAttempt r) attempts.new }
+    ensures right { (edit : ℕ → Option Edit) → (r : RecordingValue) → IsGuessIn edit r guess
+        → All (IsAttempt edit r) attempts.old → All (IsAttempt edit r) attempts.new }
 {
     let Guess { number, run } = guess;
     if let Ok(place) = attempts.binary_search_by_key(&number, |attempt| attempt.number) {

@@ -1,6 +1,6 @@
 //! The guesses of a round.
 ghost use Rattle.std.specs.Prelude.{◌≡◌, ℕ, All, IfOk, None, vec_len};
-ghost use Rattle.retro_redo.specs.Ground.{GroundValue};
+ghost use Rattle.retro_redo.specs.Ground.{GroundValue, edit_lent};
 ghost use Rattle.retro_rounds.specs.inner.Attempts.{IsAttempt, numbers_of};
 ghost use Rattle.retro_rounds.specs.inner.Workers.{AreOf, AreOn, HasGuesses, board_of};
 
@@ -36,7 +36,8 @@ pub(crate) fn guesses_of<R: Threads + Sync, G: Gate + Sync>(
     gate: &G,
 ) -> Result<Vec<Attempt>, NoMem>
     ensures numbers { IfOk result (λ attempts. numbers_of attempts.items ≡ jobs.items) }
-    ensures right { IfOk result (λ attempts. All (IsAttempt ground.now.recording) attempts.items) }
+    ensures right { IfOk result (λ attempts.
+        All (IsAttempt (edit_lent ground.now) ground.now.recording) attempts.items) }
 {
     if jobs.is_empty() {
         jobs.destroy_empty();
@@ -100,7 +101,8 @@ fn end_round(workers: Vec<Worker>, mut thieves: Vec<Thief>, attempts: &mut [Atte
     requires none { vec_len thieves ≡ 0 }
     ensures numbers { numbers_of attempts.new ≡ numbers_of attempts.old }
     ensures right { (g : GroundValue) → All (HasGuesses g) workers.items
-        → All (IsAttempt g.recording) attempts.old → All (IsAttempt g.recording) attempts.new }
+        → All (IsAttempt (edit_lent g) g.recording) attempts.old
+        → All (IsAttempt (edit_lent g) g.recording) attempts.new }
 {
     let mut owner = None;
     for worker in workers {

@@ -1,9 +1,9 @@
 //! Repairs in rounds.
 ghost use Rattle.std.specs.Prelude.{◌≡◌, true, IfErr, IfOk, None, OnOk, ℕ};
-ghost use Rattle.retro_keep.specs.Edit.{is_among};
+ghost use Rattle.retro_keep.specs.Edit.{edit_of};
 ghost use Rattle.retro_keep.specs.Recording.{IsRecordingOf, script_in};
-ghost use Rattle.retro_redo.specs.Cancelling.{AreLines, Refuses};
-ghost use Rattle.retro_redo.specs.Progress.{next_line};
+ghost use Rattle.retro_redo.specs.Editing.{AreAccepted, Refuses};
+ghost use Rattle.retro_redo.specs.Progress.{edit_in, next_line};
 ghost use Rattle.retro_redo.specs.Repair.{IsRepair};
 ghost use Rattle.retro_redo.specs.Settled.{AreSettled};
 ghost use Rattle.retro_rounds.specs.Refusals.{IsAccepted, IsRefusal, are_cuts};
@@ -14,19 +14,19 @@ use crate::crew::Crew;
 use crate::request::Request;
 use crate::rounds::Rounds;
 use retro_history::History;
-use retro_keep::Recording;
+use retro_keep::{Edit, Recording};
 use retro_redo::{Gate, Progress, Repair, RepairFault, Repairer, Tally};
 use std::alloc::Global;
 use std::thread::Threads;
 
-/// Repairs a recording in rounds: returns what it would be without the lines whose numbers are in
-/// `cancel`. A number may be there twice. Only lines whose notes no longer hold are run again, and
-/// those that a round takes for such.
+/// Repairs a recording in rounds: returns what it would be if its lines were edited so. An edit may
+/// be in the list twice. Only lines whose text is replaced or whose notes no longer hold are run
+/// again, and those that a round takes for such.
 ///
 /// `cuts` are the numbers of lines of the pieces; the last one is that of all further pieces.
 /// `workers` is the greatest number of threads that run jobs beside this one. Neither changes the
 /// answer, and only `cuts` changes the jobs. The observer is called before and after each execution
-/// of a line, by the thread that runs it. If all other lines are run again at the end, their
+/// of a line, by the thread that runs it. If all edited lines are run again at the end, their
 /// executions aren't observed.
 ///
 /// For a recording that isn't what running its lines gives, the answer is as
@@ -35,30 +35,31 @@ use std::thread::Threads;
 /// # Errors
 ///
 /// The first of these that applies: `TooManyWorkers` over [`MAX_WORKERS`](crate::MAX_WORKERS),
-/// `NoCut` if `cuts` is empty or has a zero, `NoSuchLine` with the least of the numbers that no line
-/// has, and `OutOfMemory`. A guess that found no memory is no error: its line is run at its turn.
+/// `NoCut` if `cuts` is empty or has a zero, `TwoEdits` with the least number that two different
+/// edits name, `NoSuchLine` with the least edited number that no line has, and `OutOfMemory`. A
+/// guess that found no memory is no error: its line is run at its turn.
 pub fn repair<R: Threads + Sync, G: Gate + Sync>(
     rt: &R,
     alloc: Global,
     recording: &Recording,
-    cancel: &[u32],
+    edits: &[Edit],
     workers: usize,
     cuts: &[u32],
     gate: &G,
 ) -> Result<Repair, RepairFault>
     ensures repair { IfOk result (λ repair. IsRecordingOf (script_in recording.now) recording.now
-        → IsRepair (is_among cancel.now) recording.now repair) }
+        → IsRepair (edit_of edits.now) recording.now repair) }
     ensures settled { IfOk result (λ repair.
-        AreSettled (is_among cancel.now) recording.now repair) }
+        AreSettled (edit_of edits.now) recording.now repair) }
     ensures tally { IfOk result (λ repair.
-        IsTally (is_among cancel.now) cuts.now recording.now repair.tally) }
-    ensures accepted { OnOk result (IsAccepted workers cuts.now cancel.now recording.now) }
+        IsTally (edit_of edits.now) cuts.now recording.now repair.tally) }
+    ensures accepted { OnOk result (IsAccepted workers cuts.now edits.now recording.now) }
     ensures refused { IfErr result (λ fault.
-        IsRefusal workers cuts.now cancel.now recording.now fault) }
+        IsRefusal workers cuts.now edits.now recording.now fault) }
 {
     let request = Request {
         recording,
-        cancel,
+        edits,
         cuts,
         workers,
     };
@@ -79,21 +80,21 @@ fn settle_all<'a, R: Threads + Sync, G: Gate + Sync>(
     gate: &G,
 ) -> Result<(Progress<'a>, Tally), RepairFault>
     requires cuts { are_cuts request.now.cuts.now ≡ true }
-    requires known { AreLines request.now.cancel.now request.now.recording.now }
+    requires accepted { AreAccepted request.now.edits.now request.now.recording.now }
     ensures recording { IfOk result (λ settled.
         settled.0.recording ≡ request.now.recording.now) }
-    ensures cancel { IfOk result (λ settled. (n : ℕ) → is_among settled.0.cancel n
-        ≡ is_among request.now.cancel.now n) }
+    ensures edits { IfOk result (λ settled. (n : ℕ) → edit_in settled.0 n
+        ≡ edit_of request.now.edits.now n) }
     ensures settled { IfOk result (λ settled. next_line settled.0 ≡ None) }
     ensures tally { IfOk result (λ settled.
         IsTallied request.now.cuts.now settled.0 settled.1) }
     ensures refused { IfErr result (λ fault.
-        Refuses request.now.cancel.now request.now.recording.now fault) }
+        Refuses request.now.edits.now request.now.recording.now fault) }
 {
     // For the prover: the contract of `lines` says that the recording is well formed.
     let _ = request.recording.lines();
     let history = History::of(alloc, request.recording)?;
-    let mut repairer = Repairer::new(alloc, request.recording, &history, request.cancel)?;
+    let mut repairer = Repairer::new(alloc, request.recording, &history, request.edits)?;
     let mut rounds = Rounds::new(alloc, request.cuts);
     let crew = Crew {
         rt,

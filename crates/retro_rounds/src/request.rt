@@ -3,18 +3,18 @@ ghost use Rattle.std.specs.Prelude.{◌≡◌, IfErr, OnOk};
 ghost use Rattle.retro_rounds.specs.Refusals.{IsAccepted, IsRefusal};
 
 use crate::pieces::are_cuts;
-use retro_keep::Recording;
-use retro_redo::{RepairFault, least_missing};
+use retro_keep::{Edit, Recording};
+use retro_redo::RepairFault;
 
 /// The greatest number of workers.
 pub const MAX_WORKERS: usize = 16;
 
-/// What is to be repaired, without which lines, and in which pieces.
+/// What is to be repaired, with which edits, and in which pieces.
 #[derive(Clone, Copy)]
 pub(crate) struct Request<'a> {
     pub(crate) recording: &'a Recording,
-    /// The numbers of the cancelled lines. A number may be there twice.
-    pub(crate) cancel: &'a [u32],
+    /// The edits of lines. An edit may be in the list twice.
+    pub(crate) edits: &'a [Edit],
     /// The numbers of lines of the pieces. The last one is that of all further pieces.
     pub(crate) cuts: &'a [u32],
     /// The greatest number of threads that run jobs beside this one.
@@ -22,14 +22,15 @@ pub(crate) struct Request<'a> {
 }
 
 impl Request<'_> {
-    /// Returns nothing if the request can be answered, and otherwise the first refusal: too many
-    /// workers, no cuts or a zero among them, or the least number that no line has.
+    /// Returns `Ok` if the request can be answered, and otherwise the first refusal: too many
+    /// workers, no cuts or a zero among them, the least number that two different edits name, or
+    /// the least edited number that no line has.
     pub(crate) fn check(&self) -> Result<(), RepairFault>
         ensures ok { OnOk result
-            (IsAccepted self.now.workers self.now.cuts.now self.now.cancel.now
+            (IsAccepted self.now.workers self.now.cuts.now self.now.edits.now
             self.now.recording.now) }
         ensures err { IfErr result (λ fault.
-            IsRefusal self.now.workers self.now.cuts.now self.now.cancel.now
+            IsRefusal self.now.workers self.now.cuts.now self.now.edits.now
             self.now.recording.now fault) }
     {
         if self.workers > MAX_WORKERS {
@@ -38,9 +39,7 @@ impl Request<'_> {
         if !are_cuts(self.cuts) {
             return Err(RepairFault::NoCut);
         }
-        match least_missing(self.recording, self.cancel) {
-            Some(number) => Err(RepairFault::NoSuchLine(number)),
-            None => Ok(()),
-        }
+        self.recording.test_edits(self.edits)?;
+        Ok(())
     }
 }

@@ -4,7 +4,7 @@ ghost use Rattle.std.specs.List.{AllByRecursion};
 ghost use Rattle.retro_keep.specs.Recording.{number_in};
 ghost use Rattle.retro_redo.specs.Meetings.{lines_until};
 ghost use Rattle.retro_redo.specs.Picks.{PicksBy};
-ghost use Rattle.retro_redo.specs.Progress.{next_number};
+ghost use Rattle.retro_redo.specs.Progress.{edit_in, next_number};
 ghost use Rattle.retro_redo.specs.Settling.{IsOneMore};
 ghost use Rattle.retro_redo.specs.Repair.{no_guesses};
 ghost use Rattle.retro_rounds.specs.Refusals.{are_cuts};
@@ -99,7 +99,8 @@ impl<'c> Rounds<'c> {
         gate: &G,
     ) -> Result<(), NoMem>
         requires next { next_number repairer.old ≡ Some number }
-        requires attempts { AllByRecursion (IsAttempt repairer.old.recording)
+        requires attempts { AllByRecursion
+            (IsAttempt (edit_in repairer.old) repairer.old.recording)
             self.old.attempts.queue.items }
         requires sum { self.old.tally.jobs
             ≡ spent self.old.tally + length self.old.attempts.queue.items }
@@ -160,11 +161,12 @@ fn attempts_until<R: Threads + Sync, G: Gate + Sync>(
 ) -> Result<Vec<Attempt>, NoMem>
     requires { end ≤ length repairer.now.recording.lines }
     ensures attempts { IfOk result (λ attempts.
-        AllByRecursion (IsAttempt repairer.now.recording) attempts.items) }
+        AllByRecursion (IsAttempt (edit_in repairer.now) repairer.now.recording)
+        attempts.items) }
     ensures jobs { IfOk result (λ attempts. PicksBy number_in (IsJobNow repairer.now)
         (lines_until end repairer.now) (numbers_of attempts.items)) }
 {
-    let numbers = repairer.meetings_until(alloc, end)?;
+    let numbers = repairer.stops_until(alloc, end)?;
     let ground = repairer.ground();
     // For the prover: the contract of `lines` says that the recording is well formed.
     let _ = ground.recording().lines();

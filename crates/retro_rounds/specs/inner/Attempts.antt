@@ -2,14 +2,16 @@
 use Rattle.std.specs.Prelude.{◌≡◌, ◌<◌, ◌≤◌, ℕ, ◌++◌, List, [], ◌∷◌, length, map, Option, Some, None}
 use Rattle.std.specs.List.{AllByRecursion}
 use Rattle.retro_keep.specs.Recording.{RecordingValue, noted_at}
+use Rattle.retro_keep.specs.declared.edit.Edit.{Edit}
 use Rattle.retro_keep.specs.declared.noted.Noted.{Noted}
 use Rattle.retro_redo.specs.Settling.{IsGuessOf}
 use Rattle.retro_pool.specs.declared.guess.Guess.{Guess}
 use Rattle.retro_rounds.specs.declared.attempt.Attempt.{Attempt}
 
--- a run of the line that has the attempt's number, or none
-abbrev pub IsAttempt : RecordingValue → Attempt → Type 0
-IsAttempt r a = (noted : Noted) → noted_at a.number r.lines ≡ Some noted → IsGuessOf noted a.run
+-- a new run of the line that has the attempt's number, or none
+abbrev pub IsAttempt : (ℕ → Option Edit) → RecordingValue → Attempt → Type 0
+IsAttempt edit r a =
+    (noted : Noted) → noted_at a.number r.lines ≡ Some noted → IsGuessOf edit (a.number, noted) a.run
 
 abbrev pub number_of : Attempt → ℕ
 number_of a = a.number
@@ -18,9 +20,9 @@ number_of a = a.number
 abbrev pub numbers_of : List Attempt → List ℕ
 numbers_of attempts = map number_of attempts
 
--- a guess is a run of the line that has its number
-abbrev pub IsGuessIn : RecordingValue → Guess → Type 0
-IsGuessIn r guess = IsAttempt r (record { number = guess.number; run = Some guess.run })
+-- a guess is a new run of the line that has its number
+abbrev pub IsGuessIn : (ℕ → Option Edit) → RecordingValue → Guess → Type 0
+IsGuessIn edit r guess = IsAttempt edit r (record { number = guess.number; run = Some guess.run })
 
 -- the first attempt is of another line than the one with a number
 abbrev pub IsOther : ℕ → List Attempt → Type 0

@@ -1,14 +1,17 @@
 -- What the rounds of a repair come to.
-use Rattle.std.specs.Prelude.{◌≡◌, ◌⊎◌, ◌+◌, ◌-◌, ◌<◌, ◌≤◌, ℕ, suc, Bool, true, false, List, ◌∷◌, ◌++◌, length, Some}
+use Rattle.std.specs.Prelude.{◌≡◌, ◌⊎◌, ◌+◌, ◌-◌, ◌<◌, ◌≤◌, ℕ, suc, Bool, true, false}
+use Rattle.std.specs.Prelude.{List, ◌∷◌, ◌++◌, length, Option, None, Some, IsSome}
 use Rattle.std.specs.List.{AllByRecursion}
 use Rattle.retro_tree.specs.Notes.{Holds}
 use Rattle.retro_tree.specs.declared.state.State.{State}
+use Rattle.retro_keep.specs.declared.edit.Edit.{Edit}
 use Rattle.retro_keep.specs.Recording.{IsRecordingOf, RecordingValue, number_in, script_in}
 use Rattle.retro_history.specs.Index.{Line}
 use Rattle.retro_history.specs.Recorded.{recorded_before}
 use Rattle.retro_redo.specs.Meetings.{lines_until}
+use Rattle.retro_redo.specs.Moments.{IsStaleBy, text_now}
 use Rattle.retro_redo.specs.Picks.{PicksBy}
-use Rattle.retro_redo.specs.Progress.{ProgressValue, cancelled_in, next_line, recorded_now, repaired_now, settled_now}
+use Rattle.retro_redo.specs.Progress.{ProgressValue, edit_in, next_line, recorded_now, repaired_now, settled_now}
 use Rattle.retro_redo.specs.declared.settlement.Settlement.{Settlement}
 use Rattle.retro_redo.specs.declared.settlement.Settlement.TheVariants.{Cancelled, Kept, TakenUp, Redone}
 use Rattle.retro_redo.specs.declared.tally.Tally.{Tally}
@@ -30,13 +33,13 @@ abbrev pub start_now : ProgressValue → Start
 start_now p = record { recorded = recorded_now p; repaired = repaired_now p }
 
 -- a line is a job of the piece that begins at a start, by the recorded state before it
-abbrev pub IsJobLine : (ℕ → Bool) → Start → State → Line → Type 0
-IsJobLine cancelled start s l =
-    IsJobFrom cancelled start (record { number = l.0; noted = l.1; recorded = s; repaired = s })
+abbrev pub IsJobLine : (ℕ → Option Edit) → Start → State → Line → Type 0
+IsJobLine edit start s l =
+    IsJobFrom edit start (record { number = l.0; noted = l.1; recorded = s; repaired = s })
 
 -- the same of a line of a recording
 abbrev pub IsJobOf : ProgressValue → Start → Line → Type 0
-IsJobOf p start l = IsJobLine (cancelled_in p) start (recorded_before l.0 p.recording) l
+IsJobOf p start l = IsJobLine (edit_in p) start (recorded_before l.0 p.recording) l
 
 -- a line is a job of the piece that begins at the next line
 abbrev pub IsJobNow : ProgressValue → Line → Type 0
@@ -62,7 +65,7 @@ pub record IsBegun (p : ProgressValue) (old new : Rounds) : Type 0 where
       ≡ record { left = new.pieces.end - suc (length p.choices); cuts = new.pieces.cuts.now }
   pub within : length p.choices < new.pieces.end
   pub cuts : are_cuts new.pieces.cuts.now ≡ true
-  pub attempts : AllByRecursion (IsAttempt p.recording) new.attempts.queue.items
+  pub attempts : AllByRecursion (IsAttempt (edit_in p) p.recording) new.attempts.queue.items
   pub jobs : PicksBy number_in (IsJobNow p) (lines_until new.pieces.end p) (numbers_of new.attempts.queue.items)
   pub tally : new.tally ≡ record old.tally { jobs = old.tally.jobs + length new.attempts.queue.items }
 
@@ -86,15 +89,15 @@ abbrev pub IsOneSpent : Bool → Tally → Tally → Type 0
 IsOneSpent true t u = u ≡ record t { unused = t.unused + 1 }
 IsOneSpent false t u = (u.jobs ≡ t.jobs) × (u.unused ≡ t.unused) × (spent u ≡ spent t + 1)
 
--- the next line, if it isn't cancelled and the recording is what running its lines gives
+-- the next line, if it runs a text and the recording is what running its lines gives
 abbrev pub OnNext : ProgressValue → (Line → Type 0) → Type 0
-OnNext p P = (l : Line) → next_line p ≡ Some l → cancelled_in p l.0 ≡ false → IsOwn p.recording → P l
+OnNext p P = (l : Line) → next_line p ≡ Some l → IsSome (text_now (edit_in p) l) → IsOwn p.recording → P l
 
--- One more job ended: without use if the next line's notes hold, and otherwise in another way.
+-- One more job ended: without use if the next line is kept, and in another way if it is redone.
 abbrev pub IsSpentOn : ProgressValue → Tally → Tally → Type 0
 IsSpentOn p t u =
-    (IsOneSpent true t u × OnNext p (λ l. Holds l.1.notes (repaired_now p)))
-    ⊎ (IsOneSpent false t u × OnNext p (λ l. ¬ (Holds l.1.notes (repaired_now p))))
+    (IsOneSpent true t u × OnNext p (λ l. (edit_in p l.0 ≡ None) × Holds l.1.notes (repaired_now p)))
+    ⊎ (IsOneSpent false t u × OnNext p (λ l. IsStaleBy (edit_in p l.0) l.1.notes (repaired_now p)))
 
 -- The attempt at the next line was taken and counted, or there was none.
 abbrev pub IsCountedBy : ProgressValue → ℕ → Rounds → Rounds → Type 0
@@ -113,6 +116,6 @@ pub record IsCounted (p : ProgressValue) (n : ℕ) (old new : Rounds) : Type 0 w
 -- what the counts come to in the words of the settled lines
 pub record IsTallied (cuts : List ℕ) (p : ProgressValue) (tally : Tally) : Type 0 where
   pub adds_up : tally.jobs ≡ spent tally
-  pub jobs_are : IsCount (IsJob (cancelled_in p)) (in_pieces cuts (settled_now p)) tally.jobs
+  pub jobs_are : IsCount (IsJob (edit_in p)) (in_pieces cuts (settled_now p)) tally.jobs
   pub unused_are : IsOwn p.recording
-      → IsCount (IsUnused (cancelled_in p)) (in_pieces cuts (settled_now p)) tally.unused
+      → IsCount (IsUnused (edit_in p)) (in_pieces cuts (settled_now p)) tally.unused

@@ -12,13 +12,13 @@ loop-guess-preserved c =
       tt,
       tt,
       c.give.ensures.numbers ∙ i.2,
-      λ r all. All-rest (IsGuessIn r) c.in-Some.guess left _ split (i.3 r all),
-      λ r all before. c.give.ensures.right r
-          (All-head (IsGuessIn r) c.in-Some.guess left (subst (All (IsGuessIn r)) split (i.3 r all)))
-          (i.4 r all before),
+      λ edit r all. All-rest (IsGuessIn edit r) c.in-Some.guess left _ split (i.3 edit r all),
+      λ edit r all before. c.give.ensures.right edit r
+          (All-head (IsGuessIn edit r) c.in-Some.guess left (subst (All (IsGuessIn edit r)) split (i.3 edit r all)))
+          (i.4 edit r all before),
     )
 
 pub returns-clause-right : goal.returns-clause-right
-returns-clause-right c = λ r all before.
-    c.loop-guess.invariant.4 r (subst (All (IsGuessIn r)) (sym c.into_iter-guess-iterator.ensures.into_iter_gives.0) all)
+returns-clause-right c = λ edit r all before.
+    c.loop-guess.invariant.4 edit r (subst (All (IsGuessIn edit r)) (sym c.into_iter-guess-iterator.ensures.into_iter_gives.0) all)
     before

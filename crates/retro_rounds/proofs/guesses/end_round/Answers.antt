@@ -2,6 +2,7 @@ use Rattle.std.proofs.Common.{◌≡◌, ◌∙◌, All, subst}
 use Rattle.std.specs.Vec.Iter.{into_iter_items}
 use Rattle.std.proofs.lemmas.List.Elements.{All-head, All-rest, All-weaker}
 use Rattle.retro_pool.specs.Guesses.{IsGuess}
+use Rattle.retro_redo.specs.Ground.{edit_lent}
 use Rattle.retro_rounds.specs.declared.worker.Worker.{Worker}
 use Rattle.retro_rounds.specs.inner.Attempts.{IsGuessIn}
 use Rattle.retro_rounds.specs.inner.Workers.{AreOn, HasGuesses, board_of}
@@ -25,8 +26,8 @@ loop-worker-preserved c =
       ),
       c.give_all.ensures.numbers ∙ i.3,
       λ g all. All-rest (HasGuesses g) worker left _ split (i.4 g all),
-      λ g all before. c.give_all.ensures.right g.recording
-          (All-weaker (IsGuess g) (IsGuessIn g.recording) (guess_in g) worker.guesses.items
+      λ g all before. c.give_all.ensures.right (edit_lent g) g.recording
+          (All-weaker (IsGuess g) (IsGuessIn (edit_lent g) g.recording) (guess_in g) worker.guesses.items
           (All-head (HasGuesses g) worker left (subst (All (HasGuesses g)) split (i.4 g all))))
           (i.5 g all before),
     )

@@ -1,6 +1,6 @@
 use Rattle.std.proofs.Common.{◌≡◌, All, ℕ}
 use Rattle.std.specs.Vec.Iter.{into_iter_items}
-use Rattle.retro_redo.specs.Ground.{GroundValue}
+use Rattle.retro_redo.specs.Ground.{GroundValue, edit_lent}
 use Rattle.retro_rounds.specs.inner.Attempts.{IsAttempt, numbers_of}
 use Rattle.retro_rounds.specs.inner.Workers.{AreOf, AreOn, HasGuesses}
 use Rattle.retro_rounds.proofs.guesses.end_round.Given as goal
@@ -13,4 +13,5 @@ invariant-loop-worker l =
     × ((g : GroundValue) → All (HasGuesses g) (into_iter_items l.initial.worker-iterator)
     → All (HasGuesses g) (into_iter_items l.worker-iterator))
     × ((g : GroundValue) → All (HasGuesses g) (into_iter_items l.initial.worker-iterator)
-    → All (IsAttempt g.recording) l.initial.attempts → All (IsAttempt g.recording) l.attempts)
+    → All (IsAttempt (edit_lent g) g.recording) l.initial.attempts
+    → All (IsAttempt (edit_lent g) g.recording) l.attempts)

@@ -1,7 +1,7 @@
 use Rattle.std.proofs.Common.{◌∙◌, ℕ, List, ap, subst, sym}
-use Rattle.retro_keep.specs.Edit.{is_among}
+use Rattle.std.specs.FinMap as map
 use Rattle.retro_keep.specs.Recording.{IsWellFormed}
-use Rattle.retro_redo.specs.Progress.{ProgressValue}
+use Rattle.retro_redo.specs.Progress.{ProgressValue, edit_in}
 use Rattle.retro_redo.specs.declared.tally.Tally.{Tally}
 use Rattle.retro_redo.proofs.Before.{next_below}
 use Rattle.retro_redo.proofs.KeptLines.{fewer_left}
@@ -17,7 +17,7 @@ loop-rounds-init g c =
     let new = c.new-rounds.ensures in
     record {
       recording = c.in_ok-repairer.ensures.recording;
-      cancel = c.in_ok-repairer.ensures.cancel;
+      edits = c.in_ok-repairer.ensures.edits;
       underway = subst (λ (x : ℕ × List ℕ × List Attempt × Tally).
           IsUnderway c.args.request.now.cuts.now c.in_ok-repairer.repairer x.0 x.1 x.2 x.3)
           (λ i. (sym new.end i, sym new.cuts i, sym new.attempts i, sym new.tally i))
@@ -70,8 +70,8 @@ loop-rounds-preserved g c =
     let recording = skip.recording ∙ c.loop-rounds.invariant.recording in
     record {
       recording = ap (λ (x : ProgressValue). x.recording) one.1 ∙ recording;
-      cancel = λ n. ap (λ (x : ProgressValue). is_among x.cancel n) one.1 ∙ ap (λ ns. is_among ns n) skip.cancel
-          ∙ c.loop-rounds.invariant.cancel n;
+      edits = λ n. ap (λ (x : ProgressValue). edit_in x n) one.1 ∙ ap (λ edits. map.get edits n) skip.edits
+          ∙ c.loop-rounds.invariant.edits n;
       underway = settled_next c.args.request.now.cuts.now c.skip_unmet.new.self c.settle.new.repairer c.advance.new.self
           c.settle.new.self c.in-Some.number
           (at_line c.args.request.now.cuts.now c.loop-rounds.repairer c.skip_unmet.new.self c.loop-rounds.rounds

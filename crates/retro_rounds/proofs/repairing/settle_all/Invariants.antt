@@ -1,12 +1,13 @@
 use Rattle.std.proofs.Common.{◌≡◌, ◌-◌, ℕ, length}
-use Rattle.retro_keep.specs.Edit.{is_among}
+use Rattle.retro_keep.specs.Edit.{edit_of}
+use Rattle.retro_redo.specs.Progress.{edit_in}
 use Rattle.retro_rounds.proofs.Turns.{AreUnderway}
 use Rattle.retro_rounds.proofs.repairing.settle_all.Given as goal
 
 abbrev pub invariant-loop-rounds : goal.invariant-loop-rounds
 invariant-loop-rounds g l = record {
   recording : l.repairer.recording ≡ l.request.recording.now;
-  cancel : (n : ℕ) → is_among l.repairer.cancel n ≡ is_among l.request.cancel.now n;
+  edits : (n : ℕ) → edit_in l.repairer n ≡ edit_of l.request.edits.now n;
   underway : AreUnderway l.request.cuts.now l.repairer l.rounds;
 }
 

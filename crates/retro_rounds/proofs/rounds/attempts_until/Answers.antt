@@ -1,10 +1,12 @@
 use Rattle.std.proofs.Common.{◌≡◌, ◌∙◌, List, subst, sym, ℕ}
 use Rattle.std.specs.List.{AllByRecursion}
+use Rattle.std.specs.FinMap as map
 use Rattle.std.proofs.lemmas.List.Elements.{recursion_from_All}
 use Rattle.std.proofs.lemmas.Result.{IfOk-weaker}
-use Rattle.retro_keep.specs.Recording.{IsWellFormed, number_in}
+use Rattle.retro_keep.specs.Recording.{IsWellFormed, RecordingValue, number_in}
 use Rattle.retro_pool.specs.Jobs.{IsWanted}
-use Rattle.retro_redo.specs.Ground.{GroundValue}
+use Rattle.retro_redo.specs.Editing.{EditMap}
+use Rattle.retro_redo.specs.Ground.{GroundValue, edit_lent}
 use Rattle.retro_redo.specs.Meetings.{lines_until}
 use Rattle.retro_redo.specs.Picks.{PicksBy}
 use Rattle.retro_rounds.specs.inner.Attempts.{IsAttempt}
@@ -15,8 +17,10 @@ use Rattle.retro_rounds.proofs.rounds.attempts_until.Goals as goal
 pub returns-clause-attempts : goal.returns-clause-attempts
 returns-clause-attempts g c =
     IfOk-weaker c.guesses_of.result _ _ (λ v all.
-    subst (λ r. AllByRecursion (IsAttempt r) v.items) c.ground-ground.ensures.recording
-    (recursion_from_All (IsAttempt c.ground-ground.result.recording) v.items all)) c.guesses_of.ensures.right
+    subst (λ (x : EditMap × RecordingValue). AllByRecursion (IsAttempt (map.get x.0) x.1) v.items)
+    (λ i. (c.ground-ground.ensures.edits i, c.ground-ground.ensures.recording i))
+    (recursion_from_All (IsAttempt (edit_lent c.ground-ground.result) c.ground-ground.result.recording) v.items all))
+    c.guesses_of.ensures.right
 
 pub returns-clause-jobs : goal.returns-clause-jobs
 returns-clause-jobs g c =
@@ -24,7 +28,7 @@ returns-clause-jobs g c =
     let lent = c.ground-ground.ensures in
     let overlay = c.ground-ground.result.overlay in
     let same : c.ground-ground.result ≡ ground_now p overlay =
-    (λ i. record { recording = lent.recording i; cancel = lent.cancel i; overlay = overlay }) in
+    (λ i. record { recording = lent.recording i; edits = lent.edits i; overlay = overlay }) in
     let keys = c.in_ok-numbers.numbers.keys in
     let jobs = c.in_ok-jobs.jobs.items in
     let numbers = c.as_slice.ensures.value ∙ c.in_ok-in_order.ensures in

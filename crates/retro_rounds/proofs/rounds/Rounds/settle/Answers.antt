@@ -1,6 +1,7 @@
 use Rattle.std.proofs.Common.{inl, subst, refl, ◌∙◌}
 use Rattle.std.specs.List.{AllByRecursion}
 use Rattle.retro_keep.specs.Recording.{IsWellFormed}
+use Rattle.retro_redo.specs.Progress.{edit_in}
 use Rattle.retro_rounds.specs.inner.Attempts.{IsAttempt}
 use Rattle.retro_rounds.proofs.Shown.{guess_next}
 use Rattle.retro_rounds.proofs.rounds.Rounds.settle.Goals as goal
@@ -10,7 +11,7 @@ settle-requires-in-Some-clause-guess g c = λ l next.
     guess_next c.args.repairer.now c.args.number c.in-Some.attempt l
     (subst IsWellFormed (c.recording.ensures ∙ c.ground.ensures.recording) c.lines.ensures.well_formed)
     c.requires.next next c.in-Some.ensures.1
-    (subst (AllByRecursion (IsAttempt c.args.repairer.now.recording)) c.in-Some.ensures.0 c.requires.attempts).0
+    (subst (AllByRecursion (IsAttempt (edit_in c.args.repairer.now) c.args.repairer.now.recording)) c.in-Some.ensures.0 c.requires.attempts).0
 
 pub returns-in_ok-settle-in-None-clause-counted : goal.returns-in_ok-settle-in-None-clause-counted
 returns-in_ok-settle-in-None-clause-counted g c = record {
