@@ -49,17 +49,25 @@ text = option_map (λ s. s.now)
 
 -- a parse that met a subcommand
 pub call_found : (words : List Text) (o : Option (Text × List Row)) (name : Text) (inner : Found)
-    (cancel workers cuts : Option (Bor (List ℕ)))
+    (cancel replace workers cuts : Option (Bor (List ℕ)))
     → fault_of program words ≡ [] → o ≡ subcommand_of program words → o ≡ Some (name, rows_of inner)
     → text cancel ≡ first_value inner (codes "cancel")
+    → text replace ≡ first_value inner (codes "replace")
     → text workers ≡ first_value inner (codes "workers")
     → text cuts ≡ first_value inner (codes "cuts")
     → call_in words
-    ≡ Some (record { name = name; cancel = text cancel; workers = text workers; cuts = text cuts })
+    ≡ Some (record {
+      name = name;
+      cancel = text cancel;
+      replace = text replace;
+      workers = text workers;
+      cuts = text cuts;
+    })
 unfolding call_in
-call_found words o name inner cancel workers cuts none sub found ea eb ec =
+call_found words o name inner cancel replace workers cuts none sub found ea eb ec ed =
     let row = first_value-rows inner in
-    rw (none, sym sub, found, ea, eb, ec, row (codes "cancel"), row (codes "workers"), row (codes "cuts")) refl
+    rw (none, sym sub, found, ea, eb, ec, ed, row (codes "cancel"), row (codes "replace"), row (codes "workers"))
+    (rw (row (codes "cuts")) refl)
 
 -- a parse that failed
 refused : {A : Type 0} (kinds : Kinds) (e : Error) (o : Option A) → HasKind kinds e → (kind_of e ≡ kind.OutOfMemory → ⊥)

@@ -1,3 +1,4 @@
+pub mod Edits
 pub mod Floats
 pub mod CallLemmas
 pub mod NumberLemmas

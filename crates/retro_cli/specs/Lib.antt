@@ -1,6 +1,7 @@
 pub mod Exit
 pub mod Input
 pub mod Numbers
+pub mod Replacements
 pub mod Output
 pub mod Program
 pub mod RepairReport

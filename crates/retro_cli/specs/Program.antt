@@ -6,12 +6,15 @@ use Rattle.std.specs.Result.{result_err}
 use Rattle.std.specs.Io.KnownBytes.{Appends}
 use Rattle.retro_tree.specs.declared.state.State.{State}
 use Rattle.retro_keep.specs.Script.{ScriptValue}
-use Rattle.retro_keep.specs.Edit.{first_unknown, is_among, without}
+use Rattle.retro_keep.specs.Edit.{edit, edit_of}
+use Rattle.retro_keep.specs.declared.edit.Edit.{Edit}
+use Rattle.retro_keep.specs.declared.edit_fault.EditRefusal.{EditRefusal}
+use Rattle.retro_keep.specs.declared.edit_fault.EditRefusal.TheVariants.{TwoEdits, NoSuchLine}
 use Rattle.retro_keep.specs.Runs.{Output, outcome}
 use Rattle.retro_keep.specs.Recording.{RecordingValue, IsRecordingOf}
 use Rattle.retro_keep.specs.Recording as recordings
-use Rattle.retro_redo.specs.Cancelling.{AreLines, is_line}
-use Rattle.retro_redo.specs.Repair.{IsRepair, script_of_others}
+use Rattle.retro_redo.specs.Editing.{AreAccepted, edits_of_lines}
+use Rattle.retro_redo.specs.Repair.{IsRepair, script_now}
 use Rattle.retro_redo.specs.RepairFault.{fault_number}
 use Rattle.retro_redo.specs.declared.repair.Repair.{Repair}
 use Rattle.retro_redo.specs.declared.repair_fault.RepairFault.TheVariants.{NoCut, TooManyWorkers}
@@ -26,7 +29,7 @@ use Rattle.retro_cli.specs.Report.{replay_text}
 use Rattle.retro_cli.specs.RepairReport.{repair_text}
 use Rattle.retro_cli.specs.Words.{RepairOptions, Request, replay, record_script, check_log, repair, relog}
 use Rattle.retro_cli.specs.Words.{request_in}
-use Rattle.retro_cli.specs.declared.stop.TheConstants.{BAD_WORDS, UNKNOWN_LINE}
+use Rattle.retro_cli.specs.declared.stop.TheConstants.{BAD_WORDS, TWO_EDITS, UNKNOWN_LINE}
 use Rattle.retro_cli.specs.declared.exit.Exit.{Exit}
 use Rattle.retro_cli.specs.declared.exit.Exit.TheVariants as exits
 
@@ -38,18 +41,23 @@ Text = List ℕ
 abbrev pub report : State × List Output → Text
 report (state, outputs) = replay_text outputs state
 
--- the report of running all lines of a script, unless a cancelled number wasn't among them
-abbrev pub replay_script : Result ScriptValue ℕ → Result Text ℕ
+-- the numbers of refusals of edits
+abbrev pub edit_number : EditRefusal → ℕ
+edit_number (TwoEdits n) = TWO_EDITS
+edit_number (NoSuchLine n) = UNKNOWN_LINE
+
+-- the report of running all lines of a script, unless its edits are refused
+abbrev pub replay_script : Result ScriptValue EditRefusal → Result Text ℕ
 replay_script (Ok script) = Ok (report (outcome script.lines script.first))
-replay_script (Err number) = Err UNKNOWN_LINE
+replay_script (Err refusal) = Err (edit_number refusal)
 
-abbrev pub replay_document : List ℕ → Result ScriptValue Refusal → Result Text ℕ
-replay_document cancelled (Ok script) = replay_script (without cancelled script)
-replay_document cancelled (Err refusal) = Err (refusal_number refusal)
+abbrev pub replay_document : List Edit → Result ScriptValue Refusal → Result Text ℕ
+replay_document edits (Ok script) = replay_script (edit edits script)
+replay_document edits (Err refusal) = Err (refusal_number refusal)
 
--- the report, or the number of the first refusal: of the document, then of the cancelled numbers
-unfoldable pub replay_answer : List ℕ → Text → Result Text ℕ
-replay_answer cancelled input = replay_document cancelled (script_in input)
+-- the report, or the number of the first refusal: of the document, then of the edits
+unfoldable pub replay_answer : List Edit → Text → Result Text ℕ
+replay_answer edits input = replay_document edits (script_in input)
 
 -- ---- the log of a script, and the answer to whether a log is a recording
 
@@ -79,27 +87,26 @@ IsVerdict input exits.WriteFailed text = ⊥
 -- ---- the report of a repair of a log, and the log of the repaired recording
 
 -- The text is the report of a repair of the log in the input. If the log is a recording of its
--- lines, the repair is exact: its state and outputs are those of running all other lines one by
--- one.
-pub record IsRepairReport (cancelled : List ℕ) (input text : Text) : Type 0 where
+-- lines, the repair is exact: its state and outputs are those of running the edited lines one by one.
+pub record IsRepairReport (edits : List Edit) (input text : Text) : Type 0 where
   pub recording : RecordingValue
   pub is_log : log_in input ≡ Ok recording
-  pub known : AreLines cancelled recording
+  pub accepted : AreAccepted edits recording
   pub repair : Repair
   pub is_report : text ≡ repair_text repair
   pub is_repair : IsRecordingOf (recordings.script_in recording) recording
-      → IsRepair (is_among cancelled) recording repair
+      → IsRepair (edit_of edits) recording repair
 
 -- The text is a log. If the log in the input is a recording of its lines, the text is the log of a
--- recording of the other lines.
-pub record IsRepairedLog (cancelled : List ℕ) (input text : Text) : Type 0 where
+-- recording of the edited lines.
+pub record IsRepairedLog (edits : List Edit) (input text : Text) : Type 0 where
   pub recording : RecordingValue
   pub is_log : log_in input ≡ Ok recording
-  pub known : AreLines cancelled recording
+  pub accepted : AreAccepted edits recording
   pub repaired : RecordingValue
   pub is_text : text ≡ log_text repaired
   pub is_recording : IsRecordingOf (recordings.script_in recording) recording
-      → IsRecordingOf (script_of_others (is_among cancelled) recording) repaired
+      → IsRecordingOf (script_now (edit_of edits) recording) repaired
 
 -- ---- refusals
 
@@ -107,12 +114,12 @@ abbrev pub document_refusal : {Y : Type 0} → Result Y Refusal → Option ℕ
 document_refusal document = option_map refusal_number (result_err document)
 
 -- the number of the first refusal of a repair of a recording: too many workers, then no cuts or a
--- zero among them, then a cancelled number that no line has
+-- zero among them, then two different edits of a line, then an edit of a number that no line has
 abbrev pub options_refusal : RepairOptions → RecordingValue → Option ℕ
 options_refusal options recording =
     if nat_lt MAX_WORKERS options.workers then Some (fault_number TooManyWorkers)
     else if not (are_cuts options.cuts) then Some (fault_number NoCut)
-    else option_map (λ number. UNKNOWN_LINE) (first_unknown (is_line recording) options.cancel)
+    else option_map edit_number (result_err (edits_of_lines options.edits recording))
 
 -- the number of the first refusal of a repair: of the log, then of the options
 abbrev pub repair_refusal : RepairOptions → Result RecordingValue Refusal → Option ℕ
@@ -121,7 +128,7 @@ repair_refusal options (Err refusal) = Some (refusal_number refusal)
 
 -- the number of the first refusal of a request about an input
 abbrev pub request_refusal : Request → Text → Option ℕ
-request_refusal (replay cancelled) input = result_err (replay_answer cancelled input)
+request_refusal (replay edits) input = result_err (replay_answer edits input)
 request_refusal record_script input = document_refusal (script_in input)
 request_refusal check_log input = document_refusal (log_in input)
 request_refusal (repair options) input = repair_refusal options (log_in input)
@@ -139,11 +146,11 @@ refusal_of words input = refusal_in (request_in words) input
 
 -- whether a text answers a request about an input, and the program ends so once it is written
 abbrev pub Answered : Request → Text → Exit → Text → Type 0
-Answered (replay cancelled) input exit text = (exit ≡ exits.Done) × (replay_answer cancelled input ≡ Ok text)
+Answered (replay edits) input exit text = (exit ≡ exits.Done) × (replay_answer edits input ≡ Ok text)
 Answered record_script input exit text = (exit ≡ exits.Done) × IsLogOf input text
 Answered check_log input exit text = IsVerdict input exit text
-Answered (repair options) input exit text = (exit ≡ exits.Done) × IsRepairReport options.cancel input text
-Answered (relog options) input exit text = (exit ≡ exits.Done) × IsRepairedLog options.cancel input text
+Answered (repair options) input exit text = (exit ≡ exits.Done) × IsRepairReport options.edits input text
+Answered (relog options) input exit text = (exit ≡ exits.Done) × IsRepairedLog options.edits input text
 
 -- the answer to words about an input, of which nothing is refused
 pub record Answers (words : List Text) (input : Text) (exit : Exit) (text : Text) : Type 0 where

@@ -1,12 +1,17 @@
 -- The program's command line, and what words ask for there, as `clap` reads them.
-use Rattle.std.specs.Prelude.{ℕ, List, [], ◌∷◌, true, Option, Some, None, Result, codes, option_map, option_and_then}
-use Rattle.std.specs.Prelude.{nat_eq, if◌then◌else◌}
+use Rattle.std.specs.Prelude.{ℕ, List, [], ◌∷◌, ◌++◌, true, Option, Some, None, Result, codes, map, option_map}
+use Rattle.std.specs.Prelude.{option_and_then, nat_eq, if◌then◌else◌}
 use Rattle.std.specs.Cmp.Lexicographic.{pointwise}
 use Rattle.clap.specs.Words.{App, Kinds, Row, Rule, Shape, Text, fault_of, first_of, new_app, new_rule, subcommand_of}
 use Rattle.clap.specs.Words.{with_subcommand}
 use Rattle.clap.specs.declared.builder.action.ArgAction.TheVariants.{Set}
 use Rattle.retro_tree.specs.OutOfMemory.{UnlessOutOfMemory}
+use Rattle.retro_keep.specs.declared.edit.Edit.{Edit}
+use Rattle.retro_keep.specs.declared.edit.Edit.TheVariants.{Cancel}
+use Rattle.retro_json.specs.declared.fault.LogFault.{LogFault}
+use Rattle.retro_json.specs.declared.fault.LogFault.TheVariants as documents
 use Rattle.retro_cli.specs.Numbers.{list_in, number_in}
+use Rattle.retro_cli.specs.Replacements.{replacements_in}
 use Rattle.retro_cli.specs.declared.repair_options.RepairOptions.{RepairOptions as OptionsValue}
 use Rattle.retro_cli.specs.declared.words.CommandCall.{CommandCall}
 use Rattle.retro_cli.specs.declared.words.Request.{Request as RequestValue}
@@ -20,13 +25,14 @@ use Rattle.retro_cli.specs.declared.words.WordsFault.TheVariants as faults
 abbrev pub option : Text → Text → Rule
 option name default = record (new_rule name) { long = Some name; action = Some Set; defaults = default ∷ [] }
 
-abbrev pub cancel : Rule
-cancel = option (codes "cancel") []
+-- the options that edit lines
+abbrev pub edit_options : List Rule
+edit_options = option (codes "cancel") [] ∷ option (codes "replace") (codes "[]") ∷ []
 
 -- the options of a repair
 abbrev pub repair_options : List Rule
 repair_options =
-    cancel ∷ option (codes "workers") (codes "0") ∷ option (codes "cuts") (codes "64") ∷ []
+    edit_options ++ (option (codes "workers") (codes "0") ∷ option (codes "cuts") (codes "64") ∷ [])
 
 abbrev pub command : Text → List Rule → Shape
 command name rules = record (new_app name).top { rules = rules }
@@ -48,7 +54,7 @@ with_command app name rules = with_subcommand app (command name rules)
 
 -- the commands that start from a script
 abbrev pub script_program : App
-script_program = with_command (with_command bare (codes "replay") (cancel ∷ [])) (codes "record") []
+script_program = with_command (with_command bare (codes "replay") edit_options) (codes "record") []
 
 -- and those that start from a log
 abbrev pub program : App
@@ -63,6 +69,7 @@ program =
 pub record Call : Type 0 where
   pub name : Text
   pub cancel : Option Text
+  pub replace : Option Text
   pub workers : Option Text
   pub cuts : Option Text
 
@@ -70,6 +77,7 @@ abbrev pub call_of : Text × List Row → Call
 call_of p = record {
   name = p.0;
   cancel = first_of (codes "cancel") p.1;
+  replace = first_of (codes "replace") p.1;
   workers = first_of (codes "workers") p.1;
   cuts = first_of (codes "cuts") p.1;
 }
@@ -84,38 +92,46 @@ call_in words = unless_fault (fault_of program words) (option_map call_of (subco
 
 -- ---- what the words ask for
 
--- how a log is to be repaired: without the lines that have these numbers, by so many threads beside
--- the first one, and in pieces of so many lines
+-- how a log is to be repaired: with which lines edited, by so many threads beside the first one, and
+-- in pieces of so many lines
 pub record RepairOptions : Type 0 where
-  pub cancel : List ℕ
+  pub edits : List Edit
   pub workers : ℕ
   pub cuts : List ℕ
 
--- a request: to run a script's lines without those that have these numbers, to record the lines of
--- a script, to check whether a log is a recording, or to repair a log and answer the report of the
--- repair or the log of the repaired recording
+-- a request: to run a script's edited lines, to record the lines of a script, to check whether a log
+-- is a recording, or to repair a log and answer the report of the repair or the log of the repaired
+-- recording
 pub data Request : Type 0 where
-  replay : List ℕ → Request
+  replay : List Edit → Request
   record_script : Request
   check_log : Request
   repair : RepairOptions → Request
   relog : RepairOptions → Request
 
+-- lines that are left out, and then lines whose text is replaced; or none if either is missing
+abbrev pub edits_with : Option (List ℕ) → Option (List Edit) → Option (List Edit)
+edits_with (Some numbers) (Some replacements) = Some (map Cancel numbers ++ replacements)
+edits_with _ _ = None
+
+-- the edits of lines, or none if the command has no such options or one is malformed
+abbrev pub edits_of : Call → Option (List Edit)
+edits_of g = edits_with (option_and_then list_in g.cancel) (option_and_then replacements_in g.replace)
+
 -- the options with these values, or none if a value is missing
-abbrev pub options_with : Option (List ℕ) → Option ℕ → Option (List ℕ) → Option RepairOptions
-options_with (Some numbers) (Some count) (Some counts) =
-    Some (record { cancel = numbers; workers = count; cuts = counts })
+abbrev pub options_with : Option (List Edit) → Option ℕ → Option (List ℕ) → Option RepairOptions
+options_with (Some edits) (Some count) (Some counts) =
+    Some (record { edits = edits; workers = count; cuts = counts })
 options_with _ _ _ = None
 
 -- the options of a repair, or none if the command doesn't have them or one is malformed
 abbrev pub options_of : Call → Option RepairOptions
 options_of g =
-    options_with (option_and_then list_in g.cancel) (option_and_then number_in g.workers)
-    (option_and_then list_in g.cuts)
+    options_with (edits_of g) (option_and_then number_in g.workers) (option_and_then list_in g.cuts)
 
 abbrev pub request_of : Call → Option Request
 request_of g =
-    if pointwise nat_eq g.name (codes "replay") then option_map replay (option_and_then list_in g.cancel)
+    if pointwise nat_eq g.name (codes "replay") then option_map replay (edits_of g)
     else if pointwise nat_eq g.name (codes "record") then Some record_script
     else if pointwise nat_eq g.name (codes "check") then Some check_log
     else if pointwise nat_eq g.name (codes "repair") then option_map repair (options_of g)
@@ -131,19 +147,25 @@ abbrev pub call_view : CommandCall → Call
 call_view g = record {
   name = g.name.now;
   cancel = option_map (λ s. s.now) g.cancel;
+  replace = option_map (λ s. s.now) g.replace;
   workers = option_map (λ s. s.now) g.workers;
   cuts = option_map (λ s. s.now) g.cuts;
 }
 
 abbrev pub options_view : OptionsValue → RepairOptions
-options_view o = record { cancel = o.cancel.items; workers = o.workers; cuts = o.cuts.items }
+options_view o = record { edits = o.edits.items; workers = o.workers; cuts = o.cuts.items }
 
 abbrev pub request_view : RequestValue → Request
-request_view (requests.Replay numbers) = replay numbers.items
+request_view (requests.Replay edits) = replay edits.items
 request_view requests.Record = record_script
 request_view requests.Check = check_log
 request_view (requests.Repair options) = repair (options_view options)
 request_view (requests.Relog options) = relog (options_view options)
+
+-- the fault of words of which a part can't be read
+abbrev pub words_fault : LogFault → WordsFault
+words_fault documents.NoMem = faults.NoMem
+words_fault (documents.Refused refusal) = faults.BadWords
 
 -- what a fault says of the words: that they are bad, or None if memory ran out
 abbrev pub not_found : {Y : Type 0} → WordsFault → Option (Option Y)

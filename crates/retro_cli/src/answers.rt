@@ -16,19 +16,19 @@ use crate::replay::replay;
 use crate::report::replay_report;
 use crate::stop::Stop;
 use crate::words::Request;
-use retro_keep::keep;
+use retro_keep::{Edit, keep};
 use retro_log::{check, read_log, read_script, write_log};
 use retro_redo::{Quiet, Repair};
 use retro_rounds::repair;
 use std::alloc::{AllocGlobal, Global};
 use std::thread::Threads;
 
-/// Returns the report of running the lines of a script, without the cancelled lines.
+/// Returns the report of running the edited lines of a script.
 #[tactic(auto, unfolding(crate::specs::Program::replay_answer))]
-fn replay_input(alloc: Global, cancel: &[u32], input: Vec<u8>) -> Result<Vec<u8>, Stop>
-    ensures { ReturnsAs (λ text. text.items) result (replay_answer cancel.now input.items) }
+fn replay_input(alloc: Global, edits: &[Edit], input: Vec<u8>) -> Result<Vec<u8>, Stop>
+    ensures { ReturnsAs (λ text. text.items) result (replay_answer edits.now input.items) }
 {
-    let script = read_script(alloc, &input)?.without(alloc, cancel)?;
+    let script = read_script(alloc, &input)?.edit(alloc, edits)?;
     drop(input);
     let (state, outputs) = replay(alloc, script)?;
     Ok(replay_report(alloc, &state, &outputs)?)
@@ -78,7 +78,7 @@ fn repair_log<T: Threads + Sync + AllocGlobal>(
         rt,
         rt.alloc(),
         &recording,
-        &options.cancel,
+        &options.edits,
         options.workers,
         &options.cuts,
         &Quiet,
@@ -93,7 +93,7 @@ fn repair_input<T: Threads + Sync + AllocGlobal>(
     input: Vec<u8>,
 ) -> Result<Vec<u8>, Stop>
     ensures ok { IfOk result (λ text.
-        IsRepairReport options.now.cancel.items input.items text.items) }
+        IsRepairReport options.now.edits.items input.items text.items) }
     ensures accepted { OnOk result
         (repair_refusal (options_view options.now) (log_in input.items) ≡ None) }
     ensures err { IfErr result (λ stop.
@@ -111,7 +111,7 @@ fn relog_input<T: Threads + Sync + AllocGlobal>(
     input: Vec<u8>,
 ) -> Result<Vec<u8>, Stop>
     ensures ok { IfOk result (λ text.
-        IsRepairedLog options.now.cancel.items input.items text.items) }
+        IsRepairedLog options.now.edits.items input.items text.items) }
     ensures accepted { OnOk result
         (repair_refusal (options_view options.now) (log_in input.items) ≡ None) }
     ensures err { IfErr result (λ stop.
@@ -135,7 +135,7 @@ pub(crate) fn answer<T: Threads + Sync + AllocGlobal>(
         Refuses stop (request_refusal (request_view request.now) input.items)) }
 {
     match request {
-        Request::Replay { cancel } => Ok((replay_input(rt.alloc(), cancel, input)?, Ending::Done)),
+        Request::Replay { edits } => Ok((replay_input(rt.alloc(), edits, input)?, Ending::Done)),
         Request::Record => Ok((record_input(rt, input)?, Ending::Done)),
         Request::Check => Ok(check_input(rt.alloc(), input)?),
         Request::Repair(options) => Ok((repair_input(rt, options, input)?, Ending::Done)),

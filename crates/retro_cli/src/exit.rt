@@ -16,8 +16,9 @@ pub enum Exit {
     /// The log isn't a recording of its lines, and the whole answer `no` was written.
     CheckNo,
     /// The command line, the document or the request is refused, with the refusal's number: 31 for
-    /// a bad command line, 8 to 16 for a document, 21 for a cancelled number that no line has, 22
-    /// for cuts that are empty or have a zero, 23 for too many workers. Nothing was written.
+    /// a bad command line, 8 to 16 for a document, 21 for an edit of a number that no line has, 22
+    /// for cuts that are empty or have a zero, 23 for too many workers, 26 for two different edits
+    /// of a line. Nothing was written.
     Refused(u8),
     /// Allocation failed. Nothing was written.
     OutOfMemory,

@@ -17,6 +17,7 @@ mod output;
 mod program;
 mod repair_options;
 mod repair_report;
+mod replacements;
 mod replay;
 mod report;
 mod stop;

@@ -1,10 +1,11 @@
 //! The options of repairs.
+use retro_keep::Edit;
 
 /// How a log is to be repaired.
-#[derive(Debug, Drop)]
+#[derive(Drop)]
 pub(crate) struct RepairOptions {
-    /// The numbers of the lines to cancel. A number may be there twice.
-    pub(crate) cancel: Vec<u32>,
+    /// The edits of lines.
+    pub(crate) edits: Vec<Edit>,
     /// The number of threads beside the first one.
     pub(crate) workers: usize,
     /// The numbers of lines of the pieces. The last one is that of all further pieces.

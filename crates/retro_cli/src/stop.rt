@@ -13,8 +13,11 @@ use retro_tree::NoMem;
 /// The number of the refusal of a bad command line.
 pub const BAD_WORDS: u8 = 31;
 
-/// The number of the refusal of a cancelled number that no line has.
+/// The number of the refusal of an edit of a number that no line has.
 pub(crate) const UNKNOWN_LINE: u8 = 21;
+
+/// The number of the refusal of two different edits of a line.
+pub(crate) const TWO_EDITS: u8 = 26;
 
 /// Why a run ends before its whole answer is written.
 #[derive(Clone, Copy, Debug, PartialEq, Eq)]
@@ -65,7 +68,8 @@ impl From<EditFault> for Stop {
     fn from(fault: EditFault) -> Stop {
         match fault {
             EditFault::NoMem => Stop::NoMem,
-            EditFault::UnknownLine(_) => Stop::Refused(UNKNOWN_LINE),
+            EditFault::TwoEdits(_) => Stop::Refused(TWO_EDITS),
+            EditFault::NoSuchLine(_) => Stop::Refused(UNKNOWN_LINE),
         }
     }
 }

@@ -1,26 +1,31 @@
 //! The request that the words of the command line make, as `clap` reads them.
-ghost use Rattle.std.specs.Prelude.{◌≡◌, ◌∷◌, [], false, map, option_and_then, option_map, IfOk};
+ghost use Rattle.std.specs.Prelude.{◌≡◌, [], false, map, option_and_then, option_map, IfOk};
 ghost use Rattle.std.specs.Prelude.{string_bytes};
 ghost use Rattle.clap.specs.Words.{app_of, rule_of};
 ghost use Rattle.clap.specs.declared.builder.command.Command.TheViews.{out-Command as fields_of};
+ghost use Rattle.retro_keep.specs.declared.edit.Edit.TheVariants as edits;
 ghost use Rattle.retro_cli.specs.Numbers.{list_in, number_in};
-ghost use Rattle.retro_cli.specs.Words.{option, cancel, repair_options, command, bare, program};
-ghost use Rattle.retro_cli.specs.Words.{call_in, call_view, options_of, options_view};
-ghost use Rattle.retro_cli.specs.Words.{request_of, request_view, request_in, Means};
+ghost use Rattle.retro_cli.specs.Replacements.{replacements_in};
+ghost use Rattle.retro_cli.specs.Words.{option, edit_options, repair_options, command, bare, program};
+ghost use Rattle.retro_cli.specs.Words.{call_in, call_view, edits_of, options_of, options_view};
+ghost use Rattle.retro_cli.specs.Words.{request_of, request_view, request_in, words_fault, Means};
 ghost use Rattle.retro_cli.specs.declared.words.WordsFault.TheVariants as faults;
 
 use crate::numbers::{list_of, number_of};
 use crate::repair_options::RepairOptions;
+use crate::replacements::replacements_of;
 use clap::error::ErrorKind;
 use clap::{Arg, ArgAction, Command};
+use retro_json::LogFault;
+use retro_keep::Edit;
 use retro_tree::NoMem;
 use std::alloc::{AllocFailed, Global};
 
 /// What the program is asked to do.
-#[derive(Debug, Drop)]
+#[derive(Drop)]
 pub(crate) enum Request {
-    /// Run the lines of a script, without the lines that have these numbers.
-    Replay { cancel: Vec<u32> },
+    /// Run the edited lines of a script.
+    Replay { edits: Vec<Edit> },
     /// Record the lines of a script.
     Record,
     /// Check whether a log is a recording of its lines.
@@ -48,6 +53,17 @@ impl From<NoMem> for WordsFault {
     }
 }
 
+impl From<LogFault> for WordsFault {
+    ghost from_gives = { λ fault e. e ≡ words_fault fault };
+
+    fn from(fault: LogFault) -> WordsFault {
+        match fault {
+            LogFault::NoMem => WordsFault::NoMem,
+            LogFault::Refused(_) => WordsFault::BadWords,
+        }
+    }
+}
+
 impl<T: Drop> From<AllocFailed<T>> for WordsFault {
     ghost from_gives = { λ _ e. e ≡ faults.NoMem };
 
@@ -62,6 +78,7 @@ impl<T: Drop> From<AllocFailed<T>> for WordsFault {
 struct CommandCall<'a> {
     name: &'a str,
     cancel: Option<&'a str>,
+    replace: Option<&'a str>,
     workers: Option<&'a str>,
     cuts: Option<&'a str>,
 }
@@ -77,22 +94,25 @@ fn value_option<'a>(alloc: Global, name: &'a str, default: &'a str) -> Arg<'a>
         .default_value(default)
 }
 
-/// Returns a command that has the option `--cancel`, which is empty by default.
-fn cancelling_command<'a>(alloc: Global, name: &'a str) -> Result<Command<'a>, NoMem>
+/// Returns a command that has the options `--cancel` and `--replace`. By default they edit no line.
+fn editing_command<'a>(alloc: Global, name: &'a str) -> Result<Command<'a>, NoMem>
     ensures shape { IfOk result (λ c.
-        app_of c ≡ record { top = command name.entry.now (cancel ∷ []); subs = [] }) }
+        app_of c ≡ record { top = command name.entry.now edit_options; subs = [] }) }
     ensures local { IfOk result (λ c. (fields_of c).has_globals ≡ false) }
 {
-    Command::new(alloc, name).arg(value_option(alloc, "cancel", ""))
+    Command::new(alloc, name)
+        .arg(value_option(alloc, "cancel", ""))?
+        .arg(value_option(alloc, "replace", "[]"))
 }
 
-/// Returns a command that has the options of a repair: `--cancel`, `--workers` and `--cuts`.
+/// Returns a command that has the options of a repair: `--cancel`, `--replace`, `--workers` and
+/// `--cuts`.
 fn repairing_command<'a>(alloc: Global, name: &'a str) -> Result<Command<'a>, NoMem>
     ensures shape { IfOk result (λ c.
         app_of c ≡ record { top = command name.entry.now repair_options; subs = [] }) }
     ensures local { IfOk result (λ c. (fields_of c).has_globals ≡ false) }
 {
-    cancelling_command(alloc, name)?
+    editing_command(alloc, name)?
         .arg(value_option(alloc, "workers", "0"))?
         .arg(value_option(alloc, "cuts", "64"))
 }
@@ -121,7 +141,7 @@ fn program_command<'a>(alloc: Global) -> Result<Command<'a>, NoMem>
     ensures { IfOk result (λ c. app_of c ≡ program) }
 {
     bare_command(alloc)
-        .subcommand(cancelling_command(alloc, "replay")?)?
+        .subcommand(editing_command(alloc, "replay")?)?
         .subcommand(plain_command(alloc, "record"))?
         .subcommand(plain_command(alloc, "check"))?
         .subcommand(repairing_command(alloc, "repair")?)?
@@ -139,6 +159,7 @@ fn read_call<'a>(alloc: Global, words: &'a [String]) -> Result<CommandCall<'a>, 
             Some((name, inner)) => Ok(CommandCall {
                 name,
                 cancel: inner.get_str("cancel"),
+                replace: inner.get_str("replace"),
                 workers: inner.get_str("workers"),
                 cuts: inner.get_str("cuts"),
             }),
@@ -163,6 +184,41 @@ fn list_option(alloc: Global, text: Option<&str>) -> Result<Vec<u32>, WordsFault
     }
 }
 
+/// Returns the replacements that an option lists. Fails with `BadWords` if the command doesn't have
+/// the option, or if its text isn't a list of replacements.
+fn replacements_option(alloc: Global, text: Option<&str>) -> Result<Vec<Edit>, WordsFault>
+    ensures { Means (λ v. v.items) result
+        (option_and_then replacements_in (option_map (λ s. s.now) text.entry)) }
+{
+    match text {
+        Some(text) => replacements_of(alloc, text),
+        None => Err(WordsFault::BadWords),
+    }
+}
+
+/// Returns the edits that leave out the lines with these numbers.
+fn cancellations(alloc: Global, cancel: &[u32]) -> Result<Vec<Edit>, NoMem>
+    ensures { IfOk result (λ v. v.items ≡ map edits.Cancel cancel.now) }
+{
+    let mut found = Vec::new(alloc);
+    for number in cancel {
+        found.push(Edit::Cancel(*number))?;
+    }
+    Ok(found)
+}
+
+/// Returns the edits of lines: of those that are left out, and then of those whose text is replaced.
+/// Fails with `BadWords` if the command has no such options, or if one is malformed.
+fn edits_of(alloc: Global, call: &CommandCall<'_>) -> Result<Vec<Edit>, WordsFault>
+    ensures { Means (λ v. v.items) result (edits_of (call_view call.now)) }
+{
+    let cancel = list_option(alloc, call.cancel)?;
+    let mut replacements = replacements_option(alloc, call.replace)?;
+    let mut edits = cancellations(alloc, &cancel)?;
+    edits.append(&mut replacements)?;
+    Ok(edits)
+}
+
 /// Returns the number of an option. Fails with `BadWords` if the command doesn't have the option,
 /// or if its text isn't a number.
 fn number_option(text: Option<&str>) -> Result<u32, WordsFault>
@@ -177,7 +233,7 @@ fn options_of(alloc: Global, call: &CommandCall<'_>) -> Result<RepairOptions, Wo
     ensures { Means options_view result (options_of (call_view call.now)) }
 {
     Ok(RepairOptions {
-        cancel: list_option(alloc, call.cancel)?,
+        edits: edits_of(alloc, call)?,
         workers: number_option(call.workers)? as usize,
         cuts: list_option(alloc, call.cuts)?,
     })
@@ -194,7 +250,7 @@ pub(crate) fn read_words(alloc: Global, words: &[String]) -> Result<Request, Wor
     let call = read_call(alloc, words)?;
     match call.name {
         "replay" => Ok(Request::Replay {
-            cancel: list_option(alloc, call.cancel)?,
+            edits: edits_of(alloc, &call)?,
         }),
         "record" => Ok(Request::Record),
         "check" => Ok(Request::Check),

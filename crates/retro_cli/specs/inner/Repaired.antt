@@ -1,6 +1,6 @@
 -- The repair of a log.
 use Rattle.std.specs.Prelude.{◌≡◌, List, ℕ, Ok}
-use Rattle.retro_keep.specs.Edit.{is_among}
+use Rattle.retro_keep.specs.Edit.{edit_of}
 use Rattle.retro_keep.specs.Recording.{RecordingValue, IsRecordingOf, script_in}
 use Rattle.retro_log.specs.Document.{log_in}
 use Rattle.retro_redo.specs.Repair.{IsRepair}
@@ -13,5 +13,5 @@ use Rattle.retro_cli.specs.Words.{RepairOptions}
 pub record IsRepairOf (options : RepairOptions) (input : List ℕ) (repair : Repair) : Type 0 where
   pub recording : RecordingValue
   pub is_log : log_in input ≡ Ok recording
-  pub accepted : IsAccepted options.workers options.cuts options.cancel recording
-  pub is_repair : IsRecordingOf (script_in recording) recording → IsRepair (is_among options.cancel) recording repair
+  pub accepted : IsAccepted options.workers options.cuts options.edits recording
+  pub is_repair : IsRecordingOf (script_in recording) recording → IsRepair (edit_of options.edits) recording repair

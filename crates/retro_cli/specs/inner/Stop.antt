@@ -1,15 +1,15 @@
 -- What stops a run, by the faults of its parts.
 use Rattle.std.specs.Prelude.{◌≡◌, ℕ, Option, Some, None, Result, Ok, Err}
 use Rattle.retro_tree.specs.OutOfMemory.{UnlessOutOfMemory}
-use Rattle.retro_keep.specs.declared.script.EditFault.{EditFault}
-use Rattle.retro_keep.specs.declared.script.EditFault.TheVariants as edits
+use Rattle.retro_keep.specs.declared.edit_fault.EditFault.{EditFault}
+use Rattle.retro_keep.specs.declared.edit_fault.EditFault.TheVariants as edits
 use Rattle.retro_json.specs.Numbers.{refusal_number}
 use Rattle.retro_json.specs.declared.fault.LogFault.{LogFault}
 use Rattle.retro_json.specs.declared.fault.LogFault.TheVariants as documents
 use Rattle.retro_redo.specs.RepairFault.{fault_number}
 use Rattle.retro_redo.specs.declared.repair_fault.RepairFault.{RepairFault}
 use Rattle.retro_redo.specs.declared.repair_fault.RepairFault.TheVariants as repairs
-use Rattle.retro_cli.specs.declared.stop.TheConstants.{BAD_WORDS, UNKNOWN_LINE}
+use Rattle.retro_cli.specs.declared.stop.TheConstants.{BAD_WORDS, TWO_EDITS, UNKNOWN_LINE}
 use Rattle.retro_cli.specs.declared.stop.Stop.{Stop}
 use Rattle.retro_cli.specs.declared.stop.Stop.TheVariants as stops
 use Rattle.retro_cli.specs.declared.words.WordsFault.{WordsFault}
@@ -25,9 +25,11 @@ stop_of_document (documents.Refused refusal) = stops.Refused (refusal_number ref
 
 abbrev pub stop_of_edit : EditFault → Stop
 stop_of_edit edits.NoMem = stops.NoMem
-stop_of_edit (edits.UnknownLine number) = stops.Refused UNKNOWN_LINE
+stop_of_edit (edits.TwoEdits number) = stops.Refused TWO_EDITS
+stop_of_edit (edits.NoSuchLine number) = stops.Refused UNKNOWN_LINE
 
 abbrev pub stop_of_repair : RepairFault → Stop
+stop_of_repair (repairs.TwoEdits number) = stops.Refused (fault_number (repairs.TwoEdits number))
 stop_of_repair (repairs.NoSuchLine number) = stops.Refused (fault_number (repairs.NoSuchLine number))
 stop_of_repair repairs.NoCut = stops.Refused (fault_number repairs.NoCut)
 stop_of_repair repairs.TooManyWorkers = stops.Refused (fault_number repairs.TooManyWorkers)

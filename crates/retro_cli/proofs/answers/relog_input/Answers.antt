@@ -5,7 +5,7 @@ pub returns-clause-ok : goal.returns-clause-ok
 returns-clause-ok g c = record {
   recording = c.in_ok-repair.ensures.ok.recording;
   is_log = c.in_ok-repair.ensures.ok.is_log;
-  known = c.in_ok-repair.ensures.ok.accepted.known;
+  accepted = c.in_ok-repair.ensures.ok.accepted.edits_are;
   repaired = c.in_ok-repair.repair.recording;
   is_text = search rules;
   is_recording = λ h. (c.in_ok-repair.ensures.ok.is_repair h).recording_is;

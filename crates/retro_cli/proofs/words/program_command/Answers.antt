@@ -1,7 +1,7 @@
-use Rattle.std.proofs.Common.{ap, ap₂, codes, [], ◌∷◌, ◌≡◌, ◌∙◌}
+use Rattle.std.proofs.Common.{ap, ap₂, codes, ◌≡◌, ◌∙◌}
 use Rattle.std.proofs.lemmas.Result.{IfOk-weaker}
 use Rattle.clap.specs.Words.{App, Shape, app_of, with_subcommand}
-use Rattle.retro_cli.specs.Words.{bare, cancel, script_program, with_command}
+use Rattle.retro_cli.specs.Words.{bare, edit_options, script_program, with_command}
 use Rattle.retro_cli.proofs.words.program_command.Goals as goal
 
 abbrev top : App → Shape
@@ -9,9 +9,9 @@ top a = a.top
 
 pub returns : goal.returns
 returns c =
-    let one : app_of c.in_ok-subcommand.field-0 ≡ with_command bare (codes "replay") (cancel ∷ []) =
-    c.in_ok-subcommand.ensures.shape c.in_ok-cancelling_command.ensures.local
-    ∙ ap₂ with_subcommand c.bare_command.ensures (ap top c.in_ok-cancelling_command.ensures.shape) in
+    let one : app_of c.in_ok-subcommand.field-0 ≡ with_command bare (codes "replay") edit_options =
+    c.in_ok-subcommand.ensures.shape c.in_ok-editing_command.ensures.local
+    ∙ ap₂ with_subcommand c.bare_command.ensures (ap top c.in_ok-editing_command.ensures.shape) in
     let two : app_of c.in_ok-subcommand-2.field-0 ≡ script_program =
     c.in_ok-subcommand-2.ensures.shape c.plain_command.ensures.local
     ∙ ap₂ with_subcommand one (ap top c.plain_command.ensures.shape) in
