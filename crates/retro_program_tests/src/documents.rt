@@ -1,8 +1,8 @@
 //! Documents, and the scripts and recordings that they are.
-use retro_keep::{EditFault, Script, ScriptLine};
+use retro_keep::{Edit, EditFault, Script, ScriptLine};
 use retro_log::{LogFault, read_log, read_script, sessions_value, tree_value};
-use retro_rows::{fail, numbers, text};
-use retro_tree::{NoMem, State};
+use retro_rows::{fail, numbered, text};
+use retro_tree::{NoMem, State, Text};
 use std::alloc::Global;
 use std::test::Fail;
 
@@ -140,12 +140,18 @@ fn push_line(alloc: Global, out: &mut String, line: &ScriptLine) -> Result<(), N
     out.push_str(&format!(in alloc; " {} {} {text}", line.number, line.sid)?)
 }
 
+/// Appends the lines of a script.
+fn push_lines(alloc: Global, out: &mut String, script: &Script) -> Result<(), NoMem> {
+    for line in script.lines() {
+        push_line(alloc, out, line)?;
+    }
+    Ok(())
+}
+
 /// Returns the first state of a script as documents have it, and its lines.
 fn script_text(alloc: Global, script: &Script) -> Result<String, NoMem> {
     let mut out = state_text(alloc, script.first())?;
-    for line in script.lines() {
-        push_line(alloc, &mut out, line)?;
-    }
+    push_lines(alloc, &mut out, script)?;
     Ok(out)
 }
 
@@ -155,34 +161,39 @@ pub fn written(alloc: Global, document: &str) -> Result<String, Fail> {
     Ok(script_text(alloc, &script)?)
 }
 
-/// Appends a number with a space.
-fn push_number(alloc: Global, out: &mut String, number: u32) -> Result<(), NoMem> {
-    out.push_str(&format!(in alloc; "{number} ")?)
-}
-
-/// Returns the numbers of a script's lines.
-fn numbers_text(alloc: Global, script: &Script) -> Result<String, NoMem> {
-    let mut out = String::new(alloc);
-    for line in script.lines() {
-        push_number(alloc, &mut out, line.number)?;
-    }
+/// Returns the lines of a script.
+fn lines_text(alloc: Global, script: &Script) -> Result<String, NoMem> {
+    let mut out = text(alloc, "lines")?;
+    push_lines(alloc, &mut out, script)?;
     Ok(out)
 }
 
-/// Returns the numbers of a script's lines without the cancelled ones, or refusal 21 and the number
-/// that no line has.
-fn edited_text(alloc: Global, script: Script, cancel: &[u32]) -> Result<String, NoMem> {
-    match script.without(alloc, cancel) {
-        Ok(script) => numbers_text(alloc, &script),
-        Err(EditFault::UnknownLine(number)) => format!(in alloc; "21 {number}"),
+/// Returns the edits of a list: numbers of lines that are left out, and numbers with a text.
+fn edits(alloc: Global, list: &str) -> Result<Vec<Edit>, Fail> {
+    let mut edits = Vec::new(alloc);
+    for (number, line) in numbered(alloc, list)? {
+        edits.push(match line {
+            None => Edit::Cancel(number),
+            Some(line) => Edit::Replace(number, Text::of(line)),
+        })?;
+    }
+    Ok(edits)
+}
+
+/// Returns the edited lines of a script, or the number of the refusal with that of the line.
+fn edited_text(alloc: Global, script: Script, edits: &[Edit]) -> Result<String, NoMem> {
+    match script.edit(alloc, edits) {
+        Ok(script) => lines_text(alloc, &script),
+        Err(EditFault::TwoEdits(number)) => format!(in alloc; "26 {number}"),
+        Err(EditFault::NoSuchLine(number)) => format!(in alloc; "21 {number}"),
         Err(EditFault::NoMem) => Err(NoMem),
     }
 }
 
-/// Returns the numbers of a document's lines without the cancelled ones, or refusal 21 and the
-/// number that no line has.
-pub fn without(alloc: Global, document: &str, given: &str) -> Result<String, Fail> {
-    let numbers = numbers(alloc, given)?;
+/// Returns the edited lines of a document's script, or the number of the refusal with that of the
+/// line.
+pub fn edited(alloc: Global, document: &str, list: &str) -> Result<String, Fail> {
+    let edits = edits(alloc, list)?;
     let script = script_of(alloc, document)?;
-    Ok(edited_text(alloc, script, &numbers)?)
+    Ok(edited_text(alloc, script, &edits)?)
 }

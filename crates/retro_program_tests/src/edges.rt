@@ -1,6 +1,6 @@
 //! The program's edges: readers and writers that fail, and large inputs.
 use crate::programs::words;
-use crate::tables::EMPTY;
+use crate::tables::{EMPTY, input_named};
 use retro_cli::{Exit, Input, Output, run_with};
 use retro_rows::text;
 use retro_tree::NoMem;
@@ -119,15 +119,19 @@ fn replay<T: Threads + Sync + AllocGlobal, R: Read, W: Write>(
     run_with(rt, words, &mut Input::new(reader), &mut Output::new(writer))
 }
 
-/// Runs the program on the empty script, with a reader and a writer that fail at these calls.
-/// Returns the exit, how often each was called, and what was written.
+/// What the program is run on: words, and an input.
+type Given<'a> = (&'a str, &'a str);
+
+/// Runs the program with a reader and a writer that fail at these calls. Returns the exit, how often
+/// each was called, and what was written.
 fn run_edges<T: Threads + Sync + AllocGlobal>(
     rt: &T,
+    (given, input): Given<'_>,
     (reads, kind): (u32, ErrorKind),
     (writes, failure): (u32, Failure),
 ) -> Result<(Exit, u32, u32, Vec<u8>), NoMem> {
-    let words = words(rt.alloc(), "retro replay")?;
-    let mut reader = Drip::new(EMPTY.as_bytes(), reads, kind);
+    let words = words(rt.alloc(), given)?;
+    let mut reader = Drip::new(input.as_bytes(), reads, kind);
     let mut writer = Sip::new(rt.alloc(), writes, failure);
     let exit = replay(rt, &words, &mut reader, &mut writer);
     Ok((exit, reader.calls, writer.calls, writer.held))
@@ -136,55 +140,93 @@ fn run_edges<T: Threads + Sync + AllocGlobal>(
 /// Returns whether a run ends at a call that fails to read, and writes nothing.
 fn is_unread<T: Threads + Sync + AllocGlobal>(
     rt: &T,
+    given: Given<'_>,
     call: u32,
     kind: ErrorKind,
 ) -> Result<bool, NoMem> {
-    let (exit, reads, writes, _) = run_edges(rt, (call, kind), (NEVER, Failure::Nothing))?;
+    let (exit, reads, writes, _) = run_edges(rt, given, (call, kind), (NEVER, Failure::Nothing))?;
     Ok(exit == Exit::ReadFailed && reads == call.wrapping_add(1) && writes == 0)
+}
+
+/// Returns a number of calls.
+fn count(calls: usize) -> u32 {
+    u32::try_from(calls).unwrap_or(NEVER)
+}
+
+/// Returns the first call of a run whose failure to read doesn't end it, or `None`.
+fn unread_from<T: Threads + Sync + AllocGlobal>(
+    rt: &T,
+    given: Given<'_>,
+    kind: ErrorKind,
+) -> Result<Option<u32>, NoMem> {
+    for call in 0..=count(given.1.len()) {
+        if !is_unread(rt, given, call, kind)? {
+            return Ok(Some(call));
+        }
+    }
+    Ok(None)
 }
 
 #[test]
 fn a_failed_read_ends_the_run(rt: HostRuntime) -> Result<(), Fail> {
-    for kind in [ErrorKind::Other, ErrorKind::Interrupted] {
-        for call in 0..EMPTY.len() as u32 + 1 {
-            assert!(rt; is_unread(&rt, call, kind)?, "call {call}, {kind:?}");
+    for given in [
+        ("retro replay", EMPTY),
+        ("retro check", input_named("LOG")),
+        ("retro repair --cancel 1", input_named("LOG")),
+    ] {
+        for kind in [ErrorKind::Other, ErrorKind::Interrupted] {
+            assert_eq!(rt; unread_from(&rt, given, kind)?, None, "{kind:?}, {given:?}");
         }
     }
     Ok(())
 }
 
 /// Returns whether a run ends at a call that fails to write, and has written what comes before it.
-/// A run has no call after the last byte of the report.
+/// A run has no call after the last byte of the whole answer.
 fn is_unwritten<T: Threads + Sync + AllocGlobal>(
     rt: &T,
-    call: u32,
-    failure: Failure,
+    given: Given<'_>,
+    answer: &[u8],
+    (call, failure): (u32, Failure),
 ) -> Result<bool, NoMem> {
-    let (exit, _, writes, held) = run_edges(rt, (NEVER, ErrorKind::Other), (call, failure))?;
-    let (wanted, calls) = if call as usize == EMPTY_REPORT.len() {
+    let (exit, _, writes, held) = run_edges(rt, given, (NEVER, ErrorKind::Other), (call, failure))?;
+    let (wanted, calls) = if call as usize == answer.len() {
         (Exit::Done, call)
     } else {
         (Exit::WriteFailed, call.wrapping_add(1))
     };
-    Ok(
-        exit == wanted
-            && writes == calls
-            && Some(held.as_slice()) == EMPTY_REPORT.get(..call as usize),
-    )
+    Ok(exit == wanted && writes == calls && Some(held.as_slice()) == answer.get(..call as usize))
+}
+
+/// Returns the first call of a run whose failure to write doesn't end it as it should, or `None`.
+fn unwritten_from<T: Threads + Sync + AllocGlobal>(
+    rt: &T,
+    given: Given<'_>,
+    answer: &[u8],
+    failure: Failure,
+) -> Result<Option<u32>, NoMem> {
+    for call in 0..=count(answer.len()) {
+        if !is_unwritten(rt, given, answer, (call, failure))? {
+            return Ok(Some(call));
+        }
+    }
+    Ok(None)
 }
 
 #[test]
 fn a_failed_write_ends_the_run(rt: HostRuntime) -> Result<(), Fail> {
-    for failure in [
-        Failure::Error(ErrorKind::Other),
-        Failure::Error(ErrorKind::Interrupted),
-        Failure::Nothing,
+    let log = format!(in rt.alloc(); "{}\n", input_named("LOG"))?;
+    for (given, answer) in [
+        (("retro replay", EMPTY), EMPTY_REPORT),
+        (("retro record", input_named("PAIR")), log.as_bytes()),
     ] {
-        for call in 0..EMPTY_REPORT.len() as u32 + 1 {
-            assert!(rt;
-                is_unwritten(&rt, call, failure)?,
-                "call {call}, {failure:?}"
-            );
+        for failure in [
+            Failure::Error(ErrorKind::Other),
+            Failure::Error(ErrorKind::Interrupted),
+            Failure::Nothing,
+        ] {
+            let found = unwritten_from(&rt, given, answer, failure)?;
+            assert_eq!(rt; found, None, "{failure:?}, {given:?}");
         }
     }
     Ok(())

@@ -20,11 +20,38 @@ const AFTER_ENTRIES: &str = concat!(
     r#"],"sessions":[[1,"/h",0,[["HOME","/h"]]],[2,"/tmp",0,[["HOME","/tmp"]]]],"lines":["#,
 );
 
-/// Returns the words of a text, which spaces separate.
+/// Appends the words of a text, which spaces separate.
+fn push_words(alloc: Global, words: &mut Vec<String>, given: &str) -> Result<(), NoMem> {
+    for word in given.split(' ') {
+        words.push(text(alloc, word)?)?;
+    }
+    Ok(())
+}
+
+/// Appends the words of a text that begins with a word in quotes, without the first quote.
+fn push_quoted(alloc: Global, words: &mut Vec<String>, given: &str) -> Result<(), NoMem> {
+    match given.split_once('\'') {
+        Some((word, more)) => {
+            words.push(text(alloc, word)?)?;
+            match more.strip_prefix(" ") {
+                Some(more) => push_words(alloc, words, more),
+                None => Ok(()),
+            }
+        }
+        None => Ok(words.push(text(alloc, given)?)?),
+    }
+}
+
+/// Returns the words of a text. Spaces separate them, and one word may be in single quotes and have
+/// spaces itself.
 pub fn words(alloc: Global, given: &str) -> Result<Vec<String>, NoMem> {
     let mut words = Vec::new(alloc);
-    for word in given.split(' ') {
-        words.push(String::from_str(alloc, word)?)?;
+    match given.split_once(" '") {
+        Some((before, quoted)) => {
+            push_words(alloc, &mut words, before)?;
+            push_quoted(alloc, &mut words, quoted)?;
+        }
+        None => push_words(alloc, &mut words, given)?,
     }
     Ok(words)
 }

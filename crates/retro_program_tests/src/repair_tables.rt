@@ -1,4 +1,4 @@
-//! The table of the program's repairs; `retro_rows` says how it is written.
+//! The tables of the program's repairs; `retro_rows` says how they are written.
 
 /// Words, an input, and what the program answers; and words that are given in turn, each on what
 /// the ones before them wrote.
@@ -56,6 +56,66 @@ in turn: retro record :: retro repair --cancel 2,5 :: SHARED => 0 {"cancelled":[
   [6,"6f6e650a74776f0a74687265650a666f75720a","6f6e650a74687265650a"]],"met":[3,4,6],\
   "outputs":[[1,""],[3,""],[4,"6f6e650a74687265650a"],[6,"6f6e650a74687265650a"]],"redone":[4,6],\
   "sessions":[[1,"/",0,[]],[2,"/tmp",0,[]]],"tree":[["/tmp"],["/tmp/log","6f6e650a74687265650a"]]}
+"##;
+
+/// Words that replace lines, an input, and what the program answers.
+pub const REPLACED: &str = r##"
+with each: retro repair --replace '[[1,"echo bb > f"]]' :: --workers 1 :: --workers 3
+  :: --workers 16 --cuts 1 :: --cuts 2 :: --cancel= :: PAIR => 0 {"cancelled":[],"compensations":[[2,"610a","62620a"]],\
+  "met":[1,2],"outputs":[[1,""],[2,"62620a"]],"redone":[1,2],"sessions":[[1,"/",0,[]]],\
+  "tree":[["/f","62620a"]]}
+with each: retro relog --replace '[[1,"echo bb > f"]]' :: --workers 1 :: --workers 3
+  :: --workers 16 --cuts 1 :: --cuts 2 :: --cancel= :: PAIR => 0 {"lines":[[1,1,"echo bb > f",\
+  [["cwd","/"],["canwrite","/f",0,"yes"],["put","/f",["f",""]],["canwrite","/f",3,"yes"],\
+  ["grow","/f","62620a"],["setstatus",0]],""],[2,1,"cat f",[["cwd","/"],["bytes","/f",["f",\
+  "62620a"]],["setstatus",0]],"62620a"]],"log":1,"sessions":[[1,"/",0,[]]],"tree":[]}
+run: retro repair --replace '[[1,"echo a > f"]]' :: LOG => 0 {"cancelled":[],"compensations":[],\
+  "met":[1],"outputs":[[1,""],[2,"610a"]],"redone":[1],"sessions":[[1,"/",0,[]]],\
+  "tree":[["/f","610a"]]}
+run: retro repair --replace '[[1,"("]]' :: LOG => 0 {"cancelled":[],\
+  "compensations":[[1,"","73683a20756e737570706f72746564206c696e650a"],[2,"610a",\
+  "6361743a20663a204e6f20737563682066696c65206f72206469726563746f72790a"]],"met":[1,2],\
+  "outputs":[[1,"73683a20756e737570706f72746564206c696e650a"],\
+  [2,"6361743a20663a204e6f20737563682066696c65206f72206469726563746f72790a"]],"redone":[1,2],\
+  "sessions":[[1,"/",1,[]]],"tree":[]}
+run: retro repair --cancel 2 --replace '[[1,"echo bb > f"],[1,"echo bb > f"]]' :: LOG
+  => 0 {"cancelled":[2],"compensations":[[2,"610a",""]],"met":[1],"outputs":[[1,""]],"redone":[1],\
+  "sessions":[[1,"/",0,[]]],"tree":[["/f","62620a"]]}
+run: retro repair --replace [] :: LOG => 0 {"cancelled":[],"compensations":[],"met":[],\
+  "outputs":[[1,""],[2,"610a"]],"redone":[],"sessions":[[1,"/",0,[]]],"tree":[["/f","610a"]]}
+in turn: retro relog --replace '[[1,"echo bb > f"]]' :: retro check :: LOG => 0 yes
+run: retro repair --cancel 1 --replace [[1,"x"]] :: LOG => 1 retro: refused 26
+run: retro repair --replace [[9,"x"],[1,"x"],[1,"y"]] :: LOG => 1 retro: refused 26
+run: retro repair --replace [[9,"x"]] :: LOG => 1 retro: refused 21
+run: retro repair --replace [[0,"x"]] :: LOG => 1 retro: refused 21
+run: retro repair --replace [[4294967295,"x"]] :: LOG => 1 retro: refused 21
+run: retro repair --cuts 0 --cancel 1 --replace [[1,"x"]] :: LOG => 1 retro: refused 22
+run: retro repair --replace [[1,"x"]] :: [ => 1 retro: refused 12
+run: retro repair --replace [1] :: LOG => 1 retro: refused 31
+run: retro repair --replace [[1]] :: LOG => 1 retro: refused 31
+run: retro repair --replace [[1,"x",1]] :: LOG => 1 retro: refused 31
+run: retro repair --replace [["1","x"]] :: LOG => 1 retro: refused 31
+run: retro repair --replace [[1,2]] :: LOG => 1 retro: refused 31
+run: retro repair --replace [[-1,"x"]] :: LOG => 1 retro: refused 31
+run: retro repair --replace [[1.0,"x"]] :: LOG => 1 retro: refused 31
+run: retro repair --replace [[4294967296,"x"]] :: LOG => 1 retro: refused 31
+run: retro repair --replace {} :: LOG => 1 retro: refused 31
+run: retro repair --replace [[1,"x"]],[] :: LOG => 1 retro: refused 31
+run: retro repair --replace= :: LOG => 1 retro: refused 31
+run: retro repair --replace :: LOG => 1 retro: refused 31
+run: retro repair --replace [] --replace [] :: LOG => 1 retro: refused 31
+run: retro relog --cancel 1 --replace [[1,"x"]] :: LOG => 1 retro: refused 26
+run: retro relog --replace [[9,"x"]] :: LOG => 1 retro: refused 21
+run: retro relog --replace [1] :: LOG => 1 retro: refused 31
+run: retro replay --replace '[[1,"echo bb > f"]]' :: PAIR => 0 {"outputs":[[1,""],[2,"62620a"]],\
+  "sessions":[[1,"/",0,[]]],"tree":[["/f","62620a"]]}
+run: retro replay --cancel 2 --replace [[1,"("]] :: PAIR => 0 {"outputs":[[1,\
+  "73683a20756e737570706f72746564206c696e650a"]],"sessions":[[1,"/",2,[]]],"tree":[]}
+run: retro replay --cancel 1 --replace [[1,"x"],[9,"x"]] :: PAIR => 1 retro: refused 26
+run: retro replay --replace [[9,"x"]] :: PAIR => 1 retro: refused 21
+run: retro replay --replace [1] :: PAIR => 1 retro: refused 31
+run: retro record --replace [] :: PAIR => 1 retro: refused 31
+run: retro check --replace [] :: LOG => 1 retro: refused 31
 "##;
 
 /// Words for repairs with workers and cuts into pieces: what the program answers with each of some

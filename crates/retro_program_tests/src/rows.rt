@@ -1,8 +1,8 @@
 //! The call that each row names, and the test that makes these calls.
-use crate::documents::{log, log_fronts, logged, note, script, script_part, without, written};
+use crate::documents::{edited, log, log_fronts, logged, note, script, script_part, written};
 use crate::log_tables::{LOG_LINES, LOGS, NOTES};
 use crate::programs::{run, run_in_turn, run_with_each, shell};
-use crate::repair_tables::{OPTIONS, REPAIRS};
+use crate::repair_tables::{OPTIONS, REPAIRS, REPLACED};
 use crate::tables::{DOCUMENTS, PROGRAMS, SHELL};
 use retro_rows::rows;
 use retro_tree::NoMem;
@@ -30,7 +30,7 @@ fn called<T: Threads + Sync + AllocGlobal>(
     given: &[String],
 ) -> Result<String, Fail> {
     match (call, given) {
-        ("without", [lines, numbers]) => without(rt.alloc(), lines, numbers),
+        ("edited", [document, list]) => edited(rt.alloc(), document, list),
         ("written", [document]) => written(rt.alloc(), document),
         ("shell", [entries, lines @ ..]) => shell(rt, entries, lines),
         ("run", [words, input]) => run(rt, words, input),
@@ -60,7 +60,7 @@ fn rows_hold(rt: HostRuntime) -> Result<(), Fail> {
 
 #[test]
 fn rows_of_repairs_hold(rt: HostRuntime) -> Result<(), Fail> {
-    for table in [REPAIRS, OPTIONS] {
+    for table in [REPAIRS, REPLACED, OPTIONS] {
         hold(&rt, table)?;
     }
     Ok(())

@@ -189,10 +189,23 @@ lines: [[2,1,""],[2,1,""]] => 8
 lines: [[1,2,""]] => 9
 lines: [[1,1,""],[4294967295,1,""]] => script
 
-given: {"script":1,"tree":[],"sessions":[[1,"/",0,[]]],"lines":[[1,1,""],[7,1,""]]}
-- without: 7 7 => 1 %(EMPTY)
-- without: 7 1 => %(EMPTY)
-- without: 1 2 7 3 => 21 2
+given: {"script":1,"tree":[],"sessions":[[1,"/",0,[]],[2,"/",0,[]]],\
+  "lines":[[1,1,"a"],[5,2,"b"],[7,1,"c"]]}
+- edited: %(EMPTY) => lines 1 1 a 5 2 b 7 1 c
+- edited: 7 7 => lines 1 1 a 5 2 b
+- edited: 7 5 1 => lines
+- edited: 5=b c => lines 1 1 a 5 2 b c 7 1 c
+- edited: 7, 5=d, 7 => lines 1 1 a 5 2 d
+- edited: 5=d, 7=, 5=d => lines 1 1 a 5 2 d 7 1 %(EMPTY)
+- edited: 1=%(x*4097), 5 7 => lines 1 1 %(x*4097)
+- edited: 1 9 5 3 => 21 3
+- edited: 9=a, 3=b => 21 3
+- edited: 0 => 21 0
+- edited: 7 5 1, 7=c, 1=d, 5 => 26 1
+- edited: 7=c, 1 5, 7=d => 26 7
+- edited: 5=b, 5=d, 5=b => 26 5
+- edited: 3 5, 5=b => 26 5
+- edited: 9=a, 9=b, 3, 5 => 26 9
 
 written: {"script":1,"tree":[["/a/b","4A"],["/a"]],"lines":[],"sessions":[[2,"/a",7,[["y","é"],\
   ["x",""]]],[1,"/",0,[]]]} => [["/a"],["/a/b","4a"]] [[1,"/",0,[]],[2,"/a",7,[["x",""],["y","é"]]]]

@@ -3,6 +3,7 @@ ghost use Rattle.std.specs.Prelude.{◌≡◌, Some};
 ghost use Rattle.retro_redo.specs.Progress.{next_number};
 
 use crate::steps::{overlay_text, settle_below};
+use retro_keep::Edit;
 use retro_redo::{Ground, Repairer};
 use retro_rows::{fail, path, text, utf8, value_text};
 use retro_shell::{Run, run_line};
@@ -44,7 +45,7 @@ pub fn shown(
 }
 
 /// Returns the overlay of a ground, how many lines its recording has, which lines its history says
-/// wrote a path, and whether the line with a number is cancelled.
+/// wrote a path, and whether the line with a number is edited.
 fn ground_text(
     alloc: Global,
     ground: &Ground<'_, '_>,
@@ -58,8 +59,10 @@ fn ground_text(
     for writer in ground.history().written_by(&cell) {
         out.push_str(&format!(in alloc; " {writer}")?)?;
     }
-    if ground.is_cancelled(number) {
-        out.push_str(", cancelled")?;
+    match ground.edits().get(number) {
+        Some(Edit::Cancel(_)) => out.push_str(", cancelled")?,
+        Some(Edit::Replace(_, _)) => out.push_str(", replaced")?,
+        None => {}
     }
     Ok(out)
 }
@@ -80,7 +83,9 @@ fn guess(alloc: Global, ground: &Ground<'_, '_>, number: u32) -> Result<Run, Fai
     match ground.recording().run_of(number) {
         Some(noted) => {
             let view = ground.view(number);
-            Ok(run_line(alloc, &view, noted.sid, noted.text.as_str())?)
+            let edited = ground.edits().text_run(number, &noted.text);
+            let text = edited.unwrap_or(&noted.text);
+            Ok(run_line(alloc, &view, noted.sid, text.as_str())?)
         }
         None => fail("no line"),
     }
@@ -118,9 +123,9 @@ pub fn guessed(
     }
 }
 
-/// Returns the numbers of the lines up to an index that use a cell in which the states differ
-/// before a line.
-pub fn meetings(
+/// Returns the numbers of the lines up to an index that are edited or use a cell in which the states
+/// differ before a line.
+pub fn stops_until(
     alloc: Global,
     repairer: &mut Repairer<'_, '_>,
     from: u32,
@@ -132,7 +137,7 @@ pub fn meetings(
         return fail("no such index");
     }
     let mut out = text(alloc, "lines")?;
-    for number in repairer.meetings_until(alloc, end)?.iter() {
+    for number in repairer.stops_until(alloc, end)?.iter() {
         out.push_str(&format!(in alloc; " {number}")?)?;
     }
     Ok(out)

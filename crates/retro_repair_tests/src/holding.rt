@@ -1,6 +1,7 @@
 //! That two threads run guesses at the same time.
 use crate::recordings::recording;
 use crate::rounds::tally_text;
+use retro_keep::Edit;
 use retro_redo::{Gate, Turn};
 use retro_rounds::repair;
 use retro_rows::fail;
@@ -58,8 +59,8 @@ fn two_guesses_run_at_once(rt: HostRuntime) -> Result<(), Fail> {
         seen: AtomicBool::new(false),
     };
     let cuts: [u32; 2] = [1, 4];
-    let cancel: [u32; 1] = [1];
-    let Ok(repair) = repair(&rt, alloc, &recording, &cancel, 2, &cuts, &holding) else {
+    let edits: [Edit; 1] = [Edit::Cancel(1)];
+    let Ok(repair) = repair(&rt, alloc, &recording, &edits, 2, &cuts, &holding) else {
         return fail("refused");
     };
     assert_eq!(rt; holding.seen.load(Ordering::SeqCst), true);

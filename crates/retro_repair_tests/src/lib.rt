@@ -1,7 +1,9 @@
-//! Tests of repairs. The rows have the lines of two sessions, the cancelled ones, and what the
-//! repair of their recording answers.
+//! Tests of repairs. The rows have the lines of two sessions, their edits, and what the repair of
+//! their recording answers.
 #![tactic(auto)]
 
+#[cfg(test)]
+mod edits;
 #[cfg(test)]
 mod grounds;
 #[cfg(test)]

@@ -1,4 +1,5 @@
 //! Repairs in rounds: their refusals, their tallies, and which lines they execute.
+use crate::edits::edits;
 use crate::telling::fault_text;
 use crate::watch::Watch;
 use retro_keep::Recording;
@@ -14,8 +15,8 @@ use std::thread::Threads;
 /// How a repair in rounds is asked for.
 #[derive(Drop)]
 pub struct Ask<'a> {
-    /// The numbers of the cancelled lines.
-    pub cancel: &'a str,
+    /// The edits.
+    pub edits: &'a str,
     /// Numbers of workers.
     pub workers: &'a str,
     /// The numbers of lines of the pieces.
@@ -53,10 +54,10 @@ fn rounds_with<T: Threads + Sync + AllocGlobal>(
     workers: usize,
 ) -> Result<String, Fail> {
     let alloc = rt.alloc();
-    let cancel = list(alloc, ask.cancel)?;
+    let edits = edits(alloc, ask.edits)?;
     let cuts = list(alloc, ask.cuts)?;
     let watch = Watch::new(alloc, 9)?;
-    match repair(rt, alloc, recording, &cancel, workers, &cuts, &watch) {
+    match repair(rt, alloc, recording, &edits, workers, &cuts, &watch) {
         Ok(repair) => {
             let counts = tally_text(alloc, &repair.tally)?;
             let executed = watch.executions(alloc)?;
@@ -96,10 +97,10 @@ pub fn repaired_in_rounds<T: Threads + Sync + AllocGlobal>(
     ask: &Ask<'_>,
 ) -> Result<Repair, Fail> {
     let alloc = rt.alloc();
-    let cancel = list(alloc, ask.cancel)?;
+    let edits = edits(alloc, ask.edits)?;
     let cuts = list(alloc, ask.cuts)?;
     let workers = ask.workers.parse()?;
-    let Ok(repair) = repair(rt, alloc, recording, &cancel, workers, &cuts, &Quiet) else {
+    let Ok(repair) = repair(rt, alloc, recording, &edits, workers, &cuts, &Quiet) else {
         return fail("refused in rounds");
     };
     if check(alloc, &repair.recording)? {

@@ -1,31 +1,32 @@
 //! The call that each row names, and the test that makes these calls.
-use crate::grounds::{guessed, lent, meetings, shown};
+use crate::edits::edits;
+use crate::grounds::{guessed, lent, shown, stops_until};
 use crate::recordings::recording;
 use crate::rounds::{Ask, repaired_in_rounds, rounds};
 use crate::steps::{steps, stops};
-use crate::tables::{GROUNDS, IN_TURN, INCIDENTS, ROUNDS, STEPS};
+use crate::tables::{GROUNDS, IN_TURN, INCIDENTS, REPLACED, ROUNDS, STEPS};
 use crate::telling::{compensations, end, fault_text, file, lines, outputs};
 use crate::watch::Watch;
 use retro_history::History;
-use retro_keep::Recording;
+use retro_keep::{Edit, Recording};
 use retro_log::check;
 use retro_redo::{Repair, RepairFault, Repairer, repair_alone, repair_watched};
-use retro_rows::{Row, fail, numbers, path, rows, text};
+use retro_rows::{Row, fail, path, rows, text};
 use std::alloc::{AllocGlobal, Global};
 use std::test::Fail;
 use std::thread::Threads;
 
-/// Repairs a recording without some lines. Fails if the repair is refused.
-fn repair_without(alloc: Global, recording: &Recording, cancel: &[u32]) -> Result<Repair, Fail> {
-    match repair_alone(alloc, recording, cancel) {
+/// Repairs a recording with edited lines. Fails if the repair is refused.
+fn repair_edited(alloc: Global, recording: &Recording, edits: &[Edit]) -> Result<Repair, Fail> {
+    match repair_alone(alloc, recording, edits) {
         Ok(repair) => Ok(repair),
         Err(_) => fail("refused"),
     }
 }
 
-/// Repairs a recording without some lines. Fails if `check` refuses the repair's own recording.
+/// Repairs a recording with edited lines. Fails if `check` refuses the repair's own recording.
 fn repaired(alloc: Global, recording: &Recording, list: &str) -> Result<Repair, Fail> {
-    let repair = repair_without(alloc, recording, &numbers(alloc, list)?)?;
+    let repair = repair_edited(alloc, recording, &edits(alloc, list)?)?;
     if check(alloc, &repair.recording)? {
         Ok(repair)
     } else {
@@ -40,9 +41,9 @@ fn repaired_recording(alloc: Global, recording: &Recording, list: &str) -> Resul
 
 /// Returns which lines a repair executes, each with its turn.
 fn executed(alloc: Global, recording: &Recording, list: &str) -> Result<String, Fail> {
-    let cancel = numbers(alloc, list)?;
+    let edits = edits(alloc, list)?;
     let watch = Watch::new(alloc, 9)?;
-    match repair_watched(alloc, recording, &cancel, &watch) {
+    match repair_watched(alloc, recording, &edits, &watch) {
         Ok(_) => Ok(watch.executions(alloc)?),
         Err(_) => fail("refused"),
     }
@@ -75,7 +76,7 @@ fn stepped(
             shown(alloc, repairer, from.parse()?, number.parse()?, at)
         }
         ("guessed", [from, number]) => guessed(alloc, repairer, from.parse()?, number.parse()?),
-        ("meetings", [from, end]) => meetings(alloc, repairer, from.parse()?, end.parse()?),
+        ("stops until", [from, end]) => stops_until(alloc, repairer, from.parse()?, end.parse()?),
         _ => fail("no such call"),
     }
 }
@@ -103,10 +104,10 @@ fn by_steps(
     given: &[String],
 ) -> Result<String, Fail> {
     let history = History::of(alloc, recording)?;
-    let cancel = numbers(alloc, list)?;
+    let edits = edits(alloc, list)?;
     stepped_or_refused(
         alloc,
-        Repairer::new(alloc, recording, &history, &cancel),
+        Repairer::new(alloc, recording, &history, &edits),
         call,
         given,
     )
@@ -141,7 +142,7 @@ fn told_in_every_way<T: Threads + Sync + AllocGlobal>(
     let wanted = told(alloc, &repaired(alloc, recording, list)?, call, given)?;
     for (workers, cuts) in [("0", "1"), ("1", "2"), ("16", "64"), ("3", "1 4")] {
         let ask = Ask {
-            cancel: list,
+            edits: list,
             workers,
             cuts,
         };
@@ -164,7 +165,7 @@ fn alike<T: Threads + Sync + AllocGlobal>(
         for workers in ["0", "1", "3", "16"] {
             for cuts in ["1", "2", "64", "1 4"] {
                 let ask = Ask {
-                    cancel: list,
+                    edits: list,
                     workers,
                     cuts,
                 };
@@ -175,7 +176,7 @@ fn alike<T: Threads + Sync + AllocGlobal>(
     Ok(text(alloc, "yes")?)
 }
 
-/// Returns the result of a call on the repair of a recording without some lines.
+/// Returns the result of a call on the repair of a recording with edited lines.
 fn called<T: Threads + Sync + AllocGlobal>(
     rt: &T,
     recording: &Recording,
@@ -188,13 +189,13 @@ fn called<T: Threads + Sync + AllocGlobal>(
         ("alike", []) => alike(rt, recording, list),
         ("rounds", [workers, cuts]) => {
             let ask = Ask {
-                cancel: list,
+                edits: list,
                 workers,
                 cuts,
             };
             rounds(rt, recording, &ask)
         }
-        ("steps" | "stops" | "lent" | "shown" | "guessed" | "meetings", _) => {
+        ("steps" | "stops" | "lent" | "shown" | "guessed" | "stops until", _) => {
             by_steps(rt.alloc(), recording, call, list, given)
         }
         _ => told_in_every_way(rt, recording, call, list, given),
@@ -202,7 +203,7 @@ fn called<T: Threads + Sync + AllocGlobal>(
 }
 
 /// Returns the result of a call on the repair of a recording. If the list has two parts with `then`
-/// between them, the recording of the first part's repair is repaired without the second part.
+/// between them, the recording of the first part's repair is repaired by the second part.
 fn called_in_turn<T: Threads + Sync + AllocGlobal>(
     rt: &T,
     recording: &Recording,
@@ -242,4 +243,9 @@ fn repairs_are_as_worked_out(rt: HostRuntime) -> Result<(), Fail> {
         hold(&rt, table)?;
     }
     Ok(())
+}
+
+#[test]
+fn replaced_lines_are_as_worked_out(rt: HostRuntime) -> Result<(), Fail> {
+    hold(&rt, REPLACED)
 }

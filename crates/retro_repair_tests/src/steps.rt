@@ -2,6 +2,7 @@
 ghost use Rattle.std.specs.Prelude.{◌≡◌, Some};
 ghost use Rattle.retro_redo.specs.Progress.{next_number};
 
+use retro_keep::Edit;
 use retro_redo::{Quiet, Repairer, Step};
 use retro_rows::{cell_text, fail, text, value_text};
 use retro_tree::{NoMem, Overlay, OverlayEntry};
@@ -16,7 +17,7 @@ fn settle(
 ) -> Result<&'static str, NoMem>
     requires { next_number repairer.old ≡ Some number }
 {
-    if repairer.is_cancelled(number) {
+    if let Some(Edit::Cancel(_)) = repairer.edits().get(number) {
         repairer.step(alloc, number, Step::Cancel)?;
         return Ok("cancelled");
     }

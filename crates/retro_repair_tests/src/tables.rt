@@ -1,8 +1,9 @@
 //! The tables of rows; `retro_rows` says how they are written.
 //!
 //! A header gives more entries of the tree, and the lines: a session and a text each, with `;;`
-//! between lines. The first field of a row below it has the numbers of the cancelled lines. The
-//! tree has `/etc/passwd`, `/h` and `/tmp`. Session 1 is in `/h` and session 2 in `/tmp`.
+//! between lines. The first field of a row below it has the edits: the numbers of cancelled lines,
+//! and numbers with texts that replace those of their lines. The tree has `/etc/passwd`, `/h` and
+//! `/tmp`. Session 1 is in `/h` and session 2 in `/tmp`.
 
 /// Incidents: which lines are met, which are redone, how many are executed, what is printed, what
 /// is compensated, and what files hold.
@@ -71,6 +72,72 @@ given: %(EMPTY) :: 2 echo a > /tmp/a;;1 cd /tmp;;1 cat a
 - compensations: 2 => 3 [a%(NL)] [cat: a: No such file or directory%(NL)]
 "##;
 
+/// Repairs with replaced lines: also a line that is replaced by its own text, by one outside the
+/// profile, by an empty one and by one that is too long.
+pub const REPLACED: &str = r##"
+given: %(EMPTY) :: 1 echo a > f;;1 cat f
+- lines: 1=echo bb > f => met 1 2, redone 1 2
+- compensations: 1=echo bb > f => 2 [a%(NL)] [bb%(NL)]
+- file: 1=echo bb > f :: /h/f => bb%(NL)
+- executed: 1=echo bb > f => executed 1 place 2 place
+- alike: 1=echo bb > f => yes
+- lines: 1=echo a > f => met 1, redone 1
+- compensations: 1=echo a > f => %(EMPTY)
+- executed: 1=echo a > f => executed 1 place
+- lines: 1=( => met 1 2, redone 1 2
+- compensations: 1=( => 1 [] [sh: unsupported line%(NL)]2 [a%(NL)]
+  [cat: f: No such file or directory%(NL)]
+- lines: 1= => met 1 2, redone 1 2
+- compensations: 1= => 2 [a%(NL)] [cat: f: No such file or directory%(NL)]
+- compensations: 1=%(x*4097) => 1 [] [sh: unsupported line%(NL)]2 [a%(NL)]
+  [cat: f: No such file or directory%(NL)]
+- outputs: 1=false, 2=echo $? => 2 1%(NL)
+- lines: 1, 2=cat /etc/passwd => met 2, redone 2
+- steps: 1=echo bb > f => 1 [] redone, 2 [/h/f file 62620a] redone, end [/h/f file 62620a]
+- steps: 1=echo a > f => 1 [] redone, 2 [] unmet, end []
+- steps: 1, 1=x => refused 26, line 1
+- stops: 1=echo a > f => 1 after 0, end after 2
+- stops: 2=cat f => 2 after 1, end after 2
+- stops until: 2=cat f :: 1 :: 2 => lines 2
+- stops until: 2=cat f :: 1 :: 1 => lines
+- lent: 2=cat f :: 2 :: /h/f => [] 2 lines, written by 1, replaced
+- guessed: 2=cat f f :: 1 :: 2 => fits: a%(NL)a%(NL)
+- rounds: 1=echo bb > f :: 0 1 3 16 :: 64 => 1 jobs: 1 taken up, 0 unused, 0 wrong, 0 given up,
+  executed 1 guess 2 place
+- rounds: 1=echo bb > f :: 0 1 3 16 :: 1 => 2 jobs: 2 taken up, 0 unused, 0 wrong, 0 given up,
+  executed 1 guess 2 guess
+- rounds: 1=echo a > f :: 0 1 3 16 :: 64 => 1 jobs: 1 taken up, 0 unused, 0 wrong, 0 given up,
+  executed 1 guess
+- rounds: 1=echo bb > f, 2=cat f :: 0 1 3 16 :: 64 => 2 jobs: 1 taken up, 0 unused, 1 wrong, 0 given
+  up, executed 1 guess 2 guess 2 place
+- rounds: 9=x, 2, 1, 2=x, 1=y :: 16 :: 64 => refused 26, line 1
+- rounds: 1=x, 1=x, 9=x :: 16 :: 64 => refused 21, line 9
+- rounds: 9=x, 1, 1=x :: 16 :: 0 => refused 22
+- rounds: 9=x, 1, 1=x :: 17 :: 0 => refused 23
+
+given: %(EMPTY) :: 2 echo a > /tmp/k;;2 cd /h;;1 cat /tmp/k
+- lines: 1=echo b > /tmp/k, 2 => met 1 3, redone 1 3
+- compensations: 1=echo b > /tmp/k, 2 => 3 [a%(NL)] [b%(NL)]
+
+given: %(EMPTY) :: 1 cd /tmp;;1 echo hi > n;;2 cat /h/n;;1 cat n
+- lines: 1=cd / => met 1 2 4, redone 1 2 4
+- compensations: 1=cd / => %(EMPTY)
+- file: 1=cd / :: /n => hi%(NL)
+- file: 1=cd / :: /tmp/n => none
+
+given: %(EMPTY) :: 1 echo one >> /tmp/log;;2 echo two >> /tmp/log;;1 echo three >> /tmp/log;;\
+  1 cat /tmp/log;;2 echo four >> /tmp/log;;1 cat /tmp/log
+- outputs: 2=echo zwei >> /tmp/log then 5 => 4 one%(NL)zwei%(NL)three%(NL)6
+  one%(NL)zwei%(NL)three%(NL)
+- outputs: 5 then 2=echo zwei >> /tmp/log => 4 one%(NL)zwei%(NL)three%(NL)6
+  one%(NL)zwei%(NL)three%(NL)
+- outputs: 2=echo zwei >> /tmp/log, 5 => 4 one%(NL)zwei%(NL)three%(NL)6
+  one%(NL)zwei%(NL)three%(NL)
+- lines: 2=echo zwei >> /tmp/log, 5 => met 2 3 4 6, redone 2 4 6
+- file: 2=echo zwei >> /tmp/log then 5 :: /tmp/log => one%(NL)zwei%(NL)three%(NL)
+- file: 2=echo zwei >> /tmp/log, 5 :: /tmp/log => one%(NL)zwei%(NL)three%(NL)
+"##;
+
 /// Two repairs in turn, and one of both lists.
 pub const IN_TURN: &str = r##"
 given: %(EMPTY) :: 1 echo one >> /tmp/log;;2 echo two >> /tmp/log;;1 echo three >> /tmp/log;;\
@@ -136,10 +203,10 @@ given: %(EMPTY) :: 2 echo p > /tmp/k;;1 cat /tmp/k > a;;1 cat a /tmp/k;;1 cat /t
 - shown: 1 :: 1 :: 3 :: /tmp => dir with k
 - shown: 1 :: 2 :: 3 :: /h/a => file 700a with
 - shown: 1 :: 3 :: 3 :: /h/a => file  with
-- meetings: 1 :: 1 :: 5 => lines
-- meetings: 1 :: 2 :: 5 => lines 2 3 4 5
-- meetings: 1 :: 2 :: 3 => lines 2 3
-- meetings: 1 :: 3 :: 2 => lines
+- stops until: 1 :: 1 :: 5 => lines 1
+- stops until: 1 :: 2 :: 5 => lines 2 3 4 5
+- stops until: 1 :: 2 :: 3 => lines 2 3
+- stops until: 1 :: 3 :: 2 => lines
 - guessed: 1 :: 2 :: 2 => fits: cat: /tmp/k: No such file or directory%(NL)
 - guessed: 1 :: 2 :: 3 => no fit: p%(NL)cat: /tmp/k: No such file or directory%(NL)
 - guessed: 1 :: 2 :: 4 => fits: cat: /tmp/k: No such file or directory%(NL)
@@ -148,21 +215,20 @@ given: %(EMPTY) :: 2 echo p > /tmp/k;;1 cat /tmp/k > a;;1 cat a /tmp/k;;1 cat /t
 
 given: %(EMPTY) :: 1 echo one >> /tmp/log;;2 echo two >> /tmp/log;;1 echo three >> /tmp/log;;\
   1 cat /tmp/log
-- meetings: 2 :: 3 :: 4 => lines 3 4
-- meetings: 2 :: 3 :: 3 => lines 3
+- stops until: 2 :: 3 :: 4 => lines 3 4
+- stops until: 2 :: 3 :: 3 => lines 3
 - guessed: 2 :: 3 :: 4 => no fit: one%(NL)
 - guessed: 2 :: 4 :: 4 => fits: one%(NL)three%(NL)
 
 given: %(EMPTY) :: 1 echo x > f;;1 echo x > f;;1 cat f
-- meetings: 1 :: 2 :: 3 => lines 2 3
-- meetings: 1 :: 3 :: 3 => lines
+- stops until: 1 :: 2 :: 3 => lines 2 3
+- stops until: 1 :: 3 :: 3 => lines
 - shown: 1 :: 2 :: 3 :: /h/f => missing with
 - guessed: 1 :: 2 :: 3 => no fit: cat: f: No such file or directory%(NL)
 - guessed: 1 :: 3 :: 3 => fits: x%(NL)
 "##;
 
-/// Repairs in rounds: the cancelled numbers, numbers of workers, and the numbers of lines of the
-/// pieces.
+/// Repairs in rounds: the edits, numbers of workers, and the numbers of lines of the pieces.
 pub const ROUNDS: &str = r##"
 given: %(EMPTY) :: 2 echo p > /tmp/k;;1 cat /tmp/k > a;;1 cat a /tmp/k;;1 cat /tmp/k;;\
   1 grep -F p /tmp/k

@@ -94,11 +94,13 @@ pub fn end(alloc: Global, state: &State, path: &Path) -> Result<String, Fail> {
     }
 }
 
-/// Returns the number of a refusal, with the number of the line that is missing.
+/// Returns the number of a refusal, with the number of its line if it has one.
 pub fn fault_text(alloc: Global, fault: RepairFault) -> Result<String, NoMem> {
     let refusal = fault.number();
     match fault {
-        RepairFault::NoSuchLine(number) => format!(in alloc; "refused {refusal}, line {number}"),
+        RepairFault::NoSuchLine(number) | RepairFault::TwoEdits(number) => {
+            format!(in alloc; "refused {refusal}, line {number}")
+        }
         _ => format!(in alloc; "refused {refusal}"),
     }
 }

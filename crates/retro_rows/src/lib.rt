@@ -49,4 +49,4 @@ pub use row::Row;
 pub use row_error::RowError;
 pub use script::script_of;
 pub use table::rows;
-pub use texts::{numbers, text, utf8};
+pub use texts::{Numbered, numbered, numbers, text, utf8};

@@ -25,3 +25,32 @@ pub fn numbers(alloc: Global, list: &str) -> Result<Vec<u32>, Fail> {
     }
     Ok(numbers)
 }
+
+/// A number, and the text that a list gives with it, if there is one.
+pub type Numbered = (u32, Option<String>);
+
+/// Appends the items of a part of a list: one number with its text, or numbers, which spaces
+/// separate.
+fn push_part(alloc: Global, items: &mut Vec<Numbered>, part: &str) -> Result<(), Fail> {
+    match part.split_once('=') {
+        Some((number, given)) => items.push((number.parse()?, Some(text(alloc, given)?)))?,
+        None => {
+            for number in numbers(alloc, part)? {
+                items.push((number, None))?;
+            }
+        }
+    }
+    Ok(())
+}
+
+/// Returns the items of a list whose parts `, ` separates, as in `5 2, 1=echo a > f, 7`. Each part
+/// is a number with a text, or numbers, which spaces separate. The list may be empty.
+pub fn numbered(alloc: Global, list: &str) -> Result<Vec<Numbered>, Fail> {
+    let mut items = Vec::new(alloc);
+    if !list.is_empty() {
+        for part in list.split(", ") {
+            push_part(alloc, &mut items, part)?;
+        }
+    }
+    Ok(items)
+}
