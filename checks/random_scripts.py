@@ -16,14 +16,31 @@ TELLING = ["cd /d", "cd /", "cd", "x=a", "false", "rm -r d/z", "mkdir d/z", "mv 
            "cat f d/x d/y"]
 
 
+def text_of(choose, lines):
+    """A line."""
+    return choose.choice(TELLING) if choose.random() < 0.4 else for_profile(lines.line())
+
+
 def script(choose, most=25):
     """A script of a few lines, as a document."""
     lines = Lines(choose)
     rows = []
     for number in range(1, choose.randint(2, most) + 1):
-        text = choose.choice(TELLING) if choose.random() < 0.4 else for_profile(lines.line())
+        text = text_of(choose, lines)
         rows.append([number, choose.choice([1, 1, 2, 3]), text])
     return json.dumps({"script": 1, "tree": TREE, "sessions": SESSIONS, "lines": rows})
+
+
+def edits(choose, numbers, texts):
+    """Edits of lines with these numbers: each is cancelled, or gets another text, an own one or that
+    of a line."""
+    lines = Lines(choose)
+    made = {}
+    for number in numbers:
+        kind = choose.random()
+        text = choose.choice(texts) if kind < 0.1 else text_of(choose, lines)
+        made[number] = text if kind < 0.4 else None
+    return made
 
 
 def cuts_and_workers(choose):
