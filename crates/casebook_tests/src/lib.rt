@@ -1,0 +1,14 @@
+//! Tests of the libraries of `casebook`, over public items alone.
+//!
+//! A table is a text of rows `GIVEN => WANTED`, one a line. What rows want comes from the rules of
+//! display, of HTML and of lists, never from the program's own output.
+#![tactic(auto)]
+
+#[cfg(test)]
+mod diffs;
+#[cfg(test)]
+mod lists;
+#[cfg(test)]
+mod rows;
+#[cfg(test)]
+mod shown;

@@ -1,0 +1,13 @@
+pub mod Lists
+pub mod Writing
+pub mod Parts
+pub mod Harmless
+pub mod HighBytes
+pub mod ShownLemmas
+pub mod HtmlLemmas
+pub mod NumberLemmas
+pub mod ItemLemmas
+pub mod ListLemmas
+pub mod FileLemmas
+pub mod DiffLemmas
+pub mod OriginalLemmas
