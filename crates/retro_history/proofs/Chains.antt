@@ -11,7 +11,7 @@ use Rattle.retro_tree.proofs.Small.{first_true, both_true}
 use Rattle.retro_keep.specs.Script.{rises_from}
 use Rattle.retro_keep.specs.Recording.{number_in}
 use Rattle.retro_keep.specs.declared.noted.Noted.{Noted}
-use Rattle.retro_history.specs.Recorded.{lines_below}
+use Rattle.retro_keep.specs.Recorded.{lines_below}
 use Rattle.retro_history.specs.Versions.{is_growth}
 use Rattle.retro_history.specs.inner.Tracks.{TrackValue, VersionValue, whole_version, tracked}
 use Rattle.retro_history.specs.inner.Tracks.{version_made}

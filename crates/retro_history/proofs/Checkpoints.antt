@@ -10,7 +10,7 @@ use Rattle.retro_tree.specs.declared.cell.Cell.{Cell}
 use Rattle.retro_tree.proofs.Small.{and_true}
 use Rattle.retro_keep.specs.Script.{rises_from}
 use Rattle.retro_keep.specs.declared.noted.Noted.{Noted}
-use Rattle.retro_history.specs.Recorded.{lines_below}
+use Rattle.retro_keep.specs.Recorded.{lines_below}
 use Rattle.retro_history.specs.Versions.{Version, Content, whole, growth, growth_in, is_growth}
 use Rattle.retro_history.specs.Versions.{content_by, is_checkpoint}
 use Rattle.retro_history.specs.Versions.{greatest_below}

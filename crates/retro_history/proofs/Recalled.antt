@@ -28,7 +28,7 @@ use Rattle.retro_tree.proofs.Small.{none_some, tied, both_fst, both_snd}
 use Rattle.retro_tree.proofs.Children.{child_name_of, same_children}
 use Rattle.retro_tree.proofs.Fitting.{fits_overlays}
 use Rattle.retro_keep.specs.Recording.{RecordingValue}
-use Rattle.retro_history.specs.Recorded.{recorded_before}
+use Rattle.retro_keep.specs.Recorded.{recorded_before}
 use Rattle.retro_history.specs.Versions.{checkpoints}
 use Rattle.retro_history.specs.inner.History.{parts_before, version_parts}
 use Rattle.retro_history.specs.inner.CellHistory.{AllRise, HistoryMap, new_history, track_in}

@@ -9,7 +9,7 @@ use Rattle.retro_tree.proofs.Small.{first_true, both_true}
 use Rattle.retro_keep.specs.Script.{rises_from}
 use Rattle.retro_keep.specs.Recording.{IsWellFormed, RecordingValue, last_state}
 use Rattle.retro_keep.specs.declared.noted.Noted.{Noted}
-use Rattle.retro_history.specs.Recorded.{lines_below, recorded_before}
+use Rattle.retro_keep.specs.Recorded.{lines_below, recorded_before}
 use Rattle.retro_history.specs.declared.rolled.Rolled.{Rolled}
 use Rattle.retro_history.specs.Versions.{versions_by, versions}
 use Rattle.retro_history.specs.Versions.{checkpoints, greatest_below, roll, rolled_back}

@@ -20,7 +20,7 @@ use Rattle.retro_tree.proofs.Small.{none_some, some_same}
 use Rattle.std.proofs.lemmas.Bool.{true≢false}
 use Rattle.retro_keep.specs.Recording.{last_state}
 use Rattle.retro_keep.specs.declared.noted.Noted.{Noted}
-use Rattle.retro_history.specs.Recorded.{lines_below}
+use Rattle.retro_keep.specs.Recorded.{lines_below}
 use Rattle.retro_history.specs.declared.rolled.Rolled.{Rolled}
 use Rattle.retro_history.specs.Versions.{Version, whole, growth, growth_limit, growth_in, is_growth, with_growth}
 use Rattle.retro_history.specs.Versions.{content_by, versions_by}

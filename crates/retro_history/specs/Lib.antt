@@ -1,4 +1,3 @@
 pub mod Index
-pub mod Recorded
 pub mod Versions
 pub mod inner

@@ -32,7 +32,7 @@ pub struct At<'h, 'a> {
 impl<'h, 'a> Model for At<'h, 'a> {
     ghost use Rattle.retro_tree.specs.declared.state.State.{State};
     ghost use Rattle.retro_keep.specs.inner.ScriptCode.{coded_state};
-    ghost use Rattle.retro_history.specs.Recorded.{recorded_before};
+    ghost use Rattle.retro_keep.specs.Recorded.{recorded_before};
 
     ghost Value = { State };
 
@@ -42,7 +42,7 @@ impl<'h, 'a> Model for At<'h, 'a> {
 }
 
 impl<'h, 'a> At<'h, 'a> {
-    ghost use Rattle.retro_history.specs.Recorded.{recorded_before};
+    ghost use Rattle.retro_keep.specs.Recorded.{recorded_before};
 
     /// Returns the recorded state before the line with the given number. Takes no memory.
     pub(crate) fn new(history: &'h History<'a>, number: u32) -> At<'h, 'a>

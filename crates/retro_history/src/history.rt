@@ -10,7 +10,7 @@ ghost use Rattle.retro_history.specs.inner.History.{parts_before, version_ref_pa
 ghost use Rattle.retro_history.specs.Index.{IsNextMeeting, listed_at, next_use, read_at};
 ghost use Rattle.retro_history.specs.Index.{written_at};
 ghost use Rattle.retro_keep.specs.Recording.{IsWellFormed};
-ghost use Rattle.retro_history.specs.Recorded.{recorded_before};
+ghost use Rattle.retro_keep.specs.Recorded.{recorded_before};
 ghost use Rattle.retro_history.specs.Versions.{checkpoints, greatest_below, rolled_back};
 
 use crate::at::At;

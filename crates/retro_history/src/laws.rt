@@ -7,7 +7,7 @@ ghost use Rattle.retro_tree.specs.declared.cell.Cell.{Cell};
 ghost use Rattle.retro_keep.specs.Recording.{IsWellFormed, RecordingValue, last_state};
 ghost use Rattle.retro_keep.specs.Script.{rises_from};
 ghost use Rattle.retro_keep.specs.declared.noted.Noted.{Noted};
-ghost use Rattle.retro_history.specs.Recorded.{recorded_before};
+ghost use Rattle.retro_keep.specs.Recorded.{recorded_before};
 ghost use Rattle.retro_history.specs.Versions.{checkpoints, greatest_below, rolled_back};
 
 /// States that the recorded state before a line is the state after the lines before it. Before a

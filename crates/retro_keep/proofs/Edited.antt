@@ -6,18 +6,16 @@ use Rattle.std.specs.FinMap as map_of
 use Rattle.std.specs.Option.{is_some, option_or}
 use Rattle.std.specs.Ordering.{nat_cmp}
 use Rattle.std.proofs.lemmas.Bool.{eqb-true, false≢true, ltb-true, lt-ltb}
-use Rattle.retro_tree.specs.OutOfMemory.{IsMeant}
 use Rattle.retro_tree.specs.declared.state.State.{State}
 use Rattle.retro_tree.proofs.Small.{first_true, both_true, and_true}
 use Rattle.retro_keep.specs.Script.{ScriptValue, IsScript, number_of, sid_of, rises_from}
 use Rattle.retro_keep.specs.Script.{have_sessions}
 use Rattle.retro_keep.specs.Edit.{edit, edit_of, edited, edited_number, edited_script, edits_tested}
-use Rattle.retro_keep.specs.Edit.{fault_of, has_line, least, line_run, not_lines, refusal_by}
-use Rattle.retro_keep.specs.Edit.{refused, sooner, text_run, twice_edited, unless_refused}
+use Rattle.retro_keep.specs.Edit.{has_line, least, line_run, not_lines, refusal_by}
+use Rattle.retro_keep.specs.Edit.{script_edits_tested, sooner, text_run, too_early, twice_edited}
+use Rattle.retro_keep.specs.Edit.{unless_refused}
 use Rattle.retro_keep.specs.declared.edit.Edit.{Edit}
 use Rattle.retro_keep.specs.declared.edit.Edit.TheVariants.{Cancel, Replace}
-use Rattle.retro_keep.specs.declared.edit_fault.EditFault.{EditFault}
-use Rattle.retro_keep.specs.declared.edit_fault.EditRefusal.{EditRefusal}
 use Rattle.retro_keep.specs.declared.edit_fault.EditRefusal.TheVariants.{TwoEdits, NoSuchLine}
 use Rattle.retro_keep.specs.declared.script.ScriptLine.{ScriptLine}
 
@@ -77,10 +75,12 @@ least_none (n ∷ numbers) e = by_rest (least numbers) e
     by_rest None f = cc
     by_rest (Some m) f = cc
 
-none_missing : (twice missing : Option ℕ) → refusal_by twice missing ≡ Ok tt → missing ≡ None
-none_missing (Some n) missing e = cc
-none_missing None (Some n) e = cc
-none_missing None None e = refl
+none_missing : (twice early missing : Option ℕ) → refusal_by twice early missing ≡ Ok tt
+    → missing ≡ None
+none_missing (Some n) early missing e = cc
+none_missing None (Some n) missing e = cc
+none_missing None None (Some n) e = cc
+none_missing None None None e = refl
 
 named : (is_line : ℕ → Bool) (edits : List Edit) (n : ℕ) → not_lines is_line edits ≡ []
     → is_some (edit_of edits n) ≡ true → is_line n ≡ true
@@ -100,13 +100,15 @@ named is_line (e ∷ edits) n none is =
     by_tests true false line same f g rest = rest f g
 
 -- a line with an edit that isn't refused exists
-pub edited_are_lines : (is_line : ℕ → Bool) (edits : List Edit) → edits_tested is_line edits ≡ Ok tt
+pub edited_are_lines : (from : ℕ) (is_line : ℕ → Bool) (edits : List Edit)
+    → edits_tested from is_line edits ≡ Ok tt
     → (n : ℕ) → is_some (edit_of edits n) ≡ true → is_line n ≡ true
 unfolding edits_tested
-edited_are_lines is_line edits tested n is =
+edited_are_lines from is_line edits tested n is =
     named is_line edits n
     (least_none (not_lines is_line edits)
-    (none_missing (least (twice_edited edits)) (least (not_lines is_line edits)) tested)) is
+    (none_missing (least (twice_edited edits)) (least (too_early from edits))
+    (least (not_lines is_line edits)) tested)) is
 
 -- ---- edited lines make a script
 
@@ -177,30 +179,33 @@ is_script m script lines made is =
     subst (λ ls. IsScript (record { first = script.first; lines = ls })) (sym made)
     (script_edited (map_of.get m) script is)
 
+-- the edited script by what the tests of its edits found
+tested_by : (twice missing : Option ℕ) (edits : List Edit) (script : ScriptValue)
+    → twice ≡ least (twice_edited edits) → missing ≡ least (not_lines (has_line script) edits)
+    → edit edits script
+    ≡ unless_refused (refusal_by twice None missing) (edited_script (edit_of edits) script)
+unfolding edit script_edits_tested
+tested_by twice missing edits script twice_is missing_is =
+    sym (λ i. unless_refused (refusal_by (twice_is i) None (missing_is i))
+    (edited_script (edit_of edits) script))
+
+pub edit_twice : (n : ℕ) (edits : List Edit) (script : ScriptValue)
+    → Some n ≡ least (twice_edited edits) → edit edits script ≡ Err (TwoEdits n)
+edit_twice n edits script twice =
+    tested_by (Some n) (least (not_lines (has_line script) edits)) edits script twice refl
+
+pub edit_missing : (n : ℕ) (edits : List Edit) (script : ScriptValue)
+    → None ≡ least (twice_edited edits) → Some n ≡ least (not_lines (has_line script) edits)
+    → edit edits script ≡ Err (NoSuchLine n)
+edit_missing n edits script twice missing = tested_by None (Some n) edits script twice missing
+
 pub edit_ok : (m : map_of.FinMap nat_cmp Edit) (edits : List Edit) (script : ScriptValue)
     (lines : List ScriptLine)
-    → edits_tested (has_line script) edits ≡ Ok tt → ((n : ℕ) → map_of.get m n ≡ edit_of edits n)
+    → None ≡ least (twice_edited edits) → None ≡ least (not_lines (has_line script) edits)
+    → ((n : ℕ) → map_of.get m n ≡ edit_of edits n)
     → lines ≡ edited (map_of.get m) script.lines
     → edit edits script ≡ Ok (record { first = script.first; lines = lines })
-unfolding edit
-edit_ok m edits script lines tested same made =
-    ap (λ t. unless_refused t (edited_script (edit_of edits) script)) tested
+edit_ok m edits script lines twice missing same made =
+    tested_by None None edits script twice missing
     ∙ ap (λ ls. Ok (record { first = script.first; lines = ls }))
     (sym (made ∙ edited_by_map m edits script.lines same))
-
-pub edit_refused : (edits : List Edit) (script : ScriptValue) (refusal : EditRefusal)
-    (fault : EditFault)
-    → edits_tested (has_line script) edits ≡ Err refusal → fault ≡ fault_of refusal
-    → IsMeant (refused fault) (edit edits script)
-unfolding edit
-edit_refused edits script refusal fault tested is =
-    subst (λ f. IsMeant (refused f) (edit edits script)) (sym is) (by_refusal refusal tested)
-  where
-    by_refusal : (r : EditRefusal) → edits_tested (has_line script) edits ≡ Err r
-        → IsMeant (refused (fault_of r)) (edit edits script)
-    by_refusal (TwoEdits n) t =
-        ap (λ u. unless_refused u (edited_script (edit_of edits) script)) t
-    by_refusal (NoSuchLine n) t =
-        ap (λ u. unless_refused u (edited_script (edit_of edits) script)) t
-
-pub ruleset edits_lines = (is_script, edit_ok, edit_refused)

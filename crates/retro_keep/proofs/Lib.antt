@@ -6,3 +6,4 @@ pub mod Parsing
 pub mod Parts
 pub mod Recorded
 pub mod Searching
+pub mod Trim

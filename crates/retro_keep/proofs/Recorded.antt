@@ -1,8 +1,9 @@
 -- Recordings of a script.
-use Rattle.std.proofs.Common.{◌≡◌, ℕ, ◌<◌, Bool, true, List, [], ◌∷◌, ◌++◌, length, get_or, map, IsTrue, refl, ap, sym}
-use Rattle.std.proofs.Common.{◌∙◌, ◌+◌, zero, suc, drop, take, subst, arith}
+use Rattle.std.proofs.Common.{◌≡◌, ℕ, ◌<◌, ◌≤◌, Bool, true, List, [], ◌∷◌, ◌++◌, length, get_or, map, IsTrue, refl}
+use Rattle.std.proofs.Common.{ap, sym, ◌∙◌, ◌+◌, zero, suc, drop, take, subst, arith, nat_le, nat_lt}
 use Rattle.std.specs.List.{list_all}
 use Rattle.std.specs.FinMap as finmap
+use Rattle.std.proofs.lemmas.Bool.{le-leb, ltb-true}
 use Rattle.std.proofs.lemmas.List.{drop_more, map-append, take_more}
 use Rattle.retro_tree.specs.Lawful.{IsLawful}
 use Rattle.retro_tree.specs.Ask.{answer}
@@ -22,8 +23,8 @@ use Rattle.retro_keep.specs.Runs.{after_line, outcome, with_output}
 use Rattle.retro_keep.specs.Script.{IsScript, ScriptValue, have_sessions, number_of, rises_from, sid_of}
 use Rattle.retro_keep.specs.Recording.{AllLinesAllowed, AllRecorded, IsRecorded, IsRecordingOf, IsWellFormed}
 use Rattle.retro_keep.specs.Recording.{RecordingValue, answers_are_of_kind, is_line_of_kind, is_of_kind, is_own_line}
-use Rattle.retro_keep.specs.Recording.{last_state, number_in, output_in, recorded_outcome, run_value, script_line}
-use Rattle.retro_keep.specs.Recording.{sid_in}
+use Rattle.retro_keep.specs.Recording.{last_state, none_below, number_in, output_in, recorded_outcome, run_value}
+use Rattle.retro_keep.specs.Recording.{script_line, sid_in}
 use Rattle.retro_keep.specs.inner.Recorder.{HasRecorded}
 use Rattle.retro_keep.specs.declared.noted.Noted.{Noted}
 use Rattle.retro_keep.specs.declared.script.ScriptLine.{ScriptLine}
@@ -83,25 +84,45 @@ same_sids : (lines : List (ℕ × Noted)) → map sid_in lines ≡ map sid_of (m
 same_sids [] = refl
 same_sids (l ∷ lines) = ap (λ sids. l.1.sid ∷ sids) (same_sids lines)
 
--- recorded lines of a script make a recording
-pub well_formed : (script : ScriptValue) (lines : List (ℕ × Noted)) → IsScript script
+-- recorded lines of a script make a recording that begins at a number that none of them is below
+pub well_formed : (script : ScriptValue) (from : ℕ) (lines : List (ℕ × Noted)) → IsScript script
+    → 1 ≤ from → IsTrue (none_below from lines)
     → map script_line lines ≡ script.lines → AllRecorded lines script.first
-    → IsWellFormed (record { first = script.first; lines = lines })
-well_formed script lines is same h =
+    → IsWellFormed (record { first = script.first; from = from; lines = lines })
+well_formed script from lines is begins not_before same h =
     let known : IsTrue (have_sessions script.first (map sid_in lines)) =
     ap (have_sessions script.first) (same_sids lines ∙ ap (map sid_of) same) ∙ is.known in
     record {
       lawful = is.lawful;
+      begins = begins;
       rising = ap (rises_from 0) (same_numbers lines ∙ ap (map number_of) same) ∙ is.rising;
+      not_before = not_before;
       known = known;
       own = recorded_own lines script.first h;
       of_kind = recorded_of_kind lines script.first h;
       allowed = recorded_allowed lines script.first h is.lawful known;
     }
 
+-- lines of a script are numbered from 1 on
+above_0 : (n : ℕ) (lines : List (ℕ × Noted)) → IsTrue (rises_from n (map number_in lines))
+    → IsTrue (none_below 1 lines)
+above_0 n [] rising = refl
+above_0 n (l ∷ lines) rising =
+    let above = ltb-true n l.0 (first_true (nat_lt n l.0) _ rising) in
+    and_true (nat_le 1 l.0) _ (le-leb 1 l.0 (omega (arith, above)))
+    (above_0 l.0 lines (both_true (nat_lt n l.0) _ rising))
+
+-- recorded lines of a whole script make a recording that begins at 1
+pub whole_well_formed : (script : ScriptValue) (lines : List (ℕ × Noted)) → IsScript script
+    → map script_line lines ≡ script.lines → AllRecorded lines script.first
+    → IsWellFormed (record { first = script.first; from = 1; lines = lines })
+whole_well_formed script lines is same h =
+    well_formed script 1 lines is (omega arith)
+    (above_0 0 lines (ap (rises_from 0) (same_numbers lines ∙ ap (map number_of) same) ∙ is.rising)) same h
+
 -- ---- the whole run
 
-outcome_of_lines : (lines : List (ℕ × Noted)) (s : State) → AllRecorded lines s
+pub outcome_of_lines : (lines : List (ℕ × Noted)) (s : State) → AllRecorded lines s
     → outcome (map script_line lines) s ≡ (last_state lines s, map output_in lines)
 outcome_of_lines [] s h = refl
 outcome_of_lines (l ∷ lines) s h =
@@ -118,7 +139,7 @@ recorded_runs script r is =
 
 -- a recorder that has recorded all lines
 pub finished : (script : ScriptValue) (r : RecordingValue) (lines : List (ℕ × Noted)) (state first : State)
-    → r ≡ record { first = first; lines = lines } → first ≡ script.first
+    → r ≡ record { first = first; from = 1; lines = lines } → first ≡ script.first
     → HasRecorded script.lines script.first lines state → IsRecordingOf script r
 finished script r lines state first made copied h = record {
   first = ap (λ (q : RecordingValue). q.first) made ∙ copied;

@@ -1,5 +1,5 @@
 -- Binary search finds the line with a number.
-use Rattle.std.proofs.Common.{◌≡◌, ℕ, zero, suc, ◌<◌, ◌≤◌, ◌==◌, ◌||◌, Bool, true, false, List, []}
+use Rattle.std.proofs.Common.{◌≡◌, ℕ, zero, suc, ◌<◌, ◌==◌, ◌||◌, Bool, true, false, List, []}
 use Rattle.std.proofs.Common.{◌∷◌, cond, get_or, length, map, nat_lt, IsTrue, Some, None, Result}
 use Rattle.std.proofs.Common.{Ok, Err, refl, ap, sym, arith, ⊎_elim}
 use Rattle.std.specs.List.Sorted.{IsBinarySearchResult, IsNonDecreasingBy, IsSearchInRange}
@@ -65,21 +65,22 @@ module _ {X : Type 0} (number_at : X → ℕ) where
       rw (ne_eqb (number_at l) n (λ same. none 0 l (omega arith) same))
       (among_nowhere lines n (λ i d lt same. none (suc i) d (omega arith) same))
 
+  -- no number is below an earlier one
+  pub non_decreasing : (lines : List X) → IsTrue (rises_from 0 (map number_at lines))
+      → IsNonDecreasingBy number_at lines
+  non_decreasing lines rising i j d le lt =
+      grind (
+        arith,
+        rising_at 0 lines i j d rising,
+        λ (same : i ≡ j). ap (λ k. number_at (get_or lines k d)) same,
+      )
+
   module _ (lines : List X) (number : ℕ) (rising : IsTrue (rises_from 0 (map number_at lines)))
     where
-      numbers_rise : (i j : ℕ) (d : X) → i ≤ j → j < length lines
-          → number_at (get_or lines i d) ≤ number_at (get_or lines j d)
-      numbers_rise i j d le lt =
-          grind (
-            arith,
-            rising_at 0 lines i j d rising,
-            λ (same : i ≡ j). ap (λ k. number_at (get_or lines k d)) same,
-          )
-
       -- the comparisons with the number rise along the lines, as binary search requires
       steps_rise : IsNonDecreasingBy (λ l. ordering_index (nat_cmp (number_at l) number)) lines
       steps_rise i j d le lt =
-          let rise = numbers_rise i j d le lt in
+          let rise = non_decreasing lines rising i j d le lt in
           grind (arith, nat_tests)
 
       pub nowhere : (place : ℕ)
@@ -158,8 +159,8 @@ noted_if_among (l ∷ lines) n = by_test (l.0 == n) (noted_if_among lines n)
     by_test false rest = rest
 
 -- tests of edits by the numbers of a recording's lines
-pub tested_at : (lines : List (ℕ × Noted)) (edits : List Edit)
-    → edits_tested (is_among (map number_in lines)) edits
-    ≡ edits_tested (λ n. is_some (noted_at n lines)) edits
-tested_at lines edits =
-    ap (λ (is_line : ℕ → Bool). edits_tested is_line edits) (λ i n. sym (noted_if_among lines n) i)
+pub tested_at : (from : ℕ) (lines : List (ℕ × Noted)) (edits : List Edit)
+    → edits_tested from (is_among (map number_in lines)) edits
+    ≡ edits_tested from (λ n. is_some (noted_at n lines)) edits
+tested_at from lines edits =
+    ap (λ (is_line : ℕ → Bool). edits_tested from is_line edits) (λ i n. sym (noted_if_among lines n) i)

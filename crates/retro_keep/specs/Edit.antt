@@ -11,7 +11,7 @@ use Rattle.retro_keep.specs.declared.edit.Edit.TheVariants.{Cancel, Replace}
 use Rattle.retro_keep.specs.declared.edit_fault.EditFault.{EditFault}
 use Rattle.retro_keep.specs.declared.edit_fault.EditFault.TheVariants as faults
 use Rattle.retro_keep.specs.declared.edit_fault.EditRefusal.{EditRefusal}
-use Rattle.retro_keep.specs.declared.edit_fault.EditRefusal.TheVariants.{TwoEdits, NoSuchLine}
+use Rattle.retro_keep.specs.declared.edit_fault.EditRefusal.TheVariants.{BeforeCheckpoint, TwoEdits, NoSuchLine}
 use Rattle.retro_keep.specs.declared.script.ScriptLine.{ScriptLine}
 
 abbrev pub is_number : ℕ → ℕ → Bool
@@ -66,6 +66,10 @@ abbrev pub twice_edited : List Edit → List ℕ
 twice_edited edits =
     map edited_number (filter (λ e. not (is_edit (edit_of edits (edited_number e)) e)) edits)
 
+-- the edited numbers from 1 on that are below the number at which a recording begins
+abbrev pub too_early : ℕ → List Edit → List ℕ
+too_early from edits = filter (λ n. nat_lt 0 n && nat_lt n from) (map edited_number edits)
+
 -- the edited numbers that no line has
 abbrev pub not_lines : (ℕ → Bool) → List Edit → List ℕ
 not_lines is_line edits = filter (λ n. not (is_line n)) (map edited_number edits)
@@ -81,16 +85,23 @@ abbrev pub least : List ℕ → Option ℕ
 least [] = None
 least (n ∷ numbers) = sooner (Some n) (least numbers)
 
-abbrev pub refusal_by : Option ℕ → Option ℕ → Result ⊤ EditRefusal
-refusal_by (Some n) missing = Err (TwoEdits n)
-refusal_by None (Some n) = Err (NoSuchLine n)
-refusal_by None None = Ok tt
+abbrev pub refusal_by : Option ℕ → Option ℕ → Option ℕ → Result ⊤ EditRefusal
+refusal_by (Some n) early missing = Err (TwoEdits n)
+refusal_by None (Some n) missing = Err (BeforeCheckpoint n)
+refusal_by None None (Some n) = Err (NoSuchLine n)
+refusal_by None None None = Ok tt
 
--- Whether edits can be made, or the first refusal: of the least number that two different edits
--- name, and then of the least one that no line has.
-unfoldable pub edits_tested : (ℕ → Bool) → List Edit → Result ⊤ EditRefusal
-edits_tested is_line edits =
-    refusal_by (least (twice_edited edits)) (least (not_lines is_line edits))
+-- Whether edits can be made of the lines of a recording, or the first refusal: of the least number
+-- that two different edits name, then of the least one, from 1 on, that is below the number at
+-- which the recording begins, and then of the least one that no line has.
+unfoldable pub edits_tested : ℕ → (ℕ → Bool) → List Edit → Result ⊤ EditRefusal
+edits_tested from is_line edits =
+    refusal_by (least (twice_edited edits)) (least (too_early from edits)) (least (not_lines is_line edits))
+
+-- the same of the lines of a script, which has all lines that sessions ran
+unfoldable pub script_edits_tested : (ℕ → Bool) → List Edit → Result ⊤ EditRefusal
+script_edits_tested is_line edits =
+    refusal_by (least (twice_edited edits)) None (least (not_lines is_line edits))
 
 -- ---- edited scripts
 
@@ -109,12 +120,7 @@ unless_refused (Err refusal) a = Err refusal
 -- the edited script, or the first refusal
 unfoldable pub edit : List Edit → ScriptValue → Result ScriptValue EditRefusal
 edit edits script =
-    unless_refused (edits_tested (has_line script) edits) (edited_script (edit_of edits) script)
-
--- the fault of a refusal
-abbrev pub fault_of : EditRefusal → EditFault
-fault_of (TwoEdits n) = faults.TwoEdits n
-fault_of (NoSuchLine n) = faults.NoSuchLine n
+    unless_refused (script_edits_tested (has_line script) edits) (edited_script (edit_of edits) script)
 
 -- what a fault says of the edits, or None if memory ran out
 abbrev pub refused : EditFault → Option (Result ScriptValue EditRefusal)

@@ -1,6 +1,7 @@
--- Recordings: a first state, and its lines with their notes and outputs.
-use Rattle.std.specs.Prelude.{◌≡◌, ℕ, Bool, true, false, ◌&&◌, ◌==◌, List, [], ◌∷◌, map, Option, Some, None, IsTrue}
-use Rattle.std.specs.Prelude.{if◌then◌else◌}
+-- Recordings: a first state, the number of the line at which they begin, and the lines from it on
+-- with their notes and outputs.
+use Rattle.std.specs.Prelude.{◌≡◌, ◌≤◌, ℕ, Bool, true, false, ◌&&◌, ◌==◌, List, [], ◌∷◌, map, Option, Some, None}
+use Rattle.std.specs.Prelude.{IsTrue, if◌then◌else◌, nat_le}
 use Rattle.std.specs.List.{list_all}
 use Rattle.retro_tree.specs.Lawful.{IsLawful}
 use Rattle.retro_tree.specs.Notes.{after, AllAllowed, Holds}
@@ -19,9 +20,11 @@ use Rattle.retro_keep.specs.Script.{ScriptValue, have_sessions, rises_from}
 use Rattle.retro_keep.specs.declared.noted.Noted.{Noted}
 use Rattle.retro_keep.specs.declared.script.ScriptLine.{ScriptLine}
 
--- what a recording holds: the state before the first line, and the lines with their numbers
+-- What a recording holds: the state at its beginning, the number at which it begins, and the lines
+-- with their numbers. What sessions ran before that number isn't known.
 pub record RecordingValue : Type 0 where
   pub first : State
+  pub from : ℕ
   pub lines : List (ℕ × Noted)
 
 abbrev pub number_in : ℕ × Noted → ℕ
@@ -75,12 +78,19 @@ abbrev pub AllLinesAllowed : List (ℕ × Noted) → State → Type 0
 AllLinesAllowed [] s = Unit {0}
 AllLinesAllowed (l ∷ lines) s = AllAllowed l.1.notes s × AllLinesAllowed lines (after l.1.notes s)
 
--- What each recording keeps: the first state is lawful, the numbers rise from 1 on, each line's
--- session exists and is the only one that its notes name, each noted answer is of its query's kind,
--- and each change is lawful in the state that it changes. The notes need not be those of the line.
+-- whether no line has a number below another one
+abbrev pub none_below : ℕ → List (ℕ × Noted) → Bool
+none_below from lines = list_all (λ l. nat_le from l.0) lines
+
+-- What each recording keeps: the first state is lawful, the recording begins at 1 or later, the
+-- numbers rise and none is below the beginning, each line's session exists and is the only one that
+-- its notes name, each noted answer is of its query's kind, and each change is lawful in the state
+-- that it changes. The notes need not be those of the line.
 pub record IsWellFormed (r : RecordingValue) : Type 0 where
   pub lawful : IsLawful r.first
+  pub begins : 1 ≤ r.from
   pub rising : IsTrue (rises_from 0 (map number_in r.lines))
+  pub not_before : IsTrue (none_below r.from r.lines)
   pub known : IsTrue (have_sessions r.first (map sid_in r.lines))
   pub own : IsTrue (list_all is_own_line r.lines)
   pub of_kind : IsTrue (list_all is_line_of_kind r.lines)

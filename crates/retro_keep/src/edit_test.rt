@@ -2,22 +2,30 @@
 ghost use Rattle.std.specs.Prelude.{◌≡◌, IsTrue, map, not};
 ghost use Rattle.std.specs.Option.{option_copied};
 ghost use Rattle.retro_keep.specs.Edit.{edit_of, edited_number, edits_tested, is_among, is_edit};
-ghost use Rattle.retro_keep.specs.Edit.{least, not_lines, sooner, twice_edited};
+ghost use Rattle.retro_keep.specs.Edit.{least, not_lines, sooner, too_early, twice_edited};
 ghost use Rattle.retro_keep.specs.Script.{rises_from};
 
 use crate::edit::Edit;
 use crate::edit_fault::EditRefusal;
 use crate::numbered::{Numbered, has_number};
 
-/// Returns `Ok` if edits can be made of lines whose numbers rise, or the first refusal: of the
-/// least number that two different edits name, and then of the least number that no line has.
+/// Returns `Ok` if edits can be made of lines that begin at the number `from` and whose numbers
+/// rise, or the first refusal: of the least number that two different edits name, then of the least
+/// one, from 1 on, that is below `from`, and then of the least one that no line has.
 #[tactic(auto, unfolding(crate::specs::Edit::edits_tested))]
-pub(crate) fn test_edits<L: Numbered>(lines: &[L], edits: &[Edit]) -> Result<(), EditRefusal>
+pub(crate) fn test_edits<L: Numbered>(
+    from: u32,
+    lines: &[L],
+    edits: &[Edit],
+) -> Result<(), EditRefusal>
     requires { IsTrue (rises_from 0 (map L.number lines.now)) }
-    ensures { result ≡ edits_tested (is_among (map L.number lines.now)) edits.now }
+    ensures { result ≡ edits_tested from (is_among (map L.number lines.now)) edits.now }
 {
     if let Some(number) = least_edited_twice(edits) {
         return Err(EditRefusal::TwoEdits(number));
+    }
+    if let Some(number) = least_too_early(from, edits) {
+        return Err(EditRefusal::BeforeCheckpoint(number));
     }
     if let Some(number) = least_missing(lines, edits) {
         return Err(EditRefusal::NoSuchLine(number));
@@ -28,7 +36,7 @@ pub(crate) fn test_edits<L: Numbered>(lines: &[L], edits: &[Edit]) -> Result<(),
 /// Returns the least number that two different edits name, or `None` if there is none. An edit
 /// whose number is above all earlier ones is the first of its line. Only the others are compared
 /// with the first edit of their line.
-fn least_edited_twice(edits: &[Edit]) -> Option<u32>
+pub(crate) fn least_edited_twice(edits: &[Edit]) -> Option<u32>
     ensures { result ≡ least (twice_edited edits.now) }
 {
     let mut found = None;
@@ -66,9 +74,23 @@ fn first_of(edits: &[Edit], number: u32) -> Option<&Edit>
     None
 }
 
+/// Returns the least edited number, from 1 on, that is below `from`, or `None` if there is none.
+fn least_too_early(from: u32, edits: &[Edit]) -> Option<u32>
+    ensures { result ≡ least (too_early from edits.now) }
+{
+    let mut found = None;
+    for edit in edits {
+        let number = edit.number();
+        if 0 < number && number < from {
+            found = sooner(found, Some(number));
+        }
+    }
+    found
+}
+
 /// Returns the least edited number that no line has, or `None` if there is none. The lines'
 /// numbers must rise.
-fn least_missing<L: Numbered>(lines: &[L], edits: &[Edit]) -> Option<u32>
+pub(crate) fn least_missing<L: Numbered>(lines: &[L], edits: &[Edit]) -> Option<u32>
     requires { IsTrue (rises_from 0 (map L.number lines.now)) }
     ensures { result ≡ least (not_lines (is_among (map L.number lines.now)) edits.now) }
 {

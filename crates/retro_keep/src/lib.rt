@@ -9,10 +9,14 @@
 //! them. [`Recording::new`] makes a recording of its parts, or refuses them.
 //! [`Recording::of_lawful`] also says why it refuses them.
 //!
-//! An [`Edit`] leaves out a line or replaces its text. [`Script::edit`] returns the edited script.
-//! An [`EditRefusal`] says why edits can't be made: two different edits name one line, or no line
-//! has an edited number. [`Recording::test_edits`] tests edits of a recording's lines. An
-//! [`EditFault`] is a refusal or `NoMem`. [`Edits`] finds the edit of a line by its number.
+//! A recording can begin at a later line than line 1: [`Recording::trim`] gives up the lines before
+//! a number, and keeps the state that they left. A [`TrimFault`] says why it can't.
+//!
+//! An [`Edit`] leaves out a line or replaces its text. [`Script::edit`] returns the edited script,
+//! or an [`EditFault`]: two different edits name one line, no line has an edited number, or memory
+//! ran out. [`Recording::test_edits`] tests edits of a recording's lines. An [`EditRefusal`] says
+//! why they can't be made: also if the recording begins after an edited line. [`Edits`] finds the
+//! edit of a line by its number.
 //!
 //! If allocation fails, calls return `NoMem`, alone or as a variant of their error, and leave
 //! borrowed arguments unchanged.
@@ -30,6 +34,8 @@ mod recording;
 mod recording_fault;
 mod requirements;
 mod script;
+mod split;
+mod trim_fault;
 
 pub use edit::Edit;
 pub use edit_fault::{EditFault, EditRefusal};
@@ -40,3 +46,4 @@ pub use recorder::{keep, keep_alone};
 pub use recording::Recording;
 pub use recording_fault::RecordingFault;
 pub use script::{LinesFault, Script, ScriptFault, ScriptLine};
+pub use trim_fault::TrimFault;

@@ -94,10 +94,11 @@ impl Recorder {
         ensures recording { IfOk result (λ r. IsRecordingOf script.now r) }
         ensures outcome { IfOk result (λ r.
             outcome script.now.lines script.now.first ≡ recorded_outcome r) }
+        ensures begins { IfOk result (λ r. r.from ≡ 1) }
     {
         let first = script.first().copy()?;
         let Recorder { lines, state } = self;
-        Ok(Recording::of_well_formed(first, lines, state))
+        Ok(Recording::of_well_formed(first, 1, lines, state))
     }
 }
 
@@ -127,12 +128,13 @@ fn parse_line(alloc: Global, line: &ScriptLine) -> Result<Parsed, NoMem>
     Parsed::of(alloc, String::from_str(alloc, line.text.as_str())?)
 }
 
-/// Returns the recording of a script. The lines are parsed in parallel, up to 4096 at a time, and
-/// run one by one in order.
+/// Returns the recording of a script, which begins at line 1. The lines are parsed in parallel, up
+/// to 4096 at a time, and run one by one in order.
 pub fn keep<T: Threads + Sync>(rt: &T, alloc: Global, script: &Script) -> Result<Recording, NoMem>
     ensures recording { IfOk result (λ r. IsRecordingOf script.now r) }
     ensures outcome { IfOk result (λ r.
         outcome script.now.lines script.now.first ≡ recorded_outcome r) }
+    ensures begins { IfOk result (λ r. r.from ≡ 1) }
 {
     let lines = script.lines();
     let mut recorder = Recorder::new(alloc, script)?;
@@ -152,6 +154,7 @@ pub fn keep_alone(alloc: Global, script: &Script) -> Result<Recording, NoMem>
     ensures recording { IfOk result (λ r. IsRecordingOf script.now r) }
     ensures outcome { IfOk result (λ r.
         outcome script.now.lines script.now.first ≡ recorded_outcome r) }
+    ensures begins { IfOk result (λ r. r.from ≡ 1) }
 {
     let lines = script.lines();
     let mut recorder = Recorder::new(alloc, script)?;

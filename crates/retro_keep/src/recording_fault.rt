@@ -10,7 +10,8 @@ use thiserror::Error;
 /// Why a state and lines don't make a recording.
 #[derive(Clone, Copy, Debug, Drop, PartialEq, Eq, Error)]
 pub enum RecordingFault {
-    /// Line numbers don't rise, or the first is 0 (refusal 8).
+    /// Line numbers don't rise, or the first is below the number at which the recording begins
+    /// (refusal 8).
     #[error("line numbers don't rise")]
     NumbersNotRising,
     /// A line's session is missing in the first state (refusal 9).

@@ -1,9 +1,12 @@
 //! What the lines of a recording must satisfy.
-ghost use Rattle.std.specs.Prelude.{◌≡◌, ◌↔◌, ◌∷◌, [], IfOk, IsTrue, map};
+ghost use Rattle.std.specs.Prelude.{◌≡◌, ◌↔◌, ◌&&◌, ◌∷◌, [], IfOk, IsTrue, map};
 ghost use Rattle.std.specs.List.{list_all};
 ghost use Rattle.retro_tree.specs.Notes.{after, AllAllowed};
 ghost use Rattle.retro_keep.specs.Recording.{AllLinesAllowed, answers_are_of_kind, are_own};
 ghost use Rattle.retro_keep.specs.Recording.{is_line_of_kind, is_of_kind, is_own_line, last_state};
+ghost use Rattle.retro_keep.specs.Recording.{number_in};
+ghost use Rattle.retro_keep.specs.RecordingFault.{numbers_rise};
+ghost use Rattle.retro_keep.specs.Script.{rises_from};
 ghost use Rattle.retro_keep.specs.inner.Parts.{are_parts};
 
 use crate::noted::Noted;
@@ -11,13 +14,29 @@ use crate::numbered::test_lines;
 use retro_tree::{Answer, Ask, Change, NoMem, Note, Notes, State};
 use std::alloc::Global;
 
-/// Returns whether lines fit a first state, apart from their changes: their numbers rise, their
-/// sessions exist, their notes name no other session, and their answers are of their queries'
-/// kinds.
-pub(crate) fn are_parts(first: &State, lines: &[(u32, Noted)]) -> bool
-    ensures { result ≡ are_parts first.now lines.now }
+/// Returns whether lines fit a first state and the number `from` at which their recording begins,
+/// apart from their changes: the recording begins at 1 or later, the lines' numbers rise and none
+/// is below `from`, their sessions exist, their notes name no other session, and their answers are
+/// of their queries' kinds.
+pub(crate) fn are_parts(first: &State, from: u32, lines: &[(u32, Noted)]) -> bool
+    ensures { result ≡ are_parts first.now from lines.now }
 {
-    test_lines(first, lines).is_ok() && are_own(lines) && are_of_kind(lines)
+    from >= 1
+        && test_lines(first, lines).is_ok()
+        && is_none_before(from, lines)
+        && are_own(lines)
+        && are_of_kind(lines)
+}
+
+/// Returns whether no line has a number below `from`. The first line decides for all lines, if the
+/// numbers rise.
+pub(crate) fn is_none_before(from: u32, lines: &[(u32, Noted)]) -> bool
+    ensures { (rises_from 0 (map number_in lines.now) && result) ≡ numbers_rise from lines.now }
+{
+    match lines.first() {
+        Some(line) => from <= line.0,
+        None => true,
+    }
 }
 
 /// Returns whether each line's notes name no session but the line's.

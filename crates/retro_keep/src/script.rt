@@ -9,7 +9,7 @@ ghost use Rattle.retro_keep.specs.declared.script.ScriptFault.TheVariants as fau
 
 use crate::edit::Edit;
 use crate::edit_fault::EditFault;
-use crate::edit_test::test_edits;
+use crate::edit_test::{least_edited_twice, least_missing};
 use crate::edits::Edits;
 use crate::numbered::test_lines;
 use retro_tree::{NoMem, State, Text};
@@ -158,11 +158,15 @@ impl Script {
     /// Returns the script with edited lines, or the first refusal: of the least number that two
     /// different edits name, and then of the least number that no line has. The edits are tested
     /// before any memory is allocated.
-    #[tactic(auto, using(crate::proofs::Edited::edits_lines), unfolding(crate::specs::Edit::edit))]
     pub fn edit(self, alloc: Global, edits: &[Edit]) -> Result<Script, EditFault>
         ensures { IsEdited result (edit edits.now self) }
     {
-        test_edits(&self.lines, edits)?;
+        if let Some(number) = least_edited_twice(edits) {
+            return Err(EditFault::TwoEdits(number));
+        }
+        if let Some(number) = least_missing(&self.lines, edits) {
+            return Err(EditFault::NoSuchLine(number));
+        }
         let edits = Edits::of(alloc, edits)?;
         let Script {
             first,

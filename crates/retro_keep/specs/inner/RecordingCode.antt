@@ -10,11 +10,12 @@ use Rattle.retro_keep.specs.contracts.noted.Noted as noted_type
 abbrev pub coded_noted : Coded Noted
 coded_noted = (noted_type.the_row).coded
 
--- a recording is stored as the pair of its parts
+-- a recording is stored as pairs of its parts
 abbrev pub coded_recording : Coded RecordingValue
 coded_recording =
-    code_by (State × List (ℕ × Noted)) (coded× coded_state (coded_list (coded× coded_ℕ coded_noted)))
-    (λ r. (r.first, r.lines)) (λ p. record { first = p.0; lines = p.1 }) (λ _. refl)
+    code_by (State × (ℕ × List (ℕ × Noted)))
+    (coded× coded_state (coded× coded_ℕ (coded_list (coded× coded_ℕ coded_noted))))
+    (λ r. (r.first, (r.from, r.lines))) (λ p. record { first = p.0; from = p.1.0; lines = p.1.1 }) (λ _. refl)
 
 -- a recording is well formed, and its last state is that after the notes of all lines
 pub record IsKept (r : RecordingValue) (last : State) : Type 0 where

@@ -3,7 +3,7 @@ use Rattle.retro_tree.specs.Ask.{names_in}
 use Rattle.retro_tree.specs.Commit.{committed}
 use Rattle.retro_tree.specs.Overlay.{Overlays}
 use Rattle.retro_keep.specs.Recording.{RecordingValue}
-use Rattle.retro_history.specs.Recorded.{recorded_before}
+use Rattle.retro_keep.specs.Recorded.{recorded_before}
 use Rattle.retro_history.proofs.Tracking.{if_ok}
 use Rattle.retro_history.proofs.Recalled.{all_rise, names_recalled, marks_at, marks_overlay}
 use Rattle.retro_history.proofs.history.History.children.Goals as goal
