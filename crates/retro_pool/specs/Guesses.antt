@@ -8,8 +8,8 @@ use Rattle.retro_redo.specs.Ground.{GroundValue, edit_lent, shown_at}
 use Rattle.retro_redo.specs.Progress.{IsNewRunOf}
 use Rattle.retro_pool.specs.declared.guess.Guess.{Guess}
 
--- A new run of the line with a number. Its notes hold in the combined state before the line, and they
--- certify the run.
+-- A new run of the line with a number. Its notes hold in the combined state before the line, and
+-- they certify the run.
 pub record IsRunOf (g : GroundValue) (number : ℕ) (run : RunValue) : Type 0 where
   pub noted : Noted
   pub line : noted_at number g.recording.lines ≡ Some noted

@@ -5,7 +5,7 @@ use Rattle.std.specs.List.{slice_get}
 use Rattle.retro_tree.specs.Notes.{after}
 use Rattle.retro_tree.specs.declared.state.State.{State}
 use Rattle.retro_keep.specs.Recording.{IsWellFormed, RecordingValue, last_state}
-use Rattle.retro_history.specs.Recorded.{recorded_before}
+use Rattle.retro_keep.specs.Recorded.{recorded_before}
 use Rattle.retro_history.proofs.RecordedVersions.{state_before_line}
 use Rattle.retro_redo.specs.Progress.{ProgressValue, next_line, next_number, recorded_after, recorded_now}
 use Rattle.retro_redo.specs.declared.step.Step.{Step}

@@ -27,6 +27,7 @@ use Rattle.retro_redo.specs.declared.step.Step.{Step}
 use Rattle.retro_redo.specs.declared.step.Step.TheVariants.{Cancel, Keep, Take}
 use Rattle.retro_redo.proofs.Altered.{Agree, agree_after, allowed_too, node_unchanged}
 use Rattle.retro_redo.proofs.AlteredPaths.{any_append, first_none, rest_none}
+use Rattle.retro_redo.proofs.Choices.{chosen_from}
 use Rattle.retro_redo.proofs.Finishing.{rises_from_less}
 use Rattle.retro_redo.proofs.Positions.{Line}
 
@@ -213,7 +214,9 @@ recording_far edit r steps w settles far =
     }) in
     record {
       lawful = w.lawful;
+      begins = w.begins;
       rising = chosen_rise 0 r.lines steps w.rising;
+      not_before = chosen_from r.from r.lines steps w.not_before;
       known = named.known;
       own = named.own;
       of_kind = changes.of_kind;

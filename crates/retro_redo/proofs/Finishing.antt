@@ -27,20 +27,20 @@ use Rattle.retro_redo.specs.inner.Keeping.{Keeps}
 use Rattle.retro_redo.specs.Editing.{EditMap}
 use Rattle.retro_redo.specs.Moments.{AreVerdicts, IsMet, Picks}
 use Rattle.retro_redo.specs.Progress.{ProgressValue, edit_in, lines_chosen, next_line, repaired_now}
-use Rattle.retro_redo.specs.Progress.{repaired_after, repaired_recording}
+use Rattle.retro_redo.specs.Progress.{AreTakenIfMet, repaired_after, repaired_recording}
 use Rattle.retro_redo.specs.Repair.{IsRepair, IsRunAgain, edited_lines, moments_of, script_now}
 use Rattle.retro_redo.specs.Settled.{AreSettled, IsSettled}
 use Rattle.retro_redo.specs.Progress.{compensations_chosen, settled, verdicts_chosen}
 use Rattle.retro_redo.specs.declared.repair.Repair.{Repair}
 use Rattle.retro_redo.specs.declared.step.Step.{Step}
-use Rattle.retro_redo.proofs.Choices.{last_chosen}
+use Rattle.retro_redo.proofs.Choices.{chosen_from, last_chosen}
 use Rattle.retro_redo.proofs.Final.{settles_final}
 use Rattle.retro_redo.proofs.Keeping.{repaired_is}
 use Rattle.retro_redo.proofs.Positions.{Line, all_settled, recorded_all}
 
 -- ---- the script of the edited lines
 
-numbers_are : (lines : List Line) → map number_of (map script_line lines) ≡ map number_in lines
+pub numbers_are : (lines : List Line) → map number_of (map script_line lines) ≡ map number_in lines
 numbers_are [] = refl
 numbers_are (l ∷ lines) = ap (λ ns. l.0 ∷ ns) (numbers_are lines)
 
@@ -112,8 +112,9 @@ module _ (p : ProgressValue) (overlay : OverlayMap) (met : List ℕ) (keeps : Ke
   -- the lines as chosen are a recording's
   pub chosen_well_formed : IsWellFormed (repaired_recording p)
   chosen_well_formed =
-      well_formed (script_now (edit_in p) p.recording) (lines_chosen p.recording.lines p.choices)
-      (script_edited_lines (edit_in p) p.recording w) final.lines_are final.recorded
+      well_formed (script_now (edit_in p) p.recording) p.recording.from (lines_chosen p.recording.lines p.choices)
+      (script_edited_lines (edit_in p) p.recording w) w.begins
+      (chosen_from p.recording.from p.recording.lines p.choices w.not_before) final.lines_are final.recorded
 
   pub is_repair : (repair : Repair)
       → repair.recording ≡ repaired_recording p
@@ -141,6 +142,7 @@ module _ (p : ProgressValue) (overlay : OverlayMap) (met : List ℕ) (keeps : Ke
           lines = ap (λ (r : RecordingValue). map script_line r.lines) recording ∙ final.lines_are;
           recorded = subst (λ (r : RecordingValue). AllRecorded r.lines r.first) (sym recording) final.recorded;
         };
+        begins = ap (λ (r : RecordingValue). r.from) recording;
       }
 
 -- ---- the end of the code, where q is the progress as its fields are, and p as contracts see it
@@ -188,6 +190,7 @@ module _ (p q : ProgressValue) (overlay : OverlayMap) (met : List ℕ) (e : q �
         subst (λ (x : ProgressValue). IsSettled (edit_in x) x.recording x.choices repair) e (record {
           settles = keeps.settles;
           all = all_chosen p q overlay met e keeps ended;
+          begins = again.begins;
           chosen = λ well. absurd (false≢true (sym (ap is_some none) ∙ exact.1 well));
           again = λ not_well. again;
         })
@@ -204,6 +207,7 @@ module _ (p q : ProgressValue) (overlay : OverlayMap) (met : List ℕ) (e : q �
         subst (λ (x : ProgressValue). IsSettled (edit_in x) x.recording x.choices repair) e (record {
           settles = keeps.settles;
           all = all_chosen p q overlay met e keeps ended;
+          begins = ap (λ (x : RecordingValue). x.from) recording;
           chosen = λ well. record {
             recording_is = recording;
             state_is = state ∙ ap (λ (x : RecordingValue). last_state x.lines x.first) recording
@@ -242,9 +246,7 @@ repair_same a edits r q repair same e h is =
 
 pub settled_same : (a : EditMap) (edits : List Edit) (r q : RecordingValue) (steps : List Step) (repair : Repair)
     → ((n : ℕ) → finmap.get a n ≡ edit_of edits n) → r ≡ q → IsSettled (finmap.get a) r steps repair
-    → AreSettled (edit_of edits) q repair
-settled_same a edits r q steps repair same e h = (
-  steps,
-  subst (λ (x : ℕ → Option Edit). IsSettled x q steps repair) (λ i n. same n i)
-      (subst (λ (x : RecordingValue). IsSettled (finmap.get a) x steps repair) e h),
-)
+    → AreTakenIfMet (finmap.get a) r.lines steps r.first r.first → AreSettled (edit_of edits) q repair
+settled_same a edits r q steps repair same e h met =
+    subst (λ (x : ℕ → Option Edit). AreSettled x q repair) (λ i n. same n i)
+    (subst (λ (x : RecordingValue). AreSettled (finmap.get a) x repair) e (steps, h, met))

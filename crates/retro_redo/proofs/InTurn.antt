@@ -21,6 +21,7 @@ repaired_in_turn first second r one two apart h k = record {
     lines = k.recording_is.lines ∙ both;
     recorded = k.recording_is.recorded;
   };
+  begins = k.begins ∙ h.begins;
 }
   where
     both : edited (edit_of second) (map script_line one.recording.lines)

@@ -6,6 +6,8 @@ pub mod Keeping
 pub mod Accepting
 pub mod Choices
 pub mod Finishing
+pub mod Taking
+pub mod RunAgain
 pub mod Numbers
 pub mod Before
 pub mod InTurn

@@ -9,7 +9,7 @@ use Rattle.retro_keep.specs.declared.edit_fault.EditRefusal.{EditRefusal}
 use Rattle.retro_keep.specs.declared.edit_fault.EditRefusal.TheVariants as refusals
 use Rattle.retro_redo.specs.declared.repair_fault.RepairFault.{RepairFault}
 use Rattle.retro_redo.specs.declared.repair_fault.RepairFault.TheVariants.{NoSuchLine, NoCut, TooManyWorkers}
-use Rattle.retro_redo.specs.declared.repair_fault.RepairFault.TheVariants.{TwoEdits, OutOfMemory}
+use Rattle.retro_redo.specs.declared.repair_fault.RepairFault.TheVariants.{TwoEdits, BeforeCheckpoint, OutOfMemory}
 
 -- edits by the numbers of their lines
 abbrev pub EditMap : Type 0
@@ -25,7 +25,7 @@ AreLines edits r = (n : ℕ) → map.contains_key edits n ≡ true → is_line r
 
 -- whether the lines of a recording can be edited so, or the first refusal
 abbrev pub edits_of_lines : List Edit → RecordingValue → Result ⊤ EditRefusal
-edits_of_lines edits r = edits_tested (is_line r) edits
+edits_of_lines edits r = edits_tested r.from (is_line r) edits
 
 -- no edit is refused
 abbrev pub AreAccepted : List Edit → RecordingValue → Type 0
@@ -34,6 +34,7 @@ AreAccepted edits r = edits_of_lines edits r ≡ Ok tt
 -- A repair is refused as its edits are. Memory runs out only if no edit is refused.
 abbrev pub Refuses : List Edit → RecordingValue → RepairFault → Type 0
 Refuses edits r (TwoEdits n) = edits_of_lines edits r ≡ Err (refusals.TwoEdits n)
+Refuses edits r (BeforeCheckpoint n) = edits_of_lines edits r ≡ Err (refusals.BeforeCheckpoint n)
 Refuses edits r (NoSuchLine n) = edits_of_lines edits r ≡ Err (refusals.NoSuchLine n)
 Refuses edits r NoCut = ⊥
 Refuses edits r TooManyWorkers = ⊥

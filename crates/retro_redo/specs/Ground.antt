@@ -4,7 +4,7 @@ use Rattle.std.specs.FinMap as map
 use Rattle.retro_tree.specs.Commit.{committed}
 use Rattle.retro_tree.specs.Overlay.{OverlayMap}
 use Rattle.retro_tree.specs.declared.state.State.{State}
-use Rattle.retro_history.specs.Recorded.{recorded_before}
+use Rattle.retro_keep.specs.Recorded.{recorded_before}
 use Rattle.retro_keep.specs.Recording.{RecordingValue}
 use Rattle.retro_keep.specs.declared.edit.Edit.{Edit}
 use Rattle.retro_redo.specs.Editing.{EditMap}

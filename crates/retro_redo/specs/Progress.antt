@@ -10,7 +10,7 @@ use Rattle.retro_keep.specs.Recording.{RecordingValue}
 use Rattle.retro_keep.specs.declared.edit.Edit.{Edit}
 use Rattle.retro_keep.specs.declared.noted.Noted.{Noted}
 use Rattle.retro_redo.specs.Editing.{EditMap}
-use Rattle.retro_redo.specs.Moments.{IsStaleBy, Moment, compensation, new_text, text_now}
+use Rattle.retro_redo.specs.Moments.{IsMetBy, IsStaleBy, Moment, compensation, new_text, text_now}
 use Rattle.retro_redo.specs.declared.compensation.Compensation.{Compensation}
 use Rattle.retro_redo.specs.declared.step.Step.{Step}
 use Rattle.retro_redo.specs.declared.step.Step.TheVariants.{Cancel, Keep, Take}
@@ -98,6 +98,24 @@ Settles edit (l ∷ lines) (step ∷ steps) s t =
     MayStep edit s t l step × IsRunTaken step
     × Settles edit lines steps (after l.1.notes s) (after (chosen step l.1) t)
 
+-- a choice gives a line a new run only if the line is met by the two states before it
+abbrev pub IsTakenIfMet : (ℕ → Option Edit) → State → State → ℕ × Noted → Step → Type 0
+IsTakenIfMet edit s t l Cancel = Unit {0}
+IsTakenIfMet edit s t l Keep = Unit {0}
+IsTakenIfMet edit s t l (Take run) = IsMetBy (edit l.0) l.1.notes s t
+
+-- Only met lines get new runs. So a line that nothing edits and that isn't met is kept, even if its
+-- notes don't hold, as in a forged log.
+abbrev pub AreTakenIfMet : (ℕ → Option Edit) → List (ℕ × Noted) → List Step → State → State → Type 0
+AreTakenIfMet edit [] steps s t = Unit {0}
+AreTakenIfMet edit (l ∷ lines) [] s t = Unit {0}
+AreTakenIfMet edit (l ∷ lines) (step ∷ steps) s t =
+    IsTakenIfMet edit s t l step × AreTakenIfMet edit lines steps (after l.1.notes s) (after (chosen step l.1) t)
+
+-- the same of the choices so far
+abbrev pub AreTakenNow : ProgressValue → Type 0
+AreTakenNow p = AreTakenIfMet (edit_in p) p.recording.lines p.choices p.recording.first p.recording.first
+
 -- ---- what the choices give
 
 -- what each settled line with its choice gives, in order
@@ -118,10 +136,14 @@ line_chosen l (Take run) = (l.0, noted_of run) ∷ []
 abbrev pub lines_chosen : List (ℕ × Noted) → List Step → List (ℕ × Noted)
 lines_chosen = by_choices line_chosen
 
--- the first state and the lines as chosen
+-- the lines as chosen, over the same first state, in a recording that begins at the same number
 abbrev pub repaired_recording : ProgressValue → RecordingValue
 repaired_recording p =
-    record { first = p.recording.first; lines = lines_chosen p.recording.lines p.choices }
+    record {
+      first = p.recording.first;
+      from = p.recording.from;
+      lines = lines_chosen p.recording.lines p.choices;
+    }
 
 -- what a line prints by its choice
 abbrev pub output_chosen : Noted → Step → List ℕ

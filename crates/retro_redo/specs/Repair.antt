@@ -28,19 +28,23 @@ script_now edit r = edited_script edit (script_in r)
 
 -- State and outputs are those of running the edited lines one by one from the first state. The lines
 -- whose output differs are compensated, with both texts. The verdicts are those of the lines, and
--- the met lines are listed. The repaired recording is one of the edited lines.
+-- the met lines are listed. The repaired recording is one of the edited lines, and begins at the same
+-- number.
 pub record IsRepair (edit : ℕ → Option Edit) (r : RecordingValue) (repair : Repair) : Type 0 where
   pub outcome_is : (repair.state, repair.outputs.items) ≡ outcome (edited_lines edit r) r.first
   pub compensated : repair.compensations.items ≡ compensations edit (moments_of edit r)
   pub verdicts_are : AreVerdicts edit (moments_of edit r) repair.verdicts.items
   pub met_are : Picks (IsMet edit) (moments_of edit r) repair.met.items
   pub recording_is : IsRecordingOf (script_now edit r) repair.recording
+  pub begins : repair.recording.from ≡ r.from
 
 -- The part of a repair that doesn't compare with what was recorded: the state and the outputs are
--- those of running the edited lines, and the recording is one of these lines.
+-- those of running the edited lines, and the recording is one of these lines and begins at the same
+-- number.
 pub record IsRepairOf (edit : ℕ → Option Edit) (r : RecordingValue) (repair : Repair) : Type 0 where
   pub outcome_is : (repair.state, repair.outputs.items) ≡ outcome (edited_lines edit r) r.first
   pub recording_is : IsRecordingOf (script_now edit r) repair.recording
+  pub begins : repair.recording.from ≡ r.from
 
 -- the counts of a repair on one thread
 abbrev pub no_guesses : Tally
@@ -64,10 +68,12 @@ text_again (Some noted) = noted.output
 abbrev pub compensation_again : RecordingValue → ℕ × Noted → List Compensation
 compensation_again again l = compensation l.0 l.1.output (text_again (noted_at l.0 again.lines))
 
--- State and outputs are those of running the edited lines. All of them are met and redone.
+-- State and outputs are those of running the edited lines. All of them are met and redone. Their
+-- recording begins at the same number.
 pub record IsRunAgain (edit : ℕ → Option Edit) (r : RecordingValue) (repair : Repair) : Type 0 where
   pub outcome_is : (repair.state, repair.outputs.items) ≡ outcome (edited_lines edit r) r.first
   pub compensated : repair.compensations.items ≡ flat_map (compensation_again repair.recording) r.lines
   pub verdicts_are : repair.verdicts.items ≡ map (verdict_again edit) r.lines
   pub met_are : repair.met.items ≡ map number_of (edited_lines edit r)
   pub recording_is : IsRecordingOf (script_now edit r) repair.recording
+  pub begins : repair.recording.from ≡ r.from

@@ -4,15 +4,15 @@ use Rattle.std.specs.Prelude.{◌≡◌, ℕ, List, length, map, Option}
 use Rattle.retro_keep.specs.Recording.{IsWellFormed, RecordingValue, output_in}
 use Rattle.retro_keep.specs.declared.edit.Edit.{Edit}
 use Rattle.retro_redo.specs.Moments.{IsMet, Picks}
-use Rattle.retro_redo.specs.Progress.{Settles, compensations_chosen, lines_chosen, repaired_after, settled}
-use Rattle.retro_redo.specs.Progress.{verdicts_chosen}
+use Rattle.retro_redo.specs.Progress.{AreTakenIfMet, Settles, compensations_chosen, lines_chosen, repaired_after}
+use Rattle.retro_redo.specs.Progress.{settled, verdicts_chosen}
 use Rattle.retro_redo.specs.Repair.{IsRunAgain}
 use Rattle.retro_redo.specs.declared.repair.Repair.{Repair}
 use Rattle.retro_redo.specs.declared.step.Step.{Step}
 
--- the first state, and the lines as chosen
+-- the lines as chosen, over the same first state, in a recording that begins at the same number
 abbrev pub recording_chosen : RecordingValue → List Step → RecordingValue
-recording_chosen r steps = record { first = r.first; lines = lines_chosen r.lines steps }
+recording_chosen r steps = record { first = r.first; from = r.from; lines = lines_chosen r.lines steps }
 
 -- The repaired recording has the lines as chosen. State and outputs are those of its notes, and the
 -- met lines are those that read or write a cell in which the recorded and the repaired state
@@ -27,14 +27,18 @@ pub record IsByChoices (edit : ℕ → Option Edit) (r : RecordingValue) (steps 
   pub met_are : Picks (IsMet edit) (settled r.lines steps r.first r.first) repair.met.items
 
 -- Each line has a choice that it allows. The repair is what the choices give, if the lines as
--- chosen make a recording. Otherwise all edited lines are run again.
+-- chosen make a recording. Otherwise all edited lines are run again. In both cases the repaired
+-- recording begins at the same number.
 pub record IsSettled (edit : ℕ → Option Edit) (r : RecordingValue) (steps : List Step) (repair : Repair)
     : Type 0 where
   pub settles : Settles edit r.lines steps r.first r.first
   pub all : length steps ≡ length r.lines
+  pub begins : repair.recording.from ≡ r.from
   pub chosen : IsWellFormed (recording_chosen r steps) → IsByChoices edit r steps repair
   pub again : ¬ (IsWellFormed (recording_chosen r steps)) → IsRunAgain edit r repair
 
--- some choices settle the lines and give the repair
+-- Some choices settle the lines and give the repair. Only met lines get new runs, so a line that
+-- nothing edits and that isn't met stands with its noted output.
 abbrev pub AreSettled : (ℕ → Option Edit) → RecordingValue → Repair → Type 0
-AreSettled edit r repair = (steps : List Step) × IsSettled edit r steps repair
+AreSettled edit r repair =
+    (steps : List Step) × IsSettled edit r steps repair × AreTakenIfMet edit r.lines steps r.first r.first

@@ -1,19 +1,26 @@
 -- How the next line of a repair is settled.
-use Rattle.std.specs.Prelude.{◌≡◌, ℕ, ◌∷◌, ◌++◌, [], Option, None, IfSome}
+use Rattle.std.specs.Prelude.{◌≡◌, ℕ, ◌∷◌, ◌++◌, [], Option, None, Some, IfSome}
 use Rattle.retro_tree.specs.Notes.{Holds}
 use Rattle.retro_shell.specs.Runs.{RunValue}
 use Rattle.retro_keep.specs.Recording.{IsRecordingOf, script_in}
 use Rattle.retro_keep.specs.declared.noted.Noted.{Noted}
 use Rattle.retro_keep.specs.declared.edit.Edit.{Edit}
 use Rattle.retro_redo.specs.Moments.{IsStaleBy, text_now}
-use Rattle.retro_redo.specs.Progress.{IsNewRunOf, ProgressValue, edit_in, repaired_now}
+use Rattle.retro_redo.specs.Progress.{IsNewRunOf, IsTakenIfMet, ProgressValue, edit_in, next_line, recorded_now}
+use Rattle.retro_redo.specs.Progress.{repaired_now}
 use Rattle.retro_redo.specs.declared.settlement.Settlement.{Settlement}
 use Rattle.retro_redo.specs.declared.settlement.Settlement.TheVariants.{Cancelled, Kept, TakenUp, Redone}
 use Rattle.retro_redo.specs.declared.step.Step.{Step}
 
--- one more line is settled, by some step
+-- a step gives the next line a new run only if the line is met
+abbrev pub IsForMetLine : ProgressValue → Step → Type 0
+IsForMetLine p step =
+    (l : ℕ × Noted) → next_line p ≡ Some l → IsTakenIfMet (edit_in p) (recorded_now p) (repaired_now p) l step
+
+-- one more line is settled, by some step, and by a new run only if it is met
 abbrev pub IsOneMore : ProgressValue → ProgressValue → Type 0
-IsOneMore p q = (step : Step) × (q ≡ record p { choices = p.choices ++ step ∷ [] })
+IsOneMore p q =
+    (step : Step) × (q ≡ record p { choices = p.choices ++ step ∷ [] }) × IsForMetLine p step
 
 -- a new run of a line, or none
 abbrev pub IsGuessOf : (ℕ → Option Edit) → ℕ × Noted → Option RunValue → Type 0

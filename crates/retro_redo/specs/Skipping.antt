@@ -1,5 +1,6 @@
 -- Lines that a repair keeps without reading them.
-use Rattle.std.specs.Prelude.{◌≡◌, ◌⊎◌, ◌≤◌, ℕ, zero, suc, List, [], ◌∷◌, ◌++◌, Option, None, IsSome, drop, length, replicate}
+use Rattle.std.specs.Prelude.{◌≡◌, ◌⊎◌, ◌≤◌, ℕ, zero, suc, List, [], ◌∷◌, ◌++◌, Option, None, IsSome, drop, length}
+use Rattle.std.specs.Prelude.{replicate}
 use Rattle.retro_tree.specs.Exact.{IsExact}
 use Rattle.retro_tree.specs.Notes.{after, AgreeOn}
 use Rattle.retro_tree.specs.Overlay.{OverlayMap}

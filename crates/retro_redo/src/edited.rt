@@ -3,7 +3,8 @@ ghost use Rattle.std.specs.Prelude.{◌≡◌, ◌++◌, IfOk, OnOk, map};
 ghost use Rattle.std.specs.FinMap as map_of;
 ghost use Rattle.std.specs.List.{flat_map};
 ghost use Rattle.retro_keep.specs.Edit.{edited, line_run};
-ghost use Rattle.retro_keep.specs.Recording.{IsWellFormed, noted_at, number_in, script_line};
+ghost use Rattle.retro_keep.specs.Recording.{IsRecordingOf, IsWellFormed, noted_at, number_in};
+ghost use Rattle.retro_keep.specs.Recording.{script_line};
 ghost use Rattle.retro_redo.specs.Moments.{text_now};
 ghost use Rattle.retro_redo.specs.Repair.{IsRunAgain, compensation_again, script_now};
 ghost use Rattle.retro_redo.specs.Repair.{text_again, verdict_again, verdict_by};
@@ -32,8 +33,7 @@ pub(crate) fn run_edited(
     ensures again { IfOk result (λ repair.
         IsRunAgain (map_of.get edits.now) recording.now repair) }
 {
-    let script = script_now(alloc, recording, edits)?;
-    let again = keep_alone(alloc, &script)?;
+    let again = record_edited(alloc, recording, edits)?;
     let lines = recording.lines();
     let compensations = compensations(alloc, lines, &again)?;
     let verdicts = verdicts(alloc, lines, edits)?;
@@ -49,6 +49,19 @@ pub(crate) fn run_edited(
         tally,
         recording: again,
     })
+}
+
+/// Runs the edited lines, and returns their recording. It begins at the same number as `recording`.
+fn record_edited(alloc: Global, recording: &Recording, edits: &Edits) -> Result<Recording, NoMem>
+    ensures recording { IfOk result (λ again.
+        IsRecordingOf (script_now (map_of.get edits.now) recording.now) again) }
+    ensures begins { IfOk result (λ again. again.from ≡ recording.now.from) }
+{
+    let script = script_now(alloc, recording, edits)?;
+    let kept = keep_alone(alloc, &script)?;
+    let (first, _, lines, last) = kept.into_parts();
+    let from = recording.from();
+    Ok(Recording::of_well_formed(first, from, lines, last))
 }
 
 /// Returns the script of the edited lines.

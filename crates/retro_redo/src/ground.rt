@@ -1,7 +1,7 @@
 //! What a repair lends for guesses.
 ghost use Rattle.std.specs.Prelude.{◌≡◌};
 ghost use Rattle.retro_tree.specs.Overlay.{Fits, Overlays};
-ghost use Rattle.retro_history.specs.Recorded.{recorded_before};
+ghost use Rattle.retro_keep.specs.Recorded.{recorded_before};
 ghost use Rattle.retro_redo.specs.Ground.{shown_at};
 
 use crate::shown::Shown;

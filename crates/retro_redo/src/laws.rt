@@ -30,7 +30,8 @@ pub fn repairs_come_to_the_whole_run()
 
 /// States what a second repair gives, which makes a second list of edits in the recording of a
 /// first repair, if the two lists name different lines. Its state and its outputs are those of
-/// running the lines with the edits of both lists, and its recording is one of these lines.
+/// running the lines with the edits of both lists. Its recording is one of these lines, and begins
+/// at the same number as the first one.
 #[tactic(auto, using(crate::proofs::InTurn::repaired_in_turn))]
 pub fn repairs_in_turn_repair_both()
     ensures { (first second : List Edit) (r : RecordingValue) (one two : Repair)

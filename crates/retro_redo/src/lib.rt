@@ -20,7 +20,8 @@
 //!
 //! [`repair_alone`] repairs a recording on one thread. State and outputs of the [`Repair`] are
 //! those of running the edited lines one by one. Where an output differs from the recorded one, the
-//! repair has a [`Compensation`]. Its recording is one of the edited lines.
+//! repair has a [`Compensation`]. Its recording is one of the edited lines, and begins at the same
+//! number as the recording that is repaired. A line below that number can't be edited.
 //!
 //! If allocation fails, calls return `NoMem`, or `OutOfMemory` if they have other refusals. Their
 //! arguments are then unchanged.

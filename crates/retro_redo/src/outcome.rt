@@ -18,8 +18,9 @@ use retro_shell::Run;
 use retro_tree::{Bytes, NoMem, Overlay};
 use std::alloc::Global;
 
-/// Returns the repaired recording: the first state with the lines as chosen. Returns `None` if
-/// these aren't a recording because a change isn't lawful where it is made.
+/// Returns the repaired recording: the first state with the lines as chosen. It begins at the same
+/// number as `recording`. Returns `None` if these aren't a recording because a change isn't lawful
+/// where it is made.
 ///
 /// If no kept line changes a path near an altered one, the changes are known to be lawful. Then
 /// nothing is tested, and the last state is the recorded last state with the overlay committed to
@@ -44,12 +45,13 @@ pub(crate) fn chosen_recording(
     let near = keeps_near(alloc, lines, choices.as_slice())?;
     let chosen = chosen_lines(alloc, lines, choices)?;
     let first = recording.first().copy()?;
+    let from = recording.from();
     if near {
-        return Recording::new(alloc, first, chosen);
+        return Recording::new(alloc, first, from, chosen);
     }
     let mut last = recording.last().copy()?;
     overlay.commit(alloc, &mut last)?;
-    Ok(Some(Recording::of_well_formed(first, chosen, last)))
+    Ok(Some(Recording::of_well_formed(first, from, chosen, last)))
 }
 
 /// Returns the lines of the repaired recording. Moves the runs of the redone lines.

@@ -5,8 +5,8 @@ use crate::verdict::Verdict;
 use retro_keep::Recording;
 use retro_tree::{Bytes, State};
 
-/// A repaired machine: what running the edited lines gives, and the verdict on each line. The edited
-/// lines are those that aren't cancelled, each with its new text if its text is replaced.
+/// A repaired machine: what running the edited lines gives, and the verdict on each line. The
+/// edited lines are those that aren't cancelled, each with its new text if its text is replaced.
 #[derive(Drop)]
 pub struct Repair {
     /// The state after the edited lines.
@@ -22,6 +22,6 @@ pub struct Repair {
     pub compensations: Vec<Compensation>,
     /// How many guesses were made, and how they ended.
     pub tally: Tally,
-    /// The recording of the edited lines.
+    /// The recording of the edited lines. It begins at the same number as the one repaired.
     pub recording: Recording,
 }

@@ -13,6 +13,9 @@ pub enum RepairFault {
     /// Two different edits name this line (refusal 26).
     #[error("two different edits of line {0}")]
     TwoEdits(u32),
+    /// An edit names this line, from 1 on, and the recording begins after it (refusal 25).
+    #[error("the recording begins after line {0}")]
+    BeforeCheckpoint(u32),
     /// No line has this number (refusal 21).
     #[error("no line has the number {0}")]
     NoSuchLine(u32),
@@ -28,12 +31,13 @@ pub enum RepairFault {
 }
 
 impl RepairFault {
-    /// Returns the number of the refusal: from 21 to 24, or 26.
+    /// Returns the number of the refusal: from 21 to 26.
     pub fn number(&self) -> u8
         ensures { result ≡ fault_number self.now }
     {
         match self {
             RepairFault::TwoEdits(_) => 26,
+            RepairFault::BeforeCheckpoint(_) => 25,
             RepairFault::NoSuchLine(_) => 21,
             RepairFault::NoCut => 22,
             RepairFault::TooManyWorkers => 23,
@@ -56,6 +60,7 @@ impl From<EditRefusal> for RepairFault {
     fn from(refusal: EditRefusal) -> RepairFault {
         match refusal {
             EditRefusal::TwoEdits(number) => RepairFault::TwoEdits(number),
+            EditRefusal::BeforeCheckpoint(number) => RepairFault::BeforeCheckpoint(number),
             EditRefusal::NoSuchLine(number) => RepairFault::NoSuchLine(number),
         }
     }

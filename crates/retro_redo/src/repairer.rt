@@ -69,8 +69,10 @@ impl<'h, 'a> Repairer<'h, 'a> {
     ///
     /// # Errors
     ///
-    /// `TwoEdits` with the least number that two different edits name. Otherwise `NoSuchLine` with
-    /// the least edited number that no line has. `OutOfMemory` only if there is no such number.
+    /// `TwoEdits` with the least number that two different edits name. Otherwise
+    /// `BeforeCheckpoint` with the least edited number, from 1 on, that is below the number at
+    /// which the recording begins. Otherwise `NoSuchLine` with the least edited number that no line
+    /// has. `OutOfMemory` only if there is no such number.
     pub fn new(
         alloc: Global,
         recording: &'a Recording,
@@ -211,8 +213,8 @@ impl<'h, 'a> Repairer<'h, 'a> {
     }
 
     /// Settles the next line, and returns how. Cancels it if it is cancelled. Keeps it if it isn't
-    /// edited, and it isn't met or its notes hold in the repaired state. Otherwise the line is
-    /// stale: it gets its guess if the guess's notes hold in the repaired state, and is run again
+    /// edited, and it isn't met or its notes hold in the repaired state. Otherwise the line is met
+    /// and stale: it gets its guess if the guess's notes hold in the repaired state, and is run again
     /// if not.
     ///
     /// A guess must be a run in the line's session of the line's new text, if its text is replaced,
@@ -246,7 +248,7 @@ impl<'h, 'a> Repairer<'h, 'a> {
         self.settle_stale(alloc, number, guess, gate)
     }
 
-    /// Settles the next line, which is stale, and returns how: by its guess if the guess's notes
+    /// Settles the next line, which is met and stale, and returns how: by its guess if the guess's notes
     /// hold in the repaired state, and by a new run if not.
     fn settle_stale<G: Gate>(
         &mut self,
@@ -257,6 +259,9 @@ impl<'h, 'a> Repairer<'h, 'a> {
     ) -> Result<Settlement, NoMem>
         requires next { next_number self.old ≡ Some number }
         requires stale { (l : ℕ × NotedValue) → next_line self.old ≡ Some l → IsStale self.old l }
+        requires met { (l : ℕ × NotedValue) → next_line self.old ≡ Some l
+            → IsMetBy (edit_in self.old l.0) l.1.notes (recorded_now self.old)
+            (repaired_now self.old) }
         requires guess { (l : ℕ × NotedValue) → next_line self.old ≡ Some l
             → IsGuessOf (edit_in self.old) l guess }
         ensures one { OnOk result (IsOneMore self.old self.new) }
@@ -273,9 +278,9 @@ impl<'h, 'a> Repairer<'h, 'a> {
         Ok(Settlement::Redone)
     }
 
-    /// Keeps the next lines that are neither edited nor met, and returns the number of the line after
-    /// them, or `None` if all lines are settled. The kept lines aren't read, since the next line
-    /// that is edited or met is found by its number.
+    /// Keeps the next lines that are neither edited nor met, and returns the number of the line
+    /// after them, or `None` if all lines are settled. The kept lines aren't read, since the next
+    /// line that is edited or met is found by its number.
     pub fn skip_unmet(&mut self) -> Result<Option<u32>, NoMem>
         ensures next { IfOk result (λ number. number ≡ next_number self.new) }
         ensures ok { OnOk result (IsSkip self.old self.new) }

@@ -3,7 +3,7 @@ ghost use Rattle.std.specs.Prelude.{◌≡◌, IfErr, IfOk, None, OnOk, ℕ};
 ghost use Rattle.retro_keep.specs.Edit.{edit_of};
 ghost use Rattle.retro_keep.specs.Recording.{IsRecordingOf, script_in};
 ghost use Rattle.retro_redo.specs.Editing.{AreAccepted, Refuses};
-ghost use Rattle.retro_redo.specs.Progress.{edit_in, next_line};
+ghost use Rattle.retro_redo.specs.Progress.{AreTakenNow, edit_in, next_line};
 ghost use Rattle.retro_redo.specs.Repair.{IsRepair, no_guesses};
 ghost use Rattle.retro_redo.specs.Settled.{AreSettled};
 
@@ -24,13 +24,15 @@ use std::alloc::Global;
 /// If the recording is what running its lines gives, the repair's state and outputs are those of
 /// running the edited lines. A recording from elsewhere needn't be that. Then the repair settles
 /// each line by a step that the line allows, as [`Repairer::step`] says, and returns what these
-/// steps make of the recorded notes. If the resulting changes aren't lawful, it runs all edited
+/// steps make of the recorded notes. Only met lines are run again, so a line that is neither edited
+/// nor met stands with its noted output. If the resulting changes aren't lawful, it runs all edited
 /// lines again instead.
 ///
 /// # Errors
 ///
-/// `TwoEdits` with the least number that two different edits name. Otherwise `NoSuchLine` with the
-/// least edited number that no line has.
+/// `TwoEdits` with the least number that two different edits name. Otherwise `BeforeCheckpoint`
+/// with the least edited number, from 1 on, that is below the number at which the recording begins.
+/// Otherwise `NoSuchLine` with the least edited number that no line has.
 pub fn repair_alone(
     alloc: Global,
     recording: &Recording,
@@ -81,6 +83,7 @@ fn settle_all<'a, G: Gate>(
     ensures edits { IfOk result (λ settled.
         (n : ℕ) → edit_in settled n ≡ edit_of edits.now n) }
     ensures settled { IfOk result (λ settled. next_line settled ≡ None) }
+    ensures met { IfOk result (λ settled. AreTakenNow settled) }
     ensures known { OnOk result (AreAccepted edits.now recording.now) }
     ensures refused { IfErr result (λ fault. Refuses edits.now recording.now fault) }
 {

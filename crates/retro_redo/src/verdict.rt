@@ -7,7 +7,7 @@ pub enum Verdict {
     Cancelled,
     /// The line was run again, since its text is replaced or its notes no longer hold.
     Redone,
-    /// The line is kept: it isn't edited and its notes still hold, so it prints and changes what was
-    /// recorded.
+    /// The line is kept: it isn't edited and its notes still hold, so it prints and changes what
+    /// was recorded.
     Kept,
 }

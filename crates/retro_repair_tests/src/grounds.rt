@@ -123,8 +123,8 @@ pub fn guessed(
     }
 }
 
-/// Returns the numbers of the lines up to an index that are edited or use a cell in which the states
-/// differ before a line.
+/// Returns the numbers of the lines up to an index that are edited or use a cell in which the
+/// states differ before a line.
 pub fn stops_until(
     alloc: Global,
     repairer: &mut Repairer<'_, '_>,

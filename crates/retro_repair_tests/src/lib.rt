@@ -1,5 +1,5 @@
-//! Tests of repairs. The rows have the lines of two sessions, their edits, and what the repair of
-//! their recording answers.
+//! Tests of repairs. The rows have the lines of two sessions or a log, edits of these lines, and
+//! what the repair of their recording answers.
 #![tactic(auto)]
 
 #[cfg(test)]

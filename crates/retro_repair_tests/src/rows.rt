@@ -1,10 +1,10 @@
 //! The call that each row names, and the test that makes these calls.
 use crate::edits::edits;
 use crate::grounds::{guessed, lent, shown, stops_until};
-use crate::recordings::recording;
+use crate::recordings::{recording, recording_of_log};
 use crate::rounds::{Ask, repaired_in_rounds, rounds};
 use crate::steps::{steps, stops};
-use crate::tables::{GROUNDS, IN_TURN, INCIDENTS, REPLACED, ROUNDS, STEPS};
+use crate::tables::{GROUNDS, IN_TURN, INCIDENTS, LATER, REPLACED, ROUNDS, STEPS};
 use crate::telling::{compensations, end, fault_text, file, lines, outputs};
 use crate::watch::Watch;
 use retro_history::History;
@@ -39,13 +39,13 @@ fn repaired_recording(alloc: Global, recording: &Recording, list: &str) -> Resul
     Ok(repaired(alloc, recording, list)?.recording)
 }
 
-/// Returns which lines a repair executes, each with its turn.
+/// Returns which lines a repair executes, each with its turn, or its refusal.
 fn executed(alloc: Global, recording: &Recording, list: &str) -> Result<String, Fail> {
     let edits = edits(alloc, list)?;
     let watch = Watch::new(alloc, 9)?;
     match repair_watched(alloc, recording, &edits, &watch) {
         Ok(_) => Ok(watch.executions(alloc)?),
-        Err(_) => fail("refused"),
+        Err(fault) => Ok(fault_text(alloc, fault)?),
     }
 }
 
@@ -55,6 +55,7 @@ fn told(alloc: Global, repair: &Repair, call: &str, given: &[String]) -> Result<
         ("lines", []) => Ok(lines(alloc, repair)?),
         ("outputs", []) => outputs(alloc, repair),
         ("compensations", []) => compensations(alloc, repair),
+        ("begins", []) => Ok(format!(in alloc; "{}", repair.recording.from())?),
         ("file", [at]) => file(alloc, &repair.state, &path(alloc, at)?),
         ("end", [at]) => end(alloc, &repair.state, &path(alloc, at)?),
         _ => fail("no such call"),
@@ -218,12 +219,21 @@ fn called_in_turn<T: Threads + Sync + AllocGlobal>(
     called(rt, &once, call, second, given)
 }
 
+/// Returns the recording of a row, and what the row has after it.
+fn recorded(alloc: Global, row: &Row) -> Result<(Recording, &[String]), Fail> {
+    match row.given.as_slice() {
+        [log, rest @ ..] if log.starts_with('{') => Ok((recording_of_log(alloc, log)?, rest)),
+        [entries, lines, rest @ ..] => Ok((recording(alloc, entries, lines)?, rest)),
+        _ => fail("no lines"),
+    }
+}
+
 /// Returns the result of a row's call.
 fn returned<T: Threads + Sync + AllocGlobal>(rt: &T, row: &Row) -> Result<String, Fail> {
-    let [entries, lines, lists, given @ ..] = row.given.as_slice() else {
-        return fail("no lines");
+    let (recording, rest) = recorded(rt.alloc(), row)?;
+    let [lists, given @ ..] = rest else {
+        return fail("no edits");
     };
-    let recording = recording(rt.alloc(), entries, lines)?;
     called_in_turn(rt, &recording, &row.call, lists, given)
 }
 
@@ -248,4 +258,9 @@ fn repairs_are_as_worked_out(rt: HostRuntime) -> Result<(), Fail> {
 #[test]
 fn replaced_lines_are_as_worked_out(rt: HostRuntime) -> Result<(), Fail> {
     hold(&rt, REPLACED)
+}
+
+#[test]
+fn later_recordings_are_as_worked_out(rt: HostRuntime) -> Result<(), Fail> {
+    hold(&rt, LATER)
 }

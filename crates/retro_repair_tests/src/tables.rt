@@ -3,7 +3,7 @@
 //! A header gives more entries of the tree, and the lines: a session and a text each, with `;;`
 //! between lines. The first field of a row below it has the edits: the numbers of cancelled lines,
 //! and numbers with texts that replace those of their lines. The tree has `/etc/passwd`, `/h` and
-//! `/tmp`. Session 1 is in `/h` and session 2 in `/tmp`.
+//! `/tmp`. Session 1 is in `/h` and session 2 in `/tmp`. A header that begins with `{` is a log.
 
 /// Incidents: which lines are met, which are redone, how many are executed, what is printed, what
 /// is compensated, and what files hold.
@@ -264,4 +264,37 @@ given: %(EMPTY) :: 1 echo x > f;;1 echo x > f;;1 cat f
 
 given: %(EMPTY) :: 1 false;;1 if test $? = 0; then echo ok; else echo bad; fi
 - rounds: 1 :: 0 16 :: 1 => 1 jobs: 1 taken up, 0 unused, 0 wrong, 0 given up, executed 2 guess
+"##;
+
+/// A recording that begins at line 2: which edits are refused, and at which number the repaired
+/// recording begins.
+pub const LATER: &str = r##"
+given: {"from":2,"lines":[[2,1,"cat f",[["cwd","/"],["bytes","/f",["f","610a"]],\
+  ["setstatus",0]],"610a"]],"log":2,"sessions":[[1,"/",0,[]]],"tree":[["/f","610a"]]}
+- rounds: 1 :: 0 1 3 16 :: 64 => refused 25, line 1
+- rounds: 3 :: 0 1 3 16 :: 64 => refused 21, line 3
+- rounds: 0 :: 0 1 3 16 :: 64 => refused 21, line 0
+- rounds: 1=x :: 0 1 3 16 :: 64 => refused 25, line 1
+- rounds: 0 1 :: 0 1 3 16 :: 64 => refused 25, line 1
+- rounds: 3, 1=x, 1 :: 0 1 3 16 :: 64 => refused 26, line 1
+- rounds: 1 :: 16 :: 0 => refused 22
+- rounds: 1 :: 17 :: 0 => refused 23
+- executed: 1 => refused 25, line 1
+- executed: 3 => refused 21, line 3
+- executed: 0 => refused 21, line 0
+- steps: 3, 1=x => refused 25, line 1
+- steps: 1, 1=x => refused 26, line 1
+- begins: %(EMPTY) => 2
+- lines: %(EMPTY) => met, redone
+- outputs: %(EMPTY) => 2 a%(NL)
+- rounds: %(EMPTY) :: 0 1 3 16 :: 64 => 0 jobs: 0 taken up, 0 unused, 0 wrong, 0 given up, executed
+- begins: 2=cat g => 2
+- lines: 2=cat g => met 2, redone 2
+- compensations: 2=cat g => 2 [a%(NL)] [cat: g: No such file or directory%(NL)]
+- executed: 2=cat g => executed 2 place
+- begins: 2 => 2
+- compensations: 2 => 2 [a%(NL)] []
+- executed: 2 then 1 => refused 25, line 1
+- executed: 2=cat g then 2=cat f => executed 2 place
+- outputs: 2=cat g then 2=cat f => 2 a%(NL)
 "##;

@@ -98,7 +98,9 @@ pub fn end(alloc: Global, state: &State, path: &Path) -> Result<String, Fail> {
 pub fn fault_text(alloc: Global, fault: RepairFault) -> Result<String, NoMem> {
     let refusal = fault.number();
     match fault {
-        RepairFault::NoSuchLine(number) | RepairFault::TwoEdits(number) => {
+        RepairFault::TwoEdits(number)
+        | RepairFault::BeforeCheckpoint(number)
+        | RepairFault::NoSuchLine(number) => {
             format!(in alloc; "refused {refusal}, line {number}")
         }
         _ => format!(in alloc; "refused {refusal}"),

@@ -7,7 +7,7 @@ use Rattle.retro_tree.specs.declared.cell.Cell.{Cell}
 use Rattle.retro_tree.specs.declared.note.Note.{Note}
 use Rattle.retro_tree.specs.declared.state.State.{State}
 use Rattle.retro_tree.proofs.NoteLaws.{touched_where_changed, value_after, value_unchanged}
-use Rattle.retro_history.specs.Recorded.{recorded_before}
+use Rattle.retro_keep.specs.Recorded.{recorded_before}
 use Rattle.retro_history.proofs.RecordedVersions.{state_before_line}
 use Rattle.retro_keep.specs.Recording.{AllRecorded, IsWellFormed, RecordingValue, last_state}
 use Rattle.retro_redo.specs.Moments.{Moment}

@@ -4,7 +4,7 @@ use Rattle.std.proofs.Common.{◌++◌, length, take, drop, Some, option_map, re
 use Rattle.std.proofs.Common.{subst}
 use Rattle.std.specs.List.{AllByRecursion}
 use Rattle.std.specs.Option.{IsSome}
-use Rattle.retro_history.specs.Recorded.{recorded_before}
+use Rattle.retro_keep.specs.Recorded.{recorded_before}
 use Rattle.retro_keep.specs.Recording.{IsWellFormed, number_in}
 use Rattle.retro_redo.specs.Meetings.{lines_until}
 use Rattle.retro_redo.specs.Moments.{Moment, text_now}

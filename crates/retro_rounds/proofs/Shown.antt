@@ -16,7 +16,7 @@ use Rattle.retro_tree.proofs.ExactOverlays.{exact_fits}
 use Rattle.retro_tree.proofs.Fitting.{fits_overlays}
 use Rattle.retro_tree.proofs.NoteLaws.{holds_where_agreed}
 use Rattle.retro_tree.proofs.Small.{some_same}
-use Rattle.retro_history.specs.Recorded.{recorded_before}
+use Rattle.retro_keep.specs.Recorded.{recorded_before}
 use Rattle.retro_history.proofs.Lines.{RiseFrom, above, later}
 use Rattle.retro_keep.specs.Recording.{IsWellFormed, noted_at, number_in}
 use Rattle.retro_keep.specs.declared.noted.Noted.{Noted}

@@ -4,9 +4,9 @@
 //! workers and every cut of the lines into pieces. Each piece is a round. When a round begins, the
 //! lines of its piece that are likely to be run again are found: its *jobs*. They are run ahead of
 //! their turns, in parallel if there are workers, each over the state that it would have if no line
-//! of the piece changed anything else than was recorded. Such a run is a *guess*. Then the lines are
-//! settled one by one. A stale line takes its guess if the guess's notes hold in the repaired state,
-//! and is run again if not.
+//! of the piece changed anything else than was recorded. Such a run is a *guess*. Then the lines
+//! are settled one by one. A stale line takes its guess if the guess's notes hold in the repaired
+//! state, and is run again if not.
 //!
 //! A skip over unmet lines goes through whole pieces. It leaves the cells in which the two states
 //! differ unchanged, so it passes over no job, and a piece of which it leaves no line has no round.

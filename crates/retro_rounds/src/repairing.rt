@@ -3,7 +3,7 @@ ghost use Rattle.std.specs.Prelude.{◌≡◌, true, IfErr, IfOk, None, OnOk, �
 ghost use Rattle.retro_keep.specs.Edit.{edit_of};
 ghost use Rattle.retro_keep.specs.Recording.{IsRecordingOf, script_in};
 ghost use Rattle.retro_redo.specs.Editing.{AreAccepted, Refuses};
-ghost use Rattle.retro_redo.specs.Progress.{edit_in, next_line};
+ghost use Rattle.retro_redo.specs.Progress.{AreTakenNow, edit_in, next_line};
 ghost use Rattle.retro_redo.specs.Repair.{IsRepair};
 ghost use Rattle.retro_redo.specs.Settled.{AreSettled};
 ghost use Rattle.retro_rounds.specs.Refusals.{IsAccepted, IsRefusal, are_cuts};
@@ -36,8 +36,9 @@ use std::thread::Threads;
 ///
 /// The first of these that applies: `TooManyWorkers` over [`MAX_WORKERS`](crate::MAX_WORKERS),
 /// `NoCut` if `cuts` is empty or has a zero, `TwoEdits` with the least number that two different
-/// edits name, `NoSuchLine` with the least edited number that no line has, and `OutOfMemory`. A
-/// guess that found no memory is no error: its line is run at its turn.
+/// edits name, `BeforeCheckpoint` with the least edited number, from 1 on, that is below the number
+/// at which the recording begins, `NoSuchLine` with the least edited number that no line has, and
+/// `OutOfMemory`. A guess that found no memory is no error: its line is run at its turn.
 pub fn repair<R: Threads + Sync, G: Gate + Sync>(
     rt: &R,
     alloc: Global,
@@ -86,6 +87,7 @@ fn settle_all<'a, R: Threads + Sync, G: Gate + Sync>(
     ensures edits { IfOk result (λ settled. (n : ℕ) → edit_in settled.0 n
         ≡ edit_of request.now.edits.now n) }
     ensures settled { IfOk result (λ settled. next_line settled.0 ≡ None) }
+    ensures met { IfOk result (λ settled. AreTakenNow settled.0) }
     ensures tally { IfOk result (λ settled.
         IsTallied request.now.cuts.now settled.0 settled.1) }
     ensures refused { IfErr result (λ fault.

@@ -23,8 +23,9 @@ pub(crate) struct Request<'a> {
 
 impl Request<'_> {
     /// Returns `Ok` if the request can be answered, and otherwise the first refusal: too many
-    /// workers, no cuts or a zero among them, the least number that two different edits name, or
-    /// the least edited number that no line has.
+    /// workers, no cuts or a zero among them, the least number that two different edits name, the
+    /// least edited number, from 1 on, that is below the one at which the recording begins, or the
+    /// least edited number that no line has.
     pub(crate) fn check(&self) -> Result<(), RepairFault>
         ensures ok { OnOk result
             (IsAccepted self.now.workers self.now.cuts.now self.now.edits.now

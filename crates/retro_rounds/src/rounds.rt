@@ -53,7 +53,8 @@ impl<'c> Rounds<'c> {
     /// Drops the attempts at lines before the one with the given number, which were kept without
     /// being read.
     pub(crate) fn pass_to(&mut self, number: u32)
-        requires { self.old.tally.jobs ≡ spent self.old.tally + length self.old.attempts.queue.items }
+        requires { self.old.tally.jobs
+            ≡ spent self.old.tally + length self.old.attempts.queue.items }
         ensures { IsPassed number self.old self.new }
     {
         // For the prover: a number that is read fits its type.
@@ -125,7 +126,9 @@ impl<'c> Rounds<'c> {
     /// Returns the counts. All lines must be settled, so the attempts that are left are of no use.
     pub(crate) fn finish(self) -> Tally
         requires { self.tally.jobs ≡ spent self.tally + length self.attempts.queue.items }
-        ensures { result ≡ record self.entry.tally { unused = self.entry.tally.unused + length self.entry.attempts.queue.items } }
+        ensures { result ≡ record self.entry.tally {
+          unused = self.entry.tally.unused + length self.entry.attempts.queue.items;
+        } }
     {
         let Rounds {
             pieces: _,

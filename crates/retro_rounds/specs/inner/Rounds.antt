@@ -7,7 +7,7 @@ use Rattle.retro_tree.specs.declared.state.State.{State}
 use Rattle.retro_keep.specs.declared.edit.Edit.{Edit}
 use Rattle.retro_keep.specs.Recording.{IsRecordingOf, RecordingValue, number_in, script_in}
 use Rattle.retro_history.specs.Index.{Line}
-use Rattle.retro_history.specs.Recorded.{recorded_before}
+use Rattle.retro_keep.specs.Recorded.{recorded_before}
 use Rattle.retro_redo.specs.Meetings.{lines_until}
 use Rattle.retro_redo.specs.Moments.{IsStaleBy, text_now}
 use Rattle.retro_redo.specs.Picks.{PicksBy}
@@ -102,7 +102,8 @@ IsSpentOn p t u =
 -- The attempt at the next line was taken and counted, or there was none.
 abbrev pub IsCountedBy : ProgressValue → ℕ → Rounds → Rounds → Type 0
 IsCountedBy p n old new =
-    ((new.attempts.queue.items ≡ old.attempts.queue.items) × IsOther n old.attempts.queue.items × (new.tally ≡ old.tally))
+    ((new.attempts.queue.items ≡ old.attempts.queue.items) × IsOther n old.attempts.queue.items
+    × (new.tally ≡ old.tally))
     ⊎ ((a : Attempt) × (old.attempts.queue.items ≡ a ∷ new.attempts.queue.items) × (a.number ≡ n)
     × IsSpentOn p old.tally new.tally)
 

@@ -1,9 +1,8 @@
-use Rattle.std.proofs.Common.{◌∙◌, ap, ap₂, map, subst, sym}
+use Rattle.std.proofs.Common.{◌∙◌, ap, ap₂, map, sym}
 use Rattle.std.specs.List.{flat_map}
 use Rattle.std.specs.FinMap as finmap
 use Rattle.retro_keep.specs.Recording.{IsRecordingOf, number_in, output_in}
-use Rattle.retro_keep.specs.Runs.{outcome}
-use Rattle.retro_keep.specs.Script.{ScriptValue}
+use Rattle.retro_keep.proofs.Recorded.{recorded_runs}
 use Rattle.retro_redo.specs.Repair.{compensation_again, script_now, verdict_again}
 use Rattle.retro_redo.proofs.Finishing.{numbers_of}
 use Rattle.retro_redo.proofs.edited.run_edited.Goals as goal
@@ -13,14 +12,12 @@ returns-clause-again c =
     let r = c.args.recording.now in
     let edit = finmap.get c.args.edits.now in
     let again = c.in_ok-again.again in
-    let is : IsRecordingOf (script_now edit r) again =
-    subst (λ (s : ScriptValue). IsRecordingOf s again) c.in_ok-script.ensures c.in_ok-again.ensures.recording in
+    let is : IsRecordingOf (script_now edit r) again = c.in_ok-again.ensures.recording in
     record {
       outcome_is =
           ap₂ (λ s os. (s, os)) (c.in_ok-state.ensures ∙ c.last.ensures.value)
           (c.in_ok-outputs.ensures ∙ ap (map output_in) c.lines-2.ensures.value)
-          ∙ sym c.in_ok-again.ensures.outcome
-          ∙ ap (λ (s : ScriptValue). outcome s.lines s.first) c.in_ok-script.ensures;
+          ∙ sym (recorded_runs (script_now edit r) again is);
       compensated =
           c.in_ok-compensations.ensures ∙ ap (flat_map (compensation_again again)) c.lines-lines.ensures.value;
       verdicts_are = c.in_ok-verdicts.ensures ∙ ap (map (verdict_again edit)) c.lines-lines.ensures.value;
@@ -28,4 +25,5 @@ returns-clause-again c =
           c.in_ok-met.ensures ∙ ap (map number_in) c.lines.ensures.value
           ∙ numbers_of (script_now edit r) again is;
       recording_is = is;
+      begins = c.in_ok-again.ensures.begins;
     }

@@ -12,10 +12,11 @@ of_well_formed-requires-clause-well_formed c =
     let r = c.args.recording.now in
     let steps = c.args.choices.items in
     let first_is = c.in_ok-first.ensures ∙ c.first.ensures.value in
+    let from_is = c.from-from.ensures.value in
     let lines_are = c.in_ok-chosen.ensures ∙ ap (λ ls. lines_chosen ls steps) c.lines-lines.ensures.value in
     let far = sym (c.in_ok-near.ensures
     ∙ (λ i. keeps_near (c.lines-lines.ensures.value i) (c.as_slice.ensures.value i))) ∙ c.if-near.false in
-    subst IsWellFormed (λ i. record { first = sym first_is i; lines = sym lines_are i })
+    subst IsWellFormed (λ i. record { first = sym first_is i; from = sym from_is i; lines = sym lines_are i })
     (recording_far c.requires.settles.0 r steps c.lines-lines.ensures.well_formed c.requires.settles.1 far)
 
 pub of_well_formed-requires-clause-last : goal.of_well_formed-requires-clause-last

@@ -12,4 +12,4 @@ returns-clause-settled g c =
     let settled = c.in_ok-settled in
     settled_same settled.settled.edits c.args.edits.now settled.settled.recording c.args.recording.now
     settled.settled.choices c.in_ok-repair.repair settled.ensures.edits settled.ensures.recording
-    c.in_ok-repair.ensures.settled
+    c.in_ok-repair.ensures.settled settled.ensures.met

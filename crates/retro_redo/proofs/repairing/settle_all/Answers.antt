@@ -1,9 +1,17 @@
-use Rattle.std.proofs.Common.{ap, sym, ◌∙◌}
+use Rattle.std.proofs.Common.{ap, subst, sym, ◌∙◌}
 use Rattle.std.specs.FinMap as finmap
 use Rattle.retro_redo.specs.Editing.{EditMap}
-use Rattle.retro_redo.specs.Progress.{ProgressValue, edit_in}
+use Rattle.retro_redo.specs.Progress.{AreTakenNow, ProgressValue, edit_in}
 use Rattle.retro_redo.proofs.KeptLines.{fewer_left}
+use Rattle.retro_redo.proofs.Taking.{taken_first, taken_next, taken_skipped}
 use Rattle.retro_redo.proofs.repairing.settle_all.Goals as goal
+
+pub loop-repairer-init : goal.loop-repairer-init
+loop-repairer-init g c = record {
+  recording = c.in_ok-repairer.ensures.recording;
+  edits = c.in_ok-repairer.ensures.edits;
+  met = taken_first c.in_ok-repairer.repairer c.in_ok-repairer.ensures.choices;
+}
 
 pub loop-repairer-smaller : goal.loop-repairer-smaller
 loop-repairer-smaller g c =
@@ -19,4 +27,12 @@ loop-repairer-preserved g c =
           ∙ c.loop-repairer.invariant.recording;
       edits = λ n. ap (λ (x : ProgressValue). edit_in x n) one.1 ∙ ap (λ (m : EditMap). finmap.get m n) skip.edits
           ∙ c.loop-repairer.invariant.edits n;
+      met = taken_next c.skip_unmet.new.self c.settle.new.self one
+          (taken_skipped c.loop-repairer.repairer c.skip_unmet.new.self skip c.loop-repairer.invariant.met);
     }
+
+pub returns-clause-met : goal.returns-clause-met
+returns-clause-met g c =
+    subst AreTakenNow (sym c.into_progress.ensures)
+    (taken_skipped c.loop-repairer.repairer c.skip_unmet.new.self c.in_ok-number.ensures.ok
+    c.loop-repairer.invariant.met)

@@ -1,10 +1,11 @@
 use Rattle.std.proofs.Common.{◌∙◌, ℕ, List, ap, subst, sym}
 use Rattle.std.specs.FinMap as map
 use Rattle.retro_keep.specs.Recording.{IsWellFormed}
-use Rattle.retro_redo.specs.Progress.{ProgressValue, edit_in}
+use Rattle.retro_redo.specs.Progress.{AreTakenNow, ProgressValue, edit_in}
 use Rattle.retro_redo.specs.declared.tally.Tally.{Tally}
 use Rattle.retro_redo.proofs.Before.{next_below}
 use Rattle.retro_redo.proofs.KeptLines.{fewer_left}
+use Rattle.retro_redo.proofs.Taking.{taken_first, taken_next, taken_skipped}
 use Rattle.retro_rounds.specs.inner.Rounds.{IsTallied}
 use Rattle.retro_rounds.specs.declared.attempt.Attempt.{Attempt}
 use Rattle.retro_rounds.proofs.Turns.{at_end, at_line, at_stop, few_jobs, none_waiting}
@@ -18,6 +19,7 @@ loop-rounds-init g c =
     record {
       recording = c.in_ok-repairer.ensures.recording;
       edits = c.in_ok-repairer.ensures.edits;
+      met = taken_first c.in_ok-repairer.repairer c.in_ok-repairer.ensures.choices;
       underway = subst (λ (x : ℕ × List ℕ × List Attempt × Tally).
           IsUnderway c.args.request.now.cuts.now c.in_ok-repairer.repairer x.0 x.1 x.2 x.3)
           (λ i. (sym new.end i, sym new.cuts i, sym new.attempts i, sym new.tally i))
@@ -72,6 +74,8 @@ loop-rounds-preserved g c =
       recording = ap (λ (x : ProgressValue). x.recording) one.1 ∙ recording;
       edits = λ n. ap (λ (x : ProgressValue). edit_in x n) one.1 ∙ ap (λ edits. map.get edits n) skip.edits
           ∙ c.loop-rounds.invariant.edits n;
+      met = taken_next c.skip_unmet.new.self c.settle.new.repairer one
+          (taken_skipped c.loop-rounds.repairer c.skip_unmet.new.self skip c.loop-rounds.invariant.met);
       underway = settled_next c.args.request.now.cuts.now c.skip_unmet.new.self c.settle.new.repairer c.advance.new.self
           c.settle.new.self c.in-Some.number
           (at_line c.args.request.now.cuts.now c.loop-rounds.repairer c.skip_unmet.new.self c.loop-rounds.rounds
@@ -81,6 +85,12 @@ loop-rounds-preserved g c =
           (subst IsWellFormed (sym recording) c.lines.ensures.well_formed)
           (sym c.in_ok-number.ensures.next ∙ c.in-Some.is) one c.in_ok-settle.ensures.counted;
     }
+
+pub returns-clause-met : goal.returns-clause-met
+returns-clause-met g c =
+    subst AreTakenNow (sym c.into_progress.ensures)
+    (taken_skipped c.loop-rounds.repairer c.skip_unmet.new.self c.in_ok-number.ensures.ok
+    c.loop-rounds.invariant.met)
 
 pub returns-clause-tally : goal.returns-clause-tally
 returns-clause-tally g c =

@@ -1,6 +1,6 @@
 use Rattle.std.proofs.Common.{ap, ◌∙◌}
 use Rattle.retro_tree.specs.Commit.{committed}
-use Rattle.retro_history.specs.Recorded.{recorded_before}
+use Rattle.retro_keep.specs.Recorded.{recorded_before}
 use Rattle.retro_redo.specs.Progress.{next_number, repaired_now}
 use Rattle.retro_redo.proofs.Before.{before_next}
 use Rattle.retro_redo.proofs.repairer.Repairer.ground.Goals as goal

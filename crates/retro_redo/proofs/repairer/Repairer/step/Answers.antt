@@ -1,5 +1,5 @@
 use Rattle.std.proofs.Common.{ap, ◌∙◌}
-use Rattle.retro_history.specs.Recorded.{recorded_before}
+use Rattle.retro_keep.specs.Recorded.{recorded_before}
 use Rattle.retro_redo.specs.Progress.{next_number}
 use Rattle.retro_redo.proofs.Before.{before_next}
 use Rattle.retro_redo.proofs.repairer.Repairer.step.Goals as goal
