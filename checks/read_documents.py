@@ -1,15 +1,15 @@
 """A plain reading of docs/FORMATS.md: which refusal a document gets. Belongs to `fuzz_documents`.
 
-`refusal(data, kind)` returns the number of the refusal of some bytes as a "script" or a "log", or
-None if there is none. It is written for clearness, shares no code with the product, and keeps only
-what refusals depend on: of a file its size, of a session its number.
+`read(data, kind)` reads some bytes as a "script" or a "log". It raises `Refused` with the number of
+the refusal, or returns the number at which the document begins, and the numbers of its lines. It is
+written for clearness, shares no code with the product, and keeps only what refusals depend on: of a
+file its size, of a session its number.
 """
-import json
-import math
 import re
 
+from read_json import json_value
+
 MOST_NAME, MOST_FILE, MOST_VALUE = 255, 1_048_576, 65_536
-DEEPEST = 127
 VARIABLE = re.compile(r"[A-Za-z_][A-Za-z0-9_]*\Z")
 BARRED = {"IFS", "PWD", "OLDPWD", "CDPATH"}
 DIRECTORY, DEVICE = "d", ("dev", "null")
@@ -18,53 +18,6 @@ SHAPE, HEX, LIMIT = 13, 15, 11
 
 class Refused(Exception):
     """A refusal, with its number."""
-
-
-# ---- JSON as `serde_json` reads it
-
-
-def number(text):
-    """An integer if the number is whole, has no sign and has 64 bits, and else a float."""
-    if re.fullmatch(r"[0-9]{1,20}", text) and int(text) < 2 ** 64:
-        return int(text)
-    if not math.isfinite(float(text)):
-        raise ValueError("out of range")
-    return float(text)
-
-
-def pairs(found):
-    check_texts([part for pair in found for part in pair])
-    return dict(found)
-
-
-def check_texts(value):
-    """Fails if a surrogate stands alone in a text. Objects were checked when they were read."""
-    if isinstance(value, str):
-        value.encode()
-    for part in value if isinstance(value, list) else ():
-        check_texts(part)
-
-
-def depth(text):
-    """How deep arrays and objects nest."""
-    now = most = 0
-    for token in re.finditer(r'"(?:[^"\\]|\\.)*"|[][{}]', text, re.DOTALL):
-        now += {"[": 1, "{": 1, "]": -1, "}": -1}.get(token[0], 0)
-        most = max(most, now)
-    return most
-
-
-def json_value(data):
-    try:
-        text = data.decode()
-        if depth(text) > DEEPEST:
-            raise Refused(12)
-        value = json.loads(text, parse_int=number, parse_float=number, parse_constant=number,
-                           object_pairs_hook=pairs)
-        check_texts(value)
-        return value
-    except (ValueError, RecursionError) as error:
-        raise Refused(12) from error
 
 
 # ---- parts of documents. `worst` gets the number of each fault that isn't one of shape.
@@ -270,30 +223,55 @@ def read_lines(value, kind):
     return lines
 
 
-def read(data, kind):
-    value = json_value(data)
+def parse(data):
+    try:
+        return json_value(data)
+    except ValueError as error:
+        raise Refused(12) from error
+
+
+def check_keys(value, kind):
+    """Keys of either version, and those of each version."""
     need(isinstance(value, dict))
     keys = {kind, "tree", "sessions", "lines"}
-    if set(value) - keys:
+    if set(value) - keys - ({"from"} if kind == "log" else set()):
         raise Refused(14)
-    need(set(value) == keys)
-    if whole(value[kind], 2 ** 64 - 1) != 1:
+    need(keys <= set(value))
+
+
+def read_beginning(value, kind):
+    """The number at which a document begins, by its version."""
+    version = whole(value[kind], 2 ** 64 - 1)
+    if version != 1 and (kind, version) != ("log", 2):
         raise Refused(16)
+    if version == 1:
+        if "from" in value:
+            raise Refused(14)
+        return 1
+    need("from" in value)
+    need(whole(value["from"]) > 0)
+    return value["from"]
+
+
+def check_numbers(beginning, numbers):
+    if any(one >= two for one, two in zip(numbers, numbers[1:])):
+        raise Refused(8)
+    if any(number < beginning for number in numbers):
+        raise Refused(8)
+
+
+def read(data, kind):
+    value = parse(data)
+    check_keys(value, kind)
+    beginning = read_beginning(value, kind)
     tree = read_tree(value["tree"])
     sessions = read_sessions(value["sessions"])
     lines = read_lines(value["lines"], kind)
-    if any(one[0] >= two[0] for one, two in zip(lines, lines[1:])):
-        raise Refused(8)
+    numbers = [line[0] for line in lines]
+    check_numbers(beginning, numbers)
     if any(line[1] not in sessions for line in lines):
         raise Refused(9)
     for line in lines:
         for change in line[2]:
             make_change(tree, change)
-
-
-def refusal(data, kind):
-    try:
-        read(data, kind)
-        return None
-    except Refused as refused:
-        return refused.args[0]
+    return beginning, numbers

@@ -116,4 +116,5 @@ line_typed l =
 
 unfoldable pub recording_typed : RecordingValue → Bool
 recording_typed r =
-    tree_typed r.first.tree && (sessions_typed r.first.sessions && list_all line_typed r.lines)
+    is_u32 r.from
+    && (tree_typed r.first.tree && (sessions_typed r.first.sessions && list_all line_typed r.lines))

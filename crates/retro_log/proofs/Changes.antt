@@ -1,5 +1,5 @@
 -- The test of a log's changes is exact, and so is the recording of a state and lines.
-use Rattle.std.proofs.Common.{◌≡◌, ℕ, Bool, true, false, not, ◌&&◌, List, [], ◌∷◌, map, Ok, Err, refl, ap}
+use Rattle.std.proofs.Common.{◌≡◌, ◌≤◌, ℕ, Bool, true, false, not, ◌&&◌, List, [], ◌∷◌, map, Ok, Err, refl, ap}
 use Rattle.std.specs.List.{list_all}
 use Rattle.std.proofs.lemmas.Bool.{and_parts, false≢true}
 use Rattle.retro_tree.specs.Change.{IsLawfulChange, apply, grows_dir, has_its_session}
@@ -11,9 +11,9 @@ use Rattle.retro_tree.specs.declared.note.Note.TheVariants.{Asked, Made}
 use Rattle.retro_tree.specs.declared.state.State.{State}
 use Rattle.retro_tree.proofs.WholeLaw.{state_from_test, test_from_state}
 use Rattle.retro_keep.specs.Recording.{AllLinesAllowed, IsWellFormed, RecordingValue, is_line_of_kind, is_own_line}
-use Rattle.retro_keep.specs.Recording.{number_in, sid_in}
-use Rattle.retro_keep.specs.Script.{have_sessions, rises_from}
-use Rattle.retro_keep.specs.RecordingFault.{IsFaultOf}
+use Rattle.retro_keep.specs.Recording.{none_below, number_in}
+use Rattle.retro_keep.specs.Script.{rises_from}
+use Rattle.retro_keep.specs.RecordingFault.{IsFaultOf, numbers_rise, sessions_exist}
 use Rattle.retro_keep.specs.declared.noted.Noted.{Noted}
 use Rattle.retro_keep.specs.declared.recording_fault.RecordingFault.{RecordingFault}
 use Rattle.retro_keep.specs.declared.recording_fault.RecordingFault.TheVariants as recording
@@ -71,45 +71,48 @@ test_from_lines (l ∷ lines) s h =
     and_both (are_allowed l.1.notes s) (are_lines_allowed lines (after l.1.notes s)) (test_from_notes l.1.notes s h.0)
     (test_from_lines lines (after l.1.notes s) h.1)
 
-abbrev parts : State → List (ℕ × Noted) → RecordingValue
-parts first lines = record { first = first; lines = lines }
+abbrev parts : State → ℕ → List (ℕ × Noted) → RecordingValue
+parts first from lines = record { first = first; from = from; lines = lines }
 
-pub recorded : (first : State) (lines : List (ℕ × Noted)) (r : RecordingValue)
-    → rises_from 0 (map number_in lines) ≡ true → have_sessions first (map sid_in lines) ≡ true
-    → IsWellFormed (parts first lines) → r ≡ parts first lines → recording_of first lines ≡ Ok r
+pub recorded : (first : State) (from : ℕ) (lines : List (ℕ × Noted)) (r : RecordingValue)
+    → IsWellFormed (parts first from lines) → r ≡ parts first from lines → recording_of first from lines ≡ Ok r
 unfolding recording_of
-recorded first lines r rising known formed is =
-    rw (rising, known, test_from_lines lines first formed.allowed, is) refl
+recorded first from lines r formed is =
+    rw (formed.rising, formed.not_before, formed.known, test_from_lines lines first formed.allowed, is) refl
 
-unrecorded : (first : State) (lines : List (ℕ × Noted))
-    → rises_from 0 (map number_in lines) ≡ true → have_sessions first (map sid_in lines) ≡ true → IsLawful first
+unrecorded : (first : State) (from : ℕ) (lines : List (ℕ × Noted))
+    → numbers_rise from lines ≡ true → sessions_exist first lines ≡ true → IsLawful first → 1 ≤ from
     → list_all is_own_line lines ≡ true → list_all is_line_of_kind lines ≡ true
-    → (IsWellFormed (parts first lines) → false ≡ true) → recording_of first lines ≡ Err LawlessTree
+    → (IsWellFormed (parts first from lines) → false ≡ true) → recording_of first from lines ≡ Err LawlessTree
 unfolding recording_of
-unrecorded first lines rising known lawful own of_kind none =
+unrecorded first from lines rising known lawful begins own of_kind none =
     at_test (are_lines_allowed lines first) refl
   where
-    formed : are_lines_allowed lines first ≡ true → IsWellFormed (parts first lines)
-    formed h = record {
-      lawful = lawful;
-      rising = rising;
-      known = known;
-      own = own;
-      of_kind = of_kind;
-      allowed = lines_from_test lines first h;
-    }
+    formed : are_lines_allowed lines first ≡ true → IsWellFormed (parts first from lines)
+    formed h =
+        let numbers = and_parts (rises_from 0 (map number_in lines)) (none_below from lines) rising in
+        record {
+          lawful = lawful;
+          begins = begins;
+          rising = numbers.0;
+          not_before = numbers.1;
+          known = known;
+          own = own;
+          of_kind = of_kind;
+          allowed = lines_from_test lines first h;
+        }
 
-    at_test : (b : Bool) → are_lines_allowed lines first ≡ b → recording_of first lines ≡ Err LawlessTree
+    at_test : (b : Bool) → are_lines_allowed lines first ≡ b → recording_of first from lines ≡ Err LawlessTree
     at_test true h = absurd (false≢true (none (formed h)))
     at_test false h = rw (rising, known, h) refl
 
 -- a fault of the lines is the refusal that reading gives
-pub fault_read : (first : State) (lines : List (ℕ × Noted)) (fault : RecordingFault) → IsLawful first
-    → list_all is_own_line lines ≡ true → list_all is_line_of_kind lines ≡ true → IsFaultOf first lines fault
-    → FailsAs (recording_fault fault) (recording_of first lines)
+pub fault_read : (first : State) (from : ℕ) (lines : List (ℕ × Noted)) (fault : RecordingFault) → IsLawful first
+    → 1 ≤ from → list_all is_own_line lines ≡ true → list_all is_line_of_kind lines ≡ true
+    → IsFaultOf first from lines fault → FailsAs (recording_fault fault) (recording_of first from lines)
 unfolding recording_of
-fault_read first lines recording.NumbersNotRising lawful own of_kind h = rw h refl
-fault_read first lines recording.UnknownSession lawful own of_kind h = rw (h.0, h.1) refl
-fault_read first lines recording.LawlessChange lawful own of_kind h =
-    unrecorded first lines h.0 h.1 lawful own of_kind (λ formed. h.2 formed.allowed)
-fault_read first lines recording.NoMem lawful own of_kind h = tt
+fault_read first from lines recording.NumbersNotRising lawful begins own of_kind h = rw h refl
+fault_read first from lines recording.UnknownSession lawful begins own of_kind h = rw (h.0, h.1) refl
+fault_read first from lines recording.LawlessChange lawful begins own of_kind h =
+    unrecorded first from lines h.0 h.1 lawful begins own of_kind (λ formed. h.2 formed.allowed)
+fault_read first from lines recording.NoMem lawful begins own of_kind h = tt

@@ -1,11 +1,12 @@
 -- A recording is read back from the log that it is written as.
-use Rattle.std.proofs.Common.{◌≡◌, ℕ, ◌<◌, List, [], ◌∷◌, map, Bool, true, not, ◌&&◌, Some, Ok, nat_lt}
+use Rattle.std.proofs.Common.{◌≡◌, ℕ, ◌<◌, ◌≤◌, List, [], ◌∷◌, map, Bool, true, not, ◌&&◌, Some, Ok, nat_lt}
 use Rattle.std.proofs.Common.{refl}
 use Rattle.std.proofs.Common.{arith}
 use Rattle.std.specs.Prelude.{IsUtf8}
 use Rattle.std.specs.List.{list_all}
 use Rattle.std.proofs.lemmas.Bool.{and_parts, and_from, not_from_false, ltb-true, lt-ltb}
 use Rattle.std.proofs.lemmas.Str.{is_utf8-from_IsUtf8}
+use Rattle.serde_json.specs.Data.{Data}
 use Rattle.serde_json.specs.Read.{read}
 use Rattle.retro_tree.specs.Change.{apply, grows_dir, has_its_session, IsLawfulChange}
 use Rattle.retro_tree.specs.Notes.{after, AllAllowed}
@@ -20,11 +21,12 @@ use Rattle.retro_keep.specs.Script.{rises_from}
 use Rattle.retro_keep.specs.declared.noted.Noted.{Noted}
 use Rattle.retro_log.specs.LogLinesPart.{log_line_of, log_lines_of}
 use Rattle.retro_log.specs.Allowed.{is_lawful_change, are_allowed, are_lines_allowed}
-use Rattle.retro_log.specs.Document.{recording_of, log_parts_of, log_of, log_in}
-use Rattle.retro_log.specs.LogText.{line_data, lines_data, log_data}
+use Rattle.retro_log.specs.Document.{recording_of, log_from, log_parts_of, log_of, log_in}
+use Rattle.retro_log.specs.LogText.{line_data, lines_data, log_data, log_object}
 use Rattle.retro_json.specs.NoNul.{tree_without_nul, sessions_without_nul, line_without_nul, recording_without_nul}
 use Rattle.retro_json.specs.inner.NoteLimits.{line_fits, notes_fit}
 use Rattle.retro_json.specs.Typed.{is_u32, note_typed, tree_typed, sessions_typed, line_typed, recording_typed}
+use Rattle.retro_json.specs.Values.{sessions_data, tree_data}
 use Rattle.retro_json.proofs.Json.{item_list-items_of}
 use Rattle.retro_json.proofs.Listed.{all_both, every_again, map_unchanged}
 use Rattle.retro_json.proofs.TreeTrip.{tree_again}
@@ -81,6 +83,14 @@ lines_again lines h =
     let rows = every_again log_line_of line_data (λ l. l) passes line_again lines h in
     rw (item_list-items_of (map line_data lines), rows, map_unchanged lines) refl
 
+-- ---- the beginning
+
+-- a log that is written says where it begins
+from_again : (from : ℕ) (lines sessions tree_of : Data) → is_u32 from ≡ true → 1 ≤ from
+    → log_from (log_object from lines sessions tree_of) ≡ Ok from
+unfolding log_from
+from_again from lines sessions tree_of typed begins = rw (typed, lt-ltb 0 from begins) refl
+
 -- ---- changes
 
 change_allowed : (c : Change) (s : State) → IsLawfulChange c s → is_lawful_change c s ≡ true
@@ -122,16 +132,19 @@ recording_again : (r : RecordingValue) → IsWellFormed r → recording_typed r 
     → recording_without_nul r ≡ true → log_of (log_data r) ≡ Ok r
 unfolding log_of log_parts_of log_data recording_of recording_typed notes_fit recording_without_nul
 recording_again r well typed fits plain =
-    let t = and_parts (tree_typed r.first.tree) _ typed in
+    let f = and_parts (is_u32 r.from) _ typed in
+    let t = and_parts (tree_typed r.first.tree) _ f.1 in
     let ts = and_parts (sessions_typed r.first.sessions) _ t.1 in
     let p = and_parts (tree_without_nul r.first.tree) _ plain in
     let ps = and_parts (sessions_without_nul r.first.sessions) _ p.1 in
     let lines = all_pass r well (all_written r.lines ts.1 fits ps.1) in
     rw (
+      from_again r.from (lines_data r.lines) (sessions_data r.first.sessions) (tree_data r.first.tree) f.0 well.begins,
       tree_again r.first.tree (test_from_tree r.first.tree well.lawful.tree) t.0 p.0,
       sessions_again r.first.sessions (test_from_sessions r.first.sessions well.lawful.sessions) ts.0 ps.0,
       lines_again r.lines lines,
       well.rising,
+      well.not_before,
       well.known,
       lines_allowed r.lines r.first well.allowed,
     ) refl

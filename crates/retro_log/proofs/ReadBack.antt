@@ -8,7 +8,7 @@ use lib.Utf8.{encode}
 use Rattle.json.specs.Print.{quoted, escape_byte}
 use Rattle.json.proofs.Printed.Decimals.{IsNumber-decimal}
 use Rattle.json.proofs.Printed.Utf8.{are_ascii, IsUtf8-are_ascii, IsUtf8-key}
-use Rattle.serde_json.specs.Data.{Data, number, object, Members}
+use Rattle.serde_json.specs.Data.{Data, number, Members}
 use Rattle.serde_json.specs.Data.{no_members, member}
 use Rattle.serde_json.specs.Written.{compact_text}
 use Rattle.serde_json.specs.Written.{comma_if, members_text}
@@ -36,35 +36,39 @@ begun_utf8 : IsUtf8 (123 ∷ [])
 unfolding encode
 begun_utf8 = (123 ∷ [], (refl, refl))
 
-one_read_back : IsReadBack (number_data 1)
+two_read_back : IsReadBack (number_data 2)
 unfolding digits
-one_read_back = record {
-  value = ap (option_map number) (number_of-decimal 1 (omega arith));
-  numbers = IsNumber-decimal 1 (omega arith);
-  utf8 = IsUtf8-are_ascii (decimal 1) refl;
+two_read_back = record {
+  value = ap (option_map number) (number_of-decimal 2 (omega arith));
+  numbers = IsNumber-decimal 2 (omega arith);
+  utf8 = IsUtf8-are_ascii (decimal 2) refl;
 }
 
 -- the object of a log
-pub log_read_back : (lines sessions tree_of : Data) → IsReadBack lines → IsReadBack sessions → IsReadBack tree_of
-    → IsReadBack (log_object lines sessions tree_of)
-log_read_back lines sessions tree_of a b c =
+pub log_read_back : (from : ℕ) (lines sessions tree_of : Data) → IsReadBack (number_data from) → IsReadBack lines
+    → IsReadBack sessions → IsReadBack tree_of → IsReadBack (log_object from lines sessions tree_of)
+log_read_back from lines sessions tree_of n a b c =
     let trees = member (codes "tree") tree_of no_members in
     let state = member (codes "sessions") sessions trees in
-    let version = member (codes "log") (number_data 1) state in
+    let version = member (codes "log") (number_data 2) state in
+    let all_lines = member (codes "lines") lines version in
     let key : (k : List ℕ) → are_ascii k ≡ true → IsUtf8 k = IsUtf8-are_ascii in
     record {
-      value = rw (a.value, one_read_back.value, b.value, c.value) refl;
-      numbers = (a.numbers, (one_read_back.numbers, (b.numbers, (c.numbers, tt))));
-      utf8 = IsUtf8-append (123 ∷ []) (members_text false (member (codes "lines") lines version)) begun_utf8
-          (member_utf8 false (codes "lines") lines version (key (codes "lines") refl) a.utf8
-          (member_utf8 true (codes "log") (number_data 1) state (key (codes "log") refl) one_read_back.utf8
+      value = rw (n.value, a.value, two_read_back.value, b.value, c.value) refl;
+      numbers = (n.numbers, (a.numbers, (two_read_back.numbers, (b.numbers, (c.numbers, tt)))));
+      utf8 = IsUtf8-append (123 ∷ []) (members_text false (member (codes "from") (number_data from) all_lines))
+          begun_utf8
+          (member_utf8 false (codes "from") (number_data from) all_lines (key (codes "from") refl) n.utf8
+          (member_utf8 true (codes "lines") lines version (key (codes "lines") refl) a.utf8
+          (member_utf8 true (codes "log") (number_data 2) state (key (codes "log") refl) two_read_back.utf8
           (member_utf8 true (codes "sessions") sessions trees (key (codes "sessions") refl) b.utf8
-          (member_utf8 true (codes "tree") tree_of no_members (key (codes "tree") refl) c.utf8 ended_utf8))));
+          (member_utf8 true (codes "tree") tree_of no_members (key (codes "tree") refl) c.utf8 ended_utf8)))));
     }
 
 -- the text of a log, in the pieces that it is written in
-pub log_pieces : (lines sessions tree_of : Data) → compact_text (log_object lines sessions tree_of)
-    ≡ codes "{\"lines\":" ++ (compact_text lines ++ (codes ",\"log\":1,\"sessions\":" ++ (compact_text sessions
-    ++ (codes ",\"tree\":" ++ (compact_text tree_of ++ codes "}")))))
+pub log_pieces : (from : ℕ) (lines sessions tree_of : Data) → compact_text (log_object from lines sessions tree_of)
+    ≡ codes "{\"from\":" ++ (compact_text (number_data from) ++ (codes ",\"lines\":" ++ (compact_text lines
+    ++ (codes ",\"log\":2,\"sessions\":" ++ (compact_text sessions
+    ++ (codes ",\"tree\":" ++ (compact_text tree_of ++ codes "}")))))))
 unfolding escape_byte digits
-log_pieces lines sessions tree_of = refl
+log_pieces from lines sessions tree_of = refl

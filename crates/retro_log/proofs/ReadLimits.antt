@@ -2,7 +2,7 @@
 use Rattle.std.proofs.Common.{◌≡◌, ℕ, List, [], ◌∷◌, length, Bool, true, false, cond, Some, None}
 use Rattle.std.proofs.Common.{Result, Ok}
 use Rattle.std.proofs.Common.{Err, nat_le, refl, subst, codes, ◌⊎◌, inl, inr}
-use Rattle.std.specs.Prelude.{bytes_eq, is_some, map, ok_or}
+use Rattle.std.specs.Prelude.{bytes_eq, is_some, ok_or}
 use Rattle.std.specs.List.{list_all}
 use Rattle.std.proofs.lemmas.Bool.{and_from}
 use Rattle.serde_json.specs.Data.{Data}
@@ -11,8 +11,8 @@ use Rattle.retro_tree.specs.Node.{file_limit}
 use Rattle.retro_tree.specs.declared.node.Node.TheVariants as nodes
 use Rattle.retro_tree.specs.declared.note.Note.{Note}
 use Rattle.retro_tree.specs.declared.state.State.{State}
-use Rattle.retro_keep.specs.Recording.{RecordingValue, IsRecordingOf, IsWellFormed, number_in, script_in, sid_in}
-use Rattle.retro_keep.specs.Script.{have_sessions, rises_from}
+use Rattle.retro_keep.specs.Recording.{RecordingValue, IsRecordingOf, IsWellFormed, script_in}
+use Rattle.retro_keep.specs.RecordingFault.{numbers_rise, sessions_exist}
 use Rattle.retro_keep.specs.declared.noted.Noted.{Noted}
 use Rattle.retro_json.specs.declared.fault.Part.TheVariants.{Lines}
 use Rattle.retro_json.specs.declared.fault.Refusal.{Refusal}
@@ -30,8 +30,7 @@ use Rattle.retro_json.specs.NotesPart.{cwd_cells, status_cells, put_cells, grow_
 use Rattle.retro_json.specs.NotesPart.{set_status_cells, tagged_note, note_cells, note_of, notes_field}
 use Rattle.retro_log.specs.LogLinesPart.{with_run, log_line_cells, log_line_of, log_lines_of}
 use Rattle.retro_log.specs.Allowed.{are_lines_allowed}
-use Rattle.retro_log.specs.Document.{has_form, log_keys, member_at, first_of, json_of, recording_of, log_parts_of}
-use Rattle.retro_log.specs.Document.{log_of}
+use Rattle.retro_log.specs.Document.{member_at, first_of, json_of, recording_of, log_from, log_parts_of, log_of}
 use Rattle.retro_log.specs.Document.{log_in}
 use Rattle.retro_json.specs.inner.NoteLimits.{node_fits, value_fits, found_fits, note_fits}
 use Rattle.retro_json.specs.inner.NoteLimits.{line_fits, notes_fit}
@@ -251,12 +250,12 @@ lines_give d =
     then_gives (list_all line_fits) (cells Lines d) (every log_line_of)
     (λ ds is. every_gives line_fits log_line_of line_gives ds)
 
-recording_gives : (first : State) (lines : List (ℕ × Noted)) → list_all line_fits lines ≡ true
-    → Gives notes_fit (recording_of first lines)
+recording_gives : (first : State) (from : ℕ) (lines : List (ℕ × Noted)) → list_all line_fits lines ≡ true
+    → Gives notes_fit (recording_of first from lines)
 unfolding recording_of notes_fit
-recording_gives first lines h =
-    guard_gives notes_fit (rises_from 0 (map number_in lines)) NumbersNotRising _ (λ rising.
-    guard_gives notes_fit (have_sessions first (map sid_in lines)) UnknownSession _ (λ known.
+recording_gives first from lines h =
+    guard_gives notes_fit (numbers_rise from lines) NumbersNotRising _ (λ rising.
+    guard_gives notes_fit (sessions_exist first lines) UnknownSession _ (λ known.
     guard_gives notes_fit (are_lines_allowed lines first) LawlessTree _ (λ allowed. h)))
 
 parts_fit : State × List (ℕ × Noted) → Bool
@@ -265,17 +264,18 @@ parts_fit parts = list_all line_fits parts.1
 parts_give : (d : Data) → Gives parts_fit (log_parts_of d)
 unfolding log_parts_of parts_fit
 parts_give d =
-    then_gives parts_fit (has_form log_keys (codes "log") 1 d) _ (λ form is.
     then_gives parts_fit (first_of d) _ (λ first is.
     then_gives parts_fit (member_at (codes "lines") d) _ (λ lines_data is.
     then_gives parts_fit (log_lines_of lines_data) _ (λ lines read.
-    given (list_all line_fits) (log_lines_of lines_data) lines read (lines_give lines_data)))))
+    given (list_all line_fits) (log_lines_of lines_data) lines read (lines_give lines_data))))
 
 log_gives : (d : Data) → Gives notes_fit (log_of d)
 unfolding log_of parts_fit
 log_gives d =
-    then_gives notes_fit (log_parts_of d) (λ parts. recording_of parts.0 parts.1) (λ parts is.
-    recording_gives parts.0 parts.1 (given parts_fit (log_parts_of d) parts is (parts_give d)))
+    then_gives notes_fit (log_from d) (λ from. log_parts_of d >>= λ parts. recording_of parts.0 from parts.1)
+    (λ from begins.
+    then_gives notes_fit (log_parts_of d) (λ parts. recording_of parts.0 from parts.1) (λ parts is.
+    recording_gives parts.0 from parts.1 (given parts_fit (log_parts_of d) parts is (parts_give d))))
 
 text_gives : (bytes : List ℕ) → Gives notes_fit (log_in bytes)
 unfolding log_in

@@ -15,16 +15,18 @@ line_data l = array_of
 unfoldable pub lines_data : List (ℕ × Noted) → Data
 lines_data lines = array_of (map line_data lines)
 
--- `{"lines":..,"log":1,"sessions":..,"tree":..}`, with the keys in byte order
-abbrev pub log_object : Data → Data → Data → Data
-log_object lines sessions tree = object
+-- version 2: `{"from":n,"lines":..,"log":2,"sessions":..,"tree":..}`, with the keys in byte order
+abbrev pub log_object : ℕ → Data → Data → Data → Data
+log_object from lines sessions tree = object
+    (member (codes "from") (number_data from)
     (member (codes "lines") lines
-    (member (codes "log") (number_data 1)
+    (member (codes "log") (number_data 2)
     (member (codes "sessions") sessions
-    (member (codes "tree") tree no_members))))
+    (member (codes "tree") tree no_members)))))
 
 unfoldable pub log_data : RecordingValue → Data
-log_data r = log_object (lines_data r.lines) (sessions_data r.first.sessions) (tree_data r.first.tree)
+log_data r =
+    log_object r.from (lines_data r.lines) (sessions_data r.first.sessions) (tree_data r.first.tree)
 
 -- a log: compact, with a newline at the end
 unfoldable pub log_text : RecordingValue → List ℕ

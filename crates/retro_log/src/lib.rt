@@ -5,8 +5,11 @@
 //! as a whole before the next part. If the tree, the sessions or the lines have several faults,
 //! the refusal is the worst of that part.
 //!
-//! [`write_log`] returns the log of a recording, as `specs/LogText.antt` defines it. [`check`]
-//! tests whether a recording is one of its own lines.
+//! A log has one of two versions. Version 2 says at which line its recording begins. Version 1
+//! doesn't, and begins at line 1. [`read_log`] reads both, and [`write_log`] writes version 2, as
+//! `specs/LogText.antt` defines it.
+//!
+//! [`check`] tests whether a recording is one of its own lines.
 //!
 //! Documents and reports are made of the JSON values of states and notes, which `retro_json` reads
 //! and writes. This crate exports those that reports need.

@@ -2,6 +2,7 @@
 mod document;
 mod lines;
 mod log;
+mod log_form;
 mod log_lines;
 mod script;
 

@@ -5,8 +5,9 @@ ghost use Rattle.std.specs.BTreeMap.{keys as key_list};
 ghost use Rattle.serde_json.specs.View.{view};
 ghost use Rattle.retro_tree.specs.Lawful.{IsLawful};
 ghost use Rattle.retro_json.specs.ReadsAs.{ReadsAs, seen};
-ghost use Rattle.retro_log.specs.Document.{is_key, only_keys, has_member, member_at, version_is};
+ghost use Rattle.retro_log.specs.Document.{is_key, only_keys, has_member, keys_fit, member_at};
 ghost use Rattle.retro_log.specs.Document.{first_of, has_form, json_of, state_of};
+ghost use Rattle.retro_log.specs.Document.{version_in, version_is};
 ghost use Rattle.retro_json.specs.declared.fault.Refusal.TheVariants.{NotJson};
 
 use retro_json::{LogFault, OrRefusal, Part, Refusal, read_sessions, read_tree};
@@ -62,6 +63,20 @@ fn has_members(keys: &[&str], value: &Value) -> bool
     true
 }
 
+/// Returns `Ok` if a value is an object that has no key but `known` ones, and each of the `wanted`
+/// ones. Refuses any other value: if it isn't an object, then for another key, then for one that is
+/// missing.
+pub fn keys_fit(known: &[&str], wanted: &[&str], value: &Value) -> OrRefusal<()>
+    ensures { result ≡ keys_fit (map (λ k. k.now) known.now) (map (λ k. k.now) wanted.now)
+        (view value.now) }
+{
+    only_keys(known, value)?;
+    if !has_members(wanted, value) {
+        return Err(Refusal::WrongShape(Part::Document));
+    }
+    Ok(())
+}
+
 /// Returns the value at a key. Refuses a value without that key.
 pub fn member<'v>(value: &'v Value, key: &str) -> OrRefusal<&'v Value>
     ensures { seen (λ v. view v.now) result ≡ member_at key.now (view value.now) }
@@ -83,14 +98,24 @@ pub fn take_member(value: &mut Value, key: &str) -> OrRefusal<Value>
     }
 }
 
+/// Returns the number of a version, whichever it is. Refuses a value that isn't a whole number.
+pub fn version_in(value: &Value) -> OrRefusal<u64>
+    ensures { result ≡ version_in (view value.now) }
+{
+    match value.as_u64() {
+        Some(version) => Ok(version),
+        None => Err(Refusal::WrongShape(Part::Version)),
+    }
+}
+
 /// Returns `Ok` if a value is the number of this version. Refuses any other value.
 fn version_is(version: u64, value: &Value) -> OrRefusal<()>
     ensures { result ≡ version_is version (view value.now) }
 {
-    match value.as_u64() {
-        Some(found) if found == version => Ok(()),
-        Some(_) => Err(Refusal::BadVersion),
-        None => Err(Refusal::WrongShape(Part::Version)),
+    if version_in(value)? == version {
+        Ok(())
+    } else {
+        Err(Refusal::BadVersion)
     }
 }
 
@@ -99,10 +124,7 @@ fn version_is(version: u64, value: &Value) -> OrRefusal<()>
 pub fn has_form(keys: &[&str], kind: &str, version: u64, value: &Value) -> OrRefusal<()>
     ensures { result ≡ has_form (map (λ k. k.now) keys.now) kind.now version (view value.now) }
 {
-    only_keys(keys, value)?;
-    if !has_members(keys, value) {
-        return Err(Refusal::WrongShape(Part::Document));
-    }
+    keys_fit(keys, keys, value)?;
     version_is(version, member(value, kind)?)
 }
 

@@ -10,7 +10,7 @@ ghost use Rattle.retro_log.specs.RoundTrip.{WasRead};
 ghost use Rattle.retro_json.specs.Typed.{recording_typed};
 
 use crate::writing::line::push_lines;
-use retro_json::{push_value, sessions_value, tree_value};
+use retro_json::{number_value, push_value, sessions_value, tree_value};
 use retro_keep::Recording;
 use retro_tree::NoMem;
 use std::alloc::Global;
@@ -25,9 +25,11 @@ fn push_log(alloc: Global, recording: &Recording, text: &mut Vec<u8>) -> Result<
     ensures typed { OnOk result (recording_typed recording.now ≡ true) }
     ensures well_formed { OnOk result (IsWellFormed recording.now) }
 {
-    text.extend_from_slice(b"{\"lines\":")?;
+    text.extend_from_slice(b"{\"from\":")?;
+    push_value(alloc, &number_value(recording.from()), text)?;
+    text.extend_from_slice(b",\"lines\":")?;
     push_lines(alloc, recording.lines(), text)?;
-    text.extend_from_slice(b",\"log\":1,\"sessions\":")?;
+    text.extend_from_slice(b",\"log\":2,\"sessions\":")?;
     push_value(alloc, &sessions_value(alloc, recording.first())?, text)?;
     text.extend_from_slice(b",\"tree\":")?;
     push_value(alloc, &tree_value(alloc, recording.first())?, text)?;
@@ -35,7 +37,8 @@ fn push_log(alloc: Global, recording: &Recording, text: &mut Vec<u8>) -> Result<
     Ok(())
 }
 
-/// Returns the log of a recording: compact JSON (RFC 8259) with keys in byte order, and a newline.
+/// Returns the log of a recording, of version 2: compact JSON (RFC 8259) with keys in byte order,
+/// and a newline.
 ///
 /// [`read_log`](crate::read_log) reads the log back as the same recording if the recording is one
 /// of a script or was itself read from a log, and if no name of a path or of a listing has a NUL.

@@ -6,11 +6,10 @@ pub returns-in_err-of_lawful : goal.returns-in_err-of_lawful
 returns-in_err-of_lawful c =
     let p = err_from_is_err_and c.from_residual.result c.from_residual.ensures.1 in
     rw (p.1, p.2)
-    (fault_read c.args.first c.args.lines.items c.in_err-of_lawful.field-0.0 c.requires.lawful c.requires.own
-    c.requires.of_kind c.in_err-of_lawful.ensures.fault)
+    (fault_read c.args.first c.args.from c.args.lines.items c.in_err-of_lawful.field-0.0 c.requires.lawful
+    c.requires.begins c.requires.own c.requires.of_kind c.in_err-of_lawful.ensures.fault)
 
 pub returns : goal.returns
 returns c =
-    let formed = c.in_ok-of_lawful.ensures.well_formed in
-    recorded c.args.first c.args.lines.items c.in_ok-of_lawful.field-0 formed.rising formed.known formed
-    c.in_ok-of_lawful.ensures.value
+    recorded c.args.first c.args.from c.args.lines.items c.in_ok-of_lawful.field-0
+    c.in_ok-of_lawful.ensures.well_formed c.in_ok-of_lawful.ensures.value
