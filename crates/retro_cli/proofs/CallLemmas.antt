@@ -49,12 +49,13 @@ text = option_map (λ s. s.now)
 
 -- a parse that met a subcommand
 pub call_found : (words : List Text) (o : Option (Text × List Row)) (name : Text) (inner : Found)
-    (cancel replace workers cuts : Option (Bor (List ℕ)))
+    (cancel replace workers cuts at : Option (Bor (List ℕ)))
     → fault_of program words ≡ [] → o ≡ subcommand_of program words → o ≡ Some (name, rows_of inner)
     → text cancel ≡ first_value inner (codes "cancel")
     → text replace ≡ first_value inner (codes "replace")
     → text workers ≡ first_value inner (codes "workers")
     → text cuts ≡ first_value inner (codes "cuts")
+    → text at ≡ first_value inner (codes "at")
     → call_in words
     ≡ Some (record {
       name = name;
@@ -62,12 +63,13 @@ pub call_found : (words : List Text) (o : Option (Text × List Row)) (name : Tex
       replace = text replace;
       workers = text workers;
       cuts = text cuts;
+      at = text at;
     })
 unfolding call_in
-call_found words o name inner cancel replace workers cuts none sub found ea eb ec ed =
+call_found words o name inner cancel replace workers cuts at none sub found ea eb ec ed ee =
     let row = first_value-rows inner in
-    rw (none, sym sub, found, ea, eb, ec, ed, row (codes "cancel"), row (codes "replace"), row (codes "workers"))
-    (rw (row (codes "cuts")) refl)
+    rw (none, sym sub, found, ea, eb, ec, ed, ee, row (codes "cancel"), row (codes "replace"), row (codes "workers"))
+    (rw (row (codes "cuts"), row (codes "at")) refl)
 
 -- a parse that failed
 refused : {A : Type 0} (kinds : Kinds) (e : Error) (o : Option A) → HasKind kinds e → (kind_of e ≡ kind.OutOfMemory → ⊥)

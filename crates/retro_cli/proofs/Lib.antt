@@ -4,3 +4,5 @@ pub mod CallLemmas
 pub mod NumberLemmas
 pub mod ReplayLemmas
 pub mod RefusalLemmas
+pub mod RunLemmas
+pub mod TrimLemmas

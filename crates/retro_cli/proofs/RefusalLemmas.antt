@@ -4,7 +4,7 @@ use Rattle.retro_keep.specs.Recording.{RecordingValue}
 use Rattle.retro_json.specs.declared.fault.Refusal.{Refusal}
 use Rattle.retro_redo.specs.declared.repair_fault.RepairFault.{RepairFault}
 use Rattle.retro_redo.specs.declared.repair_fault.RepairFault.TheVariants.{TwoEdits, NoSuchLine, NoCut, TooManyWorkers}
-use Rattle.retro_redo.specs.declared.repair_fault.RepairFault.TheVariants.{OutOfMemory}
+use Rattle.retro_redo.specs.declared.repair_fault.RepairFault.TheVariants.{BeforeCheckpoint, OutOfMemory}
 use Rattle.retro_rounds.specs.Refusals.{IsAccepted, IsRefusal}
 use Rattle.retro_rounds.specs.declared.request.TheConstants.{MAX_WORKERS}
 use Rattle.retro_cli.specs.Program.{repair_refusal}
@@ -28,6 +28,8 @@ fault_refuses options log r TooManyWorkers stop is h given =
 fault_refuses options log r NoCut stop is h given =
     rw (given, is, few_workers options.workers h.0, h.1) refl
 fault_refuses options log r (TwoEdits n) stop is h given =
+    rw (given, is, few_workers options.workers h.0, h.1, h.2) refl
+fault_refuses options log r (BeforeCheckpoint n) stop is h given =
     rw (given, is, few_workers options.workers h.0, h.1, h.2) refl
 fault_refuses options log r (NoSuchLine n) stop is h given =
     rw (given, is, few_workers options.workers h.0, h.1, h.2) refl

@@ -9,13 +9,15 @@ use Rattle.retro_keep.specs.Script.{ScriptValue}
 use Rattle.retro_keep.specs.Edit.{edit, edit_of}
 use Rattle.retro_keep.specs.declared.edit.Edit.{Edit}
 use Rattle.retro_keep.specs.declared.edit_fault.EditRefusal.{EditRefusal}
-use Rattle.retro_keep.specs.declared.edit_fault.EditRefusal.TheVariants.{TwoEdits, NoSuchLine}
+use Rattle.retro_keep.specs.declared.edit_fault.EditRefusal.TheVariants.{BeforeCheckpoint, TwoEdits, NoSuchLine}
 use Rattle.retro_keep.specs.Runs.{Output, outcome}
 use Rattle.retro_keep.specs.Recording.{RecordingValue, IsRecordingOf}
 use Rattle.retro_keep.specs.Recording as recordings
+use Rattle.retro_keep.specs.Trim.{trimmed}
 use Rattle.retro_redo.specs.Editing.{AreAccepted, edits_of_lines}
-use Rattle.retro_redo.specs.Repair.{IsRepair, script_now}
+use Rattle.retro_redo.specs.Repair.{IsRepair}
 use Rattle.retro_redo.specs.RepairFault.{fault_number}
+use Rattle.retro_redo.specs.Settled.{AreSettled}
 use Rattle.retro_redo.specs.declared.repair.Repair.{Repair}
 use Rattle.retro_redo.specs.declared.repair_fault.RepairFault.TheVariants.{NoCut, TooManyWorkers}
 use Rattle.retro_rounds.specs.Refusals.{are_cuts}
@@ -28,8 +30,8 @@ use Rattle.retro_cli.specs.Output.{AppendsPart}
 use Rattle.retro_cli.specs.Report.{replay_text}
 use Rattle.retro_cli.specs.RepairReport.{repair_text}
 use Rattle.retro_cli.specs.Words.{RepairOptions, Request, replay, record_script, check_log, repair, relog}
-use Rattle.retro_cli.specs.Words.{request_in}
-use Rattle.retro_cli.specs.declared.stop.TheConstants.{BAD_WORDS, TWO_EDITS, UNKNOWN_LINE}
+use Rattle.retro_cli.specs.Words.{request_in, trim}
+use Rattle.retro_cli.specs.declared.stop.TheConstants.{BAD_WORDS, BEFORE_CHECKPOINT, TWO_EDITS, UNKNOWN_LINE}
 use Rattle.retro_cli.specs.declared.exit.Exit.{Exit}
 use Rattle.retro_cli.specs.declared.exit.Exit.TheVariants as exits
 
@@ -44,6 +46,7 @@ report (state, outputs) = replay_text outputs state
 -- the numbers of refusals of edits
 abbrev pub edit_number : EditRefusal → ℕ
 edit_number (TwoEdits n) = TWO_EDITS
+edit_number (BeforeCheckpoint n) = BEFORE_CHECKPOINT
 edit_number (NoSuchLine n) = UNKNOWN_LINE
 
 -- the report of running all lines of a script, unless its edits are refused
@@ -61,12 +64,13 @@ replay_answer edits input = replay_document edits (script_in input)
 
 -- ---- the log of a script, and the answer to whether a log is a recording
 
--- a text is the log of a recording of the script that the input is
+-- a text is the log of a recording, from line 1 on, of the script that the input is
 pub record IsLogOf (input text : Text) : Type 0 where
   pub script : ScriptValue
   pub is_script : script_in input ≡ Ok script
   pub recording : RecordingValue
   pub recorded : IsRecordingOf script recording
+  pub begins : recording.from ≡ 1
   pub is_log : text ≡ log_text recording
 
 -- the input is the log of a recording of its lines
@@ -86,27 +90,42 @@ IsVerdict input exits.WriteFailed text = ⊥
 
 -- ---- the report of a repair of a log, and the log of the repaired recording
 
--- The text is the report of a repair of the log in the input. If the log is a recording of its
--- lines, the repair is exact: its state and outputs are those of running the edited lines one by one.
-pub record IsRepairReport (edits : List Edit) (input text : Text) : Type 0 where
+-- The repair is one of the log in the input. If the log is a recording of its lines, the repair is
+-- exact: its state and outputs are those of running the edited lines one by one. For any log, also a
+-- forged one, the repair is what choices for its lines come to, and it begins at the same number.
+pub record IsRepairOf (edits : List Edit) (input : Text) (repair : Repair) : Type 0 where
   pub recording : RecordingValue
   pub is_log : log_in input ≡ Ok recording
   pub accepted : AreAccepted edits recording
-  pub repair : Repair
-  pub is_report : text ≡ repair_text repair
   pub is_repair : IsRecordingOf (recordings.script_in recording) recording
       → IsRepair (edit_of edits) recording repair
+  pub settled : AreSettled (edit_of edits) recording repair
 
--- The text is a log. If the log in the input is a recording of its lines, the text is the log of a
--- recording of the edited lines.
-pub record IsRepairedLog (edits : List Edit) (input text : Text) : Type 0 where
-  pub recording : RecordingValue
-  pub is_log : log_in input ≡ Ok recording
-  pub accepted : AreAccepted edits recording
-  pub repaired : RecordingValue
-  pub is_text : text ≡ log_text repaired
-  pub is_recording : IsRecordingOf (recordings.script_in recording) recording
-      → IsRecordingOf (script_now (edit_of edits) recording) repaired
+-- the text is the report of a repair of the log in the input
+abbrev pub IsRepairReport : List Edit → Text → Text → Type 0
+IsRepairReport edits input text =
+    (repair : Repair) × IsRepairOf edits input repair × (text ≡ repair_text repair)
+
+-- the text is the log of the repaired recording
+abbrev pub IsRepairedLog : List Edit → Text → Text → Type 0
+IsRepairedLog edits input text =
+    (repair : Repair) × IsRepairOf edits input repair × (text ≡ log_text repair.recording)
+
+-- ---- the log that begins at a number
+
+-- the log of the lines from a number on over the recorded state before them, or the number of the
+-- refusal if the recording begins later
+abbrev pub trim_recording : ℕ → RecordingValue → Result Text ℕ
+trim_recording number recording =
+    if nat_lt number recording.from then Err BEFORE_CHECKPOINT else Ok (log_text (trimmed number recording))
+
+abbrev pub trim_document : ℕ → Result RecordingValue Refusal → Result Text ℕ
+trim_document number (Ok recording) = trim_recording number recording
+trim_document number (Err refusal) = Err (refusal_number refusal)
+
+-- the trimmed log, or the number of the first refusal: of the document, then of the number
+unfoldable pub trim_answer : ℕ → Text → Result Text ℕ
+trim_answer number input = trim_document number (log_in input)
 
 -- ---- refusals
 
@@ -114,7 +133,8 @@ abbrev pub document_refusal : {Y : Type 0} → Result Y Refusal → Option ℕ
 document_refusal document = option_map refusal_number (result_err document)
 
 -- the number of the first refusal of a repair of a recording: too many workers, then no cuts or a
--- zero among them, then two different edits of a line, then an edit of a number that no line has
+-- zero among them, then two different edits of a line, then an edit of a line before the recording
+-- begins, then an edit of a number that no line has
 abbrev pub options_refusal : RepairOptions → RecordingValue → Option ℕ
 options_refusal options recording =
     if nat_lt MAX_WORKERS options.workers then Some (fault_number TooManyWorkers)
@@ -133,6 +153,7 @@ request_refusal record_script input = document_refusal (script_in input)
 request_refusal check_log input = document_refusal (log_in input)
 request_refusal (repair options) input = repair_refusal options (log_in input)
 request_refusal (relog options) input = repair_refusal options (log_in input)
+request_refusal (trim number) input = result_err (trim_answer number input)
 
 abbrev pub refusal_in : Option Request → Text → Option ℕ
 refusal_in None input = Some BAD_WORDS
@@ -151,6 +172,7 @@ Answered record_script input exit text = (exit ≡ exits.Done) × IsLogOf input 
 Answered check_log input exit text = IsVerdict input exit text
 Answered (repair options) input exit text = (exit ≡ exits.Done) × IsRepairReport options.edits input text
 Answered (relog options) input exit text = (exit ≡ exits.Done) × IsRepairedLog options.edits input text
+Answered (trim number) input exit text = (exit ≡ exits.Done) × (trim_answer number input ≡ Ok text)
 
 -- the answer to words about an input, of which nothing is refused
 pub record Answers (words : List Text) (input : Text) (exit : Exit) (text : Text) : Type 0 where

@@ -25,6 +25,10 @@ use Rattle.retro_cli.specs.declared.words.WordsFault.TheVariants as faults
 abbrev pub option : Text → Text → Rule
 option name default = record (new_rule name) { long = Some name; action = Some Set; defaults = default ∷ [] }
 
+-- an option of one value that has to be given
+abbrev pub required_option : Text → Rule
+required_option name = record (new_rule name) { long = Some name; action = Some Set; required = true }
+
 -- the options that edit lines
 abbrev pub edit_options : List Rule
 edit_options = option (codes "cancel") [] ∷ option (codes "replace") (codes "[]") ∷ []
@@ -56,12 +60,16 @@ with_command app name rules = with_subcommand app (command name rules)
 abbrev pub script_program : App
 script_program = with_command (with_command bare (codes "replay") edit_options) (codes "record") []
 
--- and those that start from a log
-abbrev pub program : App
-program =
+-- and those that repair a log
+abbrev pub repair_program : App
+repair_program =
     with_command
     (with_command (with_command script_program (codes "check") []) (codes "repair") repair_options) (codes "relog")
     repair_options
+
+-- and the one that trims a log
+abbrev pub program : App
+program = with_command repair_program (codes "trim") (required_option (codes "at") ∷ [])
 
 -- ---- the command in words, as `clap` reads them
 
@@ -72,6 +80,7 @@ pub record Call : Type 0 where
   pub replace : Option Text
   pub workers : Option Text
   pub cuts : Option Text
+  pub at : Option Text
 
 abbrev pub call_of : Text × List Row → Call
 call_of p = record {
@@ -80,6 +89,7 @@ call_of p = record {
   replace = first_of (codes "replace") p.1;
   workers = first_of (codes "workers") p.1;
   cuts = first_of (codes "cuts") p.1;
+  at = first_of (codes "at") p.1;
 }
 
 abbrev pub unless_fault : {A : Type 0} → Kinds → Option A → Option A
@@ -100,14 +110,15 @@ pub record RepairOptions : Type 0 where
   pub cuts : List ℕ
 
 -- a request: to run a script's edited lines, to record the lines of a script, to check whether a log
--- is a recording, or to repair a log and answer the report of the repair or the log of the repaired
--- recording
+-- is a recording, to repair a log and answer the report of the repair or the log of the repaired
+-- recording, or to answer the log that begins at a number
 pub data Request : Type 0 where
   replay : List Edit → Request
   record_script : Request
   check_log : Request
   repair : RepairOptions → Request
   relog : RepairOptions → Request
+  trim : ℕ → Request
 
 -- lines that are left out, and then lines whose text is replaced; or none if either is missing
 abbrev pub edits_with : Option (List ℕ) → Option (List Edit) → Option (List Edit)
@@ -135,7 +146,8 @@ request_of g =
     else if pointwise nat_eq g.name (codes "record") then Some record_script
     else if pointwise nat_eq g.name (codes "check") then Some check_log
     else if pointwise nat_eq g.name (codes "repair") then option_map repair (options_of g)
-    else if pointwise nat_eq g.name (codes "relog") then option_map relog (options_of g) else None
+    else if pointwise nat_eq g.name (codes "relog") then option_map relog (options_of g)
+    else if pointwise nat_eq g.name (codes "trim") then option_map trim (option_and_then number_in g.at) else None
 
 -- what the words ask for, or none if they are bad
 unfoldable pub request_in : List Text → Option Request
@@ -150,6 +162,7 @@ call_view g = record {
   replace = option_map (λ s. s.now) g.replace;
   workers = option_map (λ s. s.now) g.workers;
   cuts = option_map (λ s. s.now) g.cuts;
+  at = option_map (λ s. s.now) g.at;
 }
 
 abbrev pub options_view : OptionsValue → RepairOptions
@@ -161,6 +174,7 @@ request_view requests.Record = record_script
 request_view requests.Check = check_log
 request_view (requests.Repair options) = repair (options_view options)
 request_view (requests.Relog options) = relog (options_view options)
+request_view (requests.Trim at) = trim at
 
 -- the fault of words of which a part can't be read
 abbrev pub words_fault : LogFault → WordsFault

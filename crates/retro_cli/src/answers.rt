@@ -3,8 +3,8 @@ ghost use Rattle.std.specs.Prelude.{◌≡◌, None, Ok, IfOk, IfErr, OnOk};
 ghost use Rattle.retro_cli.specs.Exit.{exit_of};
 ghost use Rattle.retro_cli.specs.Program.{Answered, IsLogOf, IsRepairReport, IsRepairedLog};
 ghost use Rattle.retro_cli.specs.Program.{IsVerdict, document_refusal, repair_refusal};
-ghost use Rattle.retro_cli.specs.Program.{replay_answer, request_refusal};
-ghost use Rattle.retro_cli.specs.inner.Repaired.{IsRepairOf};
+ghost use Rattle.retro_cli.specs.Program.{replay_answer, request_refusal, trim_answer};
+ghost use Rattle.retro_cli.specs.inner.Repaired.{IsAcceptedRepair};
 ghost use Rattle.retro_cli.specs.inner.Stop.{Refuses, ReturnsAs};
 ghost use Rattle.retro_cli.specs.Words.{options_view, request_view};
 ghost use Rattle.retro_log.specs.Document.{log_in, script_in};
@@ -68,7 +68,7 @@ fn repair_log<T: Threads + Sync + AllocGlobal>(
     input: Vec<u8>,
 ) -> Result<Repair, Stop>
     ensures ok { IfOk result (λ repair.
-        IsRepairOf (options_view options.now) input.items repair) }
+        IsAcceptedRepair (options_view options.now) input.items repair) }
     ensures err { IfErr result (λ stop.
         Refuses stop (repair_refusal (options_view options.now) (log_in input.items))) }
 {
@@ -121,6 +121,17 @@ fn relog_input<T: Threads + Sync + AllocGlobal>(
     Ok(write_log(rt.alloc(), &repair.recording)?)
 }
 
+/// Returns the log of the lines from a number on, over the recorded state before them.
+#[tactic(auto, using(crate::proofs::TrimLemmas::trim_gives), unfolding(crate::specs::Program::trim_answer))]
+fn trim_input(alloc: Global, number: u32, input: Vec<u8>) -> Result<Vec<u8>, Stop>
+    ensures { ReturnsAs (λ text. text.items) result (trim_answer number input.items) }
+{
+    let recording = read_log(alloc, &input)?;
+    drop(input);
+    let trimmed = recording.trim(alloc, number)?;
+    Ok(write_log(alloc, &trimmed)?)
+}
+
 /// Returns the text that answers a request, and how the program ends once the text is written.
 pub(crate) fn answer<T: Threads + Sync + AllocGlobal>(
     rt: &T,
@@ -140,5 +151,6 @@ pub(crate) fn answer<T: Threads + Sync + AllocGlobal>(
         Request::Check => Ok(check_input(rt.alloc(), input)?),
         Request::Repair(options) => Ok((repair_input(rt, options, input)?, Ending::Done)),
         Request::Relog(options) => Ok((relog_input(rt, options, input)?, Ending::Done)),
+        Request::Trim { at } => Ok((trim_input(rt.alloc(), *at, input)?, Ending::Done)),
     }
 }

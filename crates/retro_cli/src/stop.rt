@@ -2,10 +2,10 @@
 ghost use Rattle.std.specs.Prelude.{◌≡◌};
 ghost use Rattle.retro_cli.specs.declared.stop.Stop.TheVariants as stops;
 ghost use Rattle.retro_cli.specs.inner.Stop.{stop_of_words, stop_of_document, stop_of_edit};
-ghost use Rattle.retro_cli.specs.inner.Stop.{stop_of_repair};
+ghost use Rattle.retro_cli.specs.inner.Stop.{stop_of_repair, stop_of_trim};
 
 use crate::words::WordsFault;
-use retro_keep::EditFault;
+use retro_keep::{EditFault, TrimFault};
 use retro_log::LogFault;
 use retro_redo::RepairFault;
 use retro_tree::NoMem;
@@ -15,6 +15,9 @@ pub const BAD_WORDS: u8 = 31;
 
 /// The number of the refusal of an edit of a number that no line has.
 pub(crate) const UNKNOWN_LINE: u8 = 21;
+
+/// The number of the refusal of a number that is below the one at which a log begins.
+pub(crate) const BEFORE_CHECKPOINT: u8 = 25;
 
 /// The number of the refusal of two different edits of a line.
 pub(crate) const TWO_EDITS: u8 = 26;
@@ -70,6 +73,17 @@ impl From<EditFault> for Stop {
             EditFault::NoMem => Stop::NoMem,
             EditFault::TwoEdits(_) => Stop::Refused(TWO_EDITS),
             EditFault::NoSuchLine(_) => Stop::Refused(UNKNOWN_LINE),
+        }
+    }
+}
+
+impl From<TrimFault> for Stop {
+    ghost from_gives = { λ fault stop. stop ≡ stop_of_trim fault };
+
+    fn from(fault: TrimFault) -> Stop {
+        match fault {
+            TrimFault::NoMem => Stop::NoMem,
+            TrimFault::BeforeCheckpoint => Stop::Refused(BEFORE_CHECKPOINT),
         }
     }
 }

@@ -1,12 +1,13 @@
 //! The request that the words of the command line make, as `clap` reads them.
-ghost use Rattle.std.specs.Prelude.{◌≡◌, [], false, map, option_and_then, option_map, IfOk};
+ghost use Rattle.std.specs.Prelude.{◌≡◌, ◌∷◌, [], false, codes, map, option_and_then, option_map, IfOk};
 ghost use Rattle.std.specs.Prelude.{string_bytes};
 ghost use Rattle.clap.specs.Words.{app_of, rule_of};
 ghost use Rattle.clap.specs.declared.builder.command.Command.TheViews.{out-Command as fields_of};
 ghost use Rattle.retro_keep.specs.declared.edit.Edit.TheVariants as edits;
 ghost use Rattle.retro_cli.specs.Numbers.{list_in, number_in};
 ghost use Rattle.retro_cli.specs.Replacements.{replacements_in};
-ghost use Rattle.retro_cli.specs.Words.{option, edit_options, repair_options, command, bare, program};
+ghost use Rattle.retro_cli.specs.Words.{option, edit_options, repair_options, command, bare};
+ghost use Rattle.retro_cli.specs.Words.{program, required_option};
 ghost use Rattle.retro_cli.specs.Words.{call_in, call_view, edits_of, options_of, options_view};
 ghost use Rattle.retro_cli.specs.Words.{request_of, request_view, request_in, words_fault, Means};
 ghost use Rattle.retro_cli.specs.declared.words.WordsFault.TheVariants as faults;
@@ -34,6 +35,8 @@ pub(crate) enum Request {
     Repair(RepairOptions),
     /// Repair a log, and write the log of the repaired recording.
     Relog(RepairOptions),
+    /// Write the log that begins at this line.
+    Trim { at: u32 },
 }
 
 /// Why words make no request.
@@ -81,6 +84,7 @@ struct CommandCall<'a> {
     replace: Option<&'a str>,
     workers: Option<&'a str>,
     cuts: Option<&'a str>,
+    at: Option<&'a str>,
 }
 
 /// Returns an option that takes one value, with its default.
@@ -92,6 +96,17 @@ fn value_option<'a>(alloc: Global, name: &'a str, default: &'a str) -> Arg<'a>
         .long(name)
         .action(ArgAction::Set)
         .default_value(default)
+}
+
+/// Returns an option that takes one value, and that has to be given.
+fn required_option<'a>(alloc: Global, name: &'a str) -> Arg<'a>
+    ensures rule { rule_of result ≡ required_option name.entry.now }
+    ensures local { result.global ≡ false }
+{
+    Arg::new(alloc, name)
+        .long(name)
+        .action(ArgAction::Set)
+        .required(true)
 }
 
 /// Returns a command that has the options `--cancel` and `--replace`. By default they edit no line.
@@ -115,6 +130,15 @@ fn repairing_command<'a>(alloc: Global, name: &'a str) -> Result<Command<'a>, No
     editing_command(alloc, name)?
         .arg(value_option(alloc, "workers", "0"))?
         .arg(value_option(alloc, "cuts", "64"))
+}
+
+/// Returns the command that trims a log. Its option `--at` has to be given.
+fn trimming_command<'a>(alloc: Global) -> Result<Command<'a>, NoMem>
+    ensures shape { IfOk result (λ c. app_of c
+        ≡ record { top = command (codes "trim") (required_option (codes "at") ∷ []); subs = [] }) }
+    ensures local { IfOk result (λ c. (fields_of c).has_globals ≡ false) }
+{
+    Command::new(alloc, "trim").arg(required_option(alloc, "at"))
 }
 
 /// Returns a command without options.
@@ -145,7 +169,8 @@ fn program_command<'a>(alloc: Global) -> Result<Command<'a>, NoMem>
         .subcommand(plain_command(alloc, "record"))?
         .subcommand(plain_command(alloc, "check"))?
         .subcommand(repairing_command(alloc, "repair")?)?
-        .subcommand(repairing_command(alloc, "relog")?)
+        .subcommand(repairing_command(alloc, "relog")?)?
+        .subcommand(trimming_command(alloc)?)
 }
 
 /// Returns the command that words name, as `clap` reads them. Fails with `BadWords` if `clap`
@@ -162,6 +187,7 @@ fn read_call<'a>(alloc: Global, words: &'a [String]) -> Result<CommandCall<'a>, 
                 replace: inner.get_str("replace"),
                 workers: inner.get_str("workers"),
                 cuts: inner.get_str("cuts"),
+                at: inner.get_str("at"),
             }),
             None => Err(WordsFault::BadWords),
         },
@@ -256,6 +282,9 @@ pub(crate) fn read_words(alloc: Global, words: &[String]) -> Result<Request, Wor
         "check" => Ok(Request::Check),
         "repair" => Ok(Request::Repair(options_of(alloc, &call)?)),
         "relog" => Ok(Request::Relog(options_of(alloc, &call)?)),
+        "trim" => Ok(Request::Trim {
+            at: number_option(call.at)?,
+        }),
         _ => Err(WordsFault::BadWords),
     }
 }

@@ -213,12 +213,23 @@ fn unwritten_from<T: Threads + Sync + AllocGlobal>(
     Ok(None)
 }
 
+/// What `record` writes of the script `PAIR`.
+const LOG_OF_PAIR: &str = concat!(
+    r#"{"from":1,"lines":[[1,1,"echo a > f",[["cwd","/"],["canwrite","/f",0,"yes"],"#,
+    r#"["put","/f",["f",""]],["canwrite","/f",2,"yes"],["grow","/f","610a"],"#,
+    r#"["setstatus",0]],""],[2,1,"cat f",[["cwd","/"],["bytes","/f",["f","610a"]],"#,
+    r#"["setstatus",0]],"610a"]],"log":2,"sessions":[[1,"/",0,[]]],"tree":[]}"#,
+    "\n",
+);
+
 #[test]
 fn a_failed_write_ends_the_run(rt: HostRuntime) -> Result<(), Fail> {
-    let log = format!(in rt.alloc(); "{}\n", input_named("LOG"))?;
     for (given, answer) in [
         (("retro replay", EMPTY), EMPTY_REPORT),
-        (("retro record", input_named("PAIR")), log.as_bytes()),
+        (
+            ("retro record", input_named("PAIR")),
+            LOG_OF_PAIR.as_bytes(),
+        ),
     ] {
         for failure in [
             Failure::Error(ErrorKind::Other),

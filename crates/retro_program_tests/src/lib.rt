@@ -6,6 +6,8 @@ mod documents;
 #[cfg(test)]
 mod edges;
 #[cfg(test)]
+mod forged_table;
+#[cfg(test)]
 mod log_tables;
 #[cfg(test)]
 mod logs;
@@ -17,3 +19,5 @@ mod repair_tables;
 mod rows;
 #[cfg(test)]
 mod tables;
+#[cfg(test)]
+mod trim_table;

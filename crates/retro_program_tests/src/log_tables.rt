@@ -10,7 +10,29 @@ log: {"x":0} => 14
 log: {"log":1,"tree":[],"sessions":[],"lines":[],"from":1} => 14
 log: {"script":1,"tree":[],"sessions":[],"lines":[]} => 14
 log: {"log":2} => 13
-log: {"log":2,"tree":0,"sessions":0,"lines":0} => 16
+log: {"log":3} => 13
+log: {"log":3,"from":0} => 13
+log: {"log":3,"tree":0,"sessions":0,"lines":0} => 16
+log: {"log":3,"tree":0,"sessions":0,"lines":0,"from":1} => 16
+log: {"log":3,"tree":0,"sessions":0,"lines":0,"x":1} => 14
+log: {"log":1,"tree":0,"sessions":0,"lines":0,"from":0} => 14
+log: {"log":"1","tree":0,"sessions":0,"lines":0,"from":0} => 13
+log: {"log":2,"tree":[["/a/b"]],"sessions":0,"lines":0} => 13
+log: {"log":2,"tree":[["/a/b"]],"sessions":0,"lines":0,"from":1} => 10
+log: {"log":2,"tree":[["/a/b"]],"sessions":0,"lines":0,"from":0} => 13
+log: {"log":2,"tree":[["/a/b"]],"sessions":0,"lines":0,"from":4294967296} => 13
+log: {"log":2,"tree":[["/a/b"]],"sessions":0,"lines":0,"from":-1} => 13
+log: {"log":2,"tree":[["/a/b"]],"sessions":0,"lines":0,"from":1.0} => 13
+log: {"log":2,"tree":[["/a/b"]],"sessions":0,"lines":0,"from":"1"} => 13
+log: {"log":2,"tree":[["/a/b"]],"sessions":0,"lines":0,"from":null} => 13
+log: {"log":2,"tree":[],"sessions":[],"lines":[],"from":4294967295} => log
+log: {"log":2,"tree":[],"sessions":[[1,"/",0,[]]],"lines":[[7,1,"",[],""]],"from":7} => log
+log: {"log":2,"tree":[],"sessions":[[1,"/",0,[]]],"lines":[[6,1,"",[],""]],"from":7} => 8
+log: {"log":2,"tree":[],"sessions":[[1,"/",0,[]]],"lines":[[6,3,"",[],""]],"from":7} => 8
+log: {"log":2,"tree":[],"sessions":[[1,"/",0,[]]],"lines":[[7,3,"",[],""]],"from":7} => 9
+log: {"log":2,"tree":[],"sessions":[[1,"/",0,[]]],"lines":[[6,1,"",["x"],""]],"from":7} => 13
+log: {"log":2,"tree":[],"sessions":[[1,"/",0,[]]],"from":7,\
+  "lines":[[9,1,"",[],""],[8,1,"",[],""]]} => 8
 log: {"log":0,"tree":0,"sessions":0,"lines":0} => 16
 log: {"log":"1","tree":0,"sessions":0,"lines":0} => 13
 log: {"log":1.0,"tree":[],"sessions":[],"lines":[]} => 13
@@ -22,9 +44,17 @@ log: {"lines":[[1,1,"echo a > f",[["cwd","/"],["canwrite","/f",0,"yes"],["put","
   ["canwrite","/f",2,"yes"],["grow","/f","610a"],["setstatus",0]],""],[2,1,"cat f",[["cwd","/"],\
   ["bytes","/f",["f","610a"]],["setstatus",0]],"610a"]],"log":1,"sessions":[[1,"/",0,[]]],"tree":[]}
   => log
-log fronts: {"lines":[[1,1,"echo a > f",[["cwd","/"],["canwrite","/f",0,"yes"],\
+log: {"lines":[[1,1,"echo a > f",[["cwd","/"],["canwrite","/f",0,"yes"],["put","/f",["f",""]],\
+  ["canwrite","/f",2,"yes"],["grow","/f","610a"],["setstatus",0]],""],[2,1,"cat f",[["cwd","/"],\
+  ["bytes","/f",["f","610a"]],["setstatus",0]],"610a"]],"log":2,"sessions":[[1,"/",0,[]]],"tree":[]}
+  => 13
+log: {"from":1,"lines":[[1,1,"echo a > f",[["cwd","/"],["canwrite","/f",0,"yes"],\
   ["put","/f",["f",""]],["canwrite","/f",2,"yes"],["grow","/f","610a"],["setstatus",0]],""],\
   [2,1,"cat f",[["cwd","/"],["bytes","/f",["f","610a"]],["setstatus",0]],"610a"]],"log":1,\
+  "sessions":[[1,"/",0,[]]],"tree":[]} => 14
+log fronts: {"from":1,"lines":[[1,1,"echo a > f",[["cwd","/"],["canwrite","/f",0,"yes"],\
+  ["put","/f",["f",""]],["canwrite","/f",2,"yes"],["grow","/f","610a"],["setstatus",0]],""],\
+  [2,1,"cat f",[["cwd","/"],["bytes","/f",["f","610a"]],["setstatus",0]],"610a"]],"log":2,\
   "sessions":[[1,"/",0,[]]],"tree":[]} => 12
 log: {"log":1,"tree":[],"sessions":[[1,"/",0,[]]],"lines":[[1,1,"mkdir d",[["cwd","/"],\
   ["kind","/d","missing"],["kind","/","dir"],["put","/d",["d"]],["setstatus",0]],""],\

@@ -13,14 +13,14 @@ use std::test::Fail;
 /// answer.
 const LOGS: &str = r##"
 log: {"script":1,"tree":[],"sessions":[[1,"/",0,[]]],"lines":[[1,1,"echo a > f"],[2,1,"cat f"]]}
-  => {"lines":[[1,1,"echo a > f",[["cwd","/"],["canwrite","/f",0,"yes"],\
+  => {"from":1,"lines":[[1,1,"echo a > f",[["cwd","/"],["canwrite","/f",0,"yes"],\
   ["put","/f",["f",""]],["canwrite","/f",2,"yes"],["grow","/f","610a"],["setstatus",0]],""],\
-  [2,1,"cat f",[["cwd","/"],["bytes","/f",["f","610a"]],["setstatus",0]],"610a"]],"log":1,\
+  [2,1,"cat f",[["cwd","/"],["bytes","/f",["f","610a"]],["setstatus",0]],"610a"]],"log":2,\
   "sessions":[[1,"/",0,[]]],"tree":[]}%(NL)
 log: {"sessions":[[1,"/",0,[]]],"lines":[],"script":1,"tree":[["/a/b","4A"],["/a"]]}
-  => {"lines":[],"log":1,"sessions":[[1,"/",0,[]]],"tree":[["/a"],["/a/b","4a"]]}%(NL)
+  => {"from":1,"lines":[],"log":2,"sessions":[[1,"/",0,[]]],"tree":[["/a"],["/a/b","4a"]]}%(NL)
 log: {"script":1,"tree":[],"sessions":[[2,"/x",7,[["y","\""],["x","é"]]],[1,"/",0,[]]],"lines":[]}
-  => {"lines":[],"log":1,"sessions":[[1,"/",0,[]],[2,"/x",7,[["x","é"],["y","\""]]]],"tree":[]}%(NL)
+  => {"from":1,"lines":[],"log":2,"sessions":[[1,"/",0,[]],[2,"/x",7,[["x","é"],["y","\""]]]],"tree":[]}%(NL)
 noted: %(EMPTY) :: mkdir /d => [[1,1,"mkdir /d",[["kind","/d","missing"],["kind","/","dir"],\
   ["put","/d",["d"]],["setstatus",0]],""]]
 noted: ["/d"],["/d/f",""] :: rm -r /d => [[1,1,"rm -r /d",[["kind","/d","dir"],["names","/d",\
@@ -51,11 +51,15 @@ again: {"tree":[["/f","0A"]],"log":1,"sessions":[[1,"/",0,[]]],\
   ["var","x","\u0000"],["status",255],["setvar","x",""],["setcwd","/g"],["cwd","/a/b"],\
   ["bytes","/f",["f","0A"]],["canwrite","/f",4294967295,"toolarge"],["put","/f",[]],\
   ["put","/f",["f","Ff"]],["grow","/f","fF"],["setstatus",255]],"00fF"]]}
-  => {"lines":[[4294967295,1,"\u0000",[["names","/f",null],["names","/",["b","a","a"]],\
+  => {"from":1,"lines":[[4294967295,1,"\u0000",[["names","/f",null],["names","/",["b","a","a"]],\
   ["user","\u0000",null],["user","",[4294967295,"\u0000"]],["var","x",null],["var","x","\u0000"],\
   ["status",255],["setvar","x",""],["setcwd","/g"],["cwd","/a/b"],["bytes","/f",["f","0a"]],\
   ["canwrite","/f",4294967295,"toolarge"],["put","/f",[]],["put","/f",["f","ff"]],["grow","/f",\
-  "ff"],["setstatus",255]],"00ff"]],"log":1,"sessions":[[1,"/",0,[]]],"tree":[["/f","0a"]]}%(NL)
+  "ff"],["setstatus",255]],"00ff"]],"log":2,"sessions":[[1,"/",0,[]]],"tree":[["/f","0a"]]}%(NL)
+again: {"tree":[],"sessions":[[1,"/",0,[]]],"log":2,"from":7,"lines":[[7,1,"",[],""]]}
+  => {"from":7,"lines":[[7,1,"",[],""]],"log":2,"sessions":[[1,"/",0,[]]],"tree":[]}%(NL)
+again: {"tree":[],"sessions":[],"log":2,"lines":[],"from":4294967295}
+  => {"from":4294967295,"lines":[],"log":2,"sessions":[],"tree":[]}%(NL)
 "##;
 
 /// Returns the script of session 1's lines, over a tree.
@@ -97,7 +101,7 @@ fn log_again(alloc: Global, document: &str) -> Result<String, Fail> {
 
 /// Returns the text of a log after its lines, over a tree.
 fn log_end(alloc: Global, entries: &str) -> Result<String, NoMem> {
-    let mut end = text(alloc, r#","log":1,"sessions":[[1,"/",0,[]]],"tree":["#)?;
+    let mut end = text(alloc, r#","log":2,"sessions":[[1,"/",0,[]]],"tree":["#)?;
     end.push_str(entries)?;
     end.push_str("]}\n")?;
     Ok(end)
@@ -105,7 +109,7 @@ fn log_end(alloc: Global, entries: &str) -> Result<String, NoMem> {
 
 /// Returns the value of a log at `lines`, if the log ends as it should.
 fn lines_of(alloc: Global, log: &str, end: &str) -> Result<String, NoMem> {
-    let Some(log) = log.strip_prefix("{\"lines\":") else {
+    let Some(log) = log.strip_prefix("{\"from\":1,\"lines\":") else {
         return text(alloc, "another beginning");
     };
     match log.strip_suffix(end) {

@@ -7,9 +7,9 @@ run: retro repair --cancel 1 :: LOG => 0 {"cancelled":[1],"compensations":[[2,"6
   "6361743a20663a204e6f20737563682066696c65206f72206469726563746f72790a"]],"met":[2],\
   "outputs":[[2,"6361743a20663a204e6f20737563682066696c65206f72206469726563746f72790a"]],\
   "redone":[2],"sessions":[[1,"/",1,[]]],"tree":[]}
-run: retro relog --cancel 1 :: LOG => 0 {"lines":[[2,1,"cat f",[["cwd","/"],["bytes","/f",[]],\
+run: retro relog --cancel 1 :: LOG => 0 {"from":1,"lines":[[2,1,"cat f",[["cwd","/"],["bytes","/f",[]],\
   ["setstatus",1]],"6361743a20663a204e6f20737563682066696c65206f72206469726563746f72790a"]],\
-  "log":1,"sessions":[[1,"/",0,[]]],"tree":[]}
+  "log":2,"sessions":[[1,"/",0,[]]],"tree":[]}
 run: retro repair --cancel 1,2 :: LOG => 0 {"cancelled":[1,2],"compensations":[[2,"610a",""]],\
   "met":[],"outputs":[],"redone":[],"sessions":[[1,"/",0,[]]],"tree":[]}
 run: retro repair --cancel 2,1,2 :: LOG => 0 {"cancelled":[1,2],"compensations":[[2,"610a",""]],\
@@ -40,7 +40,7 @@ run: retro relog :: PAIR => 1 retro: refused 14
 run: retro relog --cancel 1,,2 :: LOG => 1 retro: refused 31
 run: retro relog --cancel :: LOG => 1 retro: refused 31
 run: retro relog 1 :: LOG => 1 retro: refused 31
-run: retro relog :: EMPTY_LOG => 0 {"lines":[],"log":1,"sessions":[],"tree":[]}
+run: retro relog :: EMPTY_LOG => 0 {"from":1,"lines":[],"log":2,"sessions":[],"tree":[]}
 in turn: retro relog --cancel 1 :: retro check :: LOG => 0 yes
 in turn: retro record :: retro relog :: retro check :: PAIR => 0 yes
 
@@ -65,10 +65,10 @@ with each: retro repair --replace '[[1,"echo bb > f"]]' :: --workers 1 :: --work
   "met":[1,2],"outputs":[[1,""],[2,"62620a"]],"redone":[1,2],"sessions":[[1,"/",0,[]]],\
   "tree":[["/f","62620a"]]}
 with each: retro relog --replace '[[1,"echo bb > f"]]' :: --workers 1 :: --workers 3
-  :: --workers 16 --cuts 1 :: --cuts 2 :: --cancel= :: PAIR => 0 {"lines":[[1,1,"echo bb > f",\
+  :: --workers 16 --cuts 1 :: --cuts 2 :: --cancel= :: PAIR => 0 {"from":1,"lines":[[1,1,"echo bb > f",\
   [["cwd","/"],["canwrite","/f",0,"yes"],["put","/f",["f",""]],["canwrite","/f",3,"yes"],\
   ["grow","/f","62620a"],["setstatus",0]],""],[2,1,"cat f",[["cwd","/"],["bytes","/f",["f",\
-  "62620a"]],["setstatus",0]],"62620a"]],"log":1,"sessions":[[1,"/",0,[]]],"tree":[]}
+  "62620a"]],["setstatus",0]],"62620a"]],"log":2,"sessions":[[1,"/",0,[]]],"tree":[]}
 run: retro repair --replace '[[1,"echo a > f"]]' :: LOG => 0 {"cancelled":[],"compensations":[],\
   "met":[1],"outputs":[[1,""],[2,"610a"]],"redone":[1],"sessions":[[1,"/",0,[]]],\
   "tree":[["/f","610a"]]}
@@ -141,7 +141,7 @@ with each: retro repair --cancel 1 :: --cuts 64 :: --cuts 1,4 :: --cuts 1 :: --c
 with each: retro relog --cancel 1 :: --cuts 64 :: --cuts 1,4 :: --cuts 1 :: --cuts 2
   :: --cuts 3,1 :: --cuts 4294967295,4294967295 :: --workers 0 :: --workers 16 --cuts 64
   :: --workers=3 --cuts=1,4 :: --cuts 0000000001 --workers 0000000016 :: READERS
-  => 0 {"lines":[[2,1,"cat /tmp/k > a",[["cwd","/h"],["canwrite","/h/a",0,"yes"],\
+  => 0 {"from":1,"lines":[[2,1,"cat /tmp/k > a",[["cwd","/h"],["canwrite","/h/a",0,"yes"],\
   ["put","/h/a",["f",""]],["bytes","/tmp/k",[]],["setstatus",1]],\
   "6361743a202f746d702f6b3a204e6f20737563682066696c65206f72206469726563746f72790a"],\
   [3,1,"cat a /tmp/k",[["cwd","/h"],["bytes","/h/a",["f",""]],["bytes","/tmp/k",[]],\
@@ -150,7 +150,7 @@ with each: retro relog --cancel 1 :: --cuts 64 :: --cuts 1,4 :: --cuts 1 :: --cu
   [4,1,"cat /tmp/k",[["bytes","/tmp/k",[]],["setstatus",1]],\
   "6361743a202f746d702f6b3a204e6f20737563682066696c65206f72206469726563746f72790a"],\
   [5,1,"grep -F p /tmp/k",[["bytes","/tmp/k",[]],["setstatus",2]],\
-  "677265703a202f746d702f6b3a204e6f20737563682066696c65206f72206469726563746f72790a"]],"log":1,\
+  "677265703a202f746d702f6b3a204e6f20737563682066696c65206f72206469726563746f72790a"]],"log":2,\
   "sessions":[[1,"/h",0,[["HOME","/h"]]],[2,"/tmp",0,[["HOME","/tmp"]]]],\
   "tree":[["/etc"],["/etc/passwd","726f6f743a783a303a303a723a2f3a2f62696e2f73680a616c6963653a78\
   3a3130303a3130303a613a2f683a2f62696e2f73680a6d616c6c6f72793a783a3230303a3230303a6d3a2f746d70\

@@ -1,9 +1,11 @@
 //! The call that each row names, and the test that makes these calls.
 use crate::documents::{edited, log, log_fronts, logged, note, script, script_part, written};
+use crate::forged_table::FORGED_LOGS;
 use crate::log_tables::{LOG_LINES, LOGS, NOTES};
 use crate::programs::{run, run_in_turn, run_with_each, shell};
 use crate::repair_tables::{OPTIONS, REPAIRS, REPLACED};
 use crate::tables::{DOCUMENTS, PROGRAMS, SHELL};
+use crate::trim_table::TRIMS;
 use retro_rows::rows;
 use retro_tree::NoMem;
 use std::alloc::{AllocGlobal, Global};
@@ -60,7 +62,7 @@ fn rows_hold(rt: HostRuntime) -> Result<(), Fail> {
 
 #[test]
 fn rows_of_repairs_hold(rt: HostRuntime) -> Result<(), Fail> {
-    for table in [REPAIRS, REPLACED, OPTIONS] {
+    for table in [REPAIRS, REPLACED, OPTIONS, TRIMS, FORGED_LOGS] {
         hold(&rt, table)?;
     }
     Ok(())

@@ -257,12 +257,12 @@ run: retro replay --cancel 9, :: [ => 1 retro: refused 31
 run: retro replay --cancel 9 :: PAIR => 1 retro: refused 21
 run: retro replay --cancel 9 :: [ => 1 retro: refused 12
 run: retro replay --cancel 4294967295 :: PAIR => 1 retro: refused 21
-run: retro record :: EMPTY => 0 {"lines":[],"log":1,"sessions":[],"tree":[]}
+run: retro record :: EMPTY => 0 {"from":1,"lines":[],"log":2,"sessions":[],"tree":[]}
 run: retro record :: UNORDERED
-  => 0 {"lines":[],"log":1,"sessions":[[1,"/",0,[]]],"tree":[["/a"],["/a/b","4a"]]}
-run: retro record :: PAIR => 0 {"lines":[[1,1,"echo a > f",[["cwd","/"],["canwrite","/f",0,"yes"],\
+  => 0 {"from":1,"lines":[],"log":2,"sessions":[[1,"/",0,[]]],"tree":[["/a"],["/a/b","4a"]]}
+run: retro record :: PAIR => 0 {"from":1,"lines":[[1,1,"echo a > f",[["cwd","/"],["canwrite","/f",0,"yes"],\
   ["put","/f",["f",""]],["canwrite","/f",2,"yes"],["grow","/f","610a"],["setstatus",0]],""],\
-  [2,1,"cat f",[["cwd","/"],["bytes","/f",["f","610a"]],["setstatus",0]],"610a"]],"log":1,\
+  [2,1,"cat f",[["cwd","/"],["bytes","/f",["f","610a"]],["setstatus",0]],"610a"]],"log":2,\
   "sessions":[[1,"/",0,[]]],"tree":[]}
 run: retro record --cancel 1 :: PAIR => 1 retro: refused 31
 run: retro record more :: PAIR => 1 retro: refused 31
@@ -274,7 +274,7 @@ run: retro check :: FORGED => 4 no
 run: retro check :: EMPTY_LOG => 0 yes
 run: retro check --cancel 1 :: LOG => 1 retro: refused 31
 run: retro check :: PAIR => 1 retro: refused 14
-run: retro check :: {"log":2,"tree":[],"sessions":[],"lines":[]} => 1 retro: refused 16
+run: retro check :: {"log":3,"tree":[],"sessions":[],"lines":[]} => 1 retro: refused 16
 run: retro replay :: LOG => 1 retro: refused 14
 "##;
 
@@ -318,6 +318,12 @@ pub fn input_named(name: &str) -> &str {
             r#"["put","/f",["f",""]],["canwrite","/f",2,"yes"],["grow","/f","610a"],"#,
             r#"["setstatus",0]],""],[2,1,"cat f",[["cwd","/"],["bytes","/f",["f","610a"]],"#,
             r#"["setstatus",0]],"610a"]],"log":1,"sessions":[[1,"/",0,[]]],"tree":[]}"#
+        ),
+        // LOG from line 2 on.
+        "LATER" => concat!(
+            r#"{"from":2,"lines":[[2,1,"cat f",[["cwd","/"],["bytes","/f",["f","610a"]],"#,
+            r#"["setstatus",0]],"610a"]],"log":2,"sessions":[[1,"/",0,[]]],"#,
+            r#""tree":[["/f","610a"]]}"#
         ),
         // Line 2 reads other bytes than line 1 wrote.
         "ALTERED" => concat!(

@@ -3,13 +3,15 @@ use Rattle.std.specs.Prelude.{◌≡◌, ℕ, Option, Some, None, Result, Ok, Er
 use Rattle.retro_tree.specs.OutOfMemory.{UnlessOutOfMemory}
 use Rattle.retro_keep.specs.declared.edit_fault.EditFault.{EditFault}
 use Rattle.retro_keep.specs.declared.edit_fault.EditFault.TheVariants as edits
+use Rattle.retro_keep.specs.declared.trim_fault.TrimFault.{TrimFault}
+use Rattle.retro_keep.specs.declared.trim_fault.TrimFault.TheVariants as trims
 use Rattle.retro_json.specs.Numbers.{refusal_number}
 use Rattle.retro_json.specs.declared.fault.LogFault.{LogFault}
 use Rattle.retro_json.specs.declared.fault.LogFault.TheVariants as documents
 use Rattle.retro_redo.specs.RepairFault.{fault_number}
 use Rattle.retro_redo.specs.declared.repair_fault.RepairFault.{RepairFault}
 use Rattle.retro_redo.specs.declared.repair_fault.RepairFault.TheVariants as repairs
-use Rattle.retro_cli.specs.declared.stop.TheConstants.{BAD_WORDS, TWO_EDITS, UNKNOWN_LINE}
+use Rattle.retro_cli.specs.declared.stop.TheConstants.{BAD_WORDS, BEFORE_CHECKPOINT, TWO_EDITS, UNKNOWN_LINE}
 use Rattle.retro_cli.specs.declared.stop.Stop.{Stop}
 use Rattle.retro_cli.specs.declared.stop.Stop.TheVariants as stops
 use Rattle.retro_cli.specs.declared.words.WordsFault.{WordsFault}
@@ -30,10 +32,16 @@ stop_of_edit (edits.NoSuchLine number) = stops.Refused UNKNOWN_LINE
 
 abbrev pub stop_of_repair : RepairFault → Stop
 stop_of_repair (repairs.TwoEdits number) = stops.Refused (fault_number (repairs.TwoEdits number))
+stop_of_repair (repairs.BeforeCheckpoint number) =
+    stops.Refused (fault_number (repairs.BeforeCheckpoint number))
 stop_of_repair (repairs.NoSuchLine number) = stops.Refused (fault_number (repairs.NoSuchLine number))
 stop_of_repair repairs.NoCut = stops.Refused (fault_number repairs.NoCut)
 stop_of_repair repairs.TooManyWorkers = stops.Refused (fault_number repairs.TooManyWorkers)
 stop_of_repair repairs.OutOfMemory = stops.NoMem
+
+abbrev pub stop_of_trim : TrimFault → Stop
+stop_of_trim trims.NoMem = stops.NoMem
+stop_of_trim trims.BeforeCheckpoint = stops.Refused BEFORE_CHECKPOINT
 
 -- a stop says that a request is refused by a number, unless memory ran out
 abbrev pub Refuses : Stop → Option ℕ → Type 0

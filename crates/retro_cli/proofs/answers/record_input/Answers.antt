@@ -7,5 +7,6 @@ returns-clause-ok g c = record {
   is_script = search rules;
   recording = c.in_ok-recording.recording;
   recorded = c.in_ok-recording.ensures.recording;
+  begins = c.in_ok-recording.ensures.begins;
   is_log = c.in_ok-write_log.ensures.text;
 }

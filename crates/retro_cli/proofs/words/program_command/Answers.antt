@@ -21,7 +21,10 @@ returns c =
     let four =
     c.in_ok-subcommand-4.ensures.shape c.in_ok-repairing_command.ensures.local
     ∙ ap₂ with_subcommand three (ap top c.in_ok-repairing_command.ensures.shape) in
-    IfOk-weaker c.subcommand-5.result _ _
-    (λ m h. h.shape c.in_ok-repairing_command-2.ensures.local
-    ∙ ap₂ with_subcommand four (ap top c.in_ok-repairing_command-2.ensures.shape))
-    c.subcommand-5.ensures
+    let five =
+    c.in_ok-subcommand-5.ensures.shape c.in_ok-repairing_command-2.ensures.local
+    ∙ ap₂ with_subcommand four (ap top c.in_ok-repairing_command-2.ensures.shape) in
+    IfOk-weaker c.subcommand-6.result _ _
+    (λ m h. h.shape c.in_ok-trimming_command.ensures.local
+    ∙ ap₂ with_subcommand five (ap top c.in_ok-trimming_command.ensures.shape))
+    c.subcommand-6.ensures

@@ -11,10 +11,11 @@ returns-in-Some c =
     same_app _ words (λ ks. ks ≡ []) app (c.in-Ok.ensures.kinds (ap is_simple_and_free app ∙ is_free_program)) in
     let both = c.in-Ok.ensures.matches (ap is_simple app ∙ is_plain_program) in
     call_found words _ c.in-Some.name.now (found_of c.in-Some.inner.now) c.get_str.result c.get_str-in-Some.result
-    c.get_str-in-Some-2.result c.get_str-in-Some-3.result
+    c.get_str-in-Some-2.result c.get_str-in-Some-3.result c.get_str-in-Some-4.result
     none (both.1 ∙ ap (λ (a : App). subcommand_of a words) app)
     (named c.in-Ok.matches _ _ c.in-Some.ensures.name c.in-Some.ensures.rows)
     c.get_str.ensures c.get_str-in-Some.ensures c.get_str-in-Some-2.ensures c.get_str-in-Some-3.ensures
+    c.get_str-in-Some-4.ensures
 
 pub returns : goal.returns
 returns c =
