@@ -27,7 +27,7 @@ def build():
     subprocess.run([f"{TOP}/retro", "replay"], input=empty, stdout=subprocess.DEVNULL, check=True)
 
 
-EMPTY_LOG = b'{"lines":[],"log":1,"sessions":[],"tree":[]}'
+EMPTY_LOG = b'{"from":1,"lines":[],"log":2,"sessions":[],"tree":[]}'
 
 
 def copy_to(room):
