@@ -1,0 +1,9 @@
+pub mod Merging
+pub mod Changes
+pub mod Results
+pub mod Failing
+pub mod Parts
+pub mod Causes
+pub mod Picking
+pub mod Latest
+pub mod NotKept

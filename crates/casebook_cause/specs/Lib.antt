@@ -1,0 +1,6 @@
+pub mod ChangedPaths
+pub mod LineResult
+pub mod FailingNote
+pub mod Compensations
+pub mod Cause
+pub mod inner
