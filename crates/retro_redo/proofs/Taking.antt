@@ -1,5 +1,5 @@
 -- New runs of met lines alone.
-use Rattle.std.proofs.Common.{◌≡◌, ℕ, zero, suc, List, [], ◌∷◌, ◌++◌, Option, Some, None, replicate, length, refl, sym}
+use Rattle.std.proofs.Common.{◌≡◌, ℕ, zero, suc, List, [], ◌∷◌, ◌++◌, Option, Some, replicate, length, refl, sym}
 use Rattle.std.proofs.Common.{subst}
 use Rattle.std.specs.List.{slice_get}
 use Rattle.retro_tree.specs.Notes.{after}
@@ -7,7 +7,7 @@ use Rattle.retro_tree.specs.declared.state.State.{State}
 use Rattle.retro_keep.specs.declared.edit.Edit.{Edit}
 use Rattle.retro_redo.specs.Progress.{AreTakenIfMet, AreTakenNow, IsTakenIfMet, ProgressValue, chosen, edit_in}
 use Rattle.retro_redo.specs.Progress.{recorded_after, repaired_after}
-use Rattle.retro_redo.specs.Settling.{IsForMetLine, IsOneMore}
+use Rattle.retro_redo.specs.Settling.{IsOneMore}
 use Rattle.retro_redo.specs.Skipping.{IsSkip, with_kept}
 use Rattle.retro_redo.specs.declared.step.Step.{Step}
 use Rattle.retro_redo.specs.declared.step.Step.TheVariants.{Keep}

@@ -214,8 +214,8 @@ impl<'h, 'a> Repairer<'h, 'a> {
 
     /// Settles the next line, and returns how. Cancels it if it is cancelled. Keeps it if it isn't
     /// edited, and it isn't met or its notes hold in the repaired state. Otherwise the line is met
-    /// and stale: it gets its guess if the guess's notes hold in the repaired state, and is run again
-    /// if not.
+    /// and stale: it gets its guess if the guess's notes hold in the repaired state, and is run
+    /// again if not.
     ///
     /// A guess must be a run in the line's session of the line's new text, if its text is replaced,
     /// or of its own.
@@ -248,8 +248,8 @@ impl<'h, 'a> Repairer<'h, 'a> {
         self.settle_stale(alloc, number, guess, gate)
     }
 
-    /// Settles the next line, which is met and stale, and returns how: by its guess if the guess's notes
-    /// hold in the repaired state, and by a new run if not.
+    /// Settles the next line, which is met and stale, and returns how: by its guess if the guess's
+    /// notes hold in the repaired state, and by a new run if not.
     fn settle_stale<G: Gate>(
         &mut self,
         alloc: Global,

@@ -124,6 +124,10 @@ run: /f=ab :: 1 =xy :: cut :: -b2 :: - :: /f :: - => 0 [y%(NL)b%(NL)] [] ["bytes
 run: /i=a:b :: 1 /i :: cut :: -d: :: -f2 => 0 [b%(NL)] [] ["bytes","/i",["f","613a62"]]
 run: /f=a:b:c%(NL)no%(NL)x:y:z :: 1 :: cut :: -f :: 3,1 :: -d :: : :: /f
   => 0 [a:c%(NL)no%(NL)x:z%(NL)] [] ["bytes","/f",["f","613a623a630a6e6f0a783a793a7a"]]
+run: /f=abcdefg%(NL)ab :: 1 :: cut :: -b :: 6-,2-3,3,1-2 :: /f
+  => 0 [abcfg%(NL)ab%(NL)] [] ["bytes","/f",["f","616263646566670a6162"]]
+run: /f=a:b:c:d:e%(NL)f:g%(NL)h :: 1 :: cut :: -d: :: -f :: 4-,2,1-2,4 :: /f
+  => 0 [a:b:d:e%(NL)f:g%(NL)h%(NL)] [] ["bytes","/f",["f","613a623a633a643a650a663a670a68"]]
 run: /f=a:b :: 1 :: cut :: -sf :: 1 :: /f => 0 [] [] ["bytes","/f",["f","613a62"]]
 run: /f=ab :: 1 :: cut :: -f :: 0 :: /f => 2 [] [cut: usage%(NL)]
 run: /f=ab :: 1 :: cut :: /f => 2 [] [cut: usage%(NL)]

@@ -9,3 +9,5 @@ pub mod FieldLemmas
 pub mod CutLemmas
 pub mod SpanSteps
 pub mod SearchLemmas
+pub mod Rising
+pub mod Merging

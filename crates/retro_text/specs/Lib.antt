@@ -8,3 +8,4 @@ pub mod Cut
 pub mod Search
 pub mod Condition
 pub mod Output
+pub mod inner

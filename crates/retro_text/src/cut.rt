@@ -6,10 +6,13 @@ ghost use Rattle.retro_path.specs.Ascii.{newline};
 ghost use Rattle.retro_text.specs.Cut.{cut_in, cut_text, line_text, delimiter_in};
 ghost use Rattle.retro_text.specs.Cut.{selected_items, separated};
 ghost use Rattle.retro_text.specs.Usage.{Reads};
+ghost use Rattle.retro_text.specs.inner.Rising.{AreRising, SelectAlike, spans_of};
 
 use crate::lines::Lines;
 use crate::request::Request;
+use crate::span::Span;
 use crate::spans::Spans;
+use crate::sweep::Sweep;
 use crate::usage::UsageError;
 use retro_path::{Bytes, NoMem};
 use std::alloc::Global;
@@ -49,12 +52,14 @@ fn delimiter_of(argument: Option<&[u8]>) -> Option<u8>
 
 /// Appends the bytes of a line that the spans select, and a newline.
 #[tactic(auto, using(crate::proofs::Selecting::selects))]
-fn push_bytes(out: &mut Vec<u8>, spans: &Spans, line: &[u8]) -> Result<(), NoMem>
+fn push_bytes(out: &mut Vec<u8>, spans: &[Span], line: &[u8]) -> Result<(), NoMem>
+    requires { AreRising spans.now }
     ensures { OnOk result (out.new.items
         ≡ out.old.items ++ (selected_items spans.now line.now ++ newline ∷ [])) }
 {
+    let mut sweep = Sweep::new(spans);
     for (index, byte) in line.iter().enumerate() {
-        if spans.contains(index) {
+        if sweep.has(index) {
             out.push(*byte)?;
         }
     }
@@ -75,13 +80,15 @@ fn push_field(out: &mut Vec<u8>, delimiter: u8, is_first: bool, field: &[u8]) ->
 
 /// Appends the fields of a line that the spans select, with the delimiter between each two, and a
 /// newline.
-fn push_fields(out: &mut Vec<u8>, spans: &Spans, delimiter: u8, line: &[u8]) -> Result<(), NoMem>
+fn push_fields(out: &mut Vec<u8>, spans: &[Span], delimiter: u8, line: &[u8]) -> Result<(), NoMem>
+    requires { AreRising spans.now }
     ensures { OnOk result (out.new.items ≡ out.old.items ++ (join_with_byte delimiter
         (selected_items spans.now (slice_split (λ b. b == delimiter) line.now)) ++ newline ∷ [])) }
 {
+    let mut sweep = Sweep::new(spans);
     let mut is_first = true;
     for (index, field) in line.split(|byte| *byte == delimiter).enumerate() {
-        if spans.contains(index) {
+        if sweep.has(index) {
             push_field(out, delimiter, is_first, field)?;
             is_first = false;
         }
@@ -125,16 +132,28 @@ impl Cut {
         }
     }
 
-    /// Appends what is left of a line and a newline, or nothing if the line is dropped.
-    fn push_line(&self, out: &mut Vec<u8>, line: &[u8]) -> Result<(), NoMem>
+    /// Returns the spans as they were written.
+    fn spans(&self) -> &Spans
+        ensures { result.now ≡ spans_of self.now }
+    {
+        match self {
+            Cut::Bytes(spans) | Cut::Fields { spans, .. } => spans,
+        }
+    }
+
+    /// Appends what is left of a line and a newline, or nothing if the line is dropped. The spans
+    /// have the indices of those of this value, and are in the order of their first ones.
+    fn push_line(&self, out: &mut Vec<u8>, spans: &[Span], line: &[u8]) -> Result<(), NoMem>
+        requires rising { AreRising spans.now }
+        requires alike { SelectAlike (spans_of self.now) spans.now }
         ensures { OnOk result (out.new.items ≡ out.old.items ++ line_text self.now line.now) }
     {
         match self {
-            Cut::Bytes(spans) => push_bytes(out, spans, line),
+            Cut::Bytes(_) => push_bytes(out, spans, line),
             Cut::Fields {
-                spans,
                 delimiter,
                 only_delimited,
+                ..
             } => {
                 if line.contains(delimiter) {
                     push_fields(out, spans, *delimiter, line)
@@ -150,14 +169,16 @@ impl Cut {
     /// Returns what is left of a text: for each line that isn't dropped, what is left of it and a
     /// newline.
     ///
-    /// Takes time in proportion to the text times the number of spans.
+    /// Sorts and merges the spans once. Otherwise it takes time in proportion to the text, whatever
+    /// their number.
     #[tactic(auto, using(crate::proofs::CutLemmas::more_lines))]
     pub fn text(&self, alloc: Global, text: &[u8]) -> Result<Bytes, NoMem>
         ensures { IfOk result (λ out. out ≡ cut_text self.now text.now) }
     {
+        let spans = self.spans().merged(alloc)?;
         let mut out = Vec::new(alloc);
         for line in Lines::of(text) {
-            self.push_line(&mut out, line)?;
+            self.push_line(&mut out, spans.as_slice(), line)?;
         }
         Ok(Bytes::of(out))
     }

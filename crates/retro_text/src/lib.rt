@@ -17,6 +17,7 @@ mod request;
 mod search;
 mod span;
 mod spans;
+mod sweep;
 mod usage;
 mod utility;
 

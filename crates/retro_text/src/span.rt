@@ -1,9 +1,9 @@
 //! Spans of positions.
-ghost use Rattle.std.specs.Prelude.{◌≡◌, ◌==◌, position};
+ghost use Rattle.std.specs.Prelude.{◌≡◌, ◌==◌, ◌||◌, ◌≤◌, ℕ, IfSome, position};
 ghost use Rattle.std.specs.List.{list_all};
 ghost use Rattle.std.specs.Char.{is_ascii_digit};
 ghost use Rattle.retro_text.specs.Ascii.{dash};
-ghost use Rattle.retro_text.specs.Spans.{contains, index_in, span_between, span_in};
+ghost use Rattle.retro_text.specs.Spans.{contains, is_up_to, index_in, span_between, span_in};
 
 /// The greatest number of digits in a position.
 const MAX_DIGITS: usize = 9;
@@ -96,10 +96,48 @@ impl Span {
     pub fn contains(self, index: usize) -> bool
         ensures { result ≡ contains self index }
     {
-        self.first as usize <= index
-            && match self.last {
-                None => true,
-                Some(last) => index <= last as usize,
-            }
+        self.first as usize <= index && self.reaches(index)
+    }
+
+    /// Returns whether the span doesn't end before an index.
+    pub(crate) fn reaches(self, index: usize) -> bool
+        ensures { result ≡ is_up_to self.last index }
+    {
+        match self.last {
+            None => true,
+            Some(last) => index <= last as usize,
+        }
+    }
+
+    /// Returns which of two spans reaches further.
+    pub(crate) fn further(self, other: Span) -> Span
+        ensures { (index : ℕ) → is_up_to result.last index
+            ≡ (is_up_to self.last index || is_up_to other.last index) }
+    {
+        match (self.last, other.last) {
+            (None, _) => self,
+            (Some(_), None) => other,
+            (Some(last), Some(limit)) if last < limit => other,
+            (Some(_), Some(_)) => self,
+        }
+    }
+
+    /// Returns the span of the indices of this one and of the next one, or `None` if the next one
+    /// begins after this one's end.
+    #[tactic(auto, using(crate::proofs::Merging::joins))]
+    pub(crate) fn join(self, next: Span) -> Option<Span>
+        requires { self.first ≤ next.first }
+        ensures first { IfSome result (λ joined. joined.first ≡ self.first) }
+        ensures indices { IfSome result (λ joined. (index : ℕ)
+            → contains joined index ≡ (contains self index || contains next index)) }
+    {
+        if self.reaches(next.first as usize) {
+            Some(Span {
+                first: self.first,
+                last: self.further(next).last,
+            })
+        } else {
+            None
+        }
     }
 }

@@ -1,11 +1,13 @@
 //! Lists of spans.
 ghost use Rattle.std.specs.Prelude.{◌≡◌, IfOk, map};
 ghost use Rattle.std.specs.List.{slice_split};
-ghost use Rattle.retro_text.specs.Spans.{is_separator, any_contains, spans_in};
+ghost use Rattle.retro_text.specs.Spans.{is_separator, spans_in};
 ghost use Rattle.retro_text.specs.Usage.{Reads};
+ghost use Rattle.retro_text.specs.inner.Rising.{AreRising, SelectAlike};
 
 use crate::span::Span;
 use crate::usage::UsageError;
+use retro_path::NoMem;
 use std::alloc::Global;
 use std::marker::Model;
 
@@ -43,11 +45,39 @@ impl Spans {
         Ok(Spans { spans })
     }
 
-    /// Returns whether one of the spans has an index, counted from 0.
-    #[tactic(auto, unfolding(crate::specs::Spans::any_contains))]
-    pub fn contains(&self, index: usize) -> bool
-        ensures { result ≡ any_contains self.now index }
+    /// Returns spans of the same indices, in the order of their first ones, where none begins before
+    /// another's end.
+    #[tactic(auto, using(crate::proofs::Rising::sorted_alike))]
+    pub(crate) fn merged(&self, alloc: Global) -> Result<Vec<Span>, NoMem>
+        ensures alike { IfOk result (λ merged. SelectAlike self.now merged.items) }
+        ensures rising { IfOk result (λ merged. AreRising merged.items) }
     {
-        self.spans.iter().any(|span| span.contains(index))
+        let mut spans = Vec::from_slice(alloc, self.spans.as_slice())?;
+        spans.sort_by_key(|span| span.first)?;
+        merge(alloc, spans.as_slice())
     }
+}
+
+/// Joins each span to the one before it, if it doesn't begin after that one's end.
+fn merge(alloc: Global, spans: &[Span]) -> Result<Vec<Span>, NoMem>
+    requires { AreRising spans.now }
+    ensures alike { IfOk result (λ merged. SelectAlike spans.now merged.items) }
+    ensures rising { IfOk result (λ merged. AreRising merged.items) }
+{
+    let mut merged = Vec::new(alloc);
+    let [first, rest @ ..] = spans else {
+        return Ok(merged);
+    };
+    let mut current = *first;
+    for span in rest {
+        match current.join(*span) {
+            Some(joined) => current = joined,
+            None => {
+                merged.push(current)?;
+                current = *span;
+            }
+        }
+    }
+    merged.push(current)?;
+    Ok(merged)
 }
