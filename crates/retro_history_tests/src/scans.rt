@@ -45,7 +45,7 @@ fn push_asked(alloc: Global, cells: &mut Vec<Cell>, ask: &Ask) -> Result<(), NoM
         Ask::VarOf(sid, name) => push_variable(cells, *sid, name),
         Ask::CwdOf(sid) => push_session(cells, Cell::Cwd(*sid)),
         Ask::StatusOf(sid) => push_session(cells, Cell::Status(*sid)),
-        Ask::User(_) => Ok(()),
+        Ask::User(_) => push_path(alloc, cells, &Path::passwd(alloc)?),
     }
 }
 

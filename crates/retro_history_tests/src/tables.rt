@@ -98,11 +98,15 @@ pub const SCANNED: &str = r##"
 scanned: %(EMPTY) :: 1 echo one >> /tmp/log;;2 echo two >> /tmp/log;;1 echo three >> /tmp/log;;\
   1 cat /tmp/log :: 5 => same
 scanned: %(EMPTY) :: 1 echo x > f;;1 echo x > f;;1 cat f :: 4 => same
+scanned: %(EMPTY) :: 1 echo z > f;;1 echo a > f; cat f :: 3 => same
 scanned: %(EMPTY) :: 1 cd /tmp;;1 echo hi > n;;2 cat /h/n;;1 cat n :: 5 => same
+scanned: %(EMPTY) :: 1 false;;1 if test $? = 0; then echo ok; else echo bad; fi :: 3 => same
 scanned: ,["/h/n","6e0a"] :: 2 echo eve:x:300:300:e:/tmp:/bin/sh >> /etc/passwd;;1 cat ~alice/n;;\
   1 cat /etc/passwd :: 4 => same
 scanned: %(EMPTY) :: 2 echo bob:x:301:301:b:/tmp:/bin/sh >> /etc/passwd;;\
   2 echo bob:x:302:302:b:/tmp:/bin/sh >> /etc/passwd;;1 id -u bob :: 4 => same
+scanned: ,["/tmp/big","%(61*1048575)"] :: 1 echo -n a >> /tmp/big;;1 echo -n b >> /tmp/big :: 3
+  => same
 scanned: %(EMPTY) :: 1 mkdir d;;2 echo x > /h/d/v;;1 mv d e;;1 rm -r e;;1 cat d/v :: 6 => same
 scanned: %(EMPTY) :: 1 mkdir d;;2 echo x > /h/d/v; a=1;;1 mv d e;;1 rm -r e;;1 cat d/v;;2 cd /h;
   echo $a >> w; id -u root;;1 cp w x; rm w; echo ~root;;2 echo hi | tee a b > c;;1 rm -r /h;;\
