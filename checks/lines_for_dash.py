@@ -119,6 +119,14 @@ class Words:
 class Commands(Words):
     """Chooses simple commands, as lists of words."""
 
+    def spans(self):
+        """A list for `cut`, in any order, whose spans may overlap."""
+        def span():
+            first = self.choose.randint(1, 5)
+            return self.one_of([f"{first}", f"{first}-", f"-{first}",
+                                f"{first}-{first + self.choose.randint(0, 3)}"])
+        return ",".join(self.some(span, 1, 4))
+
     def reader(self, files):
         """A command that reads files, and writes text."""
         some = self.some(lambda: self.path(files), 0, 2)
@@ -126,8 +134,9 @@ class Commands(Words):
         counted = self.some(lambda: self.spelled(self.one_of(["d/x", "h", "none", "-"])), 1, 2)
         return self.one_of([
             ["cat", *self.options("-u", "--", "-uu", "-k"), *some],
-            ["cut", *self.one_of([["-b", "2-"], ["-b1,3"], ["-d", ",", "-f2"], ["-sd,", "-f", "1-"],
-                                  ["-d", "' '", "-f", '"1 3"'], ["-k"]]), *some],
+            ["cut", *self.one_of([["-b", self.spans()], ["-b1,3"], ["-d", ",", "-f" + self.spans()],
+                                  ["-sd,", "-f", self.spans()], ["-d", "' '", "-f", '"1 3"'],
+                                  ["-k"]]), *some],
             ["grep", self.one_of(["-F", "-Fv", "-Fx", "-Fq", "-F -v -x", "-Fk"]), pattern, *some],
             # GNU's grep reads nothing for `-v` and an empty pattern, and prints no count then.
             ["grep", self.one_of(["-F", "-Fx", "-Fq", "-F -v -x"]), "''", *some],
