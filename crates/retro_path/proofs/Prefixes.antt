@@ -15,7 +15,6 @@ prefixes_of_child (first ∷ rest) name =
     ∙ ap (λ ps. (first ∷ []) ∷ ps) (map_append (λ p. first ∷ p) (prefixes_of rest) ((rest ++ name ∷ []) ∷ []))
 
 -- the prefixes collected so far, and one more
-pub one_more : (old new : List PathValue) (path start next copy end : PathValue) (name : List ℕ)
-    → path ≡ start → next ≡ path ++ name ∷ [] → copy ≡ next → next ≡ end
-    → old ≡ prefixes_of start → new ≡ old ++ copy ∷ [] → new ≡ prefixes_of end
-one_more old new path start next copy end name a b c d e f = let more = prefixes_of_child path name in cc
+pub one_more : (old new : List PathValue) (path next copy : PathValue) (name : List ℕ) → next ≡ path ++ name ∷ []
+    → copy ≡ next → old ≡ prefixes_of path → new ≡ old ++ copy ∷ [] → new ≡ prefixes_of next
+one_more old new path next copy name a b c d = let more = prefixes_of_child path name in cc

@@ -3,5 +3,7 @@ pub mod Order
 pub mod Name
 pub mod VarName
 pub mod Path
+pub mod Slashed
 pub mod Resolving
 pub mod OutOfMemory
+pub mod inner

@@ -13,6 +13,8 @@
 mod bytes;
 mod listing;
 mod name;
+mod names;
+mod order;
 mod path;
 mod resolving;
 mod text;
@@ -21,6 +23,7 @@ mod var_name;
 pub use bytes::Bytes;
 pub use listing::Listing;
 pub use name::{NAME_LIMIT, Name};
+pub use names::Names;
 pub use path::Path;
 pub use resolving::{Resolved, is_relative, resolve, resolve_ignores_the_directory};
 pub use text::Text;

@@ -13,7 +13,7 @@ pub const NAME_LIMIT: usize = 255;
 /// Returns whether a text can be the name of a file: 1 to 255 bytes without a slash, but not `.` or
 /// `..`.
 #[tactic(auto, unfolding(crate::specs::Name::is_name))]
-fn is_name(text: &str) -> bool
+pub(crate) fn is_name(text: &str) -> bool
     ensures { result ≡ is_name text.now }
 {
     text.len() >= 1

@@ -1,98 +1,117 @@
 //! Paths.
-ghost use Rattle.std.specs.Prelude.{◌≡◌, ◌++◌, ◌∷◌, [], IfOk, OnOk, OnErr, MatchOption};
-ghost use Rattle.std.specs.Prelude.{string_bytes, false, length, ◌-◌, take, map, option_map, ◌<◌};
+ghost use Rattle.std.specs.Prelude.{◌≡◌, ◌++◌, ◌∷◌, [], IfOk, IsTrue, MatchOption, is_some};
+ghost use Rattle.std.specs.Prelude.{string_bytes, false, length, map, ◌<◌};
 ghost use Rattle.std.specs.List.{list_all};
-ghost use Rattle.std.specs.Option.{option_copied};
 ghost use Rattle.retro_path.specs.Order.{path_eq};
 ghost use Rattle.retro_path.specs.Name.{is_name, AllNames};
 ghost use Rattle.retro_path.specs.Path.{parent_of, last_of, prefixes_of, usize_bound, may_exist};
-ghost use Rattle.retro_path.specs.Path.{is_null, is_root, below, is_child, passwd};
+ghost use Rattle.retro_path.specs.Path.{is_null, is_root, below, is_child, child_name, passwd};
+ghost use Rattle.retro_path.specs.Slashed.{slashed};
 ghost use Rattle.retro_path.specs.Resolving.{step};
 
 use crate::NoMem;
-use crate::name::Name;
+use crate::name::{Name, is_name};
+use crate::names::{Names, rest_after, split_last, starts_with};
+use crate::order::text_order;
 use std::alloc::Global;
 use std::cmp::Ordering;
 use std::marker::Model;
 
 /// A path: the names from the root to a file or directory. The root has none.
+///
+/// It is one text, with a slash before each name.
 #[derive(Drop, Clone)]
 pub struct Path {
-    names: Vec<Name>,
+    text: String,
 }
 
 impl Model for Path {
-    ghost use Rattle.std.specs.Prelude.{List, ℕ};
+    ghost use Rattle.std.specs.Prelude.{List, ℕ, string_bytes};
 
     ghost Value = { List (List ℕ) };
 
-    ghost use Rattle.retro_path.specs.Name.{AllNames};
+    ghost use Rattle.retro_path.specs.inner.PathText.{names_in, IsPathText};
 
-    ghost view = { λ a. a.names.items };
+    ghost view = { λ a. names_in (string_bytes a.text) };
 
-    ghost invariant = { λ a. AllNames a.names.items };
+    ghost invariant = { λ a. IsPathText (string_bytes a.text) };
 }
 
 impl Path {
-    /// Returns the path of the root.
+    /// Returns the path of the root. Takes no memory.
     pub fn root(alloc: Global) -> Path
         ensures { result ≡ [] }
     {
         Path {
-            names: Vec::new(alloc),
+            text: String::new(alloc),
         }
     }
 
     /// Returns the path of these names, from the root, or `None` if one can't be a name. Takes time
     /// in proportion to their length.
+    #[tactic(auto, using(crate::proofs::Slashes::more_names))]
     pub fn of(alloc: Global, texts: Vec<String>) -> Result<Option<Path>, NoMem>
         ensures { IfOk result (λ found. MatchOption found
             (list_all is_name (map string_bytes texts.items) ≡ false)
             (λ path. path ≡ map string_bytes texts.items)) }
     {
-        let mut names = Vec::with_capacity(alloc, texts.len())?;
+        let mut path = Path::root(alloc);
         for text in texts {
-            match Name::of(text) {
-                Some(name) => names.push(name)?,
-                None => return Ok(None),
+            if !is_name(text.as_str()) {
+                return Ok(None);
             }
+            path = path.join(text.as_str())?;
         }
-        Ok(Some(Path { names }))
+        Ok(Some(path))
+    }
+
+    /// Returns the text of the path: `/a/b`, and nothing for the root.
+    pub fn as_str(&self) -> &str
+        ensures value { result.now ≡ slashed self.now }
+        ensures names { AllNames self.now }
+    {
+        self.text.as_str()
     }
 
     /// Returns the names, from the root.
-    pub fn names(&self) -> &[Name]
-        ensures value { result.now ≡ self.now }
+    pub fn names(&self) -> Names<'_>
+        ensures value { result ≡ self.now }
         ensures names { AllNames self.now }
     {
-        self.names.as_slice()
+        Names::of(self.text.as_str())
     }
 
-    /// Returns the last name, or `None` for the root.
-    #[tactic(auto, using(crate::proofs::Parents::get_last))]
-    pub fn last(&self) -> Option<&Name>
-        ensures { option_copied result ≡ last_of self.now }
+    /// Returns a copy of the last name, or `None` for the root.
+    pub fn last(&self, alloc: Global) -> Result<Option<Name>, NoMem>
+        ensures { IfOk result (λ last. last ≡ last_of self.now) }
     {
-        self.names.last()
+        match split_last(self.text.as_str()) {
+            Some((_, name)) => Ok(Name::of(String::from_str(alloc, name)?)),
+            None => Ok(None),
+        }
     }
 
     /// Returns the parent. The parent of the root is the root.
-    #[tactic(auto, using(crate::proofs::Parents::take_is_parent))]
     pub fn parent(&self, alloc: Global) -> Result<Path, NoMem>
         ensures { IfOk result (λ parent. parent ≡ parent_of self.now) }
     {
-        let count = self.names.len().saturating_sub(1);
-        let (parent, _last) = self.names.as_slice().split_at(count);
-        Path::of_names(alloc, parent)
+        match split_last(self.text.as_str()) {
+            Some((parent, _)) => Ok(Path {
+                text: String::from_str(alloc, parent)?,
+            }),
+            None => Ok(Path::root(alloc)),
+        }
     }
 
     /// Shortens the path to its parent. Takes no memory.
-    #[tactic(auto, using(crate::proofs::Parents::take_is_parent))]
     pub fn into_parent(self) -> Path
         ensures { result ≡ parent_of self }
     {
         let mut path = self;
-        path.names.pop();
+        if let Some((parent, _)) = split_last(path.text.as_str()) {
+            let end = parent.len();
+            path.text.truncate(end);
+        }
         path
     }
 
@@ -101,19 +120,24 @@ impl Path {
         ensures value { IfOk result (λ child. child ≡ self.now ++ name.now ∷ []) }
         ensures length { IfOk result (λ child. length child < usize_bound) }
     {
-        let mut child = Path::of_names(alloc, self.names.as_slice())?;
-        child.push(name.copy()?)?;
-        Ok(child)
+        let name = name.as_str();
+        let length = self.text.len().saturating_add(name.len());
+        let mut text = String::with_capacity(alloc, length.saturating_add(1))?;
+        text.push_str(self.text.as_str())?;
+        text.push('/')?;
+        text.push_str(name)?;
+        Ok(Path { text })
     }
 
     /// Appends a name.
-    fn push(&mut self, name: Name) -> Result<(), NoMem>
-        ensures ok { OnOk result (self.new ≡ self.old ++ name ∷ []) }
-        ensures length { OnOk result (length self.new < usize_bound) }
-        ensures err { OnErr result (self.new ≡ self.old) }
+    fn join(self, name: &str) -> Result<Path, NoMem>
+        requires { IsTrue (is_name name.now) }
+        ensures { IfOk result (λ path. path ≡ self ++ name.now ∷ []) }
     {
-        self.names.push(name)?;
-        Ok(())
+        let Path { mut text } = self;
+        text.push('/')?;
+        text.push_str(name)?;
+        Ok(Path { text })
     }
 
     /// Returns the prefixes of this path without the root, from the shortest to the path itself.
@@ -121,28 +145,42 @@ impl Path {
         ensures { IfOk result (λ prefixes. prefixes.items ≡ prefixes_of self.now) }
     {
         let mut prefix = Path::root(alloc);
-        let mut prefixes = Vec::with_capacity(alloc, self.names.len())?;
-        for name in &self.names {
-            prefix.push(name.copy()?)?;
+        let mut prefixes = Vec::new(alloc);
+        for name in self.names() {
+            prefix = prefix.join(name)?;
             prefixes.push(prefix.copy()?)?;
         }
         Ok(prefixes)
     }
 
     /// Returns the names that follow a prefix of this path, or `None` if it isn't a prefix.
-    #[tactic(auto, using(crate::proofs::StripPrefix::strip_prefix))]
-    pub fn strip_prefix(&self, prefix: &Path) -> Option<&[Name]>
-        ensures { option_map (λ rest. rest.now) result ≡ below prefix.now self.now }
+    pub fn strip_prefix(&self, prefix: &Path) -> Option<Names<'_>>
+        ensures { result ≡ below prefix.now self.now }
     {
-        let count = prefix.names.len();
-        if count > self.names.len() {
-            return None;
+        match rest_after(self.text.as_str(), prefix.text.as_str()) {
+            Some(rest) => Some(Names::of(rest)),
+            None => None,
         }
-        let (start, rest) = self.names.as_slice().split_at(count);
-        if start == prefix.names.as_slice() {
-            Some(rest)
-        } else {
-            None
+    }
+
+    /// Returns whether another path is a prefix of this path.
+    pub fn starts_with(&self, prefix: &Path) -> bool
+        ensures { result ≡ is_some (below prefix.now self.now) }
+    {
+        starts_with(self.text.as_str(), prefix.text.as_str())
+    }
+
+    /// Returns a copy of the last name if this path is `parent` followed by one more name, or
+    /// `None`.
+    pub fn child_name(&self, alloc: Global, parent: &Path) -> Result<Option<Name>, NoMem>
+        ensures { IfOk result (λ name. name ≡ child_name parent.now self.now) }
+    {
+        let Some(rest) = self.strip_prefix(parent) else {
+            return Ok(None);
+        };
+        match rest.only() {
+            Some(name) => Ok(Name::of(String::from_str(alloc, name)?)),
+            None => Ok(None),
         }
     }
 
@@ -150,79 +188,58 @@ impl Path {
     pub fn is_child_of(&self, parent: &Path) -> bool
         ensures { result ≡ is_child parent.now self.now }
     {
-        matches!(self.strip_prefix(parent), Some([_]))
+        match self.strip_prefix(parent) {
+            Some(rest) => rest.only().is_some(),
+            None => false,
+        }
     }
 
     /// Returns whether this is the parent of a path.
-    #[tactic(auto, using(crate::proofs::Parents::take_is_parent))]
     pub fn is_parent_of(&self, path: &Path) -> bool
         ensures { result ≡ path_eq (parent_of path.now) self.now }
     {
-        let count = path.names.len().saturating_sub(1);
-        let (parent, _last) = path.names.as_slice().split_at(count);
-        parent == self.names.as_slice()
+        match split_last(path.text.as_str()) {
+            Some((parent, _)) => parent == self.text.as_str(),
+            None => self.is_root(),
+        }
     }
 
     /// Returns the path of the password file, `/etc/passwd`.
-    #[tactic(auto, unfolding(crate::specs::Path::passwd, crate::specs::Name::is_name))]
     pub fn passwd(alloc: Global) -> Result<Path, NoMem>
         ensures { IfOk result (λ path. path ≡ passwd) }
     {
-        let mut names = Vec::new(alloc);
-        if let Some(name) = Name::of(String::from_str(alloc, "etc")?) {
-            names.push(name)?;
-        }
-        if let Some(name) = Name::of(String::from_str(alloc, "passwd")?) {
-            names.push(name)?;
-        }
-        Ok(Path { names })
+        Ok(Path {
+            text: String::from_str(alloc, "/etc/passwd")?,
+        })
     }
 
     /// Returns whether this is the path of the password file.
-    #[tactic(auto, unfolding(crate::specs::Path::passwd))]
     pub fn is_passwd(&self) -> bool
         ensures { result ≡ path_eq passwd self.now }
     {
-        match self.names.as_slice() {
-            [first, second] => first.as_str() == "etc" && second.as_str() == "passwd",
-            _ => false,
-        }
-    }
-
-    /// Returns the path of these names.
-    fn of_names(alloc: Global, given: &[Name]) -> Result<Path, NoMem>
-        ensures { IfOk result (λ path. path ≡ given.now) }
-    {
-        let mut names = Vec::with_capacity(alloc, given.len())?;
-        for name in given {
-            names.push(name.copy()?)?;
-        }
-        Ok(Path { names })
+        self.text.as_str() == "/etc/passwd"
     }
 
     /// Follows one part of a text: appends a name, or removes the last one for `..`. An empty part
     /// and `.` change nothing.
-    #[tactic(auto, unfolding(crate::specs::Resolving::step), using(crate::proofs::Parents::front))]
-    pub(crate) fn enter(&mut self, alloc: Global, part: &str) -> Result<(), NoMem>
-        ensures ok { OnOk result (self.new ≡ step self.old part.now) }
-        ensures err { OnErr result (self.new ≡ self.old) }
+    #[tactic(auto, unfolding(crate::specs::Resolving::step))]
+    pub(crate) fn enter(self, part: &str) -> Result<Path, NoMem>
+        ensures { IfOk result (λ path. path ≡ step self part.now) }
     {
         if part == ".." {
-            self.names.pop();
-            return Ok(());
+            return Ok(self.into_parent());
         }
-        let text = String::from_str(alloc, part)?;
-        if let Some(name) = Name::of(text) {
-            self.push(name)?;
+        if is_name(part) {
+            return self.join(part);
         }
-        Ok(())
+        Ok(self)
     }
 
     /// Returns whether this is the root.
     pub fn is_root(&self) -> bool
         ensures { result ≡ is_root self.now }
     {
-        self.names.is_empty()
+        self.text.is_empty()
     }
 
     /// Returns whether a file or directory can exist here: not at `/dev/null` or below it.
@@ -230,10 +247,7 @@ impl Path {
     pub fn may_exist(&self) -> bool
         ensures { result ≡ may_exist self.now }
     {
-        match self.names.as_slice() {
-            [first, second, ..] => !(first.as_str() == "dev" && second.as_str() == "null"),
-            _ => true,
-        }
+        !starts_with(self.text.as_str(), "/dev/null")
     }
 
     /// Returns whether this is `/dev/null`.
@@ -242,10 +256,7 @@ impl Path {
         ensures value { result ≡ is_null self.now }
         ensures names { AllNames self.now }
     {
-        match self.names.as_slice() {
-            [first, second] => first.as_str() == "dev" && second.as_str() == "null",
-            _ => false,
-        }
+        self.text.as_str() == "/dev/null"
     }
 
     /// Returns a copy.
@@ -264,7 +275,7 @@ impl PartialEq for Path {
     ghost laws = { path_per };
 
     fn eq(&self, other: &Path) -> bool {
-        self.names.as_slice() == other.names.as_slice()
+        self.text.as_str() == other.text.as_str()
     }
 }
 
@@ -300,6 +311,6 @@ impl Ord for Path {
     ghost matches_eq = { path_ties };
 
     fn cmp(&self, other: &Path) -> Ordering {
-        self.names.as_slice().cmp(&other.names.as_slice())
+        text_order(self.text.as_bytes(), other.text.as_bytes())
     }
 }

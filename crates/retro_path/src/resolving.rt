@@ -52,12 +52,12 @@ fn start_of(alloc: Global, cwd: &Path, text: &str) -> Result<Path, NoMem>
 }
 
 /// Returns the path that is reached from `start` by following the parts of a text.
-fn walk(alloc: Global, start: Path, parts: &[&str]) -> Result<Path, NoMem>
+fn walk(start: Path, parts: &[&str]) -> Result<Path, NoMem>
     ensures { IfOk result (λ path. path ≡ walk start (map (λ part. part.now) parts.now)) }
 {
     let mut path = start;
     for part in parts {
-        path.enter(alloc, part)?;
+        path = path.enter(part)?;
     }
     Ok(path)
 }
@@ -79,7 +79,7 @@ pub fn resolve(alloc: Global, cwd: &Path, text: &str) -> Result<Resolved, NoMem>
         return Ok(Resolved::LongName);
     }
     let start = start_of(alloc, cwd, text)?;
-    Ok(Resolved::Is(walk(alloc, start, parts.as_slice())?))
+    Ok(Resolved::Is(walk(start, parts.as_slice())?))
 }
 
 /// Returns whether the path that a text names depends on the directory. It doesn't if the text is

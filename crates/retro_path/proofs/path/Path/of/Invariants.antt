@@ -4,6 +4,6 @@ use Rattle.retro_path.proofs.path.Path.of.Given as goal
 
 abbrev pub invariant-loop-text : goal.invariant-loop-text
 invariant-loop-text l = record {
-  names : AllNames l.names.items;
-  all : l.names.items ++ map string_bytes l.text-iterator.rest.items ≡ map string_bytes l.fn.texts.items;
+  names : AllNames l.path;
+  all : l.path ++ map string_bytes l.text-iterator.rest.items ≡ map string_bytes l.fn.texts.items;
 }

@@ -1,0 +1,2 @@
+-- What only the contracts of private functions and proofs need.
+pub mod PathText
