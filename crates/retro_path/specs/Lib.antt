@@ -4,6 +4,7 @@ pub mod Name
 pub mod VarName
 pub mod Path
 pub mod Slashed
+pub mod AfterChild
 pub mod Resolving
 pub mod OutOfMemory
 pub mod inner

@@ -7,6 +7,7 @@ ghost use Rattle.retro_path.specs.Name.{is_name, AllNames};
 ghost use Rattle.retro_path.specs.Path.{parent_of, last_of, prefixes_of, usize_bound, may_exist};
 ghost use Rattle.retro_path.specs.Path.{is_null, is_root, below, is_child, child_name, passwd};
 ghost use Rattle.retro_path.specs.Slashed.{slashed};
+ghost use Rattle.retro_path.specs.AfterChild.{after_child};
 ghost use Rattle.retro_path.specs.Resolving.{step};
 
 use crate::NoMem;
@@ -180,6 +181,30 @@ impl Path {
         };
         match rest.only() {
             Some(name) => Ok(Name::of(String::from_str(alloc, name)?)),
+            None => Ok(None),
+        }
+    }
+
+    /// Returns the least path after the child of `parent` that this path is below, and after all
+    /// paths below that child: the path of the child's name followed by NUL. Returns `None` if this
+    /// path isn't below a child of `parent`, or if the child's name has 255 bytes, so that no name
+    /// follows it directly.
+    pub fn after_child(&self, alloc: Global, parent: &Path) -> Result<Option<Path>, NoMem>
+        ensures { IfOk result (λ after. after ≡ after_child parent.now self.now) }
+    {
+        let Some(mut names) = self.strip_prefix(parent) else {
+            return Ok(None);
+        };
+        let Some(name) = names.next() else {
+            return Ok(None);
+        };
+        if names.is_empty() {
+            return Ok(None);
+        }
+        let mut next = String::from_str(alloc, name)?;
+        next.push('\0')?;
+        match Name::of(next) {
+            Some(next) => Ok(Some(parent.child(alloc, &next)?)),
             None => Ok(None),
         }
     }

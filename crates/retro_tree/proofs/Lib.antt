@@ -4,6 +4,7 @@ pub mod MapLemmas
 pub mod Lookups
 pub mod Results
 pub mod Together
+pub mod Skips
 pub mod LawLemmas
 pub mod WholeLaw
 pub mod FilesAllowed

@@ -278,7 +278,7 @@ impl<'a, V: View> Combined<'a, V> {
             return Ok(below);
         }
         let tree = children_tree(alloc, path, below.names())?;
-        let children = self.mark(tree, path)?;
+        let children = self.mark(alloc, tree, path)?;
         Ok(children.names(alloc, path)?)
     }
 
@@ -295,22 +295,25 @@ impl<'a, V: View> Combined<'a, V> {
     }
 
     /// Marks in a tree the children of a path that have entries: puts a directory for each one that
-    /// exists, and removes each one that is missing.
-    fn mark(&self, tree: Tree, path: &Path) -> Result<Tree, NoMem>
+    /// exists, and removes each one that is missing. Seeks past the entries below a child.
+    fn mark(&self, alloc: Global, tree: Tree, path: &Path) -> Result<Tree, NoMem>
         ensures { IfOk result (λ marked. marked ≡ mark_entries path.now
             (overlay_from (Cell.At path.now) self.now.overlay.now) tree) }
     {
         let mut tree = tree;
         let start = Cell::At(path.copy()?);
-        for (cell, entry) in self.overlay.from(&start) {
-            let Cell::At(at) = cell else {
-                return Ok(tree);
-            };
-            let Some(rest) = at.strip_prefix(path) else {
-                return Ok(tree);
-            };
-            if let ([_], Some(mark)) = (rest, entry.mark()) {
-                tree.put(at.copy()?, mark)?;
+        let mut rest = self.overlay.from(&start);
+        while let Some((cell, entry)) = rest.next() {
+            let Cell::At(at) = cell else { break };
+            if !at.starts_with(path) {
+                break;
+            }
+            if at.is_child_of(path) {
+                if let Some(mark) = entry.mark() {
+                    tree.put(at.copy()?, mark)?;
+                }
+            } else if let Some(after) = at.after_child(alloc, path)? {
+                rest = self.overlay.from(&Cell::At(after));
             }
         }
         Ok(tree)

@@ -155,17 +155,22 @@ impl EntryMap {
     }
 
     /// Returns the names of the children of a path, in byte order, whatever node is at the path
-    /// itself. Takes time in proportion to the entries below the path.
+    /// itself. Seeks past what is below a child, so it takes time in proportion to the children
+    /// times the logarithm of the tree. Only what is below a child with a name of 255 bytes is
+    /// visited.
     pub(crate) fn names(&self, alloc: Global, path: &Path) -> Result<Listing, NoMem>
         ensures { IfOk result (λ names. names ≡ names_in path.now self.now) }
     {
         let mut names = Vec::new(alloc);
-        for (other, _) in self.from(path) {
-            let Some(rest) = other.strip_prefix(path) else {
-                return Ok(Listing::of(names));
-            };
-            if let [name] = rest {
-                names.push(name.copy()?)?;
+        let mut rest = self.from(path);
+        while let Some((other, _)) = rest.next() {
+            if !other.starts_with(path) {
+                break;
+            }
+            if let Some(name) = other.child_name(alloc, path)? {
+                names.push(name)?;
+            } else if let Some(after) = other.after_child(alloc, path)? {
+                rest = self.from(&after);
             }
         }
         Ok(Listing::of(names))
@@ -177,10 +182,10 @@ impl EntryMap {
         ensures { result ≡ has_child path.now self.now }
     {
         for (other, _) in self.from(path) {
-            let Some(rest) = other.strip_prefix(path) else {
+            if !other.starts_with(path) {
                 return false;
-            };
-            if rest.len() == 1 {
+            }
+            if other.is_child_of(path) {
                 return true;
             }
         }

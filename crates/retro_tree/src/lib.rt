@@ -87,7 +87,7 @@ pub use overlay_laws::{
 };
 pub use permit::Permit;
 pub use retro_path::{
-    Bytes, Listing, NAME_LIMIT, Name, Path, Resolved, Text, VarName, is_relative, resolve,
+    Bytes, Listing, NAME_LIMIT, Name, Names, Path, Resolved, Text, VarName, is_relative, resolve,
     resolve_ignores_the_directory,
 };
 pub use session::{Session, VALUE_LIMIT};

@@ -250,7 +250,7 @@ impl Overlay {
     {
         let start = Cell::At(path.copy()?);
         match self.from(&start).next() {
-            Some((Cell::At(at), _)) => Ok(at.strip_prefix(path).is_some()),
+            Some((Cell::At(at), _)) => Ok(at.starts_with(path)),
             _ => Ok(false),
         }
     }
@@ -301,8 +301,8 @@ impl Overlay {
     }
 
     /// Returns the names of the children of a path in the combined state, in byte order, whatever
-    /// node is at the path itself. Takes time in proportion to the view's names and to the entries
-    /// below the path.
+    /// node is at the path itself. Takes time in proportion to the view's names and to the children
+    /// with entries, times the logarithm of all entries.
     pub fn children<V: View>(&self, alloc: Global, view: &V, path: &Path) -> Result<Listing, NoMem>
         ensures { IfOk result (λ names. (now : StateValue)
             → Overlays self.now (V.state view.now) now → names ≡ names_in path.now now.tree) }

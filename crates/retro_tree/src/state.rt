@@ -175,7 +175,7 @@ impl State {
     }
 
     /// Returns the names of the children of a path, in byte order, whatever node is at the path
-    /// itself. Takes time in proportion to the entries below the path.
+    /// itself. Takes time in proportion to the children times the logarithm of the tree.
     pub fn names(&self, alloc: Global, path: &Path) -> Result<Listing, NoMem>
         ensures { IfOk result (λ names. names ≡ names_in path.now self.now.tree) }
     {
