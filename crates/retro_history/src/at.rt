@@ -16,8 +16,8 @@ ghost use Rattle.retro_effects.specs.ValueRef.{ref_value};
 use crate::history::History;
 use retro_effects::{Cells, ValueRef};
 use retro_tree::{
-    Answer, Ask, Bytes, Cell, FILE_LIMIT, Kind, Listing, NoMem, Node, Path, Permit, State, Text,
-    User, VarName, View,
+    Answer, Ask, Bytes, Cell, FILE_LIMIT, Kind, Listing, NoMem, Node, Path, Permit, Text, User,
+    VarName, View, find_user,
 };
 use std::alloc::Global;
 use std::marker::Model;
@@ -91,9 +91,10 @@ impl<'h, 'a> At<'h, 'a> {
         ensures { IfOk result (λ user. user
             ≡ user_in name.now (node_in passwd self.now.tree)) }
     {
-        let file = self.node(&Path::passwd(alloc)?)?;
-        let file = to_node(alloc, file)?;
-        user_of(alloc, name, file)
+        match self.node(&Path::passwd(alloc)?)? {
+            ValueRef::File(bytes) => find_user(alloc, name, bytes),
+            _ => Ok(None),
+        }
     }
 
     /// Returns the value of a variable, or `None` if it isn't set.
@@ -207,19 +208,5 @@ fn permit(node: ValueRef<'_>, parent: Kind, more: u64) -> Permit
                 Permit::Yes
             }
         }
-    }
-}
-
-/// Returns the user with a login name, if `file` is the password file. Puts the file into an
-/// otherwise empty state and queries that, since the parser of the file is private to states.
-#[tactic(auto, unfolding(retro_tree::specs::Ask::answer))]
-fn user_of(alloc: Global, name: &Text, file: Node) -> Result<Option<User>, NoMem>
-    ensures { IfOk result (λ user. user ≡ user_in name.now file) }
-{
-    let mut state = State::empty(alloc)?;
-    state.place(Path::passwd(alloc)?, file)?;
-    match state.answer(alloc, &Ask::User(name.copy()?))? {
-        Answer::User(user) => Ok(user),
-        _ => unreachable!(),
     }
 }

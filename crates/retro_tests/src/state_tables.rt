@@ -59,6 +59,8 @@ state: put /etc dir; put /etc/passwd file a::4294967295:::/h:%(NL)a::2:::/h: :: 
 state: put /etc dir; put /etc/passwd file a::0000000001:::/h: :: user a => 1 /h
 state: put /etc dir; put /etc/passwd file a::1::::%(NL)a::2:::/h: :: user a => 1 %(EMPTY)
 state: put /etc dir; put /etc/passwd file aa:x:1:2:i:/h:/s :: user a => nobody
+state: put /etc dir; put /etc/passwd file a%(NL)ab:x:1:2:i:/g:%(NL)b:a:3:2:i:/g:/s%(NL)a:x:2:2:i:/h:/s
+  :: user a => 2 /h
 state: put /etc dir; put /etc/passwd dir :: user a => nobody
 
 given: put /d dir; put /d/e dir

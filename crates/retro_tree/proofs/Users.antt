@@ -1,21 +1,25 @@
 -- The fields of the password file, as the code reads them.
 use Rattle.std.proofs.Common.{◌≡◌, ◌<◌, ◌≤◌, ◌^◌, ◌==◌, ℕ, zero, suc, Bool, true, false, not, ◌&&◌, nat_le, List, []}
 use Rattle.std.proofs.Common.{◌∷◌, length, Option, Some, None, Result, Ok, Err, ◌+◌, drop, get_or, refl, sym, ap, ◌∙◌}
-use Rattle.std.proofs.Common.{arith}
+use Rattle.std.proofs.Common.{arith, ◌++◌, ◌-◌, take, nat_eq}
+use Rattle.std.specs.Prelude.{option_map}
 use Rattle.std.specs.Bool.{if◌then◌else◌}
 use Rattle.std.specs.Result.{result_ok, OkIff}
-use Rattle.std.specs.List.{list_any, list_all, filter_map, cons_option}
+use Rattle.std.specs.List.{list_any, list_all, filter_map, cons_option, slice_split, starts_with, join_with_byte}
 use Rattle.std.specs.Char.{is_ascii_digit}
 use Rattle.std.specs.Str.{IsUtf8, is_utf8, all_ascii_digits, IsAscii}
 use Rattle.std.specs.Str.Parse.{digits_value, ParsesUnsigned}
-use Rattle.std.proofs.lemmas.Bool.{true≢false, false≢true, leb-true, le-leb}
+use Rattle.std.proofs.lemmas.Bool.{true≢false, false≢true, leb-true, le-leb, eq-eqb}
 use Rattle.std.proofs.lemmas.Str.{IsUtf8-from_is_utf8, is_utf8-from_IsUtf8, IsUtf8-from_ascii}
 use Rattle.std.proofs.lemmas.Str.Parse.{parse_digits, numerals_by_value, tells_all_ascii_digits}
-use Rattle.std.proofs.lemmas.List.{at_drop_more}
+use Rattle.std.proofs.lemmas.List.{at_drop_more, take_rest}
+use Rattle.std.proofs.lemmas.List.Splits.{join_with_byte-slice_split}
+use Rattle.retro_path.specs.Ascii.{colon}
 use Rattle.retro_tree.specs.Order.{text_eq}
-use Rattle.retro_tree.specs.User.{is_plain_text, plain_text, user_number, entry_of_line, named, first_of}
+use Rattle.retro_tree.specs.User.{is_plain_text, plain_text, user_number, entry_by, entry_of_fields, entry_of_line}
+use Rattle.retro_tree.specs.User.{named, first_of}
 use Rattle.retro_tree.specs.declared.user.User.{User}
-use Rattle.retro_tree.proofs.Small.{none_some, first_true, both_true, and_true}
+use Rattle.retro_tree.proofs.Small.{none_some, first_true, both_true, and_true, same_text}
 
 -- ---- texts
 chosen : {A : Type 0} (b : Bool) (x : A) → b ≡ true → if b then Some x else None ≡ Some x
@@ -131,6 +135,86 @@ pub not_text : (bytes : List ℕ) → list_all is_ascii_digit bytes ≡ true →
 not_text bytes h not_utf8 = absurd (not_utf8 (digits_are_text bytes h))
 
 pub ruleset numbers = (too_long, no_digits, not_text, number_read)
+
+-- ---- the first field of a line
+-- a field and a colon, tested one after the other
+pub field_then_colon : (line field : List ℕ)
+    → (starts_with nat_eq line field && starts_with nat_eq (drop (length field) line) (colon ∷ []))
+    ≡ starts_with nat_eq line (field ++ colon ∷ [])
+field_then_colon line [] = refl
+field_then_colon [] (f ∷ field) = refl
+field_then_colon (b ∷ line) (f ∷ field) =
+    regroup (nat_eq f b) _ _ ∙ ap (λ t. nat_eq f b && t) (field_then_colon line field)
+  where
+    regroup : (a b c : Bool) → ((a && b) && c) ≡ (a && (b && c))
+    regroup true b c = refl
+    regroup false b c = refl
+
+-- the same, as the code slices the line
+pub sliced_field : (line field : List ℕ) → starts_with nat_eq line field ≡ true
+    → starts_with nat_eq (take (length line - length field) (drop (length field) line)) (colon ∷ [])
+    ≡ starts_with nat_eq line (field ++ colon ∷ [])
+sliced_field line field h =
+    ap (λ rest. starts_with nat_eq rest (colon ∷ [])) (take_rest line (length field))
+    ∙ ap (λ t. t && starts_with nat_eq (drop (length field) line) (colon ∷ [])) (sym h)
+    ∙ field_then_colon line field
+
+pub no_field : (line field : List ℕ) → starts_with nat_eq line field ≡ false
+    → starts_with nat_eq line (field ++ colon ∷ []) ≡ false
+no_field line field h = sym (field_then_colon line field)
+    ∙ ap (λ t. t && starts_with nat_eq (drop (length field) line) (colon ∷ [])) h
+
+pub ruleset field_and_colon = (sliced_field, no_field)
+
+begins : (field rest : List ℕ) → starts_with nat_eq (field ++ colon ∷ rest) (field ++ colon ∷ []) ≡ true
+begins [] rest = refl
+begins (f ∷ field) rest = and_true (nat_eq f f) _ (eq-eqb f f refl) (begins field rest)
+
+-- a line of at least two fields begins with its first one and a colon
+begins_with_first : (line first second : List ℕ) (more : List (List ℕ))
+    → slice_split (λ b. b == colon) line ≡ first ∷ second ∷ more
+    → starts_with nat_eq line (first ++ colon ∷ []) ≡ true
+begins_with_first line first second more is =
+    ap (λ bytes. starts_with nat_eq bytes (first ++ colon ∷ []))
+    (sym (join_with_byte-slice_split colon line) ∙ ap (join_with_byte colon) is)
+    ∙ begins first (join_with_byte colon (second ∷ more))
+
+named_another : (name login number home : List ℕ) → text_eq login name ≡ false
+    → named name (entry_by login number home) ≡ None
+named_another name login number home h =
+    go (nat_le 1 (length login) && (is_plain_text login && is_plain_text home)) (user_number number)
+  where
+    go : (fits : Bool) (n : Option ℕ)
+        → named name (if fits then option_map (λ n. (login, record { number = n; home = home })) n else None) ≡ None
+    go true (Some n) = passed (text_eq login name) _ h
+    go true None = refl
+    go false n = refl
+
+pub other_name : (name line : List ℕ) → starts_with nat_eq line (name ++ colon ∷ []) ≡ false
+    → named name (entry_of_line line) ≡ None
+unfolding entry_of_line
+other_name name line h = go (slice_split (λ b. b == colon) line) refl
+  where
+    differs : (first second : List ℕ) (more : List (List ℕ))
+        → slice_split (λ b. b == colon) line ≡ first ∷ second ∷ more → text_eq first name ≡ false
+    differs first second more is = by_test (text_eq first name) refl
+      where
+        by_test : (t : Bool) → text_eq first name ≡ t → t ≡ false
+        by_test false e = refl
+        by_test true e = absurd (true≢false (sym (begins_with_first line first second more is)
+            ∙ ap (λ n. starts_with nat_eq line (n ++ colon ∷ [])) (same_text first name e) ∙ h))
+
+    go : (fields : List (List ℕ)) → slice_split (λ b. b == colon) line ≡ fields
+        → named name (entry_of_fields fields) ≡ None
+    go [] is = refl
+    go (a ∷ []) is = refl
+    go (a ∷ b ∷ []) is = refl
+    go (a ∷ b ∷ c ∷ []) is = refl
+    go (a ∷ b ∷ c ∷ d ∷ []) is = refl
+    go (a ∷ b ∷ c ∷ d ∷ e ∷ []) is = refl
+    go (a ∷ b ∷ c ∷ d ∷ e ∷ f ∷ []) is = refl
+    go (a ∷ b ∷ c ∷ d ∷ e ∷ f ∷ g ∷ []) is = named_another name a c f (differs a b (c ∷ d ∷ e ∷ f ∷ g ∷ []) is)
+    go (a ∷ b ∷ c ∷ d ∷ e ∷ f ∷ g ∷ h ∷ more) is = refl
 
 -- ---- lines
 abbrev pub find_in : List ℕ → List (List ℕ) → Option User

@@ -94,7 +94,7 @@ pub use session::{Session, VALUE_LIMIT};
 pub use sessions::Sessions;
 pub use state::State;
 pub use tree::Tree;
-pub use user::User;
+pub use user::{User, find_user};
 pub use value::Value;
 pub use vars::Vars;
 pub use view::View;

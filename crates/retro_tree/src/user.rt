@@ -1,6 +1,6 @@
 //! The users of the password file.
-ghost use Rattle.std.specs.Prelude.{◌≡◌, ◌==◌, IfOk, map, option_map};
-ghost use Rattle.std.specs.List.{slice_split, list_all};
+ghost use Rattle.std.specs.Prelude.{◌≡◌, ◌==◌, ◌++◌, ◌∷◌, [], IfOk, map, nat_eq, option_map};
+ghost use Rattle.std.specs.List.{slice_split, list_all, starts_with};
 ghost use Rattle.std.specs.Char.{is_ascii_digit};
 ghost use Rattle.retro_tree.specs.User.{plain_text, user_number, named, entry_by, entry_of_line};
 ghost use Rattle.retro_tree.specs.User.{find_user};
@@ -90,12 +90,23 @@ fn user_of_fields(
     Ok(Some(User { number, home }))
 }
 
+/// Returns whether a line begins with `field` and a colon.
+#[tactic(auto, using(crate::proofs::Users::field_and_colon))]
+fn begins_with_field(line: &[u8], field: &[u8]) -> bool
+    ensures { result ≡ starts_with nat_eq line.now (field.now ++ 58 ∷ []) }
+{
+    line.starts_with(field) && line[field.len()..].starts_with(b":")
+}
+
 /// Returns the user of a line, or `None` if the line isn't well formed or its login name isn't
 /// `name`. A line has seven fields, separated by colons.
-#[tactic(auto, unfolding(crate::specs::User::entry_of_line))]
+#[tactic(auto, using(crate::proofs::Users::other_name), unfolding(crate::specs::User::entry_of_line))]
 fn user_of_line(alloc: Global, name: &Text, line: &[u8]) -> Result<Option<User>, NoMem>
     ensures { IfOk result (λ user. user ≡ named name.now (entry_of_line line.now)) }
 {
+    if !begins_with_field(line, name.bytes()) {
+        return Ok(None);
+    }
     let fields = split(alloc, line, b':')?;
     match fields.as_slice() {
         [login, _, number, _, _, home, _] => user_of_fields(alloc, name, login, number, home),
@@ -103,10 +114,10 @@ fn user_of_line(alloc: Global, name: &Text, line: &[u8]) -> Result<Option<User>,
     }
 }
 
-/// Returns the user with a login name, from the first well-formed line that has the name. Returns
-/// `None` if no line does.
+/// Returns the user with a login name from the bytes of the password file: from the first
+/// well-formed line that has the name. Returns `None` if no line does.
 #[tactic(auto, unfolding(crate::specs::User::find_user))]
-pub(crate) fn find_user(alloc: Global, name: &Text, bytes: &[u8]) -> Result<Option<User>, NoMem>
+pub fn find_user(alloc: Global, name: &Text, bytes: &[u8]) -> Result<Option<User>, NoMem>
     ensures { IfOk result (λ user. user ≡ find_user name.now bytes.now) }
 {
     for line in bytes.split(|byte| *byte == b'\n') {
