@@ -13,5 +13,6 @@ pub mod Rule
 pub mod Checkpoints
 pub mod RecordedVersions
 pub mod Marking
+pub mod TrackSkips
 pub mod Recalled
 pub mod Tracking

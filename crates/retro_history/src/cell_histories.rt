@@ -101,7 +101,7 @@ impl<'a> CellHistories<'a> {
     /// Returns an overlay that tells which children of a path exist before the line with the given
     /// number. It has an entry for each child whose cell has a version below that number. The entry
     /// is a directory if the child exists, as a file or as a directory, and otherwise a missing
-    /// node.
+    /// node. Seeks past the histories below a child.
     ///
     /// Combined with the first state, the overlay gives the names of the children in the recorded
     /// state.
@@ -118,15 +118,20 @@ impl<'a> CellHistories<'a> {
     {
         let mut marks = Overlay::new(alloc);
         let start = Cell::At(path.copy()?);
-        for (cell, history) in self.from(&start) {
+        let mut rest = self.from(&start);
+        while let Some((cell, history)) = rest.next() {
             let Cell::At(at) = cell else {
                 return Ok(marks);
             };
-            let Some(rest) = at.strip_prefix(path) else {
+            if !at.starts_with(path) {
                 return Ok(marks);
-            };
-            if let ([_], Some(version)) = (rest, history.get().track.version_below(number)) {
-                marks.insert(cell.copy()?, Value::Node(mark(version.value)))?;
+            }
+            if at.is_child_of(path) {
+                if let Some(version) = history.get().track.version_below(number) {
+                    marks.insert(cell.copy()?, Value::Node(mark(version.value)))?;
+                }
+            } else if let Some(after) = at.after_child(alloc, path)? {
+                rest = self.from(&Cell::At(after));
             }
         }
         Ok(marks)

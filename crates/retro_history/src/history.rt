@@ -205,7 +205,8 @@ impl<'a> History<'a> {
     }
 
     /// Returns the names of the children of a path before the line with the given number, whatever
-    /// the path itself holds. Takes time in proportion to the number of paths below it.
+    /// the path itself holds. Takes time in proportion to the children in the first state and in
+    /// the histories, times the logarithm of all cells.
     pub(crate) fn children(&self, alloc: Global, path: &Path, number: u32) -> Result<Listing, NoMem>
         ensures { IfOk result (λ names.
             names ≡ names_in path.now (recorded_before number self.now).tree) }

@@ -1,15 +1,19 @@
 -- Names as documents write them, and names of files.
-use Rattle.std.proofs.Common.{◌≡◌, ◌∙◌, ℕ, ◌==◌, List, [], ◌∷◌, Bool, true, false, cond, not, ◌&&◌, length, nat_le}
-use Rattle.std.proofs.Common.{Ok, Err, refl, sym, arith, ap₂}
-use Rattle.std.proofs.lemmas.Bool.{and_parts, and_from, false≢true, le-leb, leb-true, ne_eqb}
-use Rattle.std.specs.List.{list_all}
+use Rattle.std.proofs.Common.{◌≡◌, ◌∙◌, ℕ, ◌==◌, List, [], ◌∷◌, ◌++◌, Bool, true, false, cond, not, ◌&&◌}
+use Rattle.std.proofs.Common.{◌||◌, length, nat_le}
+use Rattle.std.proofs.Common.{Ok, Err, refl, sym, ap, arith, ap₂}
+use Rattle.std.proofs.lemmas.Bool.{and_parts, and_from, false≢true, true≢false, le-leb, leb-true, ne_eqb}
+use Rattle.std.specs.List.{list_all, list_any}
 use Rattle.retro_tree.specs.Name.{is_name}
+use Rattle.retro_tree.specs.Path.{is_root, slashed}
 use Rattle.retro_json.specs.declared.fault.Part.{Part}
 use Rattle.retro_json.specs.declared.fault.Refusal.TheVariants.{OverLimit, WrongShape}
 use Rattle.retro_json.specs.Shape.{Text}
 use Rattle.retro_json.specs.PathText.{is_written_name, is_short_name, path_of}
 use Rattle.retro_json.specs.NoNul.{has_no_nul, have_no_nul}
 use Rattle.retro_json.specs.Typed.{are_names}
+use Rattle.retro_json.specs.Values.{path_text}
+use Rattle.retro_json.specs.declared.reading.path.TheConstants.{NUL}
 
 table : (some none dots slash nul fits : Bool) → some ≡ true → not none && not dots && not slash && not nul ≡ true
     → (some && (fits && (not slash && not dots))) ≡ fits
@@ -114,3 +118,30 @@ path_unnamed part names h = at_test (list_all is_written_name names) refl
         → path_of part names ≡ Err (cond (list_all is_written_name names) OverLimit (WrongShape part))
     at_test true e = rw (e, sym (names_fit names e) ∙ h) refl
     at_test false e = rw e refl
+
+-- ---- the text of a path
+any_append : (test : ℕ → Bool) (xs ys : List ℕ) → list_any test (xs ++ ys) ≡ (list_any test xs || list_any test ys)
+any_append test [] ys = refl
+any_append test (x ∷ xs) ys = ap (λ b. test x || b) (any_append test xs ys) ∙ regroup (test x) _ _
+  where
+    regroup : (a b c : Bool) → (a || (b || c)) ≡ ((a || b) || c)
+    regroup true b c = refl
+    regroup false b c = refl
+
+-- a NUL in the text of a path is one in a name
+pub nul_in : (p : List Text) → not (list_any (λ b. b == NUL) (slashed p)) ≡ have_no_nul p
+nul_in [] = refl
+nul_in (n ∷ p) = ap not (any_append (λ b. b == NUL) n (slashed p))
+    ∙ turned (list_any (λ b. b == NUL) n) (list_any (λ b. b == NUL) (slashed p))
+    ∙ ap (λ b. has_no_nul n && b) (nul_in p)
+  where
+    turned : (a b : Bool) → not (a || b) ≡ (not a && not b)
+    turned true b = refl
+    turned false b = refl
+
+-- the text of a path that isn't the root
+pub as_written : (p : List Text) → is_root p ≡ false → slashed p ≡ path_text p
+as_written [] e = absurd (true≢false e)
+as_written (n ∷ p) e = refl
+
+pub ruleset written_text = (as_written)

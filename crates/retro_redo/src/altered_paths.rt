@@ -110,7 +110,7 @@ impl AlteredPaths {
         ensures { result ≡ list_any (λ q. is_some (below path.now q)) self.now }
     {
         match self.paths.range(path..).next() {
-            Some(next) => next.strip_prefix(path).is_some(),
+            Some(next) => next.starts_with(path),
             None => false,
         }
     }

@@ -1,7 +1,7 @@
 //! Paths that rows name, and paths as the texts of rows.
 use crate::failure::fail;
 use crate::texts::text;
-use retro_path::{Name, NoMem, Path, Resolved, resolve};
+use retro_path::{Names, NoMem, Path, Resolved, resolve};
 use std::alloc::Global;
 use std::test::Fail;
 
@@ -15,14 +15,14 @@ pub fn path(alloc: Global, text: &str) -> Result<Path, Fail> {
 }
 
 /// Returns the path of these names as text, `/` for none.
-pub fn path_text(alloc: Global, names: &[Name]) -> Result<String, NoMem> {
+pub fn path_text(alloc: Global, names: Names<'_>) -> Result<String, NoMem> {
     if names.is_empty() {
         return text(alloc, "/");
     }
     let mut text = String::new(alloc);
     for name in names {
         text.push('/')?;
-        text.push_str(name.as_str())?;
+        text.push_str(name)?;
     }
     Ok(text)
 }

@@ -93,7 +93,7 @@ dir_again k t e = same_map path_total path_exact _ _ (λ r. same_get _ _ r (⊎_
     (one_or_two path_total path_exact r k)))
 
 -- ---- the prefixes below a path, by the names that follow it
-abbrev prefixes_after : PathValue → PathValue → List PathValue
+abbrev pub prefixes_after : PathValue → PathValue → List PathValue
 prefixes_after at [] = []
 prefixes_after at (name ∷ names) = (at ++ name ∷ []) ∷ prefixes_after (at ++ name ∷ []) names
 
@@ -183,17 +183,55 @@ made_is_dir p k s t e = go (kind_at k s) refl e
     go kinds.Dir is made = ap (λ r. node_in k r.0.tree) (sym made) ∙ directory_at k s is
     go kinds.File is made = absurd (failed (Err (blocked_at p k)) (blocked_at p k) refl (ap (λ r. r.1) made))
 
--- the name at which a loop over names is
-pub next_name : (items names : PathValue) (i : ℕ) (name : List ℕ) → items ≡ names → i < length items
-    → name ≡ get_or items i name → drop i names ≡ name ∷ drop (i + 1) names
-next_name items names i name same h is =
-    subst (λ ns. drop i ns ≡ name ∷ drop (i + 1) ns) same
-    (rw add-one (drop-cons items i name h ∙ ap (λ x. x ∷ drop (suc i) items) (sym is)))
+-- the prefixes of p are those below the root
+pub all_left : (p : PathValue) → prefixes_of p ≡ prefixes_after [] p
+all_left p = sym (prefixes_below [] p ∙ map_same (prefixes_of p))
+
+-- The prefix k follows `at`, which the names follow, and is followed by the prefixes ks.
+pub record Next (at names k : PathValue) (ks : List PathValue) : Type 0 where
+  pub name : List ℕ
+  pub later : PathValue
+  pub names_are : names ≡ name ∷ later
+  pub here : k ≡ at ++ name ∷ []
+  pub left : ks ≡ prefixes_after k later
+
+-- the prefix at which a loop over prefixes is
+pub next_left : (at names k : PathValue) (ks : List PathValue) → k ∷ ks ≡ prefixes_after at names
+    → Next at names k ks
+next_left at [] k ks e = absurd (cc)
+next_left at (n ∷ names) k ks e = record {
+  name = n;
+  later = names;
+  names_are = refl;
+  here = is;
+  left = subst (λ q. ks ≡ prefixes_after q names) (sym is) (cc);
+}
+  where
+    is : k ≡ at ++ n ∷ []
+    is = cc
+
+-- no names are left where no prefixes are
+pub none_left : (at names : PathValue) (ks : List PathValue) → ks ≡ prefixes_after at names → length ks ≡ 0
+    → names ≡ []
+none_left at [] ks e h = refl
+none_left at (n ∷ names) ks e h = absurd (not_zero (sym (ap length e) ∙ h))
+  where
+    not_zero : {k : ℕ} → suc k ≡ 0 → ⊥
+    not_zero is = cc
 
 -- one name further
 pub one_further : (p at next names rest : PathValue) (name : List ℕ) (s t : State) → names ≡ name ∷ rest
     → next ≡ at ++ name ∷ [] → make_step p next s ≡ (t, Ok tt) → make_each p at names s ≡ make_each p next rest t
 one_further p at next names rest name s t a b c =
+    ap (λ ns. make_each p at ns s) a
+    ∙ ap (λ k. and_then (make_step p k s) (make_each p k rest)) (sym b)
+    ∙ ap (λ r. and_then r (make_each p next rest)) c
+
+-- a prefix that can't be made
+pub one_failed : (p at next names rest : PathValue) (name : List ℕ) (reason : Reason) (s t : State)
+    → names ≡ name ∷ rest → next ≡ at ++ name ∷ [] → make_step p next s ≡ (t, Err reason)
+    → make_each p at names s ≡ (t, Err reason)
+one_failed p at next names rest name reason s t a b c =
     ap (λ ns. make_each p at ns s) a
     ∙ ap (λ k. and_then (make_step p k s) (make_each p k rest)) (sym b)
     ∙ ap (λ r. and_then r (make_each p next rest)) c

@@ -25,8 +25,8 @@ impl Target {
         ensures { IfOk result (λ path. path ≡ target_path self.now source.now) }
     {
         match self {
-            Target::Into(directory) => match source.last() {
-                Some(name) => directory.child(alloc, name),
+            Target::Into(directory) => match source.last(alloc)? {
+                Some(name) => directory.child(alloc, &name),
                 None => directory.copy(),
             },
             Target::Onto(path) => path.copy(),

@@ -3,13 +3,14 @@ ghost use Rattle.std.specs.Prelude.{◌≡◌, ◌==◌, map, IfOk, option_map, 
 ghost use Rattle.std.specs.List.{list_all, slice_split};
 ghost use Rattle.serde_json.specs.View.{view};
 ghost use Rattle.retro_json.specs.PathText.{is_written_name, names_of_parts, path_in, path_of};
+ghost use Rattle.retro_tree.specs.Name.{AllNames};
 ghost use Rattle.retro_json.specs.NoNul.{have_no_nul};
 ghost use Rattle.retro_json.specs.declared.fault.Refusal.TheVariants.{OverLimit, WrongShape};
 
 use crate::fault::{Part, Refusal};
 use crate::reading::shape::text;
 use crate::reading::worst::OrRefusal;
-use retro_tree::{Name, NoMem, Path};
+use retro_tree::{NoMem, Path};
 use serde_json::Value;
 use std::alloc::Global;
 
@@ -67,16 +68,12 @@ fn names_of_parts<'p, 't>(parts: &'p [&'t str]) -> Option<&'p [&'t str]>
     }
 }
 
-/// Returns whether no name has a NUL.
-fn have_no_nul(names: &[Name]) -> bool
-    ensures { result ≡ have_no_nul names.now }
+/// Returns whether no name of a path has a NUL.
+fn have_no_nul(path: &Path) -> bool
+    ensures value { result ≡ have_no_nul path.now }
+    ensures names { AllNames path.now }
 {
-    for name in names {
-        if name.as_str().as_bytes().contains(&NUL) {
-            return false;
-        }
-    }
-    true
+    !path.as_str().as_bytes().contains(&NUL)
 }
 
 /// Returns why names that don't make a path are refused: a wrong shape if one may not be written
@@ -103,7 +100,7 @@ fn path_of(alloc: Global, part: Part, names: &[&str]) -> Result<OrRefusal<Path>,
     }
     match Path::of(alloc, texts)? {
         Some(path) => {
-            if have_no_nul(path.names()) {
+            if have_no_nul(&path) {
                 Ok(Ok(path))
             } else {
                 Ok(Err(Refusal::WrongShape(part)))

@@ -6,11 +6,11 @@
 ghost use Rattle.std.specs.Prelude.{◌≡◌, ◌∷◌, IfOk, OnOk, string_bytes, true};
 ghost use Rattle.serde_json.specs.Data.{string};
 ghost use Rattle.serde_json.specs.View.{view};
-ghost use Rattle.retro_json.specs.Values.{hex_data, names_text, number_data, path_text};
+ghost use Rattle.retro_json.specs.Values.{hex_data, number_data, path_text};
 ghost use Rattle.retro_json.specs.NoteValues.{path_data};
 ghost use Rattle.retro_json.specs.Typed.{are_bytes, are_names, is_u32, is_u8};
 
-use retro_tree::{Name, NoMem, Path};
+use retro_tree::{NoMem, Path};
 use serde_json::Value;
 use std::alloc::Global;
 
@@ -22,27 +22,17 @@ pub fn hex_value(alloc: Global, bytes: &[u8]) -> Result<Value, NoMem>
     Ok(Value::String(hex::encode(alloc, bytes)?))
 }
 
-/// Returns the names as one text, each preceded by a slash.
-fn names_text(alloc: Global, names: &[Name]) -> Result<String, NoMem>
-    ensures { IfOk result (λ text. string_bytes text ≡ names_text names.now) }
-{
-    let mut text = String::new(alloc);
-    for name in names {
-        text.push('/')?;
-        text.push_str(name.as_str())?;
-    }
-    Ok(text)
-}
-
 /// Returns the text of a path: `/a/b`, and `/` for the root.
+#[tactic(auto, using(crate::proofs::Names::written_text))]
 pub fn path_text(alloc: Global, path: &Path) -> Result<String, NoMem>
     ensures text { IfOk result (λ text. string_bytes text ≡ path_text path.now) }
     ensures typed { OnOk result (are_names path.now ≡ true) }
 {
-    match path.names() {
-        [] => String::from_str(alloc, "/"),
-        names => names_text(alloc, names),
+    let text = path.as_str();
+    if path.is_root() {
+        return String::from_str(alloc, "/");
     }
+    String::from_str(alloc, text)
 }
 
 /// Returns the JSON value of a path: its text.

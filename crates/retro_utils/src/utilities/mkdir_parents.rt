@@ -64,11 +64,9 @@ fn make_each<V: View>(
         (make_each path.now [] path.now) outcome) }
     ensures extends { ExtendsTree local.old local.new }
 {
-    let mut at = Path::root(alloc);
-    for name in path.names() {
-        let next = at.child(alloc, name)?;
-        match make_step(alloc, path, &next, local)? {
-            Ok(()) => at = next,
+    for prefix in path.prefixes(alloc)? {
+        match make_step(alloc, path, &prefix, local)? {
+            Ok(()) => (),
             Err(reason) => return Ok(Err(reason)),
         }
     }

@@ -26,8 +26,7 @@ use std::alloc::Global;
 fn is_device(path: &Path) -> bool
     ensures { result ≡ is_device path.now }
 {
-    let is_dev = matches!(path.names(), [name] if name.as_str() == "dev");
-    is_dev || path.is_null()
+    path.as_str() == "/dev" || path.is_null()
 }
 
 /// Returns the reason why a path can't be moved to itself or below itself, or `None` for a move to
@@ -37,8 +36,8 @@ fn overlap(from: &Path, to: &Path) -> Option<Reason>
 {
     match to.strip_prefix(from) {
         None => None,
-        Some([]) => Some(Reason::SameFile),
-        Some([_, ..]) => Some(Reason::InvalidArgument),
+        Some(names) if names.is_empty() => Some(Reason::SameFile),
+        Some(_) => Some(Reason::InvalidArgument),
     }
 }
 

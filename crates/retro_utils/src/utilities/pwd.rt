@@ -1,37 +1,24 @@
 //! `pwd` (XCU pwd).
 ghost use Rattle.std.specs.Prelude.{◌≡◌, IfOk, map, string_bytes};
 ghost use Rattle.retro_local.specs.Runs.{Computes, Extends};
-ghost use Rattle.retro_utils.specs.Directories.{names_text, path_text, pwd};
+ghost use Rattle.retro_utils.specs.Directories.{path_text, pwd};
 
 use crate::done::Done;
 use retro_local::Local;
-use retro_tree::{Bytes, Name, NoMem, Path, View};
+use retro_tree::{Bytes, NoMem, Path, View};
 use std::alloc::Global;
-
-/// Returns the text of names, each preceded by a slash.
-fn names_text(alloc: Global, names: &[Name]) -> Result<Bytes, NoMem>
-    ensures { IfOk result (λ text. text ≡ names_text names.now) }
-{
-    let mut text = Bytes::new(alloc);
-    for name in names {
-        text.extend(b"/")?;
-        text.extend(name.as_str().as_bytes())?;
-    }
-    Ok(text)
-}
 
 /// Returns the text of a path: `/a/b`, and `/` for the root.
 fn path_text(alloc: Global, path: &Path) -> Result<Bytes, NoMem>
     ensures { IfOk result (λ text. text ≡ path_text path.now) }
 {
-    match path.names() {
-        [] => {
-            let mut text = Bytes::new(alloc);
-            text.extend(b"/")?;
-            Ok(text)
-        }
-        names => names_text(alloc, names),
+    let mut text = Bytes::new(alloc);
+    if path.is_root() {
+        text.extend(b"/")?;
+    } else {
+        text.extend(path.as_str().as_bytes())?;
     }
+    Ok(text)
 }
 
 /// Runs `pwd`: prints the directory of the session and a newline.

@@ -62,7 +62,7 @@ pub(crate) fn is_protected(alloc: Global, operand: &str, path: &Path) -> Result<
     ensures { IfOk result (λ protected. protected ≡ is_protected operand.now path.now) }
 {
     let dots = ends_in_dots(alloc, operand)?;
-    Ok(dots || path.names().is_empty() || path.is_null())
+    Ok(dots || path.is_root() || path.is_null())
 }
 
 /// Returns the reason why a node of the given kind isn't removed, or `None` if it is.

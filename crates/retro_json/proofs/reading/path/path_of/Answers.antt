@@ -18,10 +18,10 @@ returns-then-have_no_nul c =
     let made = rw c.in-Some.is at c.in_ok-path.ensures in
     let is : c.in-Some.path ≡ names = made ∙ made_done (λ name. name.now) string_bytes c.loop-name.texts.items
     c.args.names.now c.loop-name.name-index c.loop-name-test.false c.loop-name.invariant in
-    let plain = sym c.have_no_nul.ensures ∙ c.if-have_no_nul.true in
+    let plain = sym c.have_no_nul.ensures.value ∙ c.if-have_no_nul.true in
     ap Ok is
-    ∙ sym (path_named c.args.part names (subst (λ ns. list_all is_name ns ≡ true) is c.names.ensures.names)
-    (subst (λ ns. have_no_nul ns ≡ true) (c.names.ensures.value ∙ is) plain))
+    ∙ sym (path_named c.args.part names (subst (λ ns. list_all is_name ns ≡ true) is c.have_no_nul.ensures.names)
+    (subst (λ ns. have_no_nul ns ≡ true) is plain))
 
 pub returns-else-have_no_nul : goal.returns-else-have_no_nul
 returns-else-have_no_nul c =
@@ -29,8 +29,8 @@ returns-else-have_no_nul c =
     let made = rw c.in-Some.is at c.in_ok-path.ensures in
     let is : c.in-Some.path ≡ names = made ∙ made_done (λ name. name.now) string_bytes c.loop-name.texts.items
     c.args.names.now c.loop-name.name-index c.loop-name-test.false c.loop-name.invariant in
-    let nul = sym c.have_no_nul.ensures ∙ c.if-have_no_nul.false in
-    sym (path_with_nul c.args.part names (subst (λ ns. have_no_nul ns ≡ false) (c.names.ensures.value ∙ is) nul))
+    let nul = sym c.have_no_nul.ensures.value ∙ c.if-have_no_nul.false in
+    sym (path_with_nul c.args.part names (subst (λ ns. have_no_nul ns ≡ false) is nul))
 
 pub returns-in-None : goal.returns-in-None
 returns-in-None c =

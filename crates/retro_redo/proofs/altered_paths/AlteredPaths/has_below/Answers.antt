@@ -2,14 +2,14 @@ use Rattle.std.proofs.Common.{◌∙◌, ap, sym}
 use Rattle.std.specs.List.{list_any}
 use Rattle.std.specs.Option.{is_some, option_copied}
 use Rattle.retro_tree.specs.Path.{below}
-use Rattle.retro_redo.proofs.AlteredPaths.{below_first, is_below, some_mapped}
+use Rattle.retro_redo.proofs.AlteredPaths.{below_first, is_below}
 use Rattle.retro_redo.proofs.altered_paths.AlteredPaths.has_below.Goals as goal
 
 pub returns-in-Some : goal.returns-in-Some
 returns-in-Some c =
     let p = c.args.path.now in
     let ranged = c.range.ensures.in_range tt in
-    c.is_some.ensures ∙ some_mapped _ c.strip_prefix.result ∙ ap is_some c.strip_prefix.ensures
+    c.starts_with.ensures
     ∙ ap (λ o. is_below p (option_copied o)) (sym c.in-Some.is)
     ∙ sym (below_first c.self.inside.paths p c.range.result c.next.result c.next.new.self ranged.1 ranged.2 ranged.5
     c.next.ensures.steps)
