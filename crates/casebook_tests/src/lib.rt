@@ -7,8 +7,12 @@
 #[cfg(test)]
 mod diffs;
 #[cfg(test)]
+mod hunks;
+#[cfg(test)]
 mod lists;
 #[cfg(test)]
 mod rows;
+#[cfg(test)]
+mod safe_lines;
 #[cfg(test)]
 mod shown;

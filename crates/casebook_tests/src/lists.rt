@@ -1,6 +1,6 @@
 //! Tests of lists of lines.
 use crate::rows::{compare, row};
-use casebook_text::{ListFault, lines_of_list, list_of_file};
+use casebook_text::{ListFault, lines_of_list, list_of_file, list_of_numbers};
 use std::alloc::{AllocError, Global};
 use std::test::Fail;
 
@@ -96,4 +96,12 @@ fn files_hold_lists(rt: HostRuntime) -> Result<(), Fail> {
     compare(alloc, list.as_str(), "90 92 98 227", returned.as_str())?;
     let empty = list_of_file(alloc, "# nothing\n")?;
     compare(alloc, "a file without items", "", empty.as_str())
+}
+
+#[test]
+fn lists_of_numbers_are_read_back(rt: HostRuntime) -> Result<(), Fail> {
+    let alloc = rt.alloc();
+    let list = list_of_numbers(alloc, &[5, 92, 4294967295])?;
+    let returned = answer(alloc, list.as_str())?;
+    compare(alloc, list.as_str(), "5 92 4294967295", returned.as_str())
 }

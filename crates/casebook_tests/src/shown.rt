@@ -85,3 +85,11 @@ fn html_is_escaped(rt: HostRuntime) -> Result<(), Fail> {
     let empty = escape(alloc, "")?;
     compare(alloc, "no text", "", empty.as_str())
 }
+
+#[test]
+fn words_have_no_spaces(rt: HostRuntime) -> Result<(), Fail> {
+    let alloc = rt.alloc();
+    let text = safe(alloc, b"a b\tc\nd", Breaks::Words)?;
+    let wanted = "a⟨U+0020⟩b⟨U+0009⟩c⟨U+000A⟩d";
+    compare(alloc, "a word", wanted, text.as_str())
+}

@@ -4,10 +4,15 @@ pub mod Parts
 pub mod Harmless
 pub mod HighBytes
 pub mod ShownLemmas
+pub mod SafeLines
+pub mod ShownLines
+pub mod ShownRows
 pub mod HtmlLemmas
 pub mod NumberLemmas
+pub mod NumberLists
 pub mod ItemLemmas
 pub mod ListLemmas
 pub mod FileLemmas
 pub mod DiffLemmas
+pub mod HunkLemmas
 pub mod OriginalLemmas

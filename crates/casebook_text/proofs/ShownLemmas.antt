@@ -20,7 +20,7 @@ use Rattle.bstr.proofs.lemmas.PieceLemmas.{value-1}
 use Rattle.casebook_text.proofs.Parts.{safe_text-step}
 use Rattle.casebook_text.proofs.HighBytes.{high_bytes, high_all}
 use Rattle.casebook_text.proofs.Lists.{append_all, flat_map_all}
-use Rattle.casebook_text.specs.SafeText.{is_printable}
+use Rattle.casebook_text.specs.SafeText.{is_plain, is_printable, keeps_spaces, space}
 use Rattle.std.proofs.lemmas.Str.{chars-encodes, encode_ascii}
 use Rattle.bstr.specs.Utf8.{decoded}
 use Rattle.bstr.proofs.lemmas.PieceLemmas.{piece-bounds}
@@ -114,16 +114,17 @@ text_passes p b codes_pass itself bs =
 
 shown_safe : (b : Breaks) (c : ℕ) → is_shown b c ≡ true → is_safe b c ≡ true
 unfolding is_shown
-shown_safe b c h = tests (is_bracket c) (is_break c) (keeps_breaks b) (is_harmless c) h
+shown_safe b c h =
+    tests (is_bracket c) (is_break c) (keeps_breaks b) (is_harmless c) (not (c == space) || keeps_spaces b) h
   where
-    tests : (bracket break keeps harmless : Bool)
-        → (if bracket then false else if break then keeps else harmless) ≡ true
+    tests : (bracket break keeps harmless spaced : Bool)
+        → (if bracket then false else if break then keeps else harmless && spaced) ≡ true
         → (harmless || (break && keeps)) ≡ true
-    tests true break keeps harmless e = absurd (false≢true e)
-    tests false true keeps true e = refl
-    tests false true keeps false e = e
-    tests false false keeps true e = refl
-    tests false false keeps false e = e
+    tests true break keeps harmless spaced e = absurd (false≢true e)
+    tests false true keeps true spaced e = refl
+    tests false true keeps false spaced e = e
+    tests false false keeps true spaced e = refl
+    tests false false keeps false spaced e = e
 
 safe_codes : (b : Breaks) → PassesCodes (is_safe b)
 safe_codes b = record {
@@ -172,14 +173,14 @@ high_byte : (b : Breaks) (x : ℕ) → 128 ≤ x → is_safe_byte b x ≡ true
 high_byte b x high =
     or_left _ _ (and_from _ _ (le-leb 32 x (omega arith)) (not_from_false _ (ne_eqb x 127 (λ e. absurd (omega arith)))))
 
-safe_bytes : (b : Breaks) (c : ℕ) → is_safe b c ≡ true → list_all (is_safe_byte b) (encode_utf8 c) ≡ true
+pub safe_bytes : (b : Breaks) (c : ℕ) → is_safe b c ≡ true → list_all (is_safe_byte b) (encode_utf8 c) ≡ true
 safe_bytes b c h =
     ⊎_elim
     (λ low. ap (list_all (is_safe_byte b)) (encode_ascii c low) ∙ and_from _ _ (safe_byte b c low h) refl)
     (λ high. high_all (is_safe_byte b) (high_byte b) (encode_utf8 c) (high_bytes c high))
     (cases_lt c 128)
 
-encode_all : (p q : ℕ → Bool) → ((c : ℕ) → q c ≡ true → list_all p (encode_utf8 c) ≡ true)
+pub encode_all : (p q : ℕ → Bool) → ((c : ℕ) → q c ≡ true → list_all p (encode_utf8 c) ≡ true)
     → (cs : List ℕ) → list_all q cs ≡ true → list_all p (encode_utf8_all cs) ≡ true
 encode_all p q each [] all = refl
 encode_all p q each (c ∷ cs) all =
@@ -194,24 +195,26 @@ bytes_safe b bs text e =
 
 -- ---- printable ASCII is shown as itself
 
-printable_shown : (b : Breaks) (c : ℕ) → is_printable c ≡ true → is_shown b c ≡ true
+printable_shown : (b : Breaks) (c : ℕ) → is_plain b c ≡ true → is_shown b c ≡ true
 unfolding is_shown
 printable_shown b c h =
-    let parts = and_parts (nat_le 32 c) (nat_lt c 127) h in
+    let plain = and_parts (is_printable c) (not (c == space) || keeps_spaces b) h in
+    let parts = and_parts (nat_le 32 c) (nat_lt c 127) plain.0 in
     let low = leb-true 32 c parts.0 in
     let high = ltb-true c 127 parts.1 in
     let harmless = printable_harmless c low high in
     let no_bracket : is_bracket c ≡ false = or_from _ _ (ne_eqb c left_bracket (λ e. absurd (omega arith))) (ne_eqb c right_bracket (λ e. absurd (omega arith))) in
     let no_break : is_break c ≡ false = or_from _ _ (ne_eqb c 10 (λ e. absurd (omega arith))) (ne_eqb c 9 (λ e. absurd (omega arith))) in
-    rw (no_bracket, no_break) harmless
+    rw (no_bracket, no_break) (and_from _ _ harmless plain.1)
 
 itself : (b : Breaks) (c : ℕ) → is_shown b c ≡ true → shown b (character c) ≡ c ∷ []
 unfolding shown
 itself b c e = rw e refl
 
-printable_step : (b : Breaks) (c : ℕ) (bs : List ℕ) → is_printable c ≡ true → safe_text b (c ∷ bs) ≡ c ∷ safe_text b bs
+printable_step : (b : Breaks) (c : ℕ) (bs : List ℕ) → is_plain b c ≡ true → safe_text b (c ∷ bs) ≡ c ∷ safe_text b bs
 printable_step b c bs h =
-    let parts = and_parts (nat_le 32 c) (nat_lt c 127) h in
+    let plain = and_parts (is_printable c) (not (c == space) || keeps_spaces b) h in
+    let parts = and_parts (nat_le 32 c) (nat_lt c 127) plain.0 in
     let high = ltb-true c 127 parts.1 in
     let l = c ∷ bs in
     let some : 0 < length l = omega arith in
@@ -220,15 +223,16 @@ printable_step b c bs h =
     ∙ ap (λ (d : Decoded). flat_map (shown b) (parts_in d.char (take d.size l)) ++ safe_text b (drop d.size l)) one
     ∙ ap (λ t. t ++ safe_text b bs) (append-nil (shown b (character c)) ∙ itself b c (printable_shown b c h))
 
-printable_text : (b : Breaks) (bs : List ℕ) → list_all is_printable bs ≡ true → encode_utf8_all (safe_text b bs) ≡ bs
+printable_text : (b : Breaks) (bs : List ℕ) → list_all (is_plain b) bs ≡ true → encode_utf8_all (safe_text b bs) ≡ bs
 printable_text b [] all = ap (λ t. encode_utf8_all (flat_map (shown b) t)) parts_of-nil
 printable_text b (c ∷ bs) all =
-    let both = and_parts (is_printable c) (list_all is_printable bs) all in
-    let parts = and_parts (nat_le 32 c) (nat_lt c 127) both.0 in
+    let both = and_parts (is_plain b c) (list_all (is_plain b) bs) all in
+    let plain = and_parts (is_printable c) (not (c == space) || keeps_spaces b) both.0 in
+    let parts = and_parts (nat_le 32 c) (nat_lt c 127) plain.0 in
     let high = ltb-true c 127 parts.1 in
     ap encode_utf8_all (printable_step b c bs both.0)
     ∙ ap (λ t. t ++ encode_utf8_all (safe_text b bs)) (encode_ascii c (omega arith))
     ∙ ap (λ t. c ∷ t) (printable_text b bs both.1)
 
-pub ascii_itself : (b : Breaks) (bs text : List ℕ) → text ≡ encode_utf8_all (safe_text b bs) → list_all is_printable bs ≡ true → text ≡ bs
+pub ascii_itself : (b : Breaks) (bs text : List ℕ) → text ≡ encode_utf8_all (safe_text b bs) → list_all (is_plain b) bs ≡ true → text ≡ bs
 ascii_itself b bs text e all = e ∙ printable_text b bs all

@@ -1,4 +1,5 @@
 pub mod SafeText
+pub mod SafeLine
 pub mod Html
 pub mod Numbers
 pub mod Splitting
@@ -6,3 +7,5 @@ pub mod Item
 pub mod Lists
 pub mod ListFile
 pub mod Diff
+pub mod Hunks
+pub mod inner

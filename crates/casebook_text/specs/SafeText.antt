@@ -11,7 +11,7 @@ use Rattle.ucd_category.specs.declared.GeneralCategory.TheVariants.{LineSeparato
 use Rattle.ucd_category.specs.declared.GeneralCategory.TheVariants.{ParagraphSeparator}
 use Rattle.ucd_category.specs.declared.GeneralCategoryGroup.TheVariants.{Other}
 use Rattle.casebook_text.specs.declared.safe_text.Breaks.{Breaks}
-use Rattle.casebook_text.specs.declared.safe_text.Breaks.TheVariants.{Keep, Show}
+use Rattle.casebook_text.specs.declared.safe_text.Breaks.TheVariants.{Keep, Show, Words}
 
 -- ---- what bytes read as
 
@@ -48,6 +48,9 @@ left_bracket = 0x27E8
 abbrev pub right_bracket : ℕ
 right_bracket = 0x27E9
 
+abbrev pub space : ℕ
+space = 32
+
 abbrev pub is_break : ℕ → Bool
 is_break c = c == newline || c == tab
 
@@ -57,6 +60,12 @@ is_bracket c = c == left_bracket || c == right_bracket
 abbrev pub keeps_breaks : Breaks → Bool
 keeps_breaks Keep = true
 keeps_breaks Show = false
+keeps_breaks Words = false
+
+abbrev pub keeps_spaces : Breaks → Bool
+keeps_spaces Keep = true
+keeps_spaces Show = true
+keeps_spaces Words = false
 
 -- a separator of lines or of paragraphs
 abbrev pub is_separator : GeneralCategory → Bool
@@ -76,7 +85,7 @@ unfoldable pub is_shown : Breaks → ℕ → Bool
 is_shown breaks c =
     if is_bracket c then false
     else if is_break c then keeps_breaks breaks
-    else is_harmless c
+    else is_harmless c && (not (c == space) || keeps_spaces breaks)
 
 -- ---- codes
 
@@ -121,6 +130,10 @@ is_safe_byte breaks b = (nat_le 32 b && not (b == 127)) || (is_break b && keeps_
 -- a printable character of ASCII, the space included
 abbrev pub is_printable : ℕ → Bool
 is_printable b = nat_le 32 b && nat_lt b 127
+
+-- a printable character of ASCII that is kept as it is
+abbrev pub is_plain : Breaks → ℕ → Bool
+is_plain breaks b = is_printable b && (not (b == space) || keeps_spaces breaks)
 
 -- ---- what a shown text stands for
 

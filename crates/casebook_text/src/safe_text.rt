@@ -3,23 +3,25 @@ ghost use Rattle.std.specs.Prelude.{◌≡◌, ◌<◌, ◌++◌, ◌∷◌, [],
 ghost use Rattle.std.specs.Prelude.{encode_utf8_all, codes};
 ghost use Rattle.casebook_text.specs.SafeText.{hex_digit, hex_digits, code_width, is_harmless};
 ghost use Rattle.casebook_text.specs.SafeText.{is_shown, shown, character, in_brackets, safe_text};
-ghost use Rattle.casebook_text.specs.SafeText.{keeps_breaks, is_separator};
+ghost use Rattle.casebook_text.specs.SafeText.{keeps_breaks, keeps_spaces, is_separator};
 ghost use Rattle.std.specs.Prelude.{flat_map, IsTrue, chars};
 ghost use Rattle.std.specs.List.{list_all};
-ghost use Rattle.casebook_text.specs.SafeText.{is_safe, is_safe_byte, is_printable, original};
+ghost use Rattle.casebook_text.specs.SafeText.{is_safe, is_safe_byte, is_plain, original};
 
 use crate::NoMem;
 use bstr::decode_utf8;
 use std::alloc::Global;
 use ucd_category::{GeneralCategory, GeneralCategoryGroup};
 
-/// Whether newlines and tabs are shown as themselves.
+/// Which white space is shown as itself.
 #[derive(Clone, Copy, Debug, PartialEq, Eq)]
 pub enum Breaks {
-    /// They are kept: for text of several lines.
+    /// Newlines, tabs and spaces: for text of several lines.
     Keep,
-    /// They are shown by their codes: for text in one line.
+    /// Spaces alone: for text in one line. Newlines and tabs are shown by their codes.
     Show,
+    /// None, all are shown by their codes: for a word among others.
+    Words,
 }
 
 impl Breaks {
@@ -28,6 +30,13 @@ impl Breaks {
         ensures { result ≡ keeps_breaks self }
     {
         matches!(self, Breaks::Keep)
+    }
+
+    /// Returns whether spaces are shown as themselves.
+    fn keeps_spaces(self) -> bool
+        ensures { result ≡ keeps_spaces self }
+    {
+        !matches!(self, Breaks::Words)
     }
 }
 
@@ -63,7 +72,7 @@ fn is_shown(c: char, breaks: Breaks) -> bool
     if c == '\n' || c == '\t' {
         return breaks.are_kept();
     }
-    is_harmless(c)
+    is_harmless(c) && (c != ' ' || breaks.keeps_spaces())
 }
 
 /// Returns the upper-case hexadecimal digit of a number under 16.
@@ -137,8 +146,9 @@ fn push_all_stray(text: &mut String, bytes: &[u8]) -> Result<(), NoMem>
 
 /// Returns bytes as a text that is safe to show. The bytes are read as UTF-8 (Unicode Standard,
 /// table 3-7). A harmless character is shown as itself, unless it is one of the brackets `⟨` and
-/// `⟩`; with `Breaks::Keep` so are newlines and tabs. Any other character is shown by its code, as
-/// `⟨U+001B⟩`, and a byte that belongs to no character as `⟨1B⟩`.
+/// `⟩`; with `Breaks::Keep` so are newlines and tabs, and with `Breaks::Words` spaces aren't. Any
+/// other character is shown by its code, as `⟨U+001B⟩`, and a byte that belongs to no character as
+/// `⟨1B⟩`.
 ///
 /// A character is harmless unless its general category is in the group Other (control, format,
 /// surrogate, private use, unassigned) or is a separator of lines or paragraphs (Unicode Standard,
@@ -155,8 +165,8 @@ pub fn safe(alloc: Global, bytes: &[u8], breaks: Breaks) -> Result<String, NoMem
     ensures bytes { IfOk result (λ text.
         IsTrue (list_all (is_safe_byte breaks) (string_bytes text))) }
 
-    // Printable ASCII is shown as itself.
-    ensures ascii { IsTrue (list_all is_printable bytes.now)
+    // Printable ASCII is shown as itself, but for spaces that are shown by their code.
+    ensures ascii { IsTrue (list_all (is_plain breaks) bytes.now)
         → IfOk result (λ text. string_bytes text ≡ bytes.now) }
 
     // What is shown stands for these bytes, and so for no others.
