@@ -7,3 +7,5 @@ pub mod Causes
 pub mod Picking
 pub mod Latest
 pub mod NotKept
+pub mod Redone
+pub mod CauseVerdicts

@@ -24,7 +24,8 @@ pub use changed_path::{ChangedPath, PathChange};
 pub use compensations::{leaks, tellings};
 pub use failing_note::first_failing_note;
 pub use laws::{
-    causes_are_not_kept, failing_queries_have_another_answer, leaks_and_tellings_are_all,
+    causes_are_cancelled_or_redone, failing_queries_have_another_answer,
+    leaks_and_tellings_are_all, redone_lines_have_a_failing_note,
 };
 pub use tree_diff::changed_paths;
 
