@@ -1,0 +1,27 @@
+//! JSON values (RFC 8259) of a text, read one after another.
+//!
+//! A document's long lists needn't be in memory as a whole: [`begins_array`] enters a list, and
+//! [`next_item`] reads one item, whose texts are borrowed from the document. What is read is the
+//! same as `serde_json` reads: of a key that occurs twice the last value counts, and a text with a
+//! number too large for a float is refused. Contracts name a value by its data (`value_data`
+//! of `specs/Borrowed.antt`), and a reader by the tokens that are left.
+//!
+//! If allocation fails, calls return `NoMem` as a variant of their error.
+#![tactic(auto)]
+
+mod error;
+mod list;
+mod look;
+mod number;
+mod range;
+mod skip;
+mod value;
+mod whole;
+
+pub use error::ReadError;
+pub use list::{begins_array, begins_object, next_item};
+pub use look::{is_null, items_in, text_in};
+pub use number::unsigned_in;
+pub use skip::pass_value;
+pub use value::read_value;
+pub use whole::{DEPTH, read_whole};
