@@ -6,6 +6,8 @@ pub mod Limits
 pub mod Entries
 pub mod Floats
 pub mod Worst
+pub mod Rows
+pub mod InSteps
 pub mod SessionRows
 pub mod LawfulSessions
 pub mod Listed

@@ -15,4 +15,7 @@ pub mod NoteValues
 pub mod Typed
 pub mod NoNul
 pub mod ReadBack
+pub mod Views
+pub mod Rows
+pub mod ReadFaults
 pub mod inner

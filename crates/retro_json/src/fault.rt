@@ -1,11 +1,13 @@
 //! The refusals and errors of reading documents.
 ghost use Rattle.std.specs.Prelude.{◌≡◌};
 ghost use Rattle.retro_json.specs.Numbers.{refusal_number};
+ghost use Rattle.retro_json.specs.ReadFaults.{fault_of_read};
 ghost use Rattle.retro_json.specs.RecordingFaults.{lines_refusal, recording_fault};
 ghost use Rattle.retro_json.specs.declared.fault.LogFault.TheVariants as faults;
 
 use retro_keep::{LinesFault, RecordingFault};
 use retro_tree::NoMem;
+use retro_value::ReadError;
 use std::alloc::AllocFailed;
 use thiserror::Error;
 
@@ -92,6 +94,17 @@ impl<T: Drop> From<AllocFailed<T>> for LogFault {
 
     fn from(_error: AllocFailed<T>) -> LogFault {
         LogFault::NoMem
+    }
+}
+
+impl From<ReadError> for LogFault {
+    ghost from_gives = { λ error fault. fault ≡ fault_of_read error };
+
+    fn from(error: ReadError) -> LogFault {
+        match error {
+            ReadError::NoMem => LogFault::NoMem,
+            ReadError::NotJson => LogFault::Refused(Refusal::NotJson),
+        }
     }
 }
 

@@ -16,7 +16,7 @@ mod writing;
 
 pub use fault::{LogFault, Part, Refusal};
 pub use reading::{
-    OrRefusal, both, cells, hex_field, notes_field, read_sessions, read_tree, text, u32_in,
-    with_item,
+    OrRefusal, Row, both, cells, hex_field, notes_field, read_session_rows, read_tree_rows, text,
+    tree_of_rows, u32_in, with_item, with_sessions,
 };
 pub use writing::{hex_value, notes_value, number_value, push_value, sessions_value, tree_value};

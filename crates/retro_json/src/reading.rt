@@ -12,7 +12,7 @@ mod worst;
 
 pub use fields::hex_field;
 pub use notes::notes_field;
-pub use sessions::read_sessions;
+pub use sessions::{Row, read_session_rows, with_sessions};
 pub use shape::{cells, text, u32_in};
-pub use tree::read_tree;
+pub use tree::{read_tree_rows, tree_of_rows};
 pub use worst::{OrRefusal, both, with_item};

@@ -1,6 +1,6 @@
 //! Reads notes of queries: each is an array of a tag, the query's fields and the answer.
 ghost use Rattle.std.specs.Prelude.{◌≡◌, IfOk, map};
-ghost use Rattle.serde_json.specs.View.{view};
+ghost use Rattle.retro_value.specs.Borrowed.{value_data};
 ghost use Rattle.retro_json.specs.NotesPart.{bytes_cells, can_write_cells, cwd_cells, kind_cells};
 ghost use Rattle.retro_json.specs.NotesPart.{names_cells, status_cells, user_note_cells, var_cells};
 
@@ -11,13 +11,13 @@ use crate::reading::fields::{
 };
 use crate::reading::shape::{u8_in, u32_in};
 use crate::reading::worst::{OrRefusal, both};
+use json::Value;
 use retro_tree::{Answer, Ask, NoMem, Note};
-use serde_json::Value;
 use std::alloc::Global;
 
 /// Reads the note `["kind",path,"missing"|"dir"|"file"]`. `rest` is what follows the tag.
-pub fn kind_note(alloc: Global, rest: &[Value]) -> Result<OrRefusal<Note>, NoMem>
-    ensures { IfOk result (λ note. note ≡ kind_cells (map view rest.now)) }
+pub fn kind_note(alloc: Global, rest: &[Value<'_>]) -> Result<OrRefusal<Note>, NoMem>
+    ensures { IfOk result (λ note. note ≡ kind_cells (map value_data rest.now)) }
 {
     match rest {
         [path, kind] => match both(path_field(alloc, path)?, kind_field(kind)) {
@@ -29,8 +29,8 @@ pub fn kind_note(alloc: Global, rest: &[Value]) -> Result<OrRefusal<Note>, NoMem
 }
 
 /// Reads the note `["bytes",path,node]`. `rest` is what follows the tag.
-pub fn bytes_note(alloc: Global, rest: &[Value]) -> Result<OrRefusal<Note>, NoMem>
-    ensures { IfOk result (λ note. note ≡ bytes_cells (map view rest.now)) }
+pub fn bytes_note(alloc: Global, rest: &[Value<'_>]) -> Result<OrRefusal<Note>, NoMem>
+    ensures { IfOk result (λ note. note ≡ bytes_cells (map value_data rest.now)) }
 {
     match rest {
         [path, node] => match both(path_field(alloc, path)?, node_field(alloc, node)?) {
@@ -42,8 +42,8 @@ pub fn bytes_note(alloc: Global, rest: &[Value]) -> Result<OrRefusal<Note>, NoMe
 }
 
 /// Reads the note `["names",path,null|[name,..]]`. `rest` is what follows the tag.
-pub fn names_note(alloc: Global, rest: &[Value]) -> Result<OrRefusal<Note>, NoMem>
-    ensures { IfOk result (λ note. note ≡ names_cells (map view rest.now)) }
+pub fn names_note(alloc: Global, rest: &[Value<'_>]) -> Result<OrRefusal<Note>, NoMem>
+    ensures { IfOk result (λ note. note ≡ names_cells (map value_data rest.now)) }
 {
     match rest {
         [path, names] => {
@@ -59,8 +59,8 @@ pub fn names_note(alloc: Global, rest: &[Value]) -> Result<OrRefusal<Note>, NoMe
 
 /// Reads the note `["canwrite",path,n,"yes"|"noparent"|"notdir"|"isdir"|"toolarge"]`, where `n` is
 /// a number of bytes. `rest` is what follows the tag.
-pub fn can_write_note(alloc: Global, rest: &[Value]) -> Result<OrRefusal<Note>, NoMem>
-    ensures { IfOk result (λ note. note ≡ can_write_cells (map view rest.now)) }
+pub fn can_write_note(alloc: Global, rest: &[Value<'_>]) -> Result<OrRefusal<Note>, NoMem>
+    ensures { IfOk result (λ note. note ≡ can_write_cells (map value_data rest.now)) }
 {
     match rest {
         [path, more, permit] => {
@@ -78,8 +78,8 @@ pub fn can_write_note(alloc: Global, rest: &[Value]) -> Result<OrRefusal<Note>, 
 }
 
 /// Reads the note `["user",name,null|[number,home]]`. `rest` is what follows the tag.
-pub fn user_note(alloc: Global, rest: &[Value]) -> Result<OrRefusal<Note>, NoMem>
-    ensures { IfOk result (λ note. note ≡ user_note_cells (map view rest.now)) }
+pub fn user_note(alloc: Global, rest: &[Value<'_>]) -> Result<OrRefusal<Note>, NoMem>
+    ensures { IfOk result (λ note. note ≡ user_note_cells (map value_data rest.now)) }
 {
     match rest {
         [name, user] => {
@@ -94,8 +94,8 @@ pub fn user_note(alloc: Global, rest: &[Value]) -> Result<OrRefusal<Note>, NoMem
 }
 
 /// Reads the note `["var",name,null|value]` of a session. `rest` is what follows the tag.
-pub fn var_note(alloc: Global, sid: u32, rest: &[Value]) -> Result<OrRefusal<Note>, NoMem>
-    ensures { IfOk result (λ note. note ≡ var_cells sid (map view rest.now)) }
+pub fn var_note(alloc: Global, sid: u32, rest: &[Value<'_>]) -> Result<OrRefusal<Note>, NoMem>
+    ensures { IfOk result (λ note. note ≡ var_cells sid (map value_data rest.now)) }
 {
     match rest {
         [name, value] => {
@@ -110,8 +110,8 @@ pub fn var_note(alloc: Global, sid: u32, rest: &[Value]) -> Result<OrRefusal<Not
 }
 
 /// Reads the note `["cwd",path]` of a session. `rest` is what follows the tag.
-pub fn cwd_note(alloc: Global, sid: u32, rest: &[Value]) -> Result<OrRefusal<Note>, NoMem>
-    ensures { IfOk result (λ note. note ≡ cwd_cells sid (map view rest.now)) }
+pub fn cwd_note(alloc: Global, sid: u32, rest: &[Value<'_>]) -> Result<OrRefusal<Note>, NoMem>
+    ensures { IfOk result (λ note. note ≡ cwd_cells sid (map value_data rest.now)) }
 {
     match rest {
         [path] => match path_field(alloc, path)? {
@@ -123,8 +123,8 @@ pub fn cwd_note(alloc: Global, sid: u32, rest: &[Value]) -> Result<OrRefusal<Not
 }
 
 /// Reads the note `["status",n]` of a session. `rest` is what follows the tag.
-pub fn status_note(sid: u32, rest: &[Value]) -> OrRefusal<Note>
-    ensures { result ≡ status_cells sid (map view rest.now) }
+pub fn status_note(sid: u32, rest: &[Value<'_>]) -> OrRefusal<Note>
+    ensures { result ≡ status_cells sid (map value_data rest.now) }
 {
     match rest {
         [status] => {

@@ -1,6 +1,6 @@
 //! Reads the fields of notes: paths, nodes, listings, users and variables.
 ghost use Rattle.std.specs.Prelude.{◌≡◌, IfOk, map, true};
-ghost use Rattle.serde_json.specs.View.{view};
+ghost use Rattle.retro_value.specs.Borrowed.{value_data};
 ghost use Rattle.retro_json.specs.ReadsAs.{seen};
 ghost use Rattle.retro_json.specs.Shape.{text_in};
 ghost use Rattle.retro_json.specs.PathText.{is_written_name};
@@ -17,26 +17,27 @@ use crate::reading::hex_text::bytes_in;
 use crate::reading::path::{is_written_name, path_in};
 use crate::reading::shape::{cells, text, u32_in};
 use crate::reading::worst::{OrRefusal, with_item};
+use json::Value;
 use retro_tree::{
     Bytes, FILE_LIMIT, Kind, Listing, Name, NoMem, Node, Path, Permit, Text, User, VALUE_LIMIT,
     VarName,
 };
-use serde_json::Value;
+use retro_value::is_null;
 use std::alloc::Global;
 
 /// Returns `None` if the value is `null`, whatever `field` is, and otherwise what `field` holds.
-pub fn or_null<T: Drop>(value: &Value, field: OrRefusal<T>) -> OrRefusal<Option<T>>
-    ensures { result ≡ or_null (λ _. field) (view value.now) }
+pub fn or_null<T: Drop>(value: &Value<'_>, field: OrRefusal<T>) -> OrRefusal<Option<T>>
+    ensures { result ≡ or_null (λ _. field) (value_data value.now) }
 {
-    if value.is_null() {
+    if is_null(value) {
         return Ok(None);
     }
     Ok(Some(field?))
 }
 
 /// Reads a text of any length.
-pub fn text_field(alloc: Global, value: &Value) -> Result<OrRefusal<Text>, NoMem>
-    ensures { IfOk result (λ text. text ≡ text_in Lines (view value.now)) }
+pub fn text_field(alloc: Global, value: &Value<'_>) -> Result<OrRefusal<Text>, NoMem>
+    ensures { IfOk result (λ text. text ≡ text_in Lines (value_data value.now)) }
 {
     match text(Part::Lines, value) {
         Ok(text) => Ok(Ok(Text::of(String::from_str(alloc, text)?))),
@@ -45,8 +46,8 @@ pub fn text_field(alloc: Global, value: &Value) -> Result<OrRefusal<Text>, NoMem
 }
 
 /// Reads bytes from a text of hexadecimal digits of either case.
-pub fn hex_field(alloc: Global, value: &Value) -> Result<OrRefusal<Bytes>, NoMem>
-    ensures { IfOk result (λ bytes. bytes ≡ hex_field (view value.now)) }
+pub fn hex_field(alloc: Global, value: &Value<'_>) -> Result<OrRefusal<Bytes>, NoMem>
+    ensures { IfOk result (λ bytes. bytes ≡ hex_field (value_data value.now)) }
 {
     match text(Part::Lines, value) {
         Ok(text) => Ok(bytes_in(alloc, text)?.ok_or(Refusal::BadHex)),
@@ -55,15 +56,15 @@ pub fn hex_field(alloc: Global, value: &Value) -> Result<OrRefusal<Bytes>, NoMem
 }
 
 /// Reads a path.
-pub fn path_field(alloc: Global, value: &Value) -> Result<OrRefusal<Path>, NoMem>
-    ensures { IfOk result (λ path. path ≡ path_field (view value.now)) }
+pub fn path_field(alloc: Global, value: &Value<'_>) -> Result<OrRefusal<Path>, NoMem>
+    ensures { IfOk result (λ path. path ≡ path_field (value_data value.now)) }
 {
     path_in(alloc, Part::Lines, value)
 }
 
 /// Returns the text of a value if it may be written as a name in a path.
-fn written_name(value: &Value) -> OrRefusal<&str>
-    ensures value { seen (λ name. name.now) result ≡ written_name (view value.now) }
+fn written_name<'a>(value: &Value<'a>) -> OrRefusal<&'a str>
+    ensures value { seen (λ name. name.now) result ≡ written_name (value_data value.now) }
     ensures written { IfOk result (λ name. is_written_name name.now ≡ true) }
 {
     let name = text(Part::Lines, value)?;
@@ -76,8 +77,8 @@ fn written_name(value: &Value) -> OrRefusal<&str>
 
 /// Reads a name of a listing.
 #[tactic(auto, using(crate::proofs::Names::name_fits))]
-fn name_field(alloc: Global, value: &Value) -> Result<OrRefusal<Name>, NoMem>
-    ensures { IfOk result (λ name. name ≡ name_field (view value.now)) }
+fn name_field(alloc: Global, value: &Value<'_>) -> Result<OrRefusal<Name>, NoMem>
+    ensures { IfOk result (λ name. name ≡ name_field (value_data value.now)) }
 {
     match written_name(value) {
         Ok(name) => match Name::of(String::from_str(alloc, name)?) {
@@ -89,9 +90,9 @@ fn name_field(alloc: Global, value: &Value) -> Result<OrRefusal<Name>, NoMem>
 }
 
 /// Reads names of a listing, or returns their worst refusal.
-fn read_names(alloc: Global, items: &[Value]) -> Result<OrRefusal<Vec<Name>>, NoMem>
+fn read_names(alloc: Global, items: &[Value<'_>]) -> Result<OrRefusal<Vec<Name>>, NoMem>
     ensures { IfOk result (λ names. seen (λ v. v.items) names
-        ≡ every name_field (map view items.now)) }
+        ≡ every name_field (map value_data items.now)) }
 {
     let mut names = Ok(Vec::new(alloc));
     for item in items {
@@ -103,8 +104,8 @@ fn read_names(alloc: Global, items: &[Value]) -> Result<OrRefusal<Vec<Name>>, No
 
 /// Reads `[name,..]`: the names in a directory, in any order.
 #[tactic(auto, unfolding(crate::specs::LogFields::listing_field))]
-pub fn listing_field(alloc: Global, value: &Value) -> Result<OrRefusal<Listing>, NoMem>
-    ensures { IfOk result (λ names. names ≡ listing_field (view value.now)) }
+pub fn listing_field(alloc: Global, value: &Value<'_>) -> Result<OrRefusal<Listing>, NoMem>
+    ensures { IfOk result (λ names. names ≡ listing_field (value_data value.now)) }
 {
     let items = match cells(Part::Lines, value) {
         Ok(items) => items,
@@ -118,8 +119,8 @@ pub fn listing_field(alloc: Global, value: &Value) -> Result<OrRefusal<Listing>,
 
 /// Reads the kind of a node: `"missing"`, `"dir"` or `"file"`.
 #[tactic(auto, unfolding(crate::specs::LogFields::kind_field))]
-pub fn kind_field(value: &Value) -> OrRefusal<Kind>
-    ensures { result ≡ kind_field (view value.now) }
+pub fn kind_field(value: &Value<'_>) -> OrRefusal<Kind>
+    ensures { result ≡ kind_field (value_data value.now) }
 {
     match text(Part::Lines, value)? {
         "missing" => Ok(Kind::Missing),
@@ -131,8 +132,8 @@ pub fn kind_field(value: &Value) -> OrRefusal<Kind>
 
 /// Reads the answer to a query whether bytes can be written: `"yes"`, or why they can't.
 #[tactic(auto, unfolding(crate::specs::LogFields::permit_field))]
-pub fn permit_field(value: &Value) -> OrRefusal<Permit>
-    ensures { result ≡ permit_field (view value.now) }
+pub fn permit_field(value: &Value<'_>) -> OrRefusal<Permit>
+    ensures { result ≡ permit_field (value_data value.now) }
 {
     match text(Part::Lines, value)? {
         "yes" => Ok(Permit::Yes),
@@ -145,8 +146,8 @@ pub fn permit_field(value: &Value) -> OrRefusal<Permit>
 }
 
 /// Reads a file from its bytes in hexadecimal digits. Refuses a file over `FILE_LIMIT`.
-fn file_field(alloc: Global, value: &Value) -> Result<OrRefusal<Node>, NoMem>
-    ensures { IfOk result (λ node. node ≡ file_field (view value.now)) }
+fn file_field(alloc: Global, value: &Value<'_>) -> Result<OrRefusal<Node>, NoMem>
+    ensures { IfOk result (λ node. node ≡ file_field (value_data value.now)) }
 {
     match hex_field(alloc, value)? {
         Ok(bytes) => {
@@ -161,8 +162,8 @@ fn file_field(alloc: Global, value: &Value) -> Result<OrRefusal<Node>, NoMem>
 }
 
 /// Reads the node `["d"]` or `["f","hex"]`. `rest` is what follows the tag.
-fn tagged_node(alloc: Global, tag: &str, rest: &[Value]) -> Result<OrRefusal<Node>, NoMem>
-    ensures { IfOk result (λ node. node ≡ tagged_node tag.now (map view rest.now)) }
+fn tagged_node(alloc: Global, tag: &str, rest: &[Value<'_>]) -> Result<OrRefusal<Node>, NoMem>
+    ensures { IfOk result (λ node. node ≡ tagged_node tag.now (map value_data rest.now)) }
 {
     match rest {
         [] => {
@@ -184,8 +185,8 @@ fn tagged_node(alloc: Global, tag: &str, rest: &[Value]) -> Result<OrRefusal<Nod
 }
 
 /// Reads a node from the items of its array.
-fn node_of_cells(alloc: Global, cells: &[Value]) -> Result<OrRefusal<Node>, NoMem>
-    ensures { IfOk result (λ node. node ≡ node_cells (map view cells.now)) }
+fn node_of_cells(alloc: Global, cells: &[Value<'_>]) -> Result<OrRefusal<Node>, NoMem>
+    ensures { IfOk result (λ node. node ≡ node_cells (map value_data cells.now)) }
 {
     match cells {
         [] => Ok(Ok(Node::Missing)),
@@ -198,8 +199,8 @@ fn node_of_cells(alloc: Global, cells: &[Value]) -> Result<OrRefusal<Node>, NoMe
 
 /// Reads a node: `[]` for a missing one, `["d"]` for a directory, `["f","hex"]` for a file.
 #[tactic(auto, unfolding(crate::specs::LogFields::node_field))]
-pub fn node_field(alloc: Global, value: &Value) -> Result<OrRefusal<Node>, NoMem>
-    ensures { IfOk result (λ node. node ≡ node_field (view value.now)) }
+pub fn node_field(alloc: Global, value: &Value<'_>) -> Result<OrRefusal<Node>, NoMem>
+    ensures { IfOk result (λ node. node ≡ node_field (value_data value.now)) }
 {
     match cells(Part::Lines, value) {
         Ok(cells) => node_of_cells(alloc, cells),
@@ -208,8 +209,8 @@ pub fn node_field(alloc: Global, value: &Value) -> Result<OrRefusal<Node>, NoMem
 }
 
 /// Returns the number of a user and the text of the home directory, from the items of the array.
-fn user_parts(cells: &[Value]) -> OrRefusal<(u32, &str)>
-    ensures { user_cells (map view cells.now)
+fn user_parts<'a>(cells: &[Value<'a>]) -> OrRefusal<(u32, &'a str)>
+    ensures { user_cells (map value_data cells.now)
         ≡ seen (λ parts. record { number = parts.0; home = parts.1.now }) result }
 {
     match cells {
@@ -223,8 +224,8 @@ fn user_parts(cells: &[Value]) -> OrRefusal<(u32, &str)>
 
 /// Reads what the password file says of a user: `[number,home]`.
 #[tactic(auto, unfolding(crate::specs::LogFields::user_field))]
-pub fn user_field(alloc: Global, value: &Value) -> Result<OrRefusal<User>, NoMem>
-    ensures { IfOk result (λ user. user ≡ user_field (view value.now)) }
+pub fn user_field(alloc: Global, value: &Value<'_>) -> Result<OrRefusal<User>, NoMem>
+    ensures { IfOk result (λ user. user ≡ user_field (value_data value.now)) }
 {
     let cells = match cells(Part::Lines, value) {
         Ok(cells) => cells,
@@ -240,8 +241,8 @@ pub fn user_field(alloc: Global, value: &Value) -> Result<OrRefusal<User>, NoMem
 }
 
 /// Reads the name of a variable that a line may assign.
-pub fn var_field(alloc: Global, value: &Value) -> Result<OrRefusal<VarName>, NoMem>
-    ensures { IfOk result (λ name. name ≡ var_field (view value.now)) }
+pub fn var_field(alloc: Global, value: &Value<'_>) -> Result<OrRefusal<VarName>, NoMem>
+    ensures { IfOk result (λ name. name ≡ var_field (value_data value.now)) }
 {
     match text(Part::Lines, value) {
         Ok(text) => match VarName::of(alloc, text)? {
@@ -253,8 +254,8 @@ pub fn var_field(alloc: Global, value: &Value) -> Result<OrRefusal<VarName>, NoM
 }
 
 /// Reads the value of a variable. Refuses a value over `VALUE_LIMIT`.
-pub fn value_field(alloc: Global, value: &Value) -> Result<OrRefusal<Text>, NoMem>
-    ensures { IfOk result (λ text. text ≡ value_field (view value.now)) }
+pub fn value_field(alloc: Global, value: &Value<'_>) -> Result<OrRefusal<Text>, NoMem>
+    ensures { IfOk result (λ text. text ≡ value_field (value_data value.now)) }
 {
     match text(Part::Lines, value) {
         Ok(text) => {

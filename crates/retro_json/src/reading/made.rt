@@ -1,6 +1,6 @@
 //! Reads notes of changes: each is an array of a tag and the change's fields.
 ghost use Rattle.std.specs.Prelude.{◌≡◌, IfOk, map};
-ghost use Rattle.serde_json.specs.View.{view};
+ghost use Rattle.retro_value.specs.Borrowed.{value_data};
 ghost use Rattle.retro_json.specs.NotesPart.{grow_cells, put_cells, set_cwd_cells};
 ghost use Rattle.retro_json.specs.NotesPart.{set_status_cells, set_var_cells};
 
@@ -8,13 +8,13 @@ use crate::fault::{Part, Refusal};
 use crate::reading::fields::{hex_field, node_field, path_field, value_field, var_field};
 use crate::reading::shape::u8_in;
 use crate::reading::worst::{OrRefusal, both};
+use json::Value;
 use retro_tree::{Change, NoMem, Note};
-use serde_json::Value;
 use std::alloc::Global;
 
 /// Reads the note `["put",path,node]`. `rest` is what follows the tag.
-pub fn put_note(alloc: Global, rest: &[Value]) -> Result<OrRefusal<Note>, NoMem>
-    ensures { IfOk result (λ note. note ≡ put_cells (map view rest.now)) }
+pub fn put_note(alloc: Global, rest: &[Value<'_>]) -> Result<OrRefusal<Note>, NoMem>
+    ensures { IfOk result (λ note. note ≡ put_cells (map value_data rest.now)) }
 {
     match rest {
         [path, node] => match both(path_field(alloc, path)?, node_field(alloc, node)?) {
@@ -26,8 +26,8 @@ pub fn put_note(alloc: Global, rest: &[Value]) -> Result<OrRefusal<Note>, NoMem>
 }
 
 /// Reads the note `["grow",path,"hex"]`. `rest` is what follows the tag.
-pub fn grow_note(alloc: Global, rest: &[Value]) -> Result<OrRefusal<Note>, NoMem>
-    ensures { IfOk result (λ note. note ≡ grow_cells (map view rest.now)) }
+pub fn grow_note(alloc: Global, rest: &[Value<'_>]) -> Result<OrRefusal<Note>, NoMem>
+    ensures { IfOk result (λ note. note ≡ grow_cells (map value_data rest.now)) }
 {
     match rest {
         [path, hex] => match both(path_field(alloc, path)?, hex_field(alloc, hex)?) {
@@ -39,8 +39,8 @@ pub fn grow_note(alloc: Global, rest: &[Value]) -> Result<OrRefusal<Note>, NoMem
 }
 
 /// Reads the note `["setvar",name,value]` of a session. `rest` is what follows the tag.
-pub fn set_var_note(alloc: Global, sid: u32, rest: &[Value]) -> Result<OrRefusal<Note>, NoMem>
-    ensures { IfOk result (λ note. note ≡ set_var_cells sid (map view rest.now)) }
+pub fn set_var_note(alloc: Global, sid: u32, rest: &[Value<'_>]) -> Result<OrRefusal<Note>, NoMem>
+    ensures { IfOk result (λ note. note ≡ set_var_cells sid (map value_data rest.now)) }
 {
     match rest {
         [name, value] => match both(var_field(alloc, name)?, value_field(alloc, value)?) {
@@ -52,8 +52,8 @@ pub fn set_var_note(alloc: Global, sid: u32, rest: &[Value]) -> Result<OrRefusal
 }
 
 /// Reads the note `["setcwd",path]` of a session. `rest` is what follows the tag.
-pub fn set_cwd_note(alloc: Global, sid: u32, rest: &[Value]) -> Result<OrRefusal<Note>, NoMem>
-    ensures { IfOk result (λ note. note ≡ set_cwd_cells sid (map view rest.now)) }
+pub fn set_cwd_note(alloc: Global, sid: u32, rest: &[Value<'_>]) -> Result<OrRefusal<Note>, NoMem>
+    ensures { IfOk result (λ note. note ≡ set_cwd_cells sid (map value_data rest.now)) }
 {
     match rest {
         [path] => match path_field(alloc, path)? {
@@ -65,8 +65,8 @@ pub fn set_cwd_note(alloc: Global, sid: u32, rest: &[Value]) -> Result<OrRefusal
 }
 
 /// Reads the note `["setstatus",n]` of a session. `rest` is what follows the tag.
-pub fn set_status_note(sid: u32, rest: &[Value]) -> OrRefusal<Note>
-    ensures { result ≡ set_status_cells sid (map view rest.now) }
+pub fn set_status_note(sid: u32, rest: &[Value<'_>]) -> OrRefusal<Note>
+    ensures { result ≡ set_status_cells sid (map value_data rest.now) }
 {
     match rest {
         [status] => {

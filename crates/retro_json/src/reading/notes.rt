@@ -1,6 +1,6 @@
 //! Reads the notes of a line in a log.
 ghost use Rattle.std.specs.Prelude.{◌≡◌, IfOk, map};
-ghost use Rattle.serde_json.specs.View.{view};
+ghost use Rattle.retro_value.specs.Borrowed.{value_data};
 ghost use Rattle.retro_json.specs.ReadsAs.{seen};
 ghost use Rattle.retro_json.specs.Worst.{every};
 ghost use Rattle.retro_json.specs.NotesPart.{note_cells, note_of, notes_field, tagged_note};
@@ -12,14 +12,19 @@ use crate::reading::asked::{
 use crate::reading::made::{grow_note, put_note, set_cwd_note, set_status_note, set_var_note};
 use crate::reading::shape::{cells, text};
 use crate::reading::worst::{OrRefusal, with_item};
+use json::Value;
 use retro_tree::{NoMem, Note, Notes};
-use serde_json::Value;
 use std::alloc::Global;
 
 /// Reads the note of a session that has this tag. `rest` is what follows the tag.
 #[tactic(auto, unfolding(crate::specs::NotesPart::tagged_note))]
-fn tagged_note(alloc: Global, sid: u32, tag: &str, rest: &[Value]) -> Result<OrRefusal<Note>, NoMem>
-    ensures { IfOk result (λ note. note ≡ tagged_note sid tag.now (map view rest.now)) }
+fn tagged_note(
+    alloc: Global,
+    sid: u32,
+    tag: &str,
+    rest: &[Value<'_>],
+) -> Result<OrRefusal<Note>, NoMem>
+    ensures { IfOk result (λ note. note ≡ tagged_note sid tag.now (map value_data rest.now)) }
 {
     match tag {
         "kind" => kind_note(alloc, rest),
@@ -40,8 +45,8 @@ fn tagged_note(alloc: Global, sid: u32, tag: &str, rest: &[Value]) -> Result<OrR
 }
 
 /// Reads a note from the items of its array.
-fn note_of_cells(alloc: Global, sid: u32, cells: &[Value]) -> Result<OrRefusal<Note>, NoMem>
-    ensures { IfOk result (λ note. note ≡ note_cells sid (map view cells.now)) }
+fn note_of_cells(alloc: Global, sid: u32, cells: &[Value<'_>]) -> Result<OrRefusal<Note>, NoMem>
+    ensures { IfOk result (λ note. note ≡ note_cells sid (map value_data cells.now)) }
 {
     match cells {
         [] => Ok(Err(Refusal::WrongShape(Part::Lines))),
@@ -54,8 +59,8 @@ fn note_of_cells(alloc: Global, sid: u32, cells: &[Value]) -> Result<OrRefusal<N
 
 /// Reads a note of a session.
 #[tactic(auto, unfolding(crate::specs::NotesPart::note_of))]
-fn read_note(alloc: Global, sid: u32, value: &Value) -> Result<OrRefusal<Note>, NoMem>
-    ensures { IfOk result (λ note. note ≡ note_of sid (view value.now)) }
+fn read_note(alloc: Global, sid: u32, value: &Value<'_>) -> Result<OrRefusal<Note>, NoMem>
+    ensures { IfOk result (λ note. note ≡ note_of sid (value_data value.now)) }
 {
     match cells(Part::Lines, value) {
         Ok(cells) => note_of_cells(alloc, sid, cells),
@@ -65,9 +70,9 @@ fn read_note(alloc: Global, sid: u32, value: &Value) -> Result<OrRefusal<Note>, 
 
 /// Reads notes of a session, or returns their worst refusal.
 #[tactic(auto, using(crate::proofs::Worst::validating_starts))]
-fn read_items(alloc: Global, sid: u32, items: &[Value]) -> Result<OrRefusal<Vec<Note>>, NoMem>
+fn read_items(alloc: Global, sid: u32, items: &[Value<'_>]) -> Result<OrRefusal<Vec<Note>>, NoMem>
     ensures { IfOk result (λ notes. seen (λ v. v.items) notes
-        ≡ every (note_of sid) (map view items.now)) }
+        ≡ every (note_of sid) (map value_data items.now)) }
 {
     let mut notes = Ok(Vec::with_capacity(alloc, items.len())?);
     for item in items {
@@ -79,8 +84,8 @@ fn read_items(alloc: Global, sid: u32, items: &[Value]) -> Result<OrRefusal<Vec<
 
 /// Reads the notes of a line of this session, or returns their worst refusal.
 #[tactic(auto, unfolding(crate::specs::NotesPart::notes_field))]
-pub fn notes_field(alloc: Global, sid: u32, value: &Value) -> Result<OrRefusal<Notes>, NoMem>
-    ensures { IfOk result (λ notes. notes ≡ notes_field sid (view value.now)) }
+pub fn notes_field(alloc: Global, sid: u32, value: &Value<'_>) -> Result<OrRefusal<Notes>, NoMem>
+    ensures { IfOk result (λ notes. notes ≡ notes_field sid (value_data value.now)) }
 {
     let items = match cells(Part::Lines, value) {
         Ok(items) => items,

@@ -1,7 +1,7 @@
 //! Reads paths as documents write them: `/a/b`, and `/` for the root.
 ghost use Rattle.std.specs.Prelude.{◌≡◌, ◌==◌, map, IfOk, option_map, if◌then◌else◌};
 ghost use Rattle.std.specs.List.{list_all, slice_split};
-ghost use Rattle.serde_json.specs.View.{view};
+ghost use Rattle.retro_value.specs.Borrowed.{value_data};
 ghost use Rattle.retro_json.specs.PathText.{is_written_name, names_of_parts, path_in, path_of};
 ghost use Rattle.retro_tree.specs.Name.{AllNames};
 ghost use Rattle.retro_json.specs.NoNul.{have_no_nul};
@@ -10,8 +10,8 @@ ghost use Rattle.retro_json.specs.declared.fault.Refusal.TheVariants.{OverLimit,
 use crate::fault::{Part, Refusal};
 use crate::reading::shape::text;
 use crate::reading::worst::OrRefusal;
+use json::Value;
 use retro_tree::{NoMem, Path};
-use serde_json::Value;
 use std::alloc::Global;
 
 /// The byte before each name of a path.
@@ -112,8 +112,8 @@ fn path_of(alloc: Global, part: Part, names: &[&str]) -> Result<OrRefusal<Path>,
 
 /// Reads the path that a text names. `part` is the part of the document that a wrong shape names.
 #[tactic(auto, unfolding(crate::specs::PathText::path_in, crate::specs::PathText::names_in))]
-pub fn path_in(alloc: Global, part: Part, value: &Value) -> Result<OrRefusal<Path>, NoMem>
-    ensures { IfOk result (λ path. path ≡ path_in part (view value.now)) }
+pub fn path_in(alloc: Global, part: Part, value: &Value<'_>) -> Result<OrRefusal<Path>, NoMem>
+    ensures { IfOk result (λ path. path ≡ path_in part (value_data value.now)) }
 {
     let text = match text(part, value) {
         Ok(text) => text,

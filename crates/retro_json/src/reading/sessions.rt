@@ -1,26 +1,31 @@
 //! Reads the sessions of a document: a list of `[sid,cwd,status,[[name,value],..]]`.
-ghost use Rattle.std.specs.Prelude.{◌≡◌, map, IfOk, option_map, true};
+ghost use Rattle.std.specs.Prelude.{◌≡◌, ◌<◌, Err, None, Ok, Some, map, IfOk, option_map, true};
+ghost use Rattle.serde_json.specs.Data.{Data};
+ghost use Rattle.retro_value.specs.Left.{items_left, value_left};
+ghost use Rattle.retro_value.specs.declared.error.ReadError.TheVariants.{NotJson};
+ghost use Rattle.retro_json.specs.Rows.{IsReadOf, session_rows, sessions_of_all};
 ghost use Rattle.std.specs.Ordering.{nat_cmp};
 ghost use Rattle.std.specs.FinMap as map;
-ghost use Rattle.serde_json.specs.View.{view};
+ghost use Rattle.retro_value.specs.Borrowed.{value_data};
 ghost use Rattle.retro_tree.specs.Lawful.{is_lawful_tree};
 ghost use Rattle.retro_tree.specs.Limits.{are_lawful_sessions, values_fit};
 ghost use Rattle.retro_tree.specs.Order.{text_cmp};
 ghost use Rattle.retro_tree.specs.State.{put_session};
 ghost use Rattle.retro_json.specs.Keyed.{are_distinct, keys_of, map_of};
 ghost use Rattle.retro_json.specs.ReadsAs.{ReadsAs, seen};
-ghost use Rattle.retro_json.specs.SessionsPart.{row_cells, row_of, session_in, sessions_of};
+ghost use Rattle.retro_json.specs.SessionsPart.{row_cells, row_of, session_in};
 ghost use Rattle.retro_json.specs.SessionsPart.{sessions_of_rows, var_cells, var_of, vars_of};
 ghost use Rattle.retro_json.specs.SessionsPart.{vars_of_entries};
-ghost use Rattle.retro_json.specs.inner.Views.{row_view, session_view};
+ghost use Rattle.retro_json.specs.Views.{row_view, session_view};
 ghost use Rattle.retro_json.specs.Worst.{both, every};
 
 use crate::fault::{LogFault, Part, Refusal};
 use crate::reading::path::path_in;
 use crate::reading::shape::{cells, text, u8_in, u32_in};
 use crate::reading::worst::{OrRefusal, both, with_item};
+use json::{Reader, Value};
 use retro_tree::{NoMem, Path, State, Text, VALUE_LIMIT, VarName};
-use serde_json::Value;
+use retro_value::{ReadError, begins_array, next_item};
 use std::alloc::Global;
 use std::collections::{BTreeMap, BTreeSet};
 
@@ -45,8 +50,8 @@ pub struct Row {
 }
 
 /// Reads a variable from the items of its array.
-fn var_of_cells(alloc: Global, cells: &[Value]) -> Result<OrRefusal<(VarName, Text)>, NoMem>
-    ensures { IfOk result (λ var. var ≡ var_cells (map view cells.now)) }
+fn var_of_cells(alloc: Global, cells: &[Value<'_>]) -> Result<OrRefusal<(VarName, Text)>, NoMem>
+    ensures { IfOk result (λ var. var ≡ var_cells (map value_data cells.now)) }
 {
     match cells {
         [name, value] => match (text(Part::Sessions, name), text(Part::Sessions, value)) {
@@ -62,8 +67,8 @@ fn var_of_cells(alloc: Global, cells: &[Value]) -> Result<OrRefusal<(VarName, Te
 
 /// Reads a variable: `[name,value]`. The length of the value isn't tested.
 #[tactic(auto, unfolding(crate::specs::SessionsPart::var_of))]
-fn read_var(alloc: Global, value: &Value) -> Result<OrRefusal<(VarName, Text)>, NoMem>
-    ensures { IfOk result (λ var. var ≡ var_of (view value.now)) }
+fn read_var(alloc: Global, value: &Value<'_>) -> Result<OrRefusal<(VarName, Text)>, NoMem>
+    ensures { IfOk result (λ var. var ≡ var_of (value_data value.now)) }
 {
     match cells(Part::Sessions, value) {
         Ok(cells) => var_of_cells(alloc, cells),
@@ -73,8 +78,8 @@ fn read_var(alloc: Global, value: &Value) -> Result<OrRefusal<(VarName, Text)>, 
 
 /// Reads variables, or returns their worst refusal.
 #[tactic(auto, using(crate::proofs::Worst::validating_starts))]
-fn read_vars(alloc: Global, items: &[Value]) -> Result<OrRefusal<Vec<(VarName, Text)>>, NoMem>
-    ensures { IfOk result (λ vars. seen (λ v. v.items) vars ≡ every var_of (map view items.now)) }
+fn read_vars(alloc: Global, items: &[Value<'_>]) -> Result<OrRefusal<Vec<(VarName, Text)>>, NoMem>
+    ensures { IfOk result (λ vars. seen (λ v. v.items) vars ≡ every var_of (map value_data items.now)) }
 {
     let mut vars = Ok(Vec::new(alloc));
     for item in items {
@@ -139,9 +144,9 @@ fn fitting_map(
 
 /// Reads the variables of a session.
 #[tactic(auto, unfolding(crate::specs::SessionsPart::vars_of))]
-fn vars_in(alloc: Global, value: &Value) -> Result<OrRefusal<BTreeMap<VarName, Text>>, NoMem>
+fn vars_in(alloc: Global, value: &Value<'_>) -> Result<OrRefusal<BTreeMap<VarName, Text>>, NoMem>
     ensures { IfOk result (λ read. seen (λ values. map.from_entries values.entries) read
-        ≡ vars_of (view value.now)) }
+        ≡ vars_of (value_data value.now)) }
 {
     let items = match cells(Part::Sessions, value) {
         Ok(items) => items,
@@ -157,12 +162,12 @@ fn vars_in(alloc: Global, value: &Value) -> Result<OrRefusal<BTreeMap<VarName, T
 /// worst refusal.
 fn session_in(
     alloc: Global,
-    cwd: &Value,
-    status: &Value,
-    vars: &Value,
+    cwd: &Value<'_>,
+    status: &Value<'_>,
+    vars: &Value<'_>,
 ) -> Result<OrRefusal<SessionParts>, NoMem>
     ensures { IfOk result (λ session. seen session_view session
-        ≡ session_in (view cwd.now) (view status.now) (view vars.now)) }
+        ≡ session_in (value_data cwd.now) (value_data status.now) (value_data vars.now)) }
 {
     let cwd = path_in(alloc, Part::Sessions, cwd)?;
     let status = u8_in(Part::Sessions, status);
@@ -173,8 +178,8 @@ fn session_in(
 }
 
 /// Reads a row from the items of its array.
-fn row_of_cells(alloc: Global, cells: &[Value]) -> Result<OrRefusal<Row>, NoMem>
-    ensures { IfOk result (λ row. seen row_view row ≡ row_cells (map view cells.now)) }
+fn row_of_cells(alloc: Global, cells: &[Value<'_>]) -> Result<OrRefusal<Row>, NoMem>
+    ensures { IfOk result (λ row. seen row_view row ≡ row_cells (map value_data cells.now)) }
 {
     match cells {
         [sid, cwd, status, vars] => match u32_in(Part::Sessions, sid) {
@@ -191,8 +196,8 @@ fn row_of_cells(alloc: Global, cells: &[Value]) -> Result<OrRefusal<Row>, NoMem>
 /// Reads a row. A fault of the session itself is kept in the row, so that the rows' numbers can be
 /// compared first.
 #[tactic(auto, unfolding(crate::specs::SessionsPart::row_of))]
-fn read_row(alloc: Global, value: &Value) -> Result<OrRefusal<Row>, NoMem>
-    ensures { IfOk result (λ row. seen row_view row ≡ row_of (view value.now)) }
+fn read_row(alloc: Global, value: &Value<'_>) -> Result<OrRefusal<Row>, NoMem>
+    ensures { IfOk result (λ row. seen row_view row ≡ row_of (value_data value.now)) }
 {
     match cells(Part::Sessions, value) {
         Ok(cells) => row_of_cells(alloc, cells),
@@ -200,18 +205,50 @@ fn read_row(alloc: Global, value: &Value) -> Result<OrRefusal<Row>, NoMem>
     }
 }
 
-/// Reads rows, or returns the worst refusal of their shapes and numbers.
-#[tactic(auto, using(crate::proofs::Worst::validating_starts))]
-fn read_rows(alloc: Global, items: &[Value]) -> Result<OrRefusal<Vec<Row>>, NoMem>
-    ensures { IfOk result (λ rows. seen (λ v. map row_view v.items) rows
-        ≡ every row_of (map view items.now)) }
+/// Reads a row, and frees its value.
+fn take_row(alloc: Global, value: Value<'_>) -> Result<OrRefusal<Row>, NoMem>
+    ensures { IfOk result (λ row. seen row_view row ≡ row_of (value_data value.entry)) }
+{
+    read_row(alloc, &value)
+}
+
+/// Reads the rows that are left of an array, or returns the worst refusal of their shapes and
+/// numbers.
+fn read_rows(
+    alloc: Global,
+    reader: &mut Reader<'_>,
+    depth: usize,
+) -> Result<OrRefusal<Vec<Row>>, ReadError>
+    ensures value { IfOk result (λ rows.
+        IsReadOf row_of depth reader.old reader.new (seen (λ v. map row_view v.items) rows)) }
+    ensures not_json { result ≡ Err NotJson → items_left depth reader.old ≡ None }
 {
     let mut rows = Ok(Vec::new(alloc));
-    for item in items {
-        let row = read_row(alloc, item)?;
+    'items: while let Some(item) = next_item(alloc, reader, depth)? {
+        let row = take_row(alloc, item)?;
         rows = with_item(rows, row)?;
     }
     Ok(rows)
+}
+
+/// Reads the rows of sessions from the next value of a text, one after another, or returns the
+/// worst refusal of their shapes and numbers.
+pub fn read_session_rows(
+    alloc: Global,
+    reader: &mut Reader<'_>,
+    depth: usize,
+) -> Result<OrRefusal<Vec<Row>>, ReadError>
+    requires { 0 < depth }
+    ensures value { IfOk result (λ rows. (d : Data)
+        × (value_left depth reader.old ≡ Some (d, reader.new))
+        × (seen (λ v. map row_view v.items) rows ≡ session_rows d)) }
+    ensures not_json { result ≡ Err NotJson → value_left depth reader.old ≡ None }
+{
+    if begins_array(alloc, reader, depth)? {
+        read_rows(alloc, reader, depth - 1)
+    } else {
+        Ok(Err(Refusal::WrongShape(Part::Sessions)))
+    }
 }
 
 /// Returns whether all rows have different numbers.
@@ -260,18 +297,17 @@ fn state_with_rows(state: State, rows: Vec<Row>) -> Result<OrRefusal<State>, NoM
     Ok(whole)
 }
 
-/// Adds the sessions that a value lists to a state without sessions, and returns that state.
-/// Refuses a wrong shape or a number that is listed twice, and then a session that breaks a limit.
-/// The tree is unchanged.
-#[tactic(auto, unfolding(crate::specs::SessionsPart::sessions_of))]
-pub fn read_sessions(alloc: Global, state: State, value: &Value) -> Result<State, LogFault>
+/// Adds the sessions of these rows to a state without sessions, and returns that state. Refuses a
+/// number that is listed twice, and then a session that breaks a limit. The tree is unchanged.
+pub fn with_sessions(alloc: Global, state: State, rows: Vec<Row>) -> Result<State, LogFault>
     requires none { state.sessions ≡ map.empty }
     requires tree { is_lawful_tree state.tree ≡ true }
-    ensures value { ReadsAs (λ s. s.sessions) result (sessions_of (view value.now)) }
+    requires read { (d : Data) × (Ok (map row_view rows.items) ≡ session_rows d) }
+    ensures value { ReadsAs (λ s. s.sessions) result
+        (sessions_of_all (map row_view rows.items)) }
     ensures tree { IfOk result (λ s. s.tree ≡ state.tree) }
     ensures lawful { IfOk result (λ s. are_lawful_sessions s.sessions ≡ true) }
 {
-    let rows = read_rows(alloc, cells(Part::Sessions, value)?)??;
     if !are_distinct(alloc, rows.as_slice())? {
         return Err(LogFault::Refused(Refusal::WrongShape(Part::Sessions)));
     }

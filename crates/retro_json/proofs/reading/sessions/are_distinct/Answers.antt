@@ -3,7 +3,7 @@ use Rattle.std.specs.BTreeSet.{contains}
 use Rattle.std.specs.Ordering.{nat_cmp}
 use Rattle.std.proofs.Math.ListN.{drop_of_length-le}
 use Rattle.retro_json.specs.Keyed.{keys_of}
-use Rattle.retro_json.specs.inner.Views.{row_view}
+use Rattle.retro_json.specs.Views.{row_view}
 use Rattle.retro_json.proofs.Each.{at_item}
 use Rattle.retro_json.proofs.Keyed.{gathered_all, gathered_twice, gathering_goes_on, gathering_starts}
 use Rattle.retro_json.proofs.reading.sessions.are_distinct.Goals as goal

@@ -1,6 +1,6 @@
 use Rattle.std.proofs.Common.{map, drop}
 use Rattle.retro_json.specs.Keyed.{keys_of}
-use Rattle.retro_json.specs.inner.Views.{row_view}
+use Rattle.retro_json.specs.Views.{row_view}
 use Rattle.retro_json.proofs.Keyed.{IsGathered}
 use Rattle.retro_json.proofs.reading.sessions.are_distinct.Given as goal
 

@@ -1,22 +1,34 @@
-use Rattle.std.proofs.Common.{map}
-use Rattle.serde_json.specs.View.{view}
+use Rattle.std.proofs.Common.{◌≡◌, arith, map}
+use Rattle.json.specs.Json.{parse_map}
+use Rattle.serde_json.specs.Data.{item, no_items}
+use Rattle.retro_value.specs.Borrowed.{value_data}
+use Rattle.retro_value.specs.Left.{items_left}
 use Rattle.retro_json.specs.ReadsAs.{seen}
 use Rattle.retro_json.specs.SessionsPart.{row_of}
-use Rattle.retro_json.specs.inner.Views.{row_view}
-use Rattle.retro_json.proofs.Worst.{validating_goes_on, validating_done, seen_item}
+use Rattle.retro_json.specs.Views.{row_view}
+use Rattle.retro_json.proofs.Rows.{rows_start, rows_go_on, rows_refused, rows_end}
+use Rattle.retro_json.proofs.Worst.{seen_item}
 use Rattle.retro_json.proofs.reading.sessions.read_rows.Goals as goal
 
-pub loop-item-preserved : goal.loop-item-preserved
-loop-item-preserved c =
-    let rows = seen (λ v. map row_view v.items) c.loop-item.rows in
-    let more = seen (λ v. map row_view v.items) c.in_ok-rows.rows in
-    let added =
-    seen_item (λ v. v.items) row_view c.loop-item.rows c.in_ok-rows.rows c.in_ok-row.row c.in_ok-rows.ensures in
-    validating_goes_on row_of view rows more c.args.items.now c.loop-item.item-index _ c.item-item.result
-    (seen row_view c.in_ok-row.row) c.loop-item-test.true c.item-item.is c.in_ok-row.ensures added
-    c.loop-item.invariant
+pub items-init : goal.items-init
+items-init c = rw c.new.ensures.items (rows_start row_of c.args.depth c.args.reader.now)
 
-pub returns : goal.returns
-returns c =
-    validating_done row_of view (seen (λ v. map row_view v.items) c.loop-item.rows) c.args.items.now c.loop-item.item-index
-    c.loop-item-test.false c.loop-item.invariant
+pub returns-in_err-item-clause-not_json : goal.returns-in_err-item-clause-not_json
+returns-in_err-item-clause-not_json c refused =
+    rows_refused row_of c.args.depth c.args.reader.now c.items.reader (seen (λ v. map row_view v.items) c.items.rows)
+    (c.next_item.ensures.not_json (grind arith)) c.items.invariant
+
+pub items-preserved : goal.items-preserved
+items-preserved c =
+    let here : items_left c.args.depth c.items.reader
+    ≡ parse_map (item (value_data c.in-Some.item)) (items_left c.args.depth c.next_item.new.reader) = grind arith in
+    let added =
+    seen_item (λ v. v.items) row_view c.items.rows c.in_ok-rows.rows c.in_ok-row.row c.in_ok-rows.ensures in
+    rows_go_on row_of c.args.depth c.args.reader.now c.items.reader c.next_item.new.reader
+    (seen (λ v. map row_view v.items) c.items.rows) (seen (λ v. map row_view v.items) c.in_ok-rows.rows) (value_data c.in-Some.item)
+    (seen row_view c.in_ok-row.row) here c.in_ok-row.ensures added c.items.invariant
+
+pub returns-clause-value : goal.returns-clause-value
+returns-clause-value c =
+    rows_end row_of c.args.depth c.args.reader.now c.items.reader c.next_item.new.reader
+    (seen (λ v. map row_view v.items) c.items.rows) (grind arith) c.items.invariant

@@ -1,7 +1,7 @@
 use Rattle.std.proofs.Common.{arith, ap, map, rules, subst, [], Ok}
 use Rattle.std.proofs.lemmas.List.{nil_from_length}
 use Rattle.std.specs.Vec.Iter.{into_iter_items}
-use Rattle.retro_json.specs.inner.Views.{row_view}
+use Rattle.retro_json.specs.Views.{row_view}
 use Rattle.retro_json.specs.Worst.{every}
 use Rattle.retro_json.proofs.SessionRows.{IsAdded, adding_ends, adding_goes_on, tree_stays}
 use Rattle.retro_json.proofs.reading.sessions.state_with_rows.Goals as goal

@@ -1,6 +1,6 @@
 use Rattle.std.proofs.Common.{map}
 use Rattle.std.specs.Vec.Iter.{into_iter_items}
-use Rattle.retro_json.specs.inner.Views.{row_view}
+use Rattle.retro_json.specs.Views.{row_view}
 use Rattle.retro_json.proofs.SessionRows.{IsAdded}
 use Rattle.retro_json.proofs.reading.sessions.state_with_rows.Given as goal
 
