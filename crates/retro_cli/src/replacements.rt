@@ -1,24 +1,23 @@
 //! Lines whose text is replaced, on the command line: a JSON list of `[number,"text"]` (RFC 8259).
-ghost use Rattle.std.specs.Prelude.{◌≡◌, map, ok_or};
-ghost use Rattle.serde_json.specs.Read.{read};
-ghost use Rattle.serde_json.specs.View.{view};
+ghost use Rattle.std.specs.Prelude.{◌≡◌, map};
+ghost use Rattle.retro_value.specs.Borrowed.{value_data};
 ghost use Rattle.retro_json.specs.ReadsAs.{ReadsAs};
 ghost use Rattle.retro_json.specs.Steps.{each};
-ghost use Rattle.retro_json.specs.declared.fault.Refusal.TheVariants.{NotJson};
 ghost use Rattle.retro_cli.specs.Replacements.{replacement_of, replacement_with, replacements_in};
 ghost use Rattle.retro_cli.specs.Replacements.{replacements_of, replacements_read};
 ghost use Rattle.retro_cli.specs.Words.{Means};
 
 use crate::words::WordsFault;
+use json::{Scratch, Value};
 use retro_json::{LogFault, Part, Refusal, cells, text, u32_in};
 use retro_keep::Edit;
 use retro_tree::Text;
-use serde_json::Value;
+use retro_value::read_whole;
 use std::alloc::Global;
 
 /// Reads a replacement from its number and its text.
-fn replacement_with(alloc: Global, number: &Value, line: &Value) -> Result<Edit, LogFault>
-    ensures { ReadsAs (λ edit. edit) result (replacement_with (view number.now) (view line.now)) }
+fn replacement_with(alloc: Global, number: &Value<'_>, line: &Value<'_>) -> Result<Edit, LogFault>
+    ensures { ReadsAs (λ edit. edit) result (replacement_with (value_data number.now) (value_data line.now)) }
 {
     let number = u32_in(Part::Document, number)?;
     let line = text(Part::Document, line)?;
@@ -28,8 +27,8 @@ fn replacement_with(alloc: Global, number: &Value, line: &Value) -> Result<Edit,
 
 /// Reads a replacement: `[number,"text"]`.
 #[tactic(auto, unfolding(crate::specs::Replacements::replacement_of))]
-fn replacement_of(alloc: Global, value: &Value) -> Result<Edit, LogFault>
-    ensures { ReadsAs (λ edit. edit) result (replacement_of (view value.now)) }
+fn replacement_of(alloc: Global, value: &Value<'_>) -> Result<Edit, LogFault>
+    ensures { ReadsAs (λ edit. edit) result (replacement_of (value_data value.now)) }
 {
     match cells(Part::Document, value)? {
         [number, line] => replacement_with(alloc, number, line),
@@ -38,9 +37,9 @@ fn replacement_of(alloc: Global, value: &Value) -> Result<Edit, LogFault>
 }
 
 /// Reads replacements, or returns the refusal of the first that is refused.
-fn read_items(alloc: Global, items: &[Value]) -> Result<Vec<Edit>, LogFault>
+fn read_items(alloc: Global, items: &[Value<'_>]) -> Result<Vec<Edit>, LogFault>
     ensures { ReadsAs (λ edits. map (λ edit. edit) edits.items) result
-        (each replacement_of (map view items.now)) }
+        (each replacement_of (map value_data items.now)) }
 {
     let mut edits = Vec::new(alloc);
     for item in items {
@@ -51,21 +50,10 @@ fn read_items(alloc: Global, items: &[Value]) -> Result<Vec<Edit>, LogFault>
 
 /// Reads a list of replacements.
 #[tactic(auto, using(crate::proofs::Edits::map_same), unfolding(crate::specs::Replacements::replacements_of))]
-fn read_list(alloc: Global, value: &Value) -> Result<Vec<Edit>, LogFault>
-    ensures { ReadsAs (λ edits. edits.items) result (replacements_of (view value.now)) }
+fn read_list(alloc: Global, value: &Value<'_>) -> Result<Vec<Edit>, LogFault>
+    ensures { ReadsAs (λ edits. edits.items) result (replacements_of (value_data value.now)) }
 {
     read_items(alloc, cells(Part::Document, value)?)
-}
-
-/// Parses a text as JSON.
-fn parse(alloc: Global, json: &str) -> Result<Value, LogFault>
-    ensures { ReadsAs view result (ok_or (read json.now) NotJson) }
-{
-    match Value::from_str(alloc, json) {
-        Ok(value) => Ok(value),
-        Err(error) if error.is_memory() => Err(LogFault::NoMem),
-        Err(_) => Err(LogFault::Refused(Refusal::NotJson)),
-    }
 }
 
 /// Parses a text as a list of replacements.
@@ -73,7 +61,9 @@ fn parse(alloc: Global, json: &str) -> Result<Value, LogFault>
 fn read_replacements(alloc: Global, json: &str) -> Result<Vec<Edit>, LogFault>
     ensures { ReadsAs (λ edits. edits.items) result (replacements_read json.now) }
 {
-    read_list(alloc, &parse(alloc, json)?)
+    let mut scratch = Scratch::new(alloc);
+    let value = read_whole(alloc, json, &mut scratch)?;
+    read_list(alloc, &value)
 }
 
 /// Returns the replacements that a text lists, in order. Fails with `BadWords` for any other text.

@@ -1,4 +1,10 @@
 pub mod Json
+pub mod Puts
+pub mod Parts
+pub mod OfParts
+pub mod Texts
+pub mod Lines
+pub mod Items
 pub mod Fits
 pub mod Changes
 pub mod LogTrip

@@ -4,3 +4,4 @@ pub mod Allowed
 pub mod Document
 pub mod LogText
 pub mod RoundTrip
+pub mod inner

@@ -1,19 +1,21 @@
 //! Reads the document of a log.
-ghost use Rattle.std.specs.Prelude.{◌≡◌, ◌≤◌, IfOk, IsTrue, Ok};
+ghost use Rattle.std.specs.Prelude.{◌≡◌, ◌≤◌, IsTrue};
 ghost use Rattle.std.specs.List.{list_all};
-ghost use Rattle.serde_json.specs.View.{view};
+ghost use Rattle.serde_json.specs.Data.{Members};
 ghost use Rattle.retro_tree.specs.Lawful.{IsLawful};
 ghost use Rattle.retro_keep.specs.Recording.{is_line_of_kind, is_own_line};
 ghost use Rattle.retro_json.specs.ReadsAs.{ReadsAs};
-ghost use Rattle.retro_log.specs.Document.{log_in, log_of, log_parts_of, recording_of};
+ghost use Rattle.retro_log.specs.Document.{log_in, recording_of};
+ghost use Rattle.retro_log.specs.inner.Parts.{from_of_parts, log_of_parts, log_parts};
+ghost use Rattle.retro_log.specs.inner.PartsView.{parts_view};
 
-use crate::reading::document::{json, read_first, take_member};
-use crate::reading::log_form::read_from;
-use crate::reading::log_lines::read_log_lines;
-use retro_json::LogFault;
+use crate::reading::document::state_of_rows;
+use crate::reading::log_parts::read_log_parts;
+use crate::reading::parts::{Parts, part_at};
+use retro_json::{LogFault, OrRefusal, Part, Refusal};
 use retro_keep::{Noted, Recording};
 use retro_tree::State;
-use serde_json::Value;
+use simdutf8::basic::from_utf8;
 use std::alloc::Global;
 
 /// Returns the recording of a lawful state, the line at which it begins, and lines. Refuses numbers
@@ -35,19 +37,41 @@ fn recording_of(
     Ok(Recording::of_lawful(alloc, first, from, lines)?)
 }
 
-/// Reads the first state of a log, which is lawful, and its lines.
-#[tactic(auto, unfolding(crate::specs::Document::log_parts_of))]
-fn read_parts(alloc: Global, value: Value) -> Result<(State, Vec<(u32, Noted)>), LogFault>
-    ensures value { ReadsAs (λ parts. (parts.0, parts.1.items)) result
-        (log_parts_of (view value)) }
-    ensures lawful { IfOk result (λ parts. IsLawful parts.0) }
-    ensures own { IfOk result (λ parts. IsTrue (list_all is_own_line parts.1.items)) }
-    ensures of_kind { IfOk result (λ parts. IsTrue (list_all is_line_of_kind parts.1.items)) }
+/// Returns the line at which a log of a version begins: version 1 doesn't say it, and version 2
+/// does.
+fn from_of_version(version: u64, from: Option<OrRefusal<u32>>) -> OrRefusal<u32>
+    ensures { result ≡ from_of_parts version from }
 {
-    let mut value = value;
-    let first = read_first(alloc, &value)?;
-    let lines = read_log_lines(alloc, take_member(&mut value, "lines")?)??;
-    Ok((first, lines))
+    match (version, from) {
+        (1, None) => Ok(1),
+        (1, Some(_)) => Err(Refusal::UnknownKey),
+        (2, Some(from)) => from,
+        (2, None) => Err(Refusal::WrongShape(Part::Document)),
+        _ => Err(Refusal::BadVersion),
+    }
+}
+
+/// Returns the recording of a log's parts, or the first refusal.
+fn recording_of_parts(alloc: Global, parts: Parts<(u32, Noted)>) -> Result<Recording, LogFault>
+    requires { (ms : Members) × (parts_view parts ≡ log_parts ms) }
+    ensures { ReadsAs (λ r. r) result (log_of_parts (parts_view parts)) }
+{
+    parts.fit()?;
+    let Parts {
+        version,
+        from,
+        tree,
+        sessions,
+        lines,
+        ..
+    } = parts;
+    let number = part_at(version)?;
+    let begin = from_of_version(number, from)?;
+    let rows = part_at(tree)?;
+    let others = part_at(sessions);
+    let first = state_of_rows(alloc, rows, others)?;
+    let noted = part_at(lines)?;
+    recording_of(alloc, first, begin, noted)
 }
 
 /// Returns the recording that a log holds, of version 1 or 2, or the first refusal in this order:
@@ -65,12 +89,15 @@ fn read_parts(alloc: Global, value: Value) -> Result<(State, Vec<(u32, Noted)>),
 ///
 /// The recording begins at `from`, and that of a log of version 1 at line 1. Noted answers aren't
 /// compared with the states.
-#[tactic(auto, unfolding(crate::specs::Document::log_in, crate::specs::Document::log_of))]
+#[tactic(auto, unfolding(crate::specs::Document::log_in))]
 pub fn read_log(alloc: Global, bytes: &[u8]) -> Result<Recording, LogFault>
     ensures { ReadsAs (λ recording. recording) result (log_in bytes.now) }
 {
-    let value = json(alloc, bytes)?;
-    let from = read_from(&value)?;
-    let (first, lines) = read_parts(alloc, value)?;
-    recording_of(alloc, first, from, lines)
+    let Ok(text) = from_utf8(bytes) else {
+        return Err(LogFault::Refused(Refusal::NotJson));
+    };
+    match read_log_parts(alloc, text)? {
+        Some(parts) => recording_of_parts(alloc, parts),
+        None => Err(LogFault::Refused(Refusal::WrongShape(Part::Document))),
+    }
 }

@@ -1,16 +1,20 @@
 //! Reads the lines of a log: a list of `[number,sid,text,notes,"hex"]`.
-ghost use Rattle.std.specs.Prelude.{◌≡◌, IfOk, map};
-ghost use Rattle.serde_json.specs.View.{view};
+ghost use Rattle.std.specs.Prelude.{◌≡◌, ◌<◌, Err, IfOk, None, Some, map};
+ghost use Rattle.serde_json.specs.Data.{Data};
+ghost use Rattle.retro_value.specs.Borrowed.{value_data};
+ghost use Rattle.retro_value.specs.Left.{items_left, value_left};
+ghost use Rattle.retro_value.specs.declared.error.ReadError.TheVariants.{NotJson};
+ghost use Rattle.retro_json.specs.Rows.{IsReadOf};
 ghost use Rattle.retro_json.specs.ReadsAs.{seen};
-ghost use Rattle.retro_json.specs.Worst.{every};
 ghost use Rattle.retro_log.specs.LogLinesPart.{log_line_cells, log_line_of, log_lines_of};
 ghost use Rattle.retro_log.specs.LogLinesPart.{with_run};
 
 use crate::reading::lines::read_head;
+use json::{Reader, Value};
 use retro_json::{OrRefusal, Part, Refusal, both, cells, hex_field, notes_field, with_item};
 use retro_keep::{Noted, ScriptLine};
 use retro_tree::NoMem;
-use serde_json::Value;
+use retro_value::{ReadError, begins_array, next_item};
 use std::alloc::Global;
 
 /// Reads the notes and the output of a line, and returns them with the number, the session and the
@@ -18,11 +22,11 @@ use std::alloc::Global;
 fn with_run(
     alloc: Global,
     head: ScriptLine,
-    notes: &Value,
-    output: &Value,
+    notes: &Value<'_>,
+    output: &Value<'_>,
 ) -> Result<OrRefusal<(u32, Noted)>, NoMem>
     ensures { IfOk result (λ line. line
-        ≡ with_run head (view notes.now) (view output.now)) }
+        ≡ with_run head (value_data notes.now) (value_data output.now)) }
 {
     let ScriptLine { number, sid, text } = head;
     match both(notes_field(alloc, sid, notes)?, hex_field(alloc, output)?) {
@@ -40,8 +44,8 @@ fn with_run(
 }
 
 /// Reads a line from the items of its array.
-fn line_of_cells(alloc: Global, cells: &[Value]) -> Result<OrRefusal<(u32, Noted)>, NoMem>
-    ensures { IfOk result (λ line. line ≡ log_line_cells (map view cells.now)) }
+fn line_of_cells(alloc: Global, cells: &[Value<'_>]) -> Result<OrRefusal<(u32, Noted)>, NoMem>
+    ensures { IfOk result (λ line. line ≡ log_line_cells (map value_data cells.now)) }
 {
     match cells {
         [number, sid, text, notes, output] => match read_head(alloc, number, sid, text)? {
@@ -54,8 +58,8 @@ fn line_of_cells(alloc: Global, cells: &[Value]) -> Result<OrRefusal<(u32, Noted
 
 /// Reads a line: `[number,sid,text,notes,"hex"]`.
 #[tactic(auto, unfolding(crate::specs::LogLinesPart::log_line_of))]
-fn read_line(alloc: Global, value: &Value) -> Result<OrRefusal<(u32, Noted)>, NoMem>
-    ensures { IfOk result (λ line. line ≡ log_line_of (view value.now)) }
+fn read_line(alloc: Global, value: &Value<'_>) -> Result<OrRefusal<(u32, Noted)>, NoMem>
+    ensures { IfOk result (λ line. line ≡ log_line_of (value_data value.now)) }
 {
     match cells(Part::Lines, value) {
         Ok(cells) => line_of_cells(alloc, cells),
@@ -64,34 +68,48 @@ fn read_line(alloc: Global, value: &Value) -> Result<OrRefusal<(u32, Noted)>, No
 }
 
 /// Reads a line, and frees its value.
-fn take_line(alloc: Global, value: Value) -> Result<OrRefusal<(u32, Noted)>, NoMem>
-    ensures { IfOk result (λ line. line ≡ log_line_of (view value)) }
+fn take_line(alloc: Global, value: Value<'_>) -> Result<OrRefusal<(u32, Noted)>, NoMem>
+    ensures { IfOk result (λ line. line ≡ log_line_of (value_data value.entry)) }
 {
     read_line(alloc, &value)
 }
 
-/// Reads lines, or returns their worst refusal. Frees each value as soon as it is read.
-#[tactic(auto, using(retro_json::proofs::Worst::taking_starts))]
-fn read_items(alloc: Global, items: Vec<Value>) -> Result<OrRefusal<Vec<(u32, Noted)>>, NoMem>
-    ensures { IfOk result (λ lines. seen (λ v. v.items) lines
-        ≡ every log_line_of (map view items.items)) }
+/// Reads the lines that are left of an array, one after another, or returns their worst refusal.
+fn read_items(
+    alloc: Global,
+    reader: &mut Reader<'_>,
+    depth: usize,
+) -> Result<OrRefusal<Vec<(u32, Noted)>>, ReadError>
+    ensures value { IfOk result (λ lines.
+        IsReadOf log_line_of depth reader.old reader.new (seen (λ v. v.items) lines)) }
+    ensures not_json { result ≡ Err NotJson → items_left depth reader.old ≡ None }
 {
     let mut lines = Ok(Vec::new(alloc));
-    for item in items {
+    'items: while let Some(item) = next_item(alloc, reader, depth)? {
         let line = take_line(alloc, item)?;
         lines = with_item(lines, line)?;
     }
     Ok(lines)
 }
 
-/// Reads the lines of a log, or returns the worst refusal of the whole list. The order of their
-/// numbers, the existence of their sessions and the law of their changes aren't tested.
+/// Reads the lines of a log from the next value of a text, or returns the worst refusal of the
+/// whole list. The order of their numbers, the existence of their sessions and the law of their
+/// changes aren't tested.
 #[tactic(auto, unfolding(crate::specs::LogLinesPart::log_lines_of))]
-pub fn read_log_lines(alloc: Global, value: Value) -> Result<OrRefusal<Vec<(u32, Noted)>>, NoMem>
-    ensures { IfOk result (λ lines. seen (λ v. v.items) lines ≡ log_lines_of (view value)) }
+pub fn read_log_lines(
+    alloc: Global,
+    reader: &mut Reader<'_>,
+    depth: usize,
+) -> Result<OrRefusal<Vec<(u32, Noted)>>, ReadError>
+    requires { 0 < depth }
+    ensures value { IfOk result (λ lines. (d : Data)
+        × (value_left depth reader.old ≡ Some (d, reader.new))
+        × (seen (λ v. v.items) lines ≡ log_lines_of d)) }
+    ensures not_json { result ≡ Err NotJson → value_left depth reader.old ≡ None }
 {
-    match value {
-        Value::Array(items) => read_items(alloc, items),
-        _ => Ok(Err(Refusal::WrongShape(Part::Lines))),
+    if begins_array(alloc, reader, depth)? {
+        read_items(alloc, reader, depth - 1)
+    } else {
+        Ok(Err(Refusal::WrongShape(Part::Lines)))
     }
 }

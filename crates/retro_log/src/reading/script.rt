@@ -1,31 +1,44 @@
 //! Reads the document of a script.
 ghost use Rattle.std.specs.Prelude.{◌≡◌};
-ghost use Rattle.serde_json.specs.View.{view};
+ghost use Rattle.serde_json.specs.Data.{Members};
 ghost use Rattle.retro_json.specs.ReadsAs.{ReadsAs};
-ghost use Rattle.retro_log.specs.Document.{script_in, script_of};
+ghost use Rattle.retro_log.specs.Document.{script_in};
+ghost use Rattle.retro_log.specs.inner.Parts.{script_of_parts, script_parts};
+ghost use Rattle.retro_log.specs.inner.PartsView.{parts_view};
 
-use crate::reading::document::{has_form, json, member, read_first};
-use crate::reading::lines::read_lines;
-use retro_json::LogFault;
-use retro_keep::Script;
-use serde_json::Value;
+use crate::reading::document::state_of_rows;
+use crate::reading::parts::{Parts, part_at};
+use crate::reading::script_parts::read_script_parts;
+use retro_json::{LogFault, Part, Refusal};
+use retro_keep::{Script, ScriptLine};
+use simdutf8::basic::from_utf8;
 use std::alloc::Global;
-
-/// The keys of a script's document.
-const SCRIPT_KEYS: [&str; 4] = ["script", "tree", "sessions", "lines"];
 
 /// The version of a script's document.
 const SCRIPT_VERSION: u64 = 1;
 
-/// Reads a script from its JSON value.
-#[tactic(auto, unfolding(crate::specs::Document::script_of))]
-fn read_value(alloc: Global, value: &Value) -> Result<Script, LogFault>
-    ensures { ReadsAs (λ script. script) result (script_of (view value.now)) }
+/// Returns the script of a document's parts, or the first refusal.
+fn script_of_parts(alloc: Global, parts: Parts<ScriptLine>) -> Result<Script, LogFault>
+    requires { (ms : Members) × (parts_view parts ≡ script_parts ms) }
+    ensures { ReadsAs (λ script. script) result (script_of_parts (parts_view parts)) }
 {
-    has_form(&SCRIPT_KEYS, "script", SCRIPT_VERSION, value)?;
-    let first = read_first(alloc, value)?;
-    let lines = read_lines(alloc, member(value, "lines")?)?;
-    Ok(Script::of_lawful(first, lines)?)
+    parts.fit()?;
+    let Parts {
+        version,
+        tree,
+        sessions,
+        lines,
+        ..
+    } = parts;
+    let number = part_at(version)?;
+    if number != SCRIPT_VERSION {
+        return Err(LogFault::Refused(Refusal::BadVersion));
+    }
+    let rows = part_at(tree)?;
+    let others = part_at(sessions);
+    let first = state_of_rows(alloc, rows, others)?;
+    let texts = part_at(lines)?;
+    Ok(Script::of_lawful(first, texts)?)
 }
 
 /// Returns the script that a document holds, or the first refusal in this order:
@@ -46,6 +59,11 @@ fn read_value(alloc: Global, value: &Value) -> Result<Script, LogFault>
 pub fn read_script(alloc: Global, bytes: &[u8]) -> Result<Script, LogFault>
     ensures { ReadsAs (λ script. script) result (script_in bytes.now) }
 {
-    let value = json(alloc, bytes)?;
-    read_value(alloc, &value)
+    let Ok(text) = from_utf8(bytes) else {
+        return Err(LogFault::Refused(Refusal::NotJson));
+    };
+    match read_script_parts(alloc, text)? {
+        Some(parts) => script_of_parts(alloc, parts),
+        None => Err(LogFault::Refused(Refusal::WrongShape(Part::Document))),
+    }
 }

@@ -1,24 +1,30 @@
-use Rattle.std.proofs.lemmas.Result.{err_from_is_err_and}
-use Rattle.serde_json.specs.View.{view}
+use Rattle.std.proofs.Common.{◌≡◌, arith}
+use Rattle.json.specs.Json.{parse_map}
+use Rattle.serde_json.specs.Data.{item}
+use Rattle.retro_value.specs.Borrowed.{value_data}
+use Rattle.retro_value.specs.Left.{items_left}
+use Rattle.retro_json.specs.ReadsAs.{seen}
+use Rattle.retro_json.proofs.Rows.{rows_start, rows_go_on, rows_refused, rows_end}
 use Rattle.retro_log.specs.LinesPart.{line_of}
-use Rattle.retro_json.proofs.Each.{loop_goes_on, loop_ends, loop_done}
 use Rattle.retro_log.proofs.reading.lines.read_items.Goals as goal
 
-pub returns-in_err-read_line : goal.returns-in_err-read_line
-returns-in_err-read_line c =
-    let p = err_from_is_err_and c.from_residual.result c.from_residual.ensures.1 in
-    rw (p.1, p.2)
-    (loop_ends line_of view (λ line. line) c.in_err-read_line.field-0.0 c.loop-item.lines.items c.args.items.now
-    c.loop-item.item-index _ c.item-item.result
-    c.loop-item-test.true c.item-item.is c.in_err-read_line.ensures c.loop-item.invariant)
+pub items-init : goal.items-init
+items-init c = rw c.new.ensures.items (rows_start line_of c.args.depth c.args.reader.now)
 
-pub loop-item-preserved : goal.loop-item-preserved
-loop-item-preserved c =
-    loop_goes_on line_of view (λ line. line) c.loop-item.lines.items c.push.new.self.items c.args.items.now
-    c.loop-item.item-index _ c.item-item.result c.in_ok-read_line.field-0
-    c.loop-item-test.true c.item-item.is c.in_ok-push.ensures.items c.in_ok-read_line.ensures c.loop-item.invariant
+pub returns-in_err-item-clause-not_json : goal.returns-in_err-item-clause-not_json
+returns-in_err-item-clause-not_json c refused =
+    rows_refused line_of c.args.depth c.args.reader.now c.items.reader (seen (λ v. v.items) c.items.lines)
+    (c.next_item.ensures.not_json (grind arith)) c.items.invariant
 
-pub returns : goal.returns
-returns c =
-    loop_done line_of view (λ line. line) c.loop-item.lines.items c.args.items.now c.loop-item.item-index
-    c.loop-item-test.false c.loop-item.invariant
+pub items-preserved : goal.items-preserved
+items-preserved c =
+    let here : items_left c.args.depth c.items.reader
+    ≡ parse_map (item (value_data c.in-Some.item)) (items_left c.args.depth c.next_item.new.reader) = grind arith in
+    rows_go_on line_of c.args.depth c.args.reader.now c.items.reader c.next_item.new.reader
+    (seen (λ v. v.items) c.items.lines) (seen (λ v. v.items) c.in_ok-lines.lines) (value_data c.in-Some.item)
+    c.in_ok-line.line here c.in_ok-line.ensures c.in_ok-lines.ensures c.items.invariant
+
+pub returns-clause-value : goal.returns-clause-value
+returns-clause-value c =
+    rows_end line_of c.args.depth c.args.reader.now c.items.reader c.next_item.new.reader
+    (seen (λ v. v.items) c.items.lines) (grind arith) c.items.invariant

@@ -1,29 +1,30 @@
-use Rattle.std.proofs.Common.{arith, subst}
-use Rattle.std.proofs.lemmas.List.{nil_from_length}
-use Rattle.std.specs.Vec.Iter.{into_iter_items}
-use Rattle.serde_json.specs.View.{view}
-use Rattle.retro_log.specs.LogLinesPart.{log_line_of}
+use Rattle.std.proofs.Common.{◌≡◌, arith}
+use Rattle.json.specs.Json.{parse_map}
+use Rattle.serde_json.specs.Data.{item}
+use Rattle.retro_value.specs.Borrowed.{value_data}
+use Rattle.retro_value.specs.Left.{items_left}
 use Rattle.retro_json.specs.ReadsAs.{seen}
-use Rattle.retro_json.proofs.Worst.{IsValidatedBefore, taking_goes_on, taking_done}
+use Rattle.retro_json.proofs.Rows.{rows_start, rows_go_on, rows_refused, rows_end}
+use Rattle.retro_log.specs.LogLinesPart.{log_line_of}
 use Rattle.retro_log.proofs.reading.log_lines.read_items.Goals as goal
 
-pub loop-item-preserved : goal.loop-item-preserved
-loop-item-preserved c =
-    let lines = seen (λ v. v.items) c.loop-item.lines in (
-      tt,
-      tt,
-      taking_goes_on log_line_of view lines (seen (λ v. v.items) c.in_ok-lines.lines) c.in-Some.item
-          (into_iter_items c.next.new.self) c.args.items.items c.in_ok-line.line c.in_ok-line.ensures
-          c.in_ok-lines.ensures
-          (subst (λ rest. IsValidatedBefore log_line_of view lines rest c.args.items.items) c.in-Some.ensures.steps.0
-          c.loop-item.invariant.2),
-    )
+pub items-init : goal.items-init
+items-init c = rw c.new.ensures.items (rows_start log_line_of c.args.depth c.args.reader.now)
 
-pub returns : goal.returns
-returns c =
-    let lines = seen (λ v. v.items) c.loop-item.lines in
-    let none =
-    nil_from_length (into_iter_items c.loop-item.item-iterator)
-    (omega (arith, c.loop-item.item-iterator.rest.ok, c.in-None.ensures)) in
-    taking_done log_line_of view lines c.args.items.items
-    (subst (λ rest. IsValidatedBefore log_line_of view lines rest c.args.items.items) none c.loop-item.invariant.2)
+pub returns-in_err-item-clause-not_json : goal.returns-in_err-item-clause-not_json
+returns-in_err-item-clause-not_json c refused =
+    rows_refused log_line_of c.args.depth c.args.reader.now c.items.reader (seen (λ v. v.items) c.items.lines)
+    (c.next_item.ensures.not_json (grind arith)) c.items.invariant
+
+pub items-preserved : goal.items-preserved
+items-preserved c =
+    let here : items_left c.args.depth c.items.reader
+    ≡ parse_map (item (value_data c.in-Some.item)) (items_left c.args.depth c.next_item.new.reader) = grind arith in
+    rows_go_on log_line_of c.args.depth c.args.reader.now c.items.reader c.next_item.new.reader
+    (seen (λ v. v.items) c.items.lines) (seen (λ v. v.items) c.in_ok-lines.lines) (value_data c.in-Some.item)
+    c.in_ok-line.line here c.in_ok-line.ensures c.in_ok-lines.ensures c.items.invariant
+
+pub returns-clause-value : goal.returns-clause-value
+returns-clause-value c =
+    rows_end log_line_of c.args.depth c.args.reader.now c.items.reader c.next_item.new.reader
+    (seen (λ v. v.items) c.items.lines) (grind arith) c.items.invariant
