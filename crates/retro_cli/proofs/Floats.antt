@@ -3,6 +3,7 @@ use Rattle.std.proofs.Common.{◌≡◌, ℕ, List, false, refl}
 use Rattle.serde_json.specs.Written.{has_float}
 use Rattle.retro_tree.specs.declared.state.State.{State}
 use Rattle.retro_json.proofs.Floats.{array_float, tree_float, sessions_float}
+use Rattle.retro_redo.specs.Repair.{repaired_outputs, repaired_state}
 use Rattle.retro_redo.specs.declared.repair.Repair.{Repair}
 use Rattle.retro_redo.specs.declared.verdict.Verdict.TheVariants.{Cancelled, Redone}
 use Rattle.retro_json.specs.Values.{number_data}
@@ -22,9 +23,9 @@ repair_float repair =
       array_float
           compensation_data (λ c. refl) repair.compensations.items,
       array_float number_data (λ n. refl) repair.met.items,
-      array_float output_data (λ o. refl) repair.outputs.items,
+      array_float output_data (λ o. refl) (repaired_outputs repair),
       array_float number_data (λ n. refl) (numbers_with Redone
           repair.verdicts.items),
-      sessions_float repair.state.sessions,
-      tree_float repair.state.tree,
+      sessions_float (repaired_state repair).sessions,
+      tree_float (repaired_state repair).tree,
     ) refl

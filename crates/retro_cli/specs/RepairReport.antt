@@ -3,6 +3,7 @@ use Rattle.std.specs.Prelude.{ℕ, Bool, true, false, List, [], ◌∷◌, ◌++
 use Rattle.serde_json.specs.Data.{Data, object, no_members, member}
 use Rattle.serde_json.specs.Written.{compact_text}
 use Rattle.retro_json.specs.Values.{array_of, number_data, hex_data, tree_data, sessions_data}
+use Rattle.retro_redo.specs.Repair.{repaired_outputs, repaired_state}
 use Rattle.retro_redo.specs.declared.compensation.Compensation.{Compensation}
 use Rattle.retro_redo.specs.declared.repair.Repair.{Repair}
 use Rattle.retro_redo.specs.declared.verdict.Verdict.{Verdict}
@@ -33,10 +34,10 @@ repair_data repair = object
     (member (codes "cancelled") (numbers_data (numbers_with Cancelled repair.verdicts.items))
     (member (codes "compensations") (array_of (map compensation_data repair.compensations.items))
     (member (codes "met") (numbers_data repair.met.items)
-    (member (codes "outputs") (array_of (map output_data repair.outputs.items))
+    (member (codes "outputs") (array_of (map output_data (repaired_outputs repair)))
     (member (codes "redone") (numbers_data (numbers_with Redone repair.verdicts.items))
-    (member (codes "sessions") (sessions_data repair.state.sessions)
-    (member (codes "tree") (tree_data repair.state.tree) no_members)))))))
+    (member (codes "sessions") (sessions_data (repaired_state repair).sessions)
+    (member (codes "tree") (tree_data (repaired_state repair).tree) no_members)))))))
 
 -- the report of a repair: compact, with a newline at the end
 unfoldable pub repair_text : Repair → List ℕ

@@ -1,11 +1,14 @@
 //! The report of a repair, as JSON.
 ghost use Rattle.std.specs.Prelude.{◌≡◌, IfOk, map};
 ghost use Rattle.serde_json.specs.View.{view};
+ghost use Rattle.retro_keep.specs.Recording.{output_in};
 ghost use Rattle.retro_json.specs.Values.{number_data};
+ghost use Rattle.retro_cli.specs.Report.{output_data};
 ghost use Rattle.retro_cli.specs.RepairReport.{compensation_data, numbers_with};
 ghost use Rattle.retro_cli.specs.RepairReport.{repair_data, repair_text};
 
-use crate::report::output_values;
+use crate::report::output_value;
+use retro_keep::Noted;
 use retro_log::{hex_value, sessions_value, tree_value};
 use retro_redo::{Compensation, Repair, Verdict};
 use retro_tree::NoMem;
@@ -75,6 +78,18 @@ fn compensation_values(alloc: Global, compensations: &[Compensation]) -> Result<
     Ok(values)
 }
 
+/// Returns the JSON values of what lines printed, in order.
+fn printed_values(alloc: Global, lines: &[(u32, Noted)]) -> Result<Vec<Value>, NoMem>
+    ensures { IfOk result (λ vs.
+        map view vs.items ≡ map output_data (map output_in lines.now)) }
+{
+    let mut values = Vec::new(alloc);
+    for (number, noted) in lines {
+        values.push(output_value(alloc, *number, &noted.output)?)?;
+    }
+    Ok(values)
+}
+
 /// Returns the JSON value of the report of a repair.
 #[tactic(auto, unfolding(crate::specs::RepairReport::repair_data))]
 fn repair_value(alloc: Global, repair: &Repair) -> Result<Value, NoMem>
@@ -84,10 +99,10 @@ fn repair_value(alloc: Global, repair: &Repair) -> Result<Value, NoMem>
         "cancelled": verdict_values(alloc, &repair.verdicts, Verdict::Cancelled)?,
         "compensations": compensation_values(alloc, &repair.compensations)?,
         "met": number_values(alloc, &repair.met)?,
-        "outputs": output_values(alloc, &repair.outputs)?,
+        "outputs": printed_values(alloc, repair.recording.lines())?,
         "redone": verdict_values(alloc, &repair.verdicts, Verdict::Redone)?,
-        "sessions": sessions_value(alloc, &repair.state)?,
-        "tree": tree_value(alloc, &repair.state)?
+        "sessions": sessions_value(alloc, repair.state())?,
+        "tree": tree_value(alloc, repair.state())?
     })
 }
 

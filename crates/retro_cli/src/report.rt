@@ -9,7 +9,7 @@ use serde_json::{Value, json};
 use std::alloc::Global;
 
 /// Returns the JSON value of a line's output: `[number,"hex"]`.
-fn output_value(alloc: Global, number: u32, output: &Bytes) -> Result<Value, NoMem>
+pub(crate) fn output_value(alloc: Global, number: u32, output: &Bytes) -> Result<Value, NoMem>
     ensures { IfOk result (λ v. view v ≡ output_data (number, output.now)) }
 {
     let output = hex_value(alloc, output.as_slice())?;

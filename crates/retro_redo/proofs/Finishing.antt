@@ -28,7 +28,8 @@ use Rattle.retro_redo.specs.Editing.{EditMap}
 use Rattle.retro_redo.specs.Moments.{AreVerdicts, IsMet, Picks}
 use Rattle.retro_redo.specs.Progress.{ProgressValue, edit_in, lines_chosen, next_line, repaired_now}
 use Rattle.retro_redo.specs.Progress.{AreTakenIfMet, repaired_after, repaired_recording}
-use Rattle.retro_redo.specs.Repair.{IsRepair, IsRunAgain, edited_lines, moments_of, script_now}
+use Rattle.retro_redo.specs.Repair.{IsRepair, IsRunAgain, edited_lines, moments_of, repaired_outputs}
+use Rattle.retro_redo.specs.Repair.{repaired_state, script_now}
 use Rattle.retro_redo.specs.Settled.{AreSettled, IsSettled}
 use Rattle.retro_redo.specs.Progress.{compensations_chosen, settled, verdicts_chosen}
 use Rattle.retro_redo.specs.declared.repair.Repair.{Repair}
@@ -118,18 +119,16 @@ module _ (p : ProgressValue) (overlay : OverlayMap) (met : List ℕ) (keeps : Ke
 
   pub is_repair : (repair : Repair)
       → repair.recording ≡ repaired_recording p
-      → repair.state ≡ last_state repair.recording.lines repair.recording.first
-      → repair.outputs.items ≡ map output_in repair.recording.lines
       → repair.verdicts.items ≡ verdicts_chosen p.recording.lines p.choices
       → repair.compensations.items ≡ compensations_chosen p.recording.lines p.choices
       → repair.met.items ≡ met → IsRepair (edit_in p) p.recording repair
-  is_repair repair recording state outputs verdicts compensated met_are =
+  is_repair repair recording verdicts compensated met_are =
       let chosen = lines_chosen p.recording.lines p.choices in
-      let state_is : repair.state ≡ repaired_now p = state
-      ∙ ap (λ (r : RecordingValue). last_state r.lines r.first) recording
+      let state_is : repaired_state repair ≡ repaired_now p =
+      ap (λ (r : RecordingValue). last_state r.lines r.first) recording
       ∙ last_chosen p.recording.lines p.choices p.recording.first in
-      let outputs_are : repair.outputs.items ≡ map output_in chosen = outputs
-      ∙ ap (λ (r : RecordingValue). map output_in r.lines) recording in
+      let outputs_are : repaired_outputs repair ≡ map output_in chosen =
+      ap (λ (r : RecordingValue). map output_in r.lines) recording in
       record {
         outcome_is = ap₂ (λ s os. (s, os)) state_is outputs_are ∙ sym final.outcome_is;
         compensated = compensated ∙ sym final.compensated;
@@ -198,21 +197,19 @@ module _ (p q : ProgressValue) (overlay : OverlayMap) (met : List ℕ) (e : q �
     -- each line has its choice, and the lines as chosen make a recording
     pub settled_found : (repair : Repair) (r : RecordingValue) → found ≡ Some r
         → repair.recording ≡ repaired_recording q
-        → repair.state ≡ last_state repair.recording.lines repair.recording.first
-        → repair.outputs.items ≡ map output_in repair.recording.lines
         → repair.verdicts.items ≡ verdicts_chosen q.recording.lines q.choices
         → repair.compensations.items ≡ compensations_chosen q.recording.lines q.choices
         → repair.met.items ≡ met → IsSettled (edit_in p) p.recording p.choices repair
-    settled_found repair r some recording state outputs verdicts compensated met_are =
+    settled_found repair r some recording verdicts compensated met_are =
         subst (λ (x : ProgressValue). IsSettled (edit_in x) x.recording x.choices repair) e (record {
           settles = keeps.settles;
           all = all_chosen p q overlay met e keeps ended;
           begins = ap (λ (x : RecordingValue). x.from) recording;
           chosen = λ well. record {
             recording_is = recording;
-            state_is = state ∙ ap (λ (x : RecordingValue). last_state x.lines x.first) recording
+            state_is = ap (λ (x : RecordingValue). last_state x.lines x.first) recording
                 ∙ last_chosen q.recording.lines q.choices q.recording.first;
-            outputs_are = outputs ∙ ap (λ (x : RecordingValue). map output_in x.lines) recording;
+            outputs_are = ap (λ (x : RecordingValue). map output_in x.lines) recording;
             compensated = compensated;
             verdicts_are = verdicts;
             met_are = subst (λ ns. Picks (IsMet (edit_in q))
@@ -224,15 +221,12 @@ module _ (p q : ProgressValue) (overlay : OverlayMap) (met : List ℕ) (e : q �
 
     pub repair_found : (repair : Repair) → IsRecordingOf (script_in p.recording) p.recording
         → repair.recording ≡ repaired_recording q
-        → repair.state ≡ last_state repair.recording.lines repair.recording.first
-        → repair.outputs.items ≡ map output_in repair.recording.lines
         → repair.verdicts.items ≡ verdicts_chosen q.recording.lines q.choices
         → repair.compensations.items ≡ compensations_chosen q.recording.lines q.choices
         → repair.met.items ≡ met → IsRepair (edit_in p) p.recording repair
-    repair_found repair is recording state outputs verdicts compensated met_are =
+    repair_found repair is recording verdicts compensated met_are =
         subst (λ x. IsRepair (edit_in x) x.recording repair) e
-        (is_repair q overlay met keeps w ended_in (is_in is) repair recording state outputs verdicts compensated
-        met_are)
+        (is_repair q overlay met keeps w ended_in (is_in is) repair recording verdicts compensated met_are)
 
 -- the same lines are edited alike
 pub repair_same : (a : EditMap) (edits : List Edit) (r q : RecordingValue) (repair : Repair)

@@ -2,8 +2,10 @@
 use Rattle.std.specs.Prelude.{◌≡◌, ℕ, List, [], map, Option, Some, None}
 use Rattle.std.specs.List.{flat_map}
 use Rattle.retro_keep.specs.Edit.{edited, edited_script}
-use Rattle.retro_keep.specs.Recording.{IsRecordingOf, RecordingValue, noted_at, script_in, script_line}
-use Rattle.retro_keep.specs.Runs.{outcome}
+use Rattle.retro_tree.specs.declared.state.State.{State}
+use Rattle.retro_keep.specs.Recording.{IsRecordingOf, RecordingValue, last_state, noted_at, output_in, script_in}
+use Rattle.retro_keep.specs.Recording.{script_line}
+use Rattle.retro_keep.specs.Runs.{Output, outcome}
 use Rattle.retro_keep.specs.Script.{ScriptValue, number_of}
 use Rattle.retro_keep.specs.declared.edit.Edit.{Edit}
 use Rattle.retro_keep.specs.declared.noted.Noted.{Noted}
@@ -26,12 +28,20 @@ edited_lines edit r = edited edit (map script_line r.lines)
 abbrev pub script_now : (ℕ → Option Edit) → RecordingValue → ScriptValue
 script_now edit r = edited_script edit (script_in r)
 
+-- the state after the edited lines, as the repaired recording has it
+abbrev pub repaired_state : Repair → State
+repaired_state repair = last_state repair.recording.lines repair.recording.first
+
+-- each edited line's number, and what it prints
+abbrev pub repaired_outputs : Repair → List Output
+repaired_outputs repair = map output_in repair.recording.lines
+
 -- State and outputs are those of running the edited lines one by one from the first state. The lines
 -- whose output differs are compensated, with both texts. The verdicts are those of the lines, and
 -- the met lines are listed. The repaired recording is one of the edited lines, and begins at the same
 -- number.
 pub record IsRepair (edit : ℕ → Option Edit) (r : RecordingValue) (repair : Repair) : Type 0 where
-  pub outcome_is : (repair.state, repair.outputs.items) ≡ outcome (edited_lines edit r) r.first
+  pub outcome_is : (repaired_state repair, repaired_outputs repair) ≡ outcome (edited_lines edit r) r.first
   pub compensated : repair.compensations.items ≡ compensations edit (moments_of edit r)
   pub verdicts_are : AreVerdicts edit (moments_of edit r) repair.verdicts.items
   pub met_are : Picks (IsMet edit) (moments_of edit r) repair.met.items
@@ -42,7 +52,7 @@ pub record IsRepair (edit : ℕ → Option Edit) (r : RecordingValue) (repair : 
 -- those of running the edited lines, and the recording is one of these lines and begins at the same
 -- number.
 pub record IsRepairOf (edit : ℕ → Option Edit) (r : RecordingValue) (repair : Repair) : Type 0 where
-  pub outcome_is : (repair.state, repair.outputs.items) ≡ outcome (edited_lines edit r) r.first
+  pub outcome_is : (repaired_state repair, repaired_outputs repair) ≡ outcome (edited_lines edit r) r.first
   pub recording_is : IsRecordingOf (script_now edit r) repair.recording
   pub begins : repair.recording.from ≡ r.from
 
@@ -71,7 +81,7 @@ compensation_again again l = compensation l.0 l.1.output (text_again (noted_at l
 -- State and outputs are those of running the edited lines. All of them are met and redone. Their
 -- recording begins at the same number.
 pub record IsRunAgain (edit : ℕ → Option Edit) (r : RecordingValue) (repair : Repair) : Type 0 where
-  pub outcome_is : (repair.state, repair.outputs.items) ≡ outcome (edited_lines edit r) r.first
+  pub outcome_is : (repaired_state repair, repaired_outputs repair) ≡ outcome (edited_lines edit r) r.first
   pub compensated : repair.compensations.items ≡ flat_map (compensation_again repair.recording) r.lines
   pub verdicts_are : repair.verdicts.items ≡ map (verdict_again edit) r.lines
   pub met_are : repair.met.items ≡ map number_of (edited_lines edit r)

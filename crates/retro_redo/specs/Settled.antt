@@ -6,7 +6,7 @@ use Rattle.retro_keep.specs.declared.edit.Edit.{Edit}
 use Rattle.retro_redo.specs.Moments.{IsMet, Picks}
 use Rattle.retro_redo.specs.Progress.{AreTakenIfMet, Settles, compensations_chosen, lines_chosen, repaired_after}
 use Rattle.retro_redo.specs.Progress.{settled, verdicts_chosen}
-use Rattle.retro_redo.specs.Repair.{IsRunAgain}
+use Rattle.retro_redo.specs.Repair.{IsRunAgain, repaired_outputs, repaired_state}
 use Rattle.retro_redo.specs.declared.repair.Repair.{Repair}
 use Rattle.retro_redo.specs.declared.step.Step.{Step}
 
@@ -20,8 +20,8 @@ recording_chosen r steps = record { first = r.first; from = r.from; lines = line
 pub record IsByChoices (edit : ℕ → Option Edit) (r : RecordingValue) (steps : List Step) (repair : Repair)
     : Type 0 where
   pub recording_is : repair.recording ≡ recording_chosen r steps
-  pub state_is : repair.state ≡ repaired_after r.lines steps r.first
-  pub outputs_are : repair.outputs.items ≡ map output_in (lines_chosen r.lines steps)
+  pub state_is : repaired_state repair ≡ repaired_after r.lines steps r.first
+  pub outputs_are : repaired_outputs repair ≡ map output_in (lines_chosen r.lines steps)
   pub compensated : repair.compensations.items ≡ compensations_chosen r.lines steps
   pub verdicts_are : repair.verdicts.items ≡ verdicts_chosen r.lines steps
   pub met_are : Picks (IsMet edit) (settled r.lines steps r.first r.first) repair.met.items

@@ -10,7 +10,6 @@ ghost use Rattle.retro_redo.specs.Repair.{IsRunAgain, compensation_again, script
 ghost use Rattle.retro_redo.specs.Repair.{text_again, verdict_again, verdict_by};
 
 use crate::compensation::{Compensation, compensate};
-use crate::outcome::outputs;
 use crate::repair::Repair;
 use crate::tally::Tally;
 use crate::verdict::Verdict;
@@ -38,11 +37,7 @@ pub(crate) fn run_edited(
     let compensations = compensations(alloc, lines, &again)?;
     let verdicts = verdicts(alloc, lines, edits)?;
     let met = numbers(alloc, again.lines())?;
-    let outputs = outputs(alloc, again.lines())?;
-    let state = again.last().copy()?;
     Ok(Repair {
-        state,
-        outputs,
         verdicts,
         met,
         compensations,

@@ -1,8 +1,8 @@
 //! The parts of a repair that follow from the steps of all lines.
 ghost use Rattle.std.specs.Prelude.{◌≡◌, ◌↔◌, ◌++◌, IfOk, IfSome, IsTrue, OnOk, Option};
-ghost use Rattle.std.specs.Prelude.{is_some, length, map, ℕ};
+ghost use Rattle.std.specs.Prelude.{is_some, length, ℕ};
 ghost use Rattle.retro_tree.specs.Commit.{committed};
-ghost use Rattle.retro_keep.specs.Recording.{IsWellFormed, last_state, output_in};
+ghost use Rattle.retro_keep.specs.Recording.{IsWellFormed, last_state};
 ghost use Rattle.retro_keep.specs.declared.edit.Edit.{Edit};
 ghost use Rattle.retro_redo.specs.Progress.{Settles, compensations_chosen, line_chosen};
 ghost use Rattle.retro_redo.specs.Progress.{lines_chosen, noted_of, output_chosen};
@@ -15,7 +15,7 @@ use crate::step::Step;
 use crate::verdict::Verdict;
 use retro_keep::{Noted, Recording};
 use retro_shell::Run;
-use retro_tree::{Bytes, NoMem, Overlay};
+use retro_tree::{NoMem, Overlay};
 use std::alloc::Global;
 
 /// Returns the repaired recording: the first state with the lines as chosen. It begins at the same
@@ -105,17 +105,6 @@ fn noted_of(run: Run) -> Noted
         notes,
         output,
     }
-}
-
-/// Returns each line's number with what the line printed.
-pub(crate) fn outputs(alloc: Global, lines: &[(u32, Noted)]) -> Result<Vec<(u32, Bytes)>, NoMem>
-    ensures { IfOk result (λ outputs. outputs.items ≡ map output_in lines.now) }
-{
-    let mut outputs = Vec::new(alloc);
-    for line in lines {
-        outputs.push((line.0, line.1.output.copy()?))?;
-    }
-    Ok(outputs)
 }
 
 /// Returns each line's number with its verdict.

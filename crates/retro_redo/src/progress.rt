@@ -24,7 +24,7 @@ use crate::edited::run_edited;
 use crate::gate::{Gate, Turn};
 use crate::ground::Ground;
 use crate::next_uses::NextUses;
-use crate::outcome::{chosen_recording, compensations, outputs, verdicts};
+use crate::outcome::{chosen_recording, compensations, verdicts};
 use crate::repair::Repair;
 use crate::skipping::{push_kept, unmet_lines};
 use crate::step::Step;
@@ -355,11 +355,7 @@ impl<'a> Progress<'a> {
         let Some(repaired) = chosen_recording(alloc, recording, choices, overlay)? else {
             return run_edited(alloc, recording, &edits, tally);
         };
-        let outputs = outputs(alloc, repaired.lines())?;
-        let state = repaired.last().copy()?;
         Ok(Repair {
-            state,
-            outputs,
             verdicts,
             met,
             compensations,

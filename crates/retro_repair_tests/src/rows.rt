@@ -56,8 +56,8 @@ fn told(alloc: Global, repair: &Repair, call: &str, given: &[String]) -> Result<
         ("outputs", []) => outputs(alloc, repair),
         ("compensations", []) => compensations(alloc, repair),
         ("begins", []) => Ok(format!(in alloc; "{}", repair.recording.from())?),
-        ("file", [at]) => file(alloc, &repair.state, &path(alloc, at)?),
-        ("end", [at]) => end(alloc, &repair.state, &path(alloc, at)?),
+        ("file", [at]) => file(alloc, repair.state(), &path(alloc, at)?),
+        ("end", [at]) => end(alloc, repair.state(), &path(alloc, at)?),
         _ => fail("no such call"),
     }
 }

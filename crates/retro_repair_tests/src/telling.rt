@@ -43,7 +43,7 @@ fn push_output(alloc: Global, out: &mut String, number: u32, output: &[u8]) -> R
 /// Returns the number of each line that prints something, with what it prints.
 pub fn outputs(alloc: Global, repair: &Repair) -> Result<String, Fail> {
     let mut out = String::new(alloc);
-    for (number, output) in &repair.outputs {
+    for (number, output) in &repair.outputs(alloc)? {
         push_output(alloc, &mut out, *number, output.as_slice())?;
     }
     Ok(out)

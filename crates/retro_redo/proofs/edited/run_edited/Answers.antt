@@ -1,7 +1,7 @@
-use Rattle.std.proofs.Common.{◌∙◌, ap, ap₂, map, sym}
+use Rattle.std.proofs.Common.{◌∙◌, ap, map, sym}
 use Rattle.std.specs.List.{flat_map}
 use Rattle.std.specs.FinMap as finmap
-use Rattle.retro_keep.specs.Recording.{IsRecordingOf, number_in, output_in}
+use Rattle.retro_keep.specs.Recording.{IsRecordingOf, number_in}
 use Rattle.retro_keep.proofs.Recorded.{recorded_runs}
 use Rattle.retro_redo.specs.Repair.{compensation_again, script_now, verdict_again}
 use Rattle.retro_redo.proofs.Finishing.{numbers_of}
@@ -14,10 +14,7 @@ returns-clause-again c =
     let again = c.in_ok-again.again in
     let is : IsRecordingOf (script_now edit r) again = c.in_ok-again.ensures.recording in
     record {
-      outcome_is =
-          ap₂ (λ s os. (s, os)) (c.in_ok-state.ensures ∙ c.last.ensures.value)
-          (c.in_ok-outputs.ensures ∙ ap (map output_in) c.lines-2.ensures.value)
-          ∙ sym (recorded_runs (script_now edit r) again is);
+      outcome_is = sym (recorded_runs (script_now edit r) again is);
       compensated =
           c.in_ok-compensations.ensures ∙ ap (flat_map (compensation_again again)) c.lines-lines.ensures.value;
       verdicts_are = c.in_ok-verdicts.ensures ∙ ap (map (verdict_again edit)) c.lines-lines.ensures.value;

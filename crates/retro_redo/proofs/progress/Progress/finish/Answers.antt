@@ -1,5 +1,5 @@
-use Rattle.std.proofs.Common.{◌≡◌, ◌∙◌, IfSome, Option, ap, length, map, refl, subst, sym}
-use Rattle.retro_keep.specs.Recording.{RecordingValue, output_in}
+use Rattle.std.proofs.Common.{◌≡◌, ◌∙◌, IfSome, Option, ap, length, refl, subst, sym}
+use Rattle.retro_keep.specs.Recording.{RecordingValue}
 use Rattle.retro_redo.specs.Progress.{compensations_chosen, verdicts_chosen}
 use Rattle.retro_redo.specs.Settled.{recording_chosen}
 use Rattle.retro_redo.proofs.Finishing.{all_chosen, found_none, if_ok_all, if_ok_map, last_committed, none_is}
@@ -52,8 +52,6 @@ returns-clause-repair c =
     λ is.
     repair_found c.args.self _ c.self.inside.overlay c.self.inside.met.items c.self.view_is c.self.invariant.0
     c.lines-lines.ensures.well_formed c.requires c.in_ok-repaired.field-0 c.in_ok-repaired.ensures.exact (record {
-      state = c.in_ok-state.state;
-      outputs = c.in_ok-outputs.outputs;
       verdicts = c.in_ok-verdicts.verdicts;
       met = c.self.inside.met;
       compensations = c.in_ok-compensations.compensations;
@@ -63,8 +61,6 @@ returns-clause-repair c =
     (subst (λ (found : Option RecordingValue).
     IfSome found (λ r. r ≡ recording_chosen c.self.inside.recording.now c.self.inside.choices.items)) c.in-Some.is
     c.in_ok-repaired.ensures.value)
-    (c.in_ok-state.ensures ∙ c.last.ensures.value)
-    (c.in_ok-outputs.ensures ∙ ap (map output_in) c.lines.ensures.value)
     (c.in_ok-verdicts.ensures
     ∙ (λ i. verdicts_chosen (c.lines-lines.ensures.value i) (c.as_slice.ensures.value i)))
     (c.in_ok-compensations.ensures
@@ -75,8 +71,6 @@ pub returns-clause-settled : goal.returns-clause-settled
 returns-clause-settled c =
     settled_found c.args.self _ c.self.inside.overlay c.self.inside.met.items c.self.view_is c.self.invariant.0
     c.lines-lines.ensures.well_formed c.requires c.in_ok-repaired.field-0 c.in_ok-repaired.ensures.exact (record {
-      state = c.in_ok-state.state;
-      outputs = c.in_ok-outputs.outputs;
       verdicts = c.in_ok-verdicts.verdicts;
       met = c.self.inside.met;
       compensations = c.in_ok-compensations.compensations;
@@ -86,8 +80,6 @@ returns-clause-settled c =
     (subst (λ (found : Option RecordingValue).
     IfSome found (λ r. r ≡ recording_chosen c.self.inside.recording.now c.self.inside.choices.items)) c.in-Some.is
     c.in_ok-repaired.ensures.value)
-    (c.in_ok-state.ensures ∙ c.last.ensures.value)
-    (c.in_ok-outputs.ensures ∙ ap (map output_in) c.lines.ensures.value)
     (c.in_ok-verdicts.ensures
     ∙ (λ i. verdicts_chosen (c.lines-lines.ensures.value i) (c.as_slice.ensures.value i)))
     (c.in_ok-compensations.ensures
