@@ -1,0 +1,33 @@
+-- The names of sessions, and the times of lines.
+use Rattle.std.specs.Prelude.{ℕ, List, [], Option, Some, None, decimal}
+use Rattle.std.specs.FinMap as map
+use Rattle.casebook_text.specs.SafeLine.{safe_bytes, word_bytes}
+use Rattle.casebook_words.specs.declared.labels.Labels.{Labels}
+
+abbrev pub no_labels : Labels
+no_labels = record { names = map.empty; times = map.empty }
+
+-- labels with one more name, or one more time
+abbrev pub named : ℕ → List ℕ → Labels → Labels
+named session name labels =
+    record { names = map.insert labels.names session name; times = labels.times }
+
+abbrev pub timed : ℕ → List ℕ → Labels → Labels
+timed number time labels =
+    record { names = labels.names; times = map.insert labels.times number time }
+
+-- a name, or the number of the session
+abbrev pub name_or : ℕ → Option (List ℕ) → List ℕ
+name_or session None = decimal session
+name_or session (Some name) = word_bytes name
+
+abbrev pub name_words : ℕ → Labels → List ℕ
+name_words session labels = name_or session (map.get labels.names session)
+
+-- a time, or nothing
+abbrev pub time_or_none : Option (List ℕ) → List ℕ
+time_or_none None = []
+time_or_none (Some time) = safe_bytes time
+
+abbrev pub time_words : ℕ → Labels → List ℕ
+time_words number labels = time_or_none (map.get labels.times number)

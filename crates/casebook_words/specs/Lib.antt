@@ -1,0 +1,7 @@
+pub mod Lines
+pub mod Cut
+pub mod Words
+pub mod Difference
+pub mod FileLines
+pub mod Labels
+pub mod inner
