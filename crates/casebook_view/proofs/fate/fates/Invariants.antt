@@ -1,0 +1,11 @@
+-- The fates so far, before any fates of the lines that are left.
+use Rattle.std.proofs.Common.{ℕ, List, ◌++◌, drop}
+use Rattle.casebook_view.specs.Fates.{AreFates}
+use Rattle.casebook_view.specs.declared.fate.Fate.{Fate}
+use Rattle.casebook_view.proofs.fate.fates.Given as goal
+
+abbrev pub invariant-loop-line : goal.invariant-loop-line
+invariant-loop-line l =
+    (rest : List (ℕ × Fate))
+    → AreFates l.case.recording.now l.case.repair.now (drop l.line-index l.case.repair.now.verdicts.items) rest
+    → AreFates l.case.recording.now l.case.repair.now l.case.repair.now.verdicts.items (l.fates.items ++ rest)

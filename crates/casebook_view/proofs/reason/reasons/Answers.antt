@@ -1,0 +1,21 @@
+use Rattle.std.proofs.Common.{ℕ, ap, map, refl, take_all, ◌∙◌}
+use Rattle.retro_redo.specs.declared.verdict.Verdict.{Verdict}
+use Rattle.casebook_view.specs.Reasons.{is_redone, number_in, redone_lines}
+use Rattle.casebook_view.proofs.FirstLemmas.{kept_at}
+use Rattle.casebook_view.proofs.reason.reasons.Goals as goal
+
+pub loop-line-preserved : goal.loop-line-preserved
+loop-line-preserved c = record {
+  lines = kept_at is_redone (λ (v : ℕ × Verdict). v.0) (map number_in c.loop-line.reasons.items)
+      (map number_in c.push_reason.new.reasons.items) c.deref-line-items.result.now c.loop-line.line-index _ _
+      c.loop-line-test.true refl c.loop-line.invariant.lines c.in_ok-push_reason.ensures.lines;
+  each = c.in_ok-push_reason.ensures.each c.loop-line.invariant.each;
+}
+
+pub returns : goal.returns
+returns c = record {
+  lines = c.loop-line.invariant.lines
+      ∙ ap redone_lines (take_all c.loop-line.line-index c.deref-line-items.result.now c.loop-line-test.false)
+      ∙ ap redone_lines c.deref-line-items.ensures.value;
+  each = c.loop-line.invariant.each;
+}

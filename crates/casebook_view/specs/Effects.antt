@@ -1,0 +1,72 @@
+-- What lines that are cancelled or replaced led to.
+use Rattle.std.specs.Prelude.{ℕ, ◌==◌, Bool, true, false, not, ◌&&◌, List, Option, Some, None, length, map}
+use Rattle.std.specs.List.{filter, filter_map}
+use Rattle.retro_tree.specs.Order.{path_eq}
+use Rattle.retro_tree.specs.Path.{PathValue}
+use Rattle.retro_keep.specs.Recording.{RecordingValue}
+use Rattle.casebook_view.specs.Fates.{fate_eq}
+use Rattle.casebook_view.specs.FirstOfEach.{first_of_each}
+use Rattle.casebook_view.specs.NotePaths.{path_written}
+use Rattle.casebook_view.specs.Reasons.{notes_at, reason_at}
+use Rattle.casebook_view.specs.declared.effect.Effect.{Effect}
+use Rattle.casebook_view.specs.declared.fate.Fate.{Fate}
+use Rattle.casebook_view.specs.declared.fate.Fate.TheVariants.{Cancelled, Changed, Alike, Kept, Untouched}
+use Rattle.casebook_view.specs.declared.reason.Reason.{Reason}
+
+-- what an effect says
+pub record EffectValue : Type 0 where
+  pub number : ℕ
+  pub changed : ℕ
+  pub alike : ℕ
+  pub wrote : List PathValue
+
+abbrev pub effect_value : Effect → EffectValue
+effect_value effect = record {
+  number = effect.number;
+  changed = effect.changed;
+  alike = effect.alike;
+  wrote = effect.wrote.items;
+}
+
+-- whether a reason says that a chain of causes ends at the line with a number
+abbrev pub ends_at : ℕ → Option Reason → Bool
+ends_at n None = false
+ends_at n (Some reason) = reason.origin == n
+
+-- whether another line has a fate, and its chain of causes ends at the line with a number
+abbrev pub is_led_to : List Reason → ℕ → Fate → ℕ × Fate → Bool
+is_led_to reasons n fate line =
+    not (line.0 == n) && (fate_eq line.1 fate && ends_at n (reason_at line.0 reasons))
+
+-- Whether chains of causes end at a line with a fate: it is cancelled, or it is run again and its own
+-- chain ends at itself, since its text is replaced.
+abbrev pub is_origin_by : Fate → Bool → Bool
+is_origin_by Cancelled own = true
+is_origin_by Changed own = own
+is_origin_by Alike own = own
+is_origin_by Kept own = false
+is_origin_by Untouched own = false
+
+abbrev pub is_origin : List Reason → ℕ × Fate → Bool
+is_origin reasons line = is_origin_by line.1 (ends_at line.0 (reason_at line.0 reasons))
+
+-- the paths that the line with a number wrote
+abbrev pub paths_written : RecordingValue → ℕ → List PathValue
+paths_written r n = first_of_each path_eq (filter_map path_written (notes_at n r))
+
+-- how many lines have a fate, and chains of causes that end at the line with a number
+abbrev pub count_led : List Reason → List (ℕ × Fate) → ℕ → Fate → ℕ
+count_led reasons fates n fate = length (filter (is_led_to reasons n fate) fates)
+
+abbrev pub effect_of : RecordingValue → List Reason → List (ℕ × Fate) → ℕ → EffectValue
+effect_of r reasons fates n = record {
+  number = n;
+  changed = count_led reasons fates n Changed;
+  alike = count_led reasons fates n Alike;
+  wrote = paths_written r n;
+}
+
+-- the effects of the lines at which chains of causes end, in order
+abbrev pub effects_of : RecordingValue → List Reason → List (ℕ × Fate) → List EffectValue
+effects_of r reasons fates =
+    map (λ line. effect_of r reasons fates line.0) (filter (is_origin reasons) fates)

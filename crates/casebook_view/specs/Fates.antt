@@ -1,0 +1,61 @@
+-- What a repair does with lines.
+use Rattle.std.specs.Prelude.{◌≡◌, ℕ, Bool, true, false, List, [], ◌∷◌, Option, Some, None}
+use Rattle.std.specs.Prelude.{option_map}
+use Rattle.retro_keep.specs.Edit.{is_among}
+use Rattle.retro_keep.specs.Recording.{RecordingValue, noted_at}
+use Rattle.retro_keep.specs.declared.noted.Noted.{Noted}
+use Rattle.retro_redo.specs.declared.repair.Repair.{Repair}
+use Rattle.retro_redo.specs.declared.verdict.Verdict.{Verdict}
+use Rattle.retro_redo.specs.declared.verdict.Verdict.TheVariants as verdicts
+use Rattle.casebook_cause.specs.LineResult.{HasSameResult}
+use Rattle.casebook_view.specs.ByNumber.{with_number}
+use Rattle.casebook_view.specs.declared.fate.Fate.{Fate}
+use Rattle.casebook_view.specs.declared.fate.Fate.TheVariants as fates
+
+-- the fate of a line that is kept, by whether it is met
+abbrev pub kept_fate : Bool → Fate
+kept_fate true = fates.Kept
+kept_fate false = fates.Untouched
+
+-- the fate of a line that is run again, by both runs
+abbrev pub IsFateOfRuns : Noted → Noted → Fate → Type 0
+IsFateOfRuns old new fate =
+    (HasSameResult old new → fate ≡ fates.Alike) × (¬ (HasSameResult old new) → fate ≡ fates.Changed)
+
+-- the same of a line that one of the recordings may not have, which counts as changed
+abbrev pub IsRedoneFate : Option Noted → Option Noted → Fate → Type 0
+IsRedoneFate (Some old) (Some new) fate = IsFateOfRuns old new fate
+IsRedoneFate (Some old) None fate = fate ≡ fates.Changed
+IsRedoneFate None new fate = fate ≡ fates.Changed
+
+-- the fate of a line with a verdict, in a recording and its repair
+abbrev pub IsFate : RecordingValue → Repair → ℕ → Verdict → Fate → Type 0
+IsFate r repair n verdicts.Cancelled fate = fate ≡ fates.Cancelled
+IsFate r repair n verdicts.Kept fate = fate ≡ kept_fate (is_among repair.met.items n)
+IsFate r repair n verdicts.Redone fate =
+    IsRedoneFate (noted_at n r.lines) (noted_at n repair.recording.lines) fate
+
+-- the fates of the lines with some verdicts, in order
+abbrev pub AreFates : RecordingValue → Repair → List (ℕ × Verdict) → List (ℕ × Fate) → Type 0
+AreFates r repair [] [] = Unit {0}
+AreFates r repair [] (f ∷ fs) = ⊥
+AreFates r repair (v ∷ vs) [] = ⊥
+AreFates r repair (v ∷ vs) (f ∷ fs) =
+    (f.0 ≡ v.0) × IsFate r repair v.0 v.1 f.1 × AreFates r repair vs fs
+
+abbrev pub fate_eq : Fate → Fate → Bool
+fate_eq fates.Cancelled fates.Cancelled = true
+fate_eq fates.Changed fates.Changed = true
+fate_eq fates.Alike fates.Alike = true
+fate_eq fates.Kept fates.Kept = true
+fate_eq fates.Untouched fates.Untouched = true
+fate_eq _ _ = false
+
+-- the fate that a list gives the line with a number, or None if it gives none
+abbrev pub fate_at : ℕ → List (ℕ × Fate) → Option Fate
+fate_at n fates = option_map (λ f. f.1) (with_number (λ f. f.0) n fates)
+
+-- the session that ran a line, or 0 if there is no line
+abbrev pub session_in : Option Noted → ℕ
+session_in None = 0
+session_in (Some noted) = noted.sid

@@ -1,0 +1,12 @@
+pub mod ByNumber
+pub mod FirstOfEach
+pub mod NotePaths
+pub mod Filters
+pub mod Rows
+pub mod Fates
+pub mod Reasons
+pub mod OtherAnswers
+pub mod Subjects
+pub mod Effects
+pub mod Summaries
+pub mod inner

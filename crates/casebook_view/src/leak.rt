@@ -1,0 +1,45 @@
+//! What cancelled lines showed.
+ghost use Rattle.std.specs.Prelude.{◌≡◌, IfOk, map};
+ghost use Rattle.casebook_cause.specs.Compensations.{leaks};
+ghost use Rattle.casebook_view.specs.Summaries.{leak_for};
+
+use crate::NoMem;
+use crate::case::Case;
+use casebook_cause::leaks;
+use retro_redo::Compensation;
+use std::alloc::Global;
+
+/// A cancelled line that showed something.
+#[derive(Clone, Copy, Debug, PartialEq, Eq)]
+pub struct Leak {
+    /// The line's number.
+    pub number: u32,
+    /// The session that ran the line.
+    pub session: u32,
+    /// How many bytes it showed.
+    pub bytes: usize,
+}
+
+/// Returns the leak of a cancelled line that is compensated.
+fn leak_of(case: Case<'_>, compensation: &Compensation) -> Leak
+    ensures { result ≡ leak_for case.entry.recording.now compensation.entry.now }
+{
+    Leak {
+        number: compensation.number,
+        session: case.session_of(compensation.number),
+        bytes: compensation.before.len(),
+    }
+}
+
+/// Returns the cancelled lines that showed something, in order.
+pub fn leaks_of(alloc: Global, case: Case<'_>) -> Result<Vec<Leak>, NoMem>
+    ensures { IfOk result (λ found. found.items
+        ≡ map (leak_for case.entry.recording.now) (leaks case.entry.repair.now)) }
+{
+    let compensations = leaks(alloc, case.repair)?;
+    let mut found = Vec::new(alloc);
+    for compensation in &compensations {
+        found.push(leak_of(case, compensation))?;
+    }
+    Ok(found)
+}

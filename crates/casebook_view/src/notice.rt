@@ -1,0 +1,79 @@
+//! Whom to tell, and about what.
+ghost use Rattle.std.specs.Prelude.{◌≡◌, IfOk, IsTrue, map};
+ghost use Rattle.retro_keep.specs.Script.{rises_from};
+ghost use Rattle.casebook_cause.specs.Compensations.{tellings};
+ghost use Rattle.casebook_view.specs.Reasons.{number_in};
+ghost use Rattle.casebook_view.specs.Summaries.{line_subject, line_told, notice_for, number_of};
+
+use crate::NoMem;
+use crate::case::Case;
+use crate::reason::{Reason, failing_ask, failing_in};
+use crate::subject::Subject;
+use casebook_cause::tellings;
+use retro_redo::Compensation;
+use std::alloc::Global;
+
+/// A line that isn't cancelled and prints something else in the repaired run. Whoever saw what it
+/// printed has to be told.
+#[derive(Drop)]
+pub struct Notice {
+    /// The line's number.
+    pub number: u32,
+    /// The session that ran the line.
+    pub session: u32,
+    /// What the line's first query is about that has another answer.
+    pub subject: Subject,
+}
+
+/// Returns what a line's first query with another answer is about.
+fn subject_of(
+    alloc: Global,
+    case: Case<'_>,
+    reasons: &[Reason],
+    number: u32,
+) -> Result<Subject, NoMem>
+    ensures { IsTrue (rises_from 0 (map number_in reasons.now)) → IfOk result (λ subject.
+        subject ≡ line_subject case.entry.recording.now reasons.now number) }
+{
+    let failing = failing_in(reasons, number);
+    match failing_ask(case, number, failing) {
+        Some(ask) => Subject::of(alloc, ask),
+        None => Ok(Subject::Text),
+    }
+}
+
+/// Returns the notice of a line that is compensated.
+fn notice_of(
+    alloc: Global,
+    case: Case<'_>,
+    reasons: &[Reason],
+    compensation: &Compensation,
+) -> Result<Notice, NoMem>
+    ensures line { IfOk result (λ notice. notice.number ≡ compensation.entry.now.number) }
+    ensures value { IsTrue (rises_from 0 (map number_in reasons.now)) → IfOk result (λ notice.
+        notice ≡ notice_for case.entry.recording.now reasons.now compensation.entry.now) }
+{
+    let number = compensation.number;
+    Ok(Notice {
+        number,
+        session: case.session_of(number),
+        subject: subject_of(alloc, case, reasons, number)?,
+    })
+}
+
+/// Returns whom to tell about what: a notice for each line that isn't cancelled and prints something
+/// else, in order.
+pub fn notices(alloc: Global, case: Case<'_>, reasons: &[Reason]) -> Result<Vec<Notice>, NoMem>
+    ensures lines { IfOk result (λ found. map line_told found.items
+        ≡ map number_of (tellings case.entry.repair.now)) }
+    ensures values { IsTrue (rises_from 0 (map number_in reasons.now)) → IfOk result (λ found.
+        found.items ≡ map (notice_for case.entry.recording.now reasons.now)
+        (tellings case.entry.repair.now)) }
+{
+    let compensations = tellings(alloc, case.repair)?;
+    let mut found = Vec::new(alloc);
+    for compensation in &compensations {
+        found.push(notice_of(alloc, case, reasons, compensation)?)?;
+    }
+    Ok(found)
+}

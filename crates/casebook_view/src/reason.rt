@@ -1,0 +1,213 @@
+//! Why lines are run again.
+ghost use Rattle.std.specs.Prelude.{◌≡◌, ◌∷◌, ◌++◌, [], IfOk, IsTrue, OnOk, length, map};
+ghost use Rattle.std.specs.Option.{option_copied};
+ghost use Rattle.retro_keep.specs.Recorded.{recorded_before};
+ghost use Rattle.retro_keep.specs.Script.{rises_from};
+ghost use Rattle.casebook_view.specs.Reasons.{AreReasons, AreReasonsAfter, IsCauseOf, IsFailing};
+ghost use Rattle.casebook_view.specs.Reasons.{IsNextReason, redone_lines};
+ghost use Rattle.casebook_view.specs.Reasons.{cause_in, chain_from, failing_in, failing_query};
+ghost use Rattle.casebook_view.specs.Reasons.{notes_at, number_in, origin_by, query_at};
+ghost use Rattle.casebook_view.specs.Reasons.{reason_at};
+
+use crate::NoMem;
+use crate::case::Case;
+use casebook_cause::{cause_of, first_failing_note};
+use retro_history::History;
+use retro_keep::Noted;
+use retro_redo::Verdict;
+use retro_tree::{Ask, Note};
+use std::alloc::Global;
+
+/// Why a line is run again.
+#[derive(Clone, Copy, Debug, PartialEq, Eq)]
+pub struct Reason {
+    /// The line's number.
+    pub number: u32,
+    /// The index of its first note that doesn't hold in the repaired state before it, or `None` if
+    /// all hold. Then the line's text is replaced.
+    pub failing: Option<usize>,
+    /// The last line before it that changes otherwise what the failing query asks about.
+    pub cause: Option<u32>,
+    /// The line at which the chain of causes ends. It is cancelled, or its text is replaced.
+    pub origin: u32,
+}
+
+/// Returns the query of a note, if it is one.
+fn query_at(noted: &Noted, index: usize) -> Option<&Ask>
+    ensures { option_copied result ≡ query_at index noted.now.notes }
+{
+    match noted.notes.as_slice().get(index) {
+        Some(Note::Asked(ask, _)) => Some(ask),
+        _ => None,
+    }
+}
+
+/// Returns the reason of the line with a number, of reasons in order of numbers.
+pub(crate) fn reason_of(reasons: &[Reason], number: u32) -> Option<&Reason>
+    ensures { IsTrue (rises_from 0 (map number_in reasons.now))
+        → option_copied result ≡ reason_at number reasons.now }
+{
+    match reasons.binary_search_by_key(&number, |reason| reason.number) {
+        Ok(index) => Some(&reasons[index]),
+        Err(_) => None,
+    }
+}
+
+/// Returns the index of the note of a line that fails, or `None` if none does.
+pub(crate) fn failing_in(reasons: &[Reason], number: u32) -> Option<usize>
+    ensures { IsTrue (rises_from 0 (map number_in reasons.now))
+        → result ≡ failing_in (reason_at number reasons.now) }
+{
+    match reason_of(reasons, number) {
+        Some(reason) => reason.failing,
+        None => None,
+    }
+}
+
+/// Returns where a chain ends that goes on at a cause: at the end of the cause's own chain, or at
+/// the cause if that isn't run again.
+fn origin_of(reasons: &[Reason], number: u32, cause: Option<u32>) -> u32
+    ensures { IsTrue (rises_from 0 (map number_in reasons.now))
+        → result ≡ origin_by reasons.now number cause }
+{
+    match cause {
+        None => number,
+        Some(cause) => match reason_of(reasons, cause) {
+            Some(reason) => reason.origin,
+            None => cause,
+        },
+    }
+}
+
+/// Returns the query of a line's failing note, or `None` if no note fails.
+pub(crate) fn failing_ask(case: Case<'_>, number: u32, failing: Option<usize>) -> Option<&Ask>
+    ensures { option_copied result
+        ≡ failing_query failing (notes_at number case.entry.recording.now) }
+{
+    match (case.recorded(number), failing) {
+        (Some(noted), Some(index)) => query_at(noted, index),
+        _ => None,
+    }
+}
+
+/// Returns the index of the first note of a line that doesn't hold in the repaired state before it,
+/// or `None` if all hold.
+fn failing_note(
+    alloc: Global,
+    case: Case<'_>,
+    repaired: &History<'_>,
+    number: u32,
+) -> Result<Option<usize>, NoMem>
+    requires { repaired.now ≡ case.repair.now.recording }
+    ensures { IfOk result (λ failing. IsFailing failing
+        (notes_at number case.entry.recording.now)
+        (recorded_before number case.entry.repair.now.recording)) }
+{
+    match case.recorded(number) {
+        Some(noted) => first_failing_note(alloc, &noted.notes, &repaired.at(number)),
+        None => Ok(None),
+    }
+}
+
+/// Returns the last line before a line that changes otherwise what a failing query asks about.
+fn cause_at(case: Case<'_>, number: u32, failing: Option<usize>) -> Option<u32>
+    ensures { IsCauseOf case.entry.recording.now case.entry.repair.now number
+        (failing_query failing (notes_at number case.entry.recording.now)) result }
+{
+    match failing_ask(case, number, failing) {
+        Some(ask) => cause_of(case.recording, &case.repair.recording, number, ask),
+        None => None,
+    }
+}
+
+/// Returns why a line is run again. `earlier` are the reasons of the lines before it.
+fn reason_for(
+    alloc: Global,
+    case: Case<'_>,
+    repaired: &History<'_>,
+    earlier: &[Reason],
+    number: u32,
+) -> Result<Reason, NoMem>
+    requires { repaired.now ≡ case.repair.now.recording }
+    ensures number { IfOk result (λ reason. reason.number ≡ number) }
+    ensures next { IfOk result
+        (IsNextReason case.entry.recording.now case.entry.repair.now earlier.now) }
+{
+    let failing = failing_note(alloc, case, repaired, number)?;
+    let cause = cause_at(case, number, failing);
+    Ok(Reason {
+        number,
+        failing,
+        cause,
+        origin: origin_of(earlier, number, cause),
+    })
+}
+
+/// Appends why a line is run again, if its verdict is that it is.
+#[tactic(auto, using(crate::proofs::Reasoning::one_more))]
+fn push_reason(
+    alloc: Global,
+    case: Case<'_>,
+    repaired: &History<'_>,
+    reasons: &mut Vec<Reason>,
+    line: (u32, Verdict),
+) -> Result<(), NoMem>
+    requires { repaired.now ≡ case.repair.now.recording }
+    ensures lines { OnOk result (map number_in reasons.new.items
+        ≡ map number_in reasons.old.items ++ redone_lines (line ∷ [])) }
+    ensures each { OnOk result
+        (AreReasonsAfter case.entry.recording.now case.entry.repair.now [] reasons.old.items
+        → AreReasonsAfter case.entry.recording.now case.entry.repair.now []
+        reasons.new.items) }
+{
+    if let Verdict::Redone = line.1 {
+        let reason = reason_for(alloc, case, repaired, reasons.as_slice(), line.0)?;
+        reasons.push(reason)?;
+    }
+    Ok(())
+}
+
+/// Returns why each line is run again that is, in order.
+pub fn reasons(alloc: Global, case: Case<'_>) -> Result<Vec<Reason>, NoMem>
+    ensures { IfOk result (λ found.
+        AreReasons case.entry.recording.now case.entry.repair.now found.items) }
+{
+    let repaired = History::of(alloc, &case.repair.recording)?;
+    let mut reasons = Vec::new(alloc);
+    for line in &case.repair.verdicts {
+        push_reason(alloc, case, &repaired, &mut reasons, *line)?;
+    }
+    Ok(reasons)
+}
+
+/// Returns the cause of a line, or `None` if it has none.
+fn cause_in(reasons: &[Reason], number: u32) -> Option<u32>
+    ensures { IsTrue (rises_from 0 (map number_in reasons.now))
+        → result ≡ cause_in (reason_at number reasons.now) }
+{
+    match reason_of(reasons, number) {
+        Some(reason) => reason.cause,
+        None => None,
+    }
+}
+
+/// Returns the chain of causes of a line: its cause, the cause of that, and so on.
+pub fn chain(alloc: Global, reasons: &[Reason], number: u32) -> Result<Vec<u32>, NoMem>
+    ensures { IfOk result (λ found. IsTrue (rises_from 0 (map number_in reasons.now))
+        → found.items ≡ chain_from (length reasons.now) reasons.now number) }
+{
+    let mut chain = Vec::new(alloc);
+    let mut at = number;
+    let mut left = reasons.len();
+    while left > 0 {
+        match cause_in(reasons, at) {
+            Some(cause) => {
+                chain.push(cause)?;
+                at = cause;
+                left -= 1;
+            }
+            None => return Ok(chain),
+        }
+    }
+    Ok(chain)
+}

@@ -1,0 +1,24 @@
+//! What is to be restored.
+ghost use Rattle.std.specs.Prelude.{IfOk};
+ghost use Rattle.retro_keep.specs.Recording.{last_state};
+ghost use Rattle.retro_redo.specs.Repair.{repaired_state};
+ghost use Rattle.casebook_cause.specs.ChangedPaths.{AreChangedPaths};
+
+use crate::NoMem;
+use crate::case::Case;
+use casebook_cause::{ChangedPath, changed_paths};
+use std::alloc::Global;
+
+/// Returns the paths in which the recorded and the repaired machine differ at the end, in order of
+/// paths.
+pub fn restorations(alloc: Global, case: Case<'_>) -> Result<Vec<ChangedPath>, NoMem>
+    ensures { IfOk result (λ found. AreChangedPaths
+        (last_state case.entry.recording.now.lines case.entry.recording.now.first).tree
+        (repaired_state case.entry.repair.now).tree found.items) }
+{
+    changed_paths(
+        alloc,
+        case.recording.last().tree(),
+        case.repair.state().tree(),
+    )
+}
