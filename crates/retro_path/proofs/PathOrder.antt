@@ -110,14 +110,14 @@ longer [] b h k = absurd (omega arith)
 longer (x ∷ a) [] h k = refl
 longer (x ∷ a) (y ∷ b) h k = absurd (omega arith)
 
-pub same_chunks : (a b x y c d : List ℕ) → x ≡ take 16 a → c ≡ drop 16 a → y ≡ take 16 b → d ≡ drop 16 b
+pub same_chunks : (n : ℕ) (a b x y c d : List ℕ) → x ≡ take n a → c ≡ drop n a → y ≡ take n b → d ≡ drop n b
     → pointwise nat_eq x y ≡ true → slice_cmp slash_first c d ≡ slice_cmp slash_first a b
-same_chunks a b x y c d e f g h same =
+same_chunks n a b x y c d e f g h same =
     let one : x ≡ y = (bytes_eq-Decides x y).0 same in
     sym (same_start x c d)
     ∙ (λ i. slice_cmp slash_first (e i ++ f i) (one i ++ d))
-    ∙ (λ i. slice_cmp slash_first (take-append-drop 16 a i) (g i ++ h i))
-    ∙ ap (slice_cmp slash_first a) (take-append-drop 16 b)
+    ∙ (λ i. slice_cmp slash_first (take-append-drop n a i) (g i ++ h i))
+    ∙ ap (slice_cmp slash_first a) (take-append-drop n b)
 
 pub not_unequal : (r b : Bool) → r ≡ not b → r ≡ false → b ≡ true
 not_unequal r true e f = refl
