@@ -38,6 +38,15 @@ impl Model for Path {
     ghost invariant = { λ a. IsPathText (string_bytes a.text) };
 }
 
+/// Returns how many bytes the text of a path has that is of these names, if there is memory for it.
+fn text_length(names: &[&str]) -> usize {
+    let mut length = 0_usize;
+    for name in names {
+        length = length.saturating_add(name.len()).saturating_add(1);
+    }
+    length
+}
+
 impl Path {
     /// Returns the path of the root. Takes no memory.
     pub fn root(alloc: Global) -> Path
@@ -64,6 +73,33 @@ impl Path {
             path = path.join(text.as_str())?;
         }
         Ok(Some(path))
+    }
+
+    /// Returns the path of these names, from the root, or `None` if one can't be a name. Takes one
+    /// allocation, and time in proportion to their length.
+    #[tactic(auto, using(crate::proofs::Slashes::more_names))]
+    pub fn of_names(alloc: Global, names: &[&str]) -> Result<Option<Path>, NoMem>
+        ensures { IfOk result (λ found. MatchOption found
+            (list_all is_name (map (λ name. name.now) names.now) ≡ false)
+            (λ path. path ≡ map (λ name. name.now) names.now)) }
+    {
+        let mut path = Path::with_room(alloc, text_length(names))?;
+        for name in names {
+            if !is_name(name) {
+                return Ok(None);
+            }
+            path = path.join(name)?;
+        }
+        Ok(Some(path))
+    }
+
+    /// Returns the path of the root, with room for a text of so many bytes.
+    fn with_room(alloc: Global, room: usize) -> Result<Path, NoMem>
+        ensures { IfOk result (λ path. path ≡ []) }
+    {
+        Ok(Path {
+            text: String::with_capacity(alloc, room)?,
+        })
     }
 
     /// Returns the text of the path: `/a/b`, and nothing for the root.
