@@ -89,16 +89,12 @@ fn names_fault(part: Part, names: &[&str]) -> Refusal
     }
 }
 
-/// Returns the path of these names, or why they are refused. `Path::of` tests the names. Only if
+/// Returns the path of these names, or why they are refused. `Path::of_names` tests the names. Only if
 /// it makes no path of them are they tested here, to find the refusal.
 fn path_of(alloc: Global, part: Part, names: &[&str]) -> Result<OrRefusal<Path>, NoMem>
     ensures { IfOk result (λ path. path ≡ path_of part (map (λ name. name.now) names.now)) }
 {
-    let mut texts = Vec::with_capacity(alloc, names.len())?;
-    for name in names {
-        texts.push(String::from_str(alloc, name)?)?;
-    }
-    match Path::of(alloc, texts)? {
+    match Path::of_names(alloc, names)? {
         Some(path) => {
             if have_no_nul(&path) {
                 Ok(Ok(path))

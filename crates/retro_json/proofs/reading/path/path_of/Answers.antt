@@ -1,23 +1,14 @@
-use Rattle.std.proofs.Common.{◌≡◌, ◌∙◌, true, false, map, Ok, Err, refl, string_bytes, subst, sym, ap}
+use Rattle.std.proofs.Common.{◌≡◌, ◌∙◌, true, false, map, Ok, Err, subst, sym, ap}
 use Rattle.std.specs.List.{list_all}
 use Rattle.retro_tree.specs.Name.{is_name}
 use Rattle.retro_json.specs.NoNul.{have_no_nul}
-use Rattle.retro_json.proofs.Each.{made_goes_on, made_done}
 use Rattle.retro_json.proofs.Names.{path_named, path_unnamed, path_with_nul}
 use Rattle.retro_json.proofs.reading.path.path_of.Goals as goal
-
-pub loop-name-preserved : goal.loop-name-preserved
-loop-name-preserved c =
-    made_goes_on (λ name. name.now) string_bytes c.loop-name.texts.items c.push.new.self.items c.args.names.now
-    c.loop-name.name-index _ _ c.in_ok-from_str.field-0
-    c.loop-name-test.true refl c.in_ok-push.ensures.items c.in_ok-from_str.ensures.ok c.loop-name.invariant
 
 pub returns-then-have_no_nul : goal.returns-then-have_no_nul
 returns-then-have_no_nul c =
     let names = map (λ name. name.now) c.args.names.now in
-    let made = rw c.in-Some.is at c.in_ok-path.ensures in
-    let is : c.in-Some.path ≡ names = made ∙ made_done (λ name. name.now) string_bytes c.loop-name.texts.items
-    c.args.names.now c.loop-name.name-index c.loop-name-test.false c.loop-name.invariant in
+    let is : c.in-Some.path ≡ names = rw c.in-Some.is at c.in_ok-path.ensures in
     let plain = sym c.have_no_nul.ensures.value ∙ c.if-have_no_nul.true in
     ap Ok is
     ∙ sym (path_named c.args.part names (subst (λ ns. list_all is_name ns ≡ true) is c.have_no_nul.ensures.names)
@@ -26,17 +17,12 @@ returns-then-have_no_nul c =
 pub returns-else-have_no_nul : goal.returns-else-have_no_nul
 returns-else-have_no_nul c =
     let names = map (λ name. name.now) c.args.names.now in
-    let made = rw c.in-Some.is at c.in_ok-path.ensures in
-    let is : c.in-Some.path ≡ names = made ∙ made_done (λ name. name.now) string_bytes c.loop-name.texts.items
-    c.args.names.now c.loop-name.name-index c.loop-name-test.false c.loop-name.invariant in
+    let is : c.in-Some.path ≡ names = rw c.in-Some.is at c.in_ok-path.ensures in
     let nul = sym c.have_no_nul.ensures.value ∙ c.if-have_no_nul.false in
     sym (path_with_nul c.args.part names (subst (λ ns. have_no_nul ns ≡ false) is nul))
 
 pub returns-in-None : goal.returns-in-None
 returns-in-None c =
     let names = map (λ name. name.now) c.args.names.now in
-    let same : map string_bytes c.loop-name.texts.items ≡ names = made_done (λ name. name.now) string_bytes
-    c.loop-name.texts.items c.args.names.now c.loop-name.name-index c.loop-name-test.false c.loop-name.invariant in
     let unnamed = rw c.in-None.is at c.in_ok-path.ensures in
-    ap Err c.names_fault.ensures
-    ∙ sym (path_unnamed c.args.part names (subst (λ ns. list_all is_name ns ≡ false) same unnamed))
+    ap Err c.names_fault.ensures ∙ sym (path_unnamed c.args.part names unnamed)
