@@ -5,6 +5,8 @@
 #![tactic(auto)]
 
 #[cfg(test)]
+mod about;
+#[cfg(test)]
 mod diffs;
 #[cfg(test)]
 mod hunks;

@@ -1,0 +1,4 @@
+pub mod Reads
+pub mod Rows
+pub mod About
+pub mod Time

@@ -1,0 +1,19 @@
+//! What is known of a log beside its documents: who typed in which session, and when.
+//!
+//! [`read_about`] reads it from an about document: JSON (RFC 8259) of an object with `"about": 1`,
+//! with `"sessions"`, rows that begin with a session's number and the name of its user, and with
+//! `"lines"`, rows that begin with a line's number and a time in seconds since the start of 1970
+//! (UTC). Both may be missing, further cells and keys don't count. [`time_text`] shows a time.
+//!
+//! If allocation fails, calls return `OutOfMemory` as a variant of their error.
+#![tactic(auto)]
+
+mod about;
+mod fault;
+mod rows;
+mod time;
+
+pub use about::{About, read_about};
+pub use fault::{AboutFault, Part};
+pub use rows::{LineTime, SessionUser};
+pub use time::{TIME_FORMAT, time_text};
