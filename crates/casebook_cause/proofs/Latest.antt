@@ -2,7 +2,7 @@
 use Rattle.std.proofs.Common.{◌≡◌, ◌≢◌, ◌∙◌, ◌⊎◌, inl, inr, ◌≤◌, ◌<◌, ◌==◌, ℕ, zero, suc, Bool, true, false, ◌||◌}
 use Rattle.std.proofs.Common.{◌∷◌, ◌++◌, map, take, drop, Option, Some, None, IfSome, refl, sym, ap, subst, arith}
 use Rattle.std.proofs.Common.{List, [], add-one, append_assoc, get_or, length, ◌+◌}
-use Rattle.std.proofs.lemmas.List.{drop_more, take_all}
+use Rattle.std.proofs.lemmas.List.{drop_more, take_all, take_more}
 use Rattle.std.specs.Bool.{if◌then◌else◌}
 use Rattle.std.specs.Option.{IsSome}
 use Rattle.std.proofs.lemmas.Bool.{true≢false, eqb-true}
@@ -15,7 +15,7 @@ use Rattle.retro_keep.specs.Recorded.{recorded_before}
 use Rattle.retro_keep.specs.Recording.{IsWellFormed, RecordingValue, noted_at, number_in}
 use Rattle.retro_keep.specs.declared.noted.Noted.{Noted}
 use Rattle.casebook_cause.specs.Cause.{IsAlike, IsCause, changes_for, notes_of}
-use Rattle.casebook_cause.specs.inner.Latest.{IsAtMost, IsLatest}
+use Rattle.casebook_cause.specs.inner.Latest.{AreEnough, IsAtMost, IsLatest, all_numbers}
 use Rattle.casebook_cause.proofs.Causes.{answers_alike}
 
 -- ---- numbers
@@ -24,7 +24,7 @@ or_assoc : (a b c : Bool) → (a || (b || c)) ≡ ((a || b) || c)
 or_assoc true b c = refl
 or_assoc false b c = refl
 
-among_append : (k : ℕ) (xs ys : List ℕ) → is_among (xs ++ ys) k ≡ (is_among xs k || is_among ys k)
+pub among_append : (k : ℕ) (xs ys : List ℕ) → is_among (xs ++ ys) k ≡ (is_among xs k || is_among ys k)
 among_append k [] ys = refl
 among_append k (x ∷ xs) ys =
     ap (λ b. (x == k) || b) (among_append k xs ys) ∙ or_assoc (x == k) (is_among xs k) (is_among ys k)
@@ -33,11 +33,11 @@ either : (a b : Bool) → (a || b) ≡ true → (a ≡ true) ⊎ (b ≡ true)
 either true b e = inl refl
 either false b e = inr e
 
-neither_first : (a b : Bool) → (a || b) ≡ false → a ≡ false
+pub neither_first : (a b : Bool) → (a || b) ≡ false → a ≡ false
 neither_first true b e = absurd (true≢false e)
 neither_first false b e = refl
 
-neither_second : (a b : Bool) → (a || b) ≡ false → b ≡ false
+pub neither_second : (a b : Bool) → (a || b) ≡ false → b ≡ false
 neither_second true b e = absurd (true≢false e)
 neither_second false b e = e
 
@@ -126,54 +126,51 @@ noted_none k (l ∷ lines) e = by_test (l.0 == k) e (noted_none k lines)
     by_test true e' rest = absurd (true≢false e')
     by_test false e' rest = rest e'
 
--- the numbers of the lines of two recordings
-abbrev pub all_numbers : RecordingValue → RecordingValue → List ℕ
-all_numbers one two = map number_in one.lines ++ map number_in two.lines
-
 module _ (q : Ask) (n : ℕ) (one two : RecordingValue) where
   -- a number that no line has is alike
-  no_line : (k : ℕ) → is_among (all_numbers one two) k ≡ false → IsAlike q one two k
-  no_line k none =
+  pub lines_are_enough : AreEnough q one two (all_numbers one two)
+  lines_are_enough k none =
       let parts = sym (among_append k (map number_in one.lines) (map number_in two.lines)) ∙ none in
       ap (λ o. changes_for q (notes_of o)) (noted_none k one.lines (neither_first _ _ parts)
       ∙ sym (noted_none k two.lines (neither_second (is_among (map number_in one.lines) k) _ parts)))
 
-  covered : (found : Option ℕ) → IsLatest (IsAlike q one two) n (all_numbers one two) found → (k : ℕ) → k < n
-      → IsAlike q one two k ⊎ IsAtMost k found
-  covered found latest k less = by_test (is_among (all_numbers one two) k) refl
-    where
-      by_test : (b : Bool) → is_among (all_numbers one two) k ≡ b → IsAlike q one two k ⊎ IsAtMost k found
-      by_test true e = latest.complete k less e
-      by_test false e = inl (no_line k e)
+  module _ (numbers : List ℕ) (enough : AreEnough q one two numbers) where
+    covered : (found : Option ℕ) → IsLatest (IsAlike q one two) n numbers found → (k : ℕ) → k < n
+        → IsAlike q one two k ⊎ IsAtMost k found
+    covered found latest k less = by_test (is_among numbers k) refl
+      where
+        by_test : (b : Bool) → is_among numbers k ≡ b → IsAlike q one two k ⊎ IsAtMost k found
+        by_test true e = latest.complete k less e
+        by_test false e = inl (enough k e)
 
-  pub none_is : (found : Option ℕ) → IsLatest (IsAlike q one two) n (all_numbers one two) found → found ≡ None
-      → (k : ℕ) → k < n → IsAlike q one two k
-  none_is None latest e k less = by_part (covered None latest k less)
-    where
-      by_part : IsAlike q one two k ⊎ ⊥ → IsAlike q one two k
-      by_part (inl a) = a
-      by_part (inr h) = absurd h
-  none_is (Some m) latest e k less = cc
+    pub none_is : (found : Option ℕ) → IsLatest (IsAlike q one two) n numbers found → found ≡ None
+        → (k : ℕ) → k < n → IsAlike q one two k
+    none_is None latest e k less = by_part (covered None latest k less)
+      where
+        by_part : IsAlike q one two k ⊎ ⊥ → IsAlike q one two k
+        by_part (inl a) = a
+        by_part (inr h) = absurd h
+    none_is (Some m) latest e k less = cc
 
-  pub some_is : (found : Option ℕ) → IsLatest (IsAlike q one two) n (all_numbers one two) found
-      → IfSome found (IsCause q n one two)
-  some_is None latest = tt
-  some_is (Some m) latest = record {
-    earlier = latest.sound.0;
-    otherwise = latest.sound.1;
-    last = λ k after_it less. by_part k after_it (covered (Some m) latest k less);
-  }
-    where
-      by_part : (k : ℕ) → m < k → IsAlike q one two k ⊎ (k ≤ m) → IsAlike q one two k
-      by_part k after_it (inl a) = a
-      by_part k after_it (inr h) = absurd (omega (arith, after_it, h))
+    pub some_is : (found : Option ℕ) → IsLatest (IsAlike q one two) n numbers found
+        → IfSome found (IsCause q n one two)
+    some_is None latest = tt
+    some_is (Some m) latest = record {
+      earlier = latest.sound.0;
+      otherwise = latest.sound.1;
+      last = λ k after_it less. by_part k after_it (covered (Some m) latest k less);
+    }
+      where
+        by_part : (k : ℕ) → m < k → IsAlike q one two k ⊎ (k ≤ m) → IsAlike q one two k
+        by_part k after_it (inl a) = a
+        by_part k after_it (inr h) = absurd (omega (arith, after_it, h))
 
-  pub cause_exists : IsWellFormed one → IsWellFormed two → (found : Option ℕ)
-      → IsLatest (IsAlike q one two) n (all_numbers one two) found → one.first ≡ two.first → (notes : List Note)
-      → answer q (after notes (recorded_before n one)) ≢ answer q (after notes (recorded_before n two)) → IsSome found
-  cause_exists v w None latest same notes differ =
-      absurd (differ (answers_alike q n one two v w same (none_is None latest refl) notes))
-  cause_exists v w (Some m) latest same notes differ = refl
+    pub cause_exists : IsWellFormed one → IsWellFormed two → (found : Option ℕ)
+        → IsLatest (IsAlike q one two) n numbers found → one.first ≡ two.first → (notes : List Note)
+        → answer q (after notes (recorded_before n one)) ≢ answer q (after notes (recorded_before n two)) → IsSome found
+    cause_exists v w None latest same notes differ =
+        absurd (differ (answers_alike q n one two v w same (none_is None latest refl) notes))
+    cause_exists v w (Some m) latest same notes differ = refl
 
 -- ---- the steps of the code
 
@@ -191,10 +188,17 @@ more_numbers done i lines l below is =
     append_assoc done (map number_in (take i lines)) (l.0 ∷ [])
     ∙ ap (λ ns. done ++ ns) (sym (next_numbers i lines l below is))
 
-pub latest_end : (Alike : ℕ → Type 0) (n : ℕ) (one two : RecordingValue) (others : List (ℕ × Noted)) (i : ℕ)
-    (found : Option ℕ) → others ≡ two.lines → length others ≤ i
-    → IsLatest Alike n (map number_in one.lines ++ map number_in (take i others)) found
+-- one more of some numbers
+pub one_more_of : (before numbers : List ℕ) (i d : ℕ) → i < length numbers
+    → (before ++ take i numbers) ++ get_or numbers i d ∷ [] ≡ before ++ take (i + 1) numbers
+one_more_of before numbers i d below =
+    append_assoc before (take i numbers) (get_or numbers i d ∷ [])
+    ∙ ap (λ ns. before ++ ns) (sym (take_more numbers i d below))
+
+pub lines_of_both : (one two : RecordingValue) (n : ℕ) (Alike : ℕ → Type 0) (lines others : List (ℕ × Noted)) (found : Option ℕ)
+    → lines ≡ one.lines → others ≡ two.lines
+    → IsLatest Alike n (map number_in lines ++ map number_in others) found
     → IsLatest Alike n (all_numbers one two) found
-latest_end Alike n one two others i found same all latest =
-    subst (λ ns. IsLatest Alike n (map number_in one.lines ++ map number_in ns) found)
-    (take_all i others all ∙ same) latest
+lines_of_both one two n Alike lines others found same alike latest =
+    subst (λ ls. IsLatest Alike n (map number_in ls ++ map number_in two.lines) found) same
+    (subst (λ ls. IsLatest Alike n (map number_in lines ++ map number_in ls) found) alike latest)

@@ -6,6 +6,7 @@ pub mod Parts
 pub mod Causes
 pub mod Picking
 pub mod Latest
+pub mod Writers
 pub mod NotKept
 pub mod Redone
 pub mod CauseVerdicts

@@ -12,10 +12,12 @@
 mod another_result;
 mod cause;
 mod changed_path;
+mod compared;
 mod compensations;
 mod entries;
 mod failing_note;
 mod laws;
+mod supporting;
 mod tree_diff;
 
 pub use another_result::has_another_result;

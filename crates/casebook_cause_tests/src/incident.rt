@@ -70,11 +70,12 @@ fn cause(
     number: u32,
 ) -> Result<Option<u32>, Fail> {
     let notes = &line(recording, number)?.notes;
+    let recorded = History::of(alloc, recording)?;
     let history = History::of(alloc, &repair.recording)?;
     let index = first_failing_note(alloc, notes, &history.at(number))?.ok_or("all notes hold")?;
     match notes.as_slice().get(index) {
         Some(Note::Asked(ask, _)) if is_about(ask, &path(alloc, "/a")?) => {
-            Ok(cause_of(recording, &repair.recording, number, ask))
+            Ok(cause_of(alloc, &recorded, &history, number, ask)?)
         }
         _ => fail("another query"),
     }

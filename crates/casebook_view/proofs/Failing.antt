@@ -67,11 +67,20 @@ one_cause : (r : RecordingValue) (repair : Repair) (n : ℕ) (q : Ask) (cause : 
 one_cause r repair n q None none some = none refl
 one_cause r repair n q (Some m) none some = some
 
-pub cause_from : (r : RecordingValue) (repair : Repair) (n : ℕ) (q : Ask) (query : Option Ask) (cause : Option ℕ)
+cause_from : (r : RecordingValue) (repair : Repair) (n : ℕ) (q : Ask) (query : Option Ask) (cause : Option ℕ)
     → Some q ≡ query → (cause ≡ None → (m : ℕ) → m < n → IsAlike q r repair.recording m)
     → IfSome cause (IsCause q n r repair.recording) → IsCauseOf r repair n query cause
 cause_from r repair n q query cause is none some =
     subst (λ o. IsCauseOf r repair n o cause) is (one_cause r repair n q cause none some)
+
+pub cause_from_ok : {E : Type 0} (r : RecordingValue) (repair : Repair) (n : ℕ) (q : Ask) (query : Option Ask)
+    (found : Result (Option ℕ) E)
+    → Some q ≡ query
+    → IfOk found (λ cause. cause ≡ None → (m : ℕ) → m < n → IsAlike q r repair.recording m)
+    → IfOk found (λ cause. IfSome cause (IsCause q n r repair.recording))
+    → IfOk found (IsCauseOf r repair n query)
+cause_from_ok r repair n q query (Ok cause) is none some = cause_from r repair n q query cause is none some
+cause_from_ok r repair n q query (Err e) is none some = tt
 
 pub no_cause : (r : RecordingValue) (repair : Repair) (n : ℕ) (query : Option Ask)
     → None ≡ query → IsCauseOf r repair n query None

@@ -9,4 +9,5 @@ pub mod OtherAnswers
 pub mod Subjects
 pub mod Effects
 pub mod Summaries
+pub mod Groups
 pub mod inner

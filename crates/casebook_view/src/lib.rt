@@ -6,7 +6,8 @@
 //! A [`Case`] is a recording with its repair, and a [`Summary`] says what the repair would do: the
 //! [`Fate`] of each line, the paths to restore, the [`Notice`]s to people, the [`Leak`]s, the
 //! [`Effect`] of each cancelled line, and the [`Reason`] for which each line is run again.
-//! [`answers_of`] returns both answers to the query that is the reason.
+//! [`answers_of`] returns both answers to the query that is the reason. [`grouped`] puts notices
+//! together by session and by what they are about.
 //!
 //! Nothing is computed anew: everything is read from recordings and repairs.
 //!
@@ -17,6 +18,8 @@ mod case;
 mod effect;
 mod fate;
 mod filters;
+mod group;
+mod grouping;
 mod leak;
 mod line_row;
 mod line_rows;
@@ -35,6 +38,8 @@ pub use case::Case;
 pub use effect::{Effect, effects};
 pub use fate::{Fate, fates};
 pub use filters::Filters;
+pub use group::Group;
+pub use grouping::grouped;
 pub use leak::{Leak, leaks_of};
 pub use line_row::LineRow;
 pub use line_rows::rows;

@@ -32,6 +32,13 @@ pub struct Reason {
     pub origin: u32,
 }
 
+/// The histories of a recording and of its repaired recording.
+#[derive(Clone, Copy, Drop)]
+struct Histories<'h, 'r> {
+    recorded: &'h History<'r>,
+    repaired: &'h History<'r>,
+}
+
 /// Returns the query of a note, if it is one.
 fn query_at(noted: &Noted, index: usize) -> Option<&Ask>
     ensures { option_copied result ≡ query_at index noted.now.notes }
@@ -110,13 +117,21 @@ fn failing_note(
 }
 
 /// Returns the last line before a line that changes otherwise what a failing query asks about.
-fn cause_at(case: Case<'_>, number: u32, failing: Option<usize>) -> Option<u32>
-    ensures { IsCauseOf case.entry.recording.now case.entry.repair.now number
-        (failing_query failing (notes_at number case.entry.recording.now)) result }
+fn cause_at(
+    alloc: Global,
+    case: Case<'_>,
+    histories: Histories<'_, '_>,
+    number: u32,
+    failing: Option<usize>,
+) -> Result<Option<u32>, NoMem>
+    requires recorded { histories.recorded.now ≡ case.recording.now }
+    requires repaired { histories.repaired.now ≡ case.repair.now.recording }
+    ensures { IfOk result (IsCauseOf case.entry.recording.now case.entry.repair.now number
+        (failing_query failing (notes_at number case.entry.recording.now))) }
 {
     match failing_ask(case, number, failing) {
-        Some(ask) => cause_of(case.recording, &case.repair.recording, number, ask),
-        None => None,
+        Some(ask) => cause_of(alloc, histories.recorded, histories.repaired, number, ask),
+        None => Ok(None),
     }
 }
 
@@ -124,17 +139,18 @@ fn cause_at(case: Case<'_>, number: u32, failing: Option<usize>) -> Option<u32>
 fn reason_for(
     alloc: Global,
     case: Case<'_>,
-    repaired: &History<'_>,
+    histories: Histories<'_, '_>,
     earlier: &[Reason],
     number: u32,
 ) -> Result<Reason, NoMem>
-    requires { repaired.now ≡ case.repair.now.recording }
+    requires recorded { histories.recorded.now ≡ case.recording.now }
+    requires repaired { histories.repaired.now ≡ case.repair.now.recording }
     ensures number { IfOk result (λ reason. reason.number ≡ number) }
     ensures next { IfOk result
         (IsNextReason case.entry.recording.now case.entry.repair.now earlier.now) }
 {
-    let failing = failing_note(alloc, case, repaired, number)?;
-    let cause = cause_at(case, number, failing);
+    let failing = failing_note(alloc, case, histories.repaired, number)?;
+    let cause = cause_at(alloc, case, histories, number, failing)?;
     Ok(Reason {
         number,
         failing,
@@ -148,11 +164,12 @@ fn reason_for(
 fn push_reason(
     alloc: Global,
     case: Case<'_>,
-    repaired: &History<'_>,
+    histories: Histories<'_, '_>,
     reasons: &mut Vec<Reason>,
     line: (u32, Verdict),
 ) -> Result<(), NoMem>
-    requires { repaired.now ≡ case.repair.now.recording }
+    requires recorded { histories.recorded.now ≡ case.recording.now }
+    requires repaired { histories.repaired.now ≡ case.repair.now.recording }
     ensures lines { OnOk result (map number_in reasons.new.items
         ≡ map number_in reasons.old.items ++ redone_lines (line ∷ [])) }
     ensures each { OnOk result
@@ -161,7 +178,7 @@ fn push_reason(
         reasons.new.items) }
 {
     if let Verdict::Redone = line.1 {
-        let reason = reason_for(alloc, case, repaired, reasons.as_slice(), line.0)?;
+        let reason = reason_for(alloc, case, histories, reasons.as_slice(), line.0)?;
         reasons.push(reason)?;
     }
     Ok(())
@@ -172,10 +189,15 @@ pub fn reasons(alloc: Global, case: Case<'_>) -> Result<Vec<Reason>, NoMem>
     ensures { IfOk result (λ found.
         AreReasons case.entry.recording.now case.entry.repair.now found.items) }
 {
+    let recorded = History::of(alloc, case.recording)?;
     let repaired = History::of(alloc, &case.repair.recording)?;
+    let histories = Histories {
+        recorded: &recorded,
+        repaired: &repaired,
+    };
     let mut reasons = Vec::new(alloc);
     for line in &case.repair.verdicts {
-        push_reason(alloc, case, &repaired, &mut reasons, *line)?;
+        push_reason(alloc, case, histories, &mut reasons, *line)?;
     }
     Ok(reasons)
 }

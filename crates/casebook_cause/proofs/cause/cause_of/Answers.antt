@@ -1,47 +1,78 @@
-use Rattle.std.proofs.Common.{arith, map, subst, sym, take, ◌++◌}
-use Rattle.retro_keep.specs.Recording.{number_in}
+use Rattle.std.proofs.Common.{◌∙◌, List, Some, ap, option_map, subst, sym}
+use Rattle.retro_tree.specs.declared.cell.Cell.{Cell}
+use Rattle.retro_keep.specs.Recording.{IsWellFormed}
 use Rattle.casebook_cause.specs.Cause.{IsAlike}
-use Rattle.casebook_cause.specs.inner.Latest.{IsLatest}
-use Rattle.casebook_cause.proofs.Latest.{cause_exists, latest_end, more_numbers, next_numbers, none_is, some_is}
+use Rattle.casebook_cause.specs.inner.Latest.{all_numbers, writers_of}
+use Rattle.casebook_cause.proofs.Latest.{cause_exists, lines_are_enough, lines_of_both, none_is, some_is}
+use Rattle.casebook_cause.proofs.Writers.{writers_are_enough}
 use Rattle.casebook_cause.proofs.cause.cause_of.Goals as goal
 
-pub loop-line-preserved : goal.loop-line-preserved
-loop-line-preserved c =
-    let alike = IsAlike c.args.ask.now c.args.recording.now c.args.repaired.now in
-    subst (λ ns. IsLatest alike c.args.number ns c.latest-last.result)
-    (sym (next_numbers c.loop-line.line-index c.lines-lines.result.now c.line-item.result c.loop-line-test.true
-    c.line-item.is))
-    (c.latest-last.ensures (map number_in (take c.loop-line.line-index c.lines-lines.result.now))
-    c.loop-line.invariant)
+pub returns-in-Some-clause-none : goal.returns-in-Some-clause-none
+returns-in-Some-clause-none c =
+    let q = c.args.ask.now in
+    let one = c.args.recorded.now in
+    let two = c.args.repaired.now in
+    let cells = c.as_slice.result.now in
+    let is = ap (λ (cs : List Cell). Some cs) c.as_slice.ensures.value
+    ∙ sym (ap (option_map (λ v. v.items)) c.in-Some.is) ∙ c.in_ok-cells.ensures in
+    let enough = writers_are_enough q one two cells is in
+    none_is q c.args.number one two (writers_of one two cells) enough c.last_of_writers.result c.last_of_writers.ensures
 
-pub loop-other-preserved : goal.loop-other-preserved
-loop-other-preserved c =
-    let alike = IsAlike c.args.ask.now c.args.recording.now c.args.repaired.now in
-    let done = map number_in c.args.recording.now.lines in
-    subst (λ ns. IsLatest alike c.args.number ns c.latest-last-in-loop-other.result)
-    (more_numbers done c.loop-other.other-index c.lines-others.result.now c.other-item.result c.loop-other-test.true
-    c.other-item.is)
-    (c.latest-last-in-loop-other.ensures
-    (done ++ map number_in (take c.loop-other.other-index c.lines-others.result.now)) c.loop-other.invariant)
+pub returns-in-Some-clause-some : goal.returns-in-Some-clause-some
+returns-in-Some-clause-some c =
+    let q = c.args.ask.now in
+    let one = c.args.recorded.now in
+    let two = c.args.repaired.now in
+    let cells = c.as_slice.result.now in
+    let is = ap (λ (cs : List Cell). Some cs) c.as_slice.ensures.value
+    ∙ sym (ap (option_map (λ v. v.items)) c.in-Some.is) ∙ c.in_ok-cells.ensures in
+    let enough = writers_are_enough q one two cells is in
+    some_is q c.args.number one two (writers_of one two cells) enough c.last_of_writers.result c.last_of_writers.ensures
 
-pub returns-clause-none : goal.returns-clause-none
-returns-clause-none c =
-    none_is c.args.ask.now c.args.number c.args.recording.now c.args.repaired.now c.loop-other.last
-    (latest_end (IsAlike c.args.ask.now c.args.recording.now c.args.repaired.now) c.args.number c.args.recording.now
-    c.args.repaired.now c.lines-others.result.now c.loop-other.other-index c.loop-other.last
-    c.lines-others.ensures.value (omega arith) c.loop-other.invariant)
+pub returns-in-Some-clause-exists : goal.returns-in-Some-clause-exists
+returns-in-Some-clause-exists c =
+    let q = c.args.ask.now in
+    let one = c.args.recorded.now in
+    let two = c.args.repaired.now in
+    let cells = c.as_slice.result.now in
+    let is = ap (λ (cs : List Cell). Some cs) c.as_slice.ensures.value
+    ∙ sym (ap (option_map (λ v. v.items)) c.in-Some.is) ∙ c.in_ok-cells.ensures in
+    let enough = writers_are_enough q one two cells is in
+    let well_one = subst IsWellFormed c.recording.ensures c.lines-lines.ensures.well_formed in
+    let well_two = subst IsWellFormed c.recording-2.ensures c.lines-others.ensures.well_formed in
+    cause_exists q c.args.number one two (writers_of one two cells) enough well_one well_two c.last_of_writers.result c.last_of_writers.ensures
 
-pub returns-clause-some : goal.returns-clause-some
-returns-clause-some c =
-    some_is c.args.ask.now c.args.number c.args.recording.now c.args.repaired.now c.loop-other.last
-    (latest_end (IsAlike c.args.ask.now c.args.recording.now c.args.repaired.now) c.args.number c.args.recording.now
-    c.args.repaired.now c.lines-others.result.now c.loop-other.other-index c.loop-other.last
-    c.lines-others.ensures.value (omega arith) c.loop-other.invariant)
+pub returns-in-None-clause-none : goal.returns-in-None-clause-none
+returns-in-None-clause-none c =
+    let q = c.args.ask.now in
+    let one = c.args.recorded.now in
+    let two = c.args.repaired.now in
+    let latest = lines_of_both one two c.args.number (IsAlike q one two) c.lines-lines.result.now c.lines-others.result.now
+    c.last_of.result (c.lines-lines.ensures.value ∙ ap (λ r. r.lines) c.recording.ensures)
+    (c.lines-others.ensures.value ∙ ap (λ r. r.lines) c.recording-2.ensures) c.last_of.ensures in
+    let enough = lines_are_enough q c.args.number one two in
+    none_is q c.args.number one two (all_numbers one two) enough c.last_of.result latest
 
-pub returns-clause-exists : goal.returns-clause-exists
-returns-clause-exists c =
-    cause_exists c.args.ask.now c.args.number c.args.recording.now c.args.repaired.now
-    c.lines-lines.ensures.well_formed c.lines-others.ensures.well_formed c.loop-other.last
-    (latest_end (IsAlike c.args.ask.now c.args.recording.now c.args.repaired.now) c.args.number c.args.recording.now
-    c.args.repaired.now c.lines-others.result.now c.loop-other.other-index c.loop-other.last
-    c.lines-others.ensures.value (omega arith) c.loop-other.invariant)
+pub returns-in-None-clause-some : goal.returns-in-None-clause-some
+returns-in-None-clause-some c =
+    let q = c.args.ask.now in
+    let one = c.args.recorded.now in
+    let two = c.args.repaired.now in
+    let latest = lines_of_both one two c.args.number (IsAlike q one two) c.lines-lines.result.now c.lines-others.result.now
+    c.last_of.result (c.lines-lines.ensures.value ∙ ap (λ r. r.lines) c.recording.ensures)
+    (c.lines-others.ensures.value ∙ ap (λ r. r.lines) c.recording-2.ensures) c.last_of.ensures in
+    let enough = lines_are_enough q c.args.number one two in
+    some_is q c.args.number one two (all_numbers one two) enough c.last_of.result latest
+
+pub returns-in-None-clause-exists : goal.returns-in-None-clause-exists
+returns-in-None-clause-exists c =
+    let q = c.args.ask.now in
+    let one = c.args.recorded.now in
+    let two = c.args.repaired.now in
+    let latest = lines_of_both one two c.args.number (IsAlike q one two) c.lines-lines.result.now c.lines-others.result.now
+    c.last_of.result (c.lines-lines.ensures.value ∙ ap (λ r. r.lines) c.recording.ensures)
+    (c.lines-others.ensures.value ∙ ap (λ r. r.lines) c.recording-2.ensures) c.last_of.ensures in
+    let enough = lines_are_enough q c.args.number one two in
+    let well_one = subst IsWellFormed c.recording.ensures c.lines-lines.ensures.well_formed in
+    let well_two = subst IsWellFormed c.recording-2.ensures c.lines-others.ensures.well_formed in
+    cause_exists q c.args.number one two (all_numbers one two) enough well_one well_two c.last_of.result latest

@@ -1,0 +1,4 @@
+pub mod Pieces
+pub mod SafeTexts
+pub mod Harmless
+pub mod RowLemmas

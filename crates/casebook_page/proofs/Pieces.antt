@@ -1,0 +1,92 @@
+-- The pieces of a page, as it grows.
+use Rattle.std.proofs.Common.{◌≡◌, ℕ, true, ◌&&◌, refl, sym, ap, ◌∙◌, cond, subst}
+use Rattle.std.proofs.Common.{List, [], ◌∷◌, ◌++◌, Result, Ok, Err, is_ok, flat_map}
+use Rattle.std.specs.Prelude.{codes}
+use Rattle.std.specs.Prelude.{Option, Some, None}
+use Rattle.std.specs.List.{cons_option, filter_map, list_all}
+use Rattle.std.specs.Fmt.{decimal}
+use Rattle.std.proofs.lemmas.Bool.{and_from}
+use Rattle.std.proofs.lemmas.Grind.{flat_map-append}
+use Rattle.std.proofs.lemmas.List.{append-nil}
+use Rattle.casebook_text.proofs.Lists.{append_all}
+use Rattle.casebook_text.specs.Html.{escaped}
+use Rattle.casebook_page.specs.Page.{IsHtml, Piece, fixed, shown, row, is_allowed, is_safe_text, piece_text, row_in}
+use Rattle.casebook_page.specs.Template.{tag_text}
+use Rattle.casebook_page.specs.declared.tag.Tag.{Tag}
+
+pub nothing : IsHtml [] []
+nothing = record { pieces = []; is_text = refl; allowed = refl; are_rows = refl }
+
+-- ---- two texts
+
+option_joined : {X : Type 0} (x : Option X) (xs ys : List X) → cons_option x (xs ++ ys) ≡ cons_option x xs ++ ys
+option_joined None xs ys = refl
+option_joined (Some x) xs ys = refl
+
+rows_joined : (xs ys : List Piece) → filter_map row_in (xs ++ ys) ≡ filter_map row_in xs ++ filter_map row_in ys
+rows_joined [] ys = refl
+rows_joined (x ∷ xs) ys =
+    ap (λ rest. cons_option (row_in x) rest) (rows_joined xs ys)
+    ∙ option_joined (row_in x) (filter_map row_in xs) (filter_map row_in ys)
+
+pub both : (rows more old new : List ℕ) → IsHtml rows old → IsHtml more new → IsHtml (rows ++ more) (old ++ new)
+both rows more old new a b = record {
+  pieces = a.pieces ++ b.pieces;
+  is_text =
+      ap (λ t. t ++ new) a.is_text ∙ ap (λ t. flat_map piece_text a.pieces ++ t) b.is_text
+      ∙ sym (flat_map-append piece_text a.pieces b.pieces);
+  allowed = append_all is_allowed a.pieces b.pieces a.allowed b.allowed;
+  are_rows =
+      rows_joined a.pieces b.pieces ∙ ap (λ t. t ++ filter_map row_in b.pieces) a.are_rows
+      ∙ ap (λ t. rows ++ t) b.are_rows;
+}
+
+pub more : {X E : Type 0} (r : Result X E) (old text new : List ℕ) → IsHtml [] old → IsHtml [] text
+    → new ≡ cond (is_ok r) (old ++ text) old → IsHtml [] new
+more (Ok x) old text new a b e = rw e (both [] [] old text a b)
+more (Err x) old text new a b e = rw e a
+
+-- ---- single pieces
+
+pub of_tag : (tag : Tag) → IsHtml [] (tag_text tag)
+unfolding piece_text is_allowed row_in
+of_tag tag = record {
+  pieces = fixed tag ∷ [];
+  is_text = sym (append-nil (tag_text tag));
+  allowed = refl;
+  are_rows = refl;
+}
+
+pub of_text : (text : List ℕ) → is_safe_text text ≡ true → IsHtml [] (escaped text)
+unfolding piece_text is_allowed row_in
+of_text text safe = record {
+  pieces = shown text ∷ [];
+  is_text = sym (append-nil (escaped text));
+  allowed = and_from (is_safe_text text) true safe refl;
+  are_rows = refl;
+}
+
+pub of_row : (number : ℕ) → IsHtml (number ∷ []) (codes "<details id=l" ++ decimal number)
+unfolding piece_text is_allowed row_in
+of_row number = record {
+  pieces = row number ∷ [];
+  is_text = sym (append-nil (codes "<details id=l" ++ decimal number));
+  allowed = refl;
+  are_rows = refl;
+}
+
+-- ---- pages with rows
+
+pub with_part : (rows old part new : List ℕ) → IsHtml rows old → IsHtml [] part → new ≡ old ++ part → IsHtml rows new
+with_part rows old part new a b e =
+    subst (λ t. IsHtml rows t) (sym e)
+    (subst (λ r. IsHtml r (old ++ part)) (append-nil rows) (both rows [] old part a b))
+
+pub with_row : (number : ℕ) (rows old start mid rest new new_rows : List ℕ) → IsHtml rows old
+    → start ≡ codes "<details id=l" ++ decimal number → mid ≡ old ++ start → IsHtml [] rest → new ≡ mid ++ rest
+    → new_rows ≡ rows ++ number ∷ [] → IsHtml new_rows new
+with_row number rows old start mid rest new new_rows a is_start is_mid b is_new is_rows =
+    subst (λ r. IsHtml r new) (sym is_rows)
+    (with_part (rows ++ number ∷ []) mid rest new
+    (subst (λ t. IsHtml (rows ++ number ∷ []) t) (sym (is_mid ∙ ap (λ t. old ++ t) is_start))
+    (both rows (number ∷ []) old (codes "<details id=l" ++ decimal number) a (of_row number))) b is_new)

@@ -1,0 +1,4 @@
+pub mod Template
+pub mod Page
+pub mod Harmless
+pub mod Rows

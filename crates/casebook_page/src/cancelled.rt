@@ -1,0 +1,154 @@
+//! The section of cancelled lines: what each led to, and what it showed.
+use crate::NoMem;
+use crate::contents::Contents;
+use crate::html::Html;
+use crate::pair::push_output;
+use crate::shown::{push_command, push_fated_links, push_link, push_none, push_paths};
+use crate::tag::Tag;
+use casebook_view::Effect;
+use std::alloc::Global;
+
+/// Returns the numbers of the lines that are run again because of a line, in order.
+fn led_to(alloc: Global, contents: Contents<'_>, origin: u32) -> Result<Vec<u32>, NoMem> {
+    let mut numbers = Vec::new(alloc);
+    for reason in &contents.summary.reasons {
+        if reason.origin == origin && reason.number != origin {
+            numbers.push(reason.number)?;
+        }
+    }
+    Ok(numbers)
+}
+
+/// Returns how many lines a line led to.
+fn count_led(effect: &Effect) -> usize {
+    effect.changed.saturating_add(effect.alike)
+}
+
+/// Returns how many lines the line led to that led to the most.
+fn most_led(effects: &[Effect]) -> usize {
+    let mut most = 0_usize;
+    for effect in effects {
+        most = most.max(count_led(effect));
+    }
+    most
+}
+
+/// Returns how many percent a count is of another one, or 0 if that is 0.
+fn percent(count: usize, whole: usize) -> usize {
+    if whole == 0 {
+        return 0;
+    }
+    count.saturating_mul(100) / whole
+}
+
+/// Appends how many lines a line led to, with a bar that compares it with the line that led to the
+/// most. A line that led to none has no bar.
+fn push_led(html: &mut Html, alloc: Global, effect: &Effect, most: usize) -> Result<(), NoMem> {
+    let count = count_led(effect);
+    if count == 0 {
+        return Ok(());
+    }
+    html.fixed(Tag::Bar)?;
+    html.number(alloc, percent(effect.changed, most) as u64)?;
+    html.fixed(Tag::BarAlike)?;
+    html.number(alloc, percent(effect.alike, most) as u64)?;
+    html.fixed(Tag::BarEnd)?;
+    html.count(alloc, count, "line")
+}
+
+/// Appends how many bytes a cancelled line showed, unless it showed none.
+fn push_leak(
+    html: &mut Html,
+    alloc: Global,
+    contents: Contents<'_>,
+    number: u32,
+) -> Result<(), NoMem> {
+    for leak in &contents.summary.leaks {
+        if leak.number == number {
+            html.fixed(Tag::Leak)?;
+            html.count(alloc, leak.bytes, "byte")?;
+            html.words(alloc, " seen")?;
+            return html.fixed(Tag::LeakEnd);
+        }
+    }
+    Ok(())
+}
+
+/// Appends the paths that a line wrote, unless it wrote none.
+fn push_wrote(html: &mut Html, alloc: Global, effect: &Effect) -> Result<(), NoMem> {
+    if effect.wrote.is_empty() {
+        return Ok(());
+    }
+    html.fixed(Tag::Small)?;
+    html.words(alloc, "wrote ")?;
+    push_paths(html, alloc, effect.wrote.as_slice())?;
+    html.fixed(Tag::ParagraphEnd)
+}
+
+/// Appends links to the lines that are run again because of a line, unless there are none.
+fn push_then(
+    html: &mut Html,
+    alloc: Global,
+    contents: Contents<'_>,
+    numbers: &[u32],
+) -> Result<(), NoMem> {
+    if numbers.is_empty() {
+        return Ok(());
+    }
+    html.fixed(Tag::Small)?;
+    html.words(alloc, "then run again:")?;
+    push_fated_links(html, alloc, contents, numbers)?;
+    html.fixed(Tag::ParagraphEnd)
+}
+
+/// Appends what the row of a line has inside: what it wrote, led to and showed.
+fn push_inside(
+    html: &mut Html,
+    alloc: Global,
+    contents: Contents<'_>,
+    effect: &Effect,
+) -> Result<(), NoMem> {
+    push_wrote(html, alloc, effect)?;
+    let numbers = led_to(alloc, contents, effect.number)?;
+    push_then(html, alloc, contents, numbers.as_slice())?;
+    if let Some(line) = contents.line(effect.number) {
+        push_output(html, alloc, line.output.as_slice())?;
+    }
+    Ok(())
+}
+
+/// Appends the row of a cancelled or replaced line.
+fn push_effect(
+    html: &mut Html,
+    alloc: Global,
+    contents: Contents<'_>,
+    effect: &Effect,
+    most: usize,
+) -> Result<(), NoMem> {
+    html.fixed(Tag::Effect)?;
+    push_link(html, alloc, effect.number)?;
+    html.fixed(Tag::RowCode)?;
+    push_command(html, alloc, contents, effect.number)?;
+    html.fixed(Tag::RowDetail)?;
+    push_led(html, alloc, effect, most)?;
+    push_leak(html, alloc, contents, effect.number)?;
+    html.fixed(Tag::RowBody)?;
+    push_inside(html, alloc, contents, effect)?;
+    html.fixed(Tag::DetailsEnd)
+}
+
+/// Appends the section of cancelled and replaced lines.
+pub(crate) fn push_cancelled(
+    html: &mut Html,
+    alloc: Global,
+    contents: Contents<'_>,
+) -> Result<(), NoMem> {
+    let effects = contents.summary.effects.as_slice();
+    let most = most_led(effects);
+    html.fixed(Tag::Cancelled)?;
+    for effect in effects {
+        push_effect(html, alloc, contents, effect, most)?;
+    }
+    push_none(html, alloc, effects.len())?;
+    html.fixed(Tag::SectionEnd)
+}

@@ -1,0 +1,40 @@
+//! What a page shows.
+use casebook_view::{Case, LineRow, Summary};
+use casebook_words::Labels;
+
+/// What a page shows.
+#[derive(Drop, Clone, Copy)]
+pub struct Contents<'a> {
+    /// The recording and its repair.
+    pub case: Case<'a>,
+    /// What the repair would do.
+    pub summary: &'a Summary,
+    /// The rows of the recording, in order.
+    pub lines: &'a [LineRow<'a>],
+    /// What sessions and lines are called.
+    pub labels: &'a Labels,
+    /// The title.
+    pub title: &'a str,
+    /// Whether the log is a recording of its own lines.
+    pub is_recording: bool,
+    /// Whether untouched lines have rows also if there are many lines.
+    pub shows_all: bool,
+}
+
+impl<'a> Contents<'a> {
+    /// Returns the row of the line with a number.
+    pub(crate) fn line(&self, number: u32) -> Option<&'a LineRow<'a>> {
+        match self.lines.binary_search_by_key(&number, |line| line.number) {
+            Ok(index) => Some(&self.lines[index]),
+            Err(_) => None,
+        }
+    }
+
+    /// Returns whether a line that isn't cancelled prints something else in the repaired run.
+    pub(crate) fn is_told(&self, number: u32) -> bool {
+        let notices = self.summary.notices.as_slice();
+        notices
+            .binary_search_by_key(&number, |notice| notice.number)
+            .is_ok()
+    }
+}

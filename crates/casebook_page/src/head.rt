@@ -1,0 +1,154 @@
+//! The head of a page: its title and style, its first sentences, and the boxes that hide lines.
+use crate::NoMem;
+use crate::contents::Contents;
+use crate::html::Html;
+use crate::tag::Tag;
+use casebook_text::SafeLine;
+use casebook_view::Fate;
+use std::alloc::Global;
+use std::collections::BTreeSet;
+
+/// Appends the page's head: the policy that forbids a network and all scripts but this one, the
+/// title and the style.
+pub(crate) fn push_head(
+    html: &mut Html,
+    alloc: Global,
+    title: &str,
+    sessions: usize,
+) -> Result<(), NoMem> {
+    let mut line = SafeLine::new(alloc);
+    line.push_bytes(alloc, title.as_bytes())?;
+    html.fixed(Tag::Begin)?;
+    html.shown(alloc, &line)?;
+    html.fixed(Tag::StyleStart)?;
+    html.fixed(Tag::Style)?;
+    html.fixed(Tag::BodyStart)?;
+    html.number(alloc, sessions as u64)?;
+    html.fixed(Tag::HeaderStart)?;
+    html.shown(alloc, &line)?;
+    html.fixed(Tag::Header)
+}
+
+/// Returns how many lines have a fate.
+fn count_fate(contents: Contents<'_>, fate: Fate) -> usize {
+    let fates = &contents.summary.fates;
+    fates.iter().filter(|line| line.1 == fate).count()
+}
+
+/// Returns how many sessions ran lines that are told about.
+fn count_people(alloc: Global, contents: Contents<'_>) -> Result<usize, NoMem> {
+    let mut sessions = BTreeSet::new(alloc);
+    for notice in &contents.summary.notices {
+        sessions.insert(notice.session)?;
+    }
+    Ok(sessions.len())
+}
+
+/// Appends how many people would have seen something else, on how many screens.
+fn push_people(html: &mut Html, alloc: Global, contents: Contents<'_>) -> Result<(), NoMem> {
+    let people = count_people(alloc, contents)?;
+    html.fixed(Tag::Strong)?;
+    html.number(alloc, people as u64)?;
+    if people == 1 {
+        html.words(alloc, " person")?;
+    } else {
+        html.words(alloc, " people")?;
+    }
+    html.fixed(Tag::StrongEnd)?;
+    html.words(alloc, " would have seen something else on ")?;
+    html.fixed(Tag::Strong)?;
+    html.count(alloc, contents.summary.notices.len(), "screen")?;
+    html.fixed(Tag::StrongEnd)
+}
+
+/// Appends what the page rests on: how many lines the log has, and whether it is a recording.
+fn push_rests(
+    html: &mut Html,
+    alloc: Global,
+    contents: Contents<'_>,
+    sessions: usize,
+) -> Result<(), NoMem> {
+    html.count(alloc, contents.summary.fates.len(), "line")?;
+    html.words(alloc, " of ")?;
+    html.count(alloc, sessions, "session")?;
+    if contents.is_recording {
+        html.words(alloc, ". The log is a recording: yes.")
+    } else {
+        html.words(
+            alloc,
+            ". The log is a recording: no. All below is what its notes say.",
+        )
+    }
+}
+
+/// Appends the page's first sentences: how many paths and screens differ, and what that rests on.
+pub(crate) fn push_lead(
+    html: &mut Html,
+    alloc: Global,
+    contents: Contents<'_>,
+    sessions: usize,
+) -> Result<(), NoMem> {
+    html.fixed(Tag::Lead)?;
+    html.words(alloc, "Without the ")?;
+    let cancelled = count_fate(contents, Fate::Cancelled);
+    html.count(alloc, cancelled, "cancelled line")?;
+    html.words(alloc, ", ")?;
+    html.fixed(Tag::Strong)?;
+    html.count(alloc, contents.summary.restorations.len(), "path")?;
+    html.fixed(Tag::StrongEnd)?;
+    html.words(alloc, " would differ and ")?;
+    push_people(html, alloc, contents)?;
+    html.words(alloc, ". ")?;
+    push_rests(html, alloc, contents, sessions)?;
+    html.fixed(Tag::ParagraphEnd)
+}
+
+/// Returns the start of the box of a fate.
+fn box_of(fate: Fate) -> Tag {
+    match fate {
+        Fate::Cancelled => Tag::KeyCancelled,
+        Fate::Changed => Tag::KeyChanged,
+        Fate::Alike => Tag::KeyAlike,
+        Fate::Kept => Tag::KeyKept,
+        Fate::Untouched => Tag::KeyUntouched,
+    }
+}
+
+/// Appends what a fate is called.
+fn push_fate(html: &mut Html, alloc: Global, fate: Fate) -> Result<(), NoMem> {
+    match fate {
+        Fate::Cancelled => html.words(alloc, " cancelled"),
+        Fate::Changed => html.words(alloc, " run again, another result"),
+        Fate::Alike => html.words(alloc, " run again, the same result"),
+        Fate::Kept => html.words(alloc, " met, kept"),
+        Fate::Untouched => html.words(alloc, " untouched"),
+    }
+}
+
+/// Appends the box that shows or hides the lines of a fate, and how many there are.
+fn push_box(
+    html: &mut Html,
+    alloc: Global,
+    contents: Contents<'_>,
+    fate: Fate,
+) -> Result<(), NoMem> {
+    html.fixed(box_of(fate))?;
+    html.number(alloc, count_fate(contents, fate) as u64)?;
+    push_fate(html, alloc, fate)?;
+    html.fixed(Tag::LabelEnd)
+}
+
+/// Appends the boxes that show and hide lines.
+pub(crate) fn push_key(
+    html: &mut Html,
+    alloc: Global,
+    contents: Contents<'_>,
+) -> Result<(), NoMem> {
+    html.fixed(Tag::Key)?;
+    push_box(html, alloc, contents, Fate::Cancelled)?;
+    push_box(html, alloc, contents, Fate::Changed)?;
+    push_box(html, alloc, contents, Fate::Alike)?;
+    push_box(html, alloc, contents, Fate::Kept)?;
+    push_box(html, alloc, contents, Fate::Untouched)?;
+    html.fixed(Tag::KeyEnd)
+}

@@ -1,0 +1,105 @@
+//! The overview of a page: a row of ticks for each session.
+use crate::NoMem;
+use crate::contents::Contents;
+use crate::html::Html;
+use crate::shown::push_link_start;
+use crate::tag::Tag;
+use casebook_view::Fate;
+use std::alloc::Global;
+use std::collections::BTreeMap;
+
+/// Returns the start of the tick of a line.
+fn tick_of(fate: Fate) -> Tag {
+    match fate {
+        Fate::Cancelled => Tag::TickCancelled,
+        Fate::Changed => Tag::TickChanged,
+        Fate::Alike => Tag::TickAlike,
+        Fate::Kept => Tag::TickKept,
+        Fate::Untouched => Tag::TickUntouched,
+    }
+}
+
+/// Appends a tick at the place of a line. An untouched line has a short one without a link.
+fn push_tick(html: &mut Html, alloc: Global, place: u64, line: (u32, Fate)) -> Result<(), NoMem> {
+    if line.1 == Fate::Untouched {
+        html.fixed(Tag::TickUntouched)?;
+        html.number(alloc, place)?;
+        return html.fixed(Tag::ShortTickEnd);
+    }
+    push_link_start(html, alloc, line.0)?;
+    html.fixed(tick_of(line.1))?;
+    html.number(alloc, place)?;
+    html.fixed(Tag::TickEnd)
+}
+
+/// Returns the session of a line, or 0 if there is no such line.
+pub(crate) fn session_of(contents: Contents<'_>, number: u32) -> u32 {
+    match contents.line(number) {
+        Some(line) => line.session,
+        None => 0,
+    }
+}
+
+/// Appends the ticks of a session.
+fn push_ticks(
+    html: &mut Html,
+    alloc: Global,
+    contents: Contents<'_>,
+    session: u32,
+) -> Result<(), NoMem> {
+    let mut place = 0_u64;
+    for line in &contents.summary.fates {
+        if session_of(contents, line.0) == session {
+            push_tick(html, alloc, place, *line)?;
+        }
+        place = place.saturating_add(1);
+    }
+    Ok(())
+}
+
+/// Appends the row of a session: its name, and a tick for each of its lines.
+fn push_session(
+    html: &mut Html,
+    alloc: Global,
+    contents: Contents<'_>,
+    session: u32,
+) -> Result<(), NoMem> {
+    let name = contents.labels.name_of(alloc, session)?;
+    html.fixed(Tag::Span)?;
+    html.shown(alloc, &name)?;
+    html.fixed(Tag::MapStart)?;
+    html.number(alloc, contents.summary.fates.len() as u64)?;
+    html.fixed(Tag::MapLabel)?;
+    html.shown(alloc, &name)?;
+    html.fixed(Tag::TagEnd)?;
+    push_ticks(html, alloc, contents, session)?;
+    html.fixed(Tag::MapEnd)
+}
+
+/// Returns the sessions that ran lines, each with its column, from 0 on.
+pub(crate) fn columns(alloc: Global, contents: Contents<'_>) -> Result<BTreeMap<u32, u32>, NoMem> {
+    let mut columns = BTreeMap::new(alloc);
+    for line in contents.lines {
+        columns.insert(line.session, 0_u32)?;
+    }
+    let mut next = 0_u32;
+    for (_, column) in columns.iter_mut() {
+        *column = next;
+        next = next.saturating_add(1);
+    }
+    Ok(columns)
+}
+
+/// Appends the overview.
+pub(crate) fn push_overview(
+    html: &mut Html,
+    alloc: Global,
+    contents: Contents<'_>,
+    columns: &BTreeMap<u32, u32>,
+) -> Result<(), NoMem> {
+    html.fixed(Tag::Map)?;
+    for (session, _) in columns {
+        push_session(html, alloc, contents, *session)?;
+    }
+    html.fixed(Tag::BlockEnd)
+}

@@ -1,0 +1,155 @@
+//! The section of paths to restore.
+use crate::NoMem;
+use crate::contents::Contents;
+use crate::html::Html;
+use crate::merged::Merged;
+use crate::pair::{push_diff, push_preview};
+use crate::shown::{push_link, push_none, push_shown_path};
+use crate::tag::Tag;
+use casebook_cause::{ChangedPath, PathChange, cause_of};
+use retro_history::History;
+use retro_tree::{Ask, Entry, Path, Tree};
+use std::alloc::Global;
+
+/// The histories of a recording and of its repaired recording.
+#[derive(Drop, Clone, Copy)]
+struct Histories<'h, 'r> {
+    recorded: &'h History<'r>,
+    repaired: &'h History<'r>,
+}
+
+/// Returns how many paths differ in a way.
+fn count(paths: &[ChangedPath], change: PathChange) -> usize {
+    paths.iter().filter(|path| path.change == change).count()
+}
+
+/// Appends how many paths change, come back and go.
+fn push_counts(html: &mut Html, alloc: Global, paths: &[ChangedPath]) -> Result<(), NoMem> {
+    html.number(alloc, count(paths, PathChange::Modified) as u64)?;
+    html.words(alloc, " change, ")?;
+    html.number(alloc, count(paths, PathChange::Added) as u64)?;
+    html.words(alloc, " come back, ")?;
+    html.number(alloc, count(paths, PathChange::Removed) as u64)?;
+    html.words(alloc, " go")
+}
+
+/// Returns the start of a path's row.
+fn row_of(change: PathChange) -> Tag {
+    match change {
+        PathChange::Modified => Tag::Modified,
+        PathChange::Added => Tag::Added,
+        PathChange::Removed => Tag::Removed,
+    }
+}
+
+/// Returns the bytes of the file at a path, or none if no file is there.
+fn file_at<'a>(tree: &'a Tree, path: &Path) -> &'a [u8] {
+    match tree.get(path) {
+        Some(Entry::File(bytes)) => bytes.as_slice(),
+        Some(Entry::Dir) | None => &[],
+    }
+}
+
+/// Appends what comes, goes or becomes another kind at a path, unless lines say it.
+fn push_kind(
+    html: &mut Html,
+    alloc: Global,
+    before: Option<&Entry>,
+    after: Option<&Entry>,
+) -> Result<(), NoMem> {
+    match (before, after) {
+        (Some(Entry::Dir), None) | (None, Some(Entry::Dir)) => html.words(alloc, "directory"),
+        (Some(Entry::Dir), Some(Entry::File(_))) => html.words(alloc, "becomes a file "),
+        (Some(Entry::File(_)), Some(Entry::Dir)) => html.words(alloc, "becomes a directory "),
+        (Some(Entry::File(bytes)), None) | (None, Some(Entry::File(bytes))) => {
+            if bytes.is_empty() {
+                html.words(alloc, "empty file")
+            } else {
+                Ok(())
+            }
+        }
+        _ => Ok(()),
+    }
+}
+
+/// Appends a link to the last line that writes otherwise to a path, if there is one.
+fn push_writer(
+    html: &mut Html,
+    alloc: Global,
+    histories: Histories<'_, '_>,
+    path: &Path,
+) -> Result<(), NoMem> {
+    let ask = Ask::Bytes(path.copy()?);
+    let last = cause_of(
+        alloc,
+        histories.recorded,
+        histories.repaired,
+        u32::MAX,
+        &ask,
+    )?;
+    if let Some(number) = last {
+        html.fixed(Tag::Small)?;
+        html.words(alloc, "last written otherwise by ")?;
+        push_link(html, alloc, number)?;
+        html.fixed(Tag::ParagraphEnd)?;
+    }
+    Ok(())
+}
+
+/// Appends the row of a path: how it differs, the first line that differs, and the diff.
+fn push_row(
+    html: &mut Html,
+    alloc: Global,
+    contents: Contents<'_>,
+    histories: Histories<'_, '_>,
+    path: &ChangedPath,
+) -> Result<(), NoMem> {
+    let before = contents.case.recording.last().tree();
+    let after = contents.case.repair.state().tree();
+    let old = file_at(before, &path.path);
+    let new = file_at(after, &path.path);
+    let merged = Merged::of(alloc, old, new)?;
+    html.fixed(row_of(path.change))?;
+    push_shown_path(html, alloc, &path.path)?;
+    html.fixed(Tag::RowDetail)?;
+    push_kind(html, alloc, before.get(&path.path), after.get(&path.path))?;
+    push_preview(html, alloc, &merged)?;
+    html.fixed(Tag::RowBody)?;
+    push_writer(html, alloc, histories, &path.path)?;
+    push_diff(html, alloc, &merged)?;
+    html.fixed(Tag::DetailsEnd)
+}
+
+/// Appends the rows of all paths.
+fn push_rows(
+    html: &mut Html,
+    alloc: Global,
+    contents: Contents<'_>,
+    paths: &[ChangedPath],
+) -> Result<(), NoMem> {
+    let recorded = History::of(alloc, contents.case.recording)?;
+    let repaired = History::of(alloc, &contents.case.repair.recording)?;
+    let histories = Histories {
+        recorded: &recorded,
+        repaired: &repaired,
+    };
+    for path in paths {
+        push_row(html, alloc, contents, histories, path)?;
+    }
+    Ok(())
+}
+
+/// Appends the section of paths to restore. No path is left out.
+pub(crate) fn push_restore(
+    html: &mut Html,
+    alloc: Global,
+    contents: Contents<'_>,
+) -> Result<(), NoMem> {
+    let paths = contents.summary.restorations.as_slice();
+    html.fixed(Tag::Restore)?;
+    push_counts(html, alloc, paths)?;
+    html.fixed(Tag::HeadEnd)?;
+    push_rows(html, alloc, contents, paths)?;
+    push_none(html, alloc, paths.len())?;
+    html.fixed(Tag::SectionEnd)
+}

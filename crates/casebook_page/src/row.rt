@@ -1,0 +1,174 @@
+//! Rows of lines: what one shows, and has inside.
+use crate::NoMem;
+use crate::contents::Contents;
+use crate::html::Html;
+use crate::merged::Merged;
+use crate::pair::{push_output, push_pair};
+use crate::shown::{push_command, push_link, push_paths, push_shown_path};
+use crate::tag::Tag;
+use crate::tell::outputs_of;
+use casebook_text::SafeLine;
+use casebook_view::{Fate, LineRow, PathWrite, WriteKind, chain};
+use std::alloc::Global;
+use std::collections::BTreeMap;
+
+/// What the rows of lines are written from.
+#[derive(Drop, Clone, Copy)]
+pub(crate) struct Rows<'a> {
+    /// The allocator.
+    pub(crate) alloc: Global,
+    /// What the page shows.
+    pub(crate) contents: Contents<'a>,
+    /// The column of each session, from 0 on.
+    pub(crate) columns: &'a BTreeMap<u32, u32>,
+    /// Why lines are run again.
+    pub(crate) whys: &'a BTreeMap<u32, SafeLine>,
+    /// Whether untouched lines have rows.
+    pub(crate) shows_untouched: bool,
+}
+
+/// Returns what comes after the address of a row. `is_told` says whether somebody saw another
+/// output than the repaired one.
+fn class_of(fate: Fate, is_told: bool) -> Tag {
+    match fate {
+        Fate::Changed if is_told => Tag::LineTold,
+        Fate::Cancelled => Tag::LineCancelled,
+        Fate::Changed => Tag::LineChanged,
+        Fate::Alike => Tag::LineAlike,
+        Fate::Kept => Tag::LineKept,
+        Fate::Untouched => Tag::LineUntouched,
+    }
+}
+
+/// Returns the sign of a fate.
+fn sign_of(fate: Fate) -> Tag {
+    match fate {
+        Fate::Cancelled => Tag::SignCancelled,
+        Fate::Changed => Tag::SignChanged,
+        Fate::Alike => Tag::SignAlike,
+        Fate::Kept => Tag::SignKept,
+        Fate::Untouched => Tag::SignUntouched,
+    }
+}
+
+/// Appends what a line did to a path.
+fn push_done(html: &mut Html, alloc: Global, write: &PathWrite) -> Result<(), NoMem> {
+    match write.kind {
+        WriteKind::Put => html.words(alloc, "wrote ")?,
+        WriteKind::Append => html.words(alloc, "appended to ")?,
+        WriteKind::Remove => html.words(alloc, "removed ")?,
+    }
+    push_shown_path(html, alloc, &write.path)
+}
+
+/// Appends what a line did to paths, after what it read.
+fn push_writes(
+    html: &mut Html,
+    alloc: Global,
+    has_read: bool,
+    writes: &[PathWrite],
+) -> Result<(), NoMem> {
+    let mut is_first = !has_read;
+    for write in writes {
+        if !is_first {
+            html.words(alloc, "; ")?;
+        }
+        push_done(html, alloc, write)?;
+        is_first = false;
+    }
+    Ok(())
+}
+
+impl<'a> Rows<'a> {
+    /// Returns the column of a line.
+    fn column_of(&self, number: u32) -> u32 {
+        match self.contents.line(number) {
+            Some(line) => self.columns.get(&line.session).copied().unwrap_or(0),
+            None => 0,
+        }
+    }
+
+    /// Appends the chain of lines that a line comes from, unless it is empty.
+    fn push_chain(&self, html: &mut Html, number: u32) -> Result<(), NoMem> {
+        let causes = chain(self.alloc, self.contents.summary.reasons.as_slice(), number)?;
+        let mut is_first = true;
+        for cause in &causes {
+            if is_first {
+                html.words(self.alloc, ", because of ")?;
+            } else {
+                html.fixed(Tag::Arrow)?;
+            }
+            push_link(html, self.alloc, *cause)?;
+            is_first = false;
+        }
+        Ok(())
+    }
+
+    /// Appends why a line is run again, and the chain of lines that it comes from, if it is.
+    fn push_why(&self, html: &mut Html, number: u32) -> Result<(), NoMem> {
+        let Some(why) = self.whys.get(&number) else {
+            return Ok(());
+        };
+        html.fixed(Tag::Paragraph)?;
+        html.shown(self.alloc, why)?;
+        self.push_chain(html, number)?;
+        html.fixed(Tag::ParagraphEnd)
+    }
+
+    /// Appends which paths a line read and wrote, unless there are none.
+    fn push_notes(&self, html: &mut Html, line: &LineRow<'_>) -> Result<(), NoMem> {
+        if line.read.is_empty() && line.wrote.is_empty() {
+            return Ok(());
+        }
+        html.fixed(Tag::Small)?;
+        if !line.read.is_empty() {
+            html.words(self.alloc, "read ")?;
+            push_paths(html, self.alloc, line.read.as_slice())?;
+        }
+        let has_read = !line.read.is_empty();
+        push_writes(html, self.alloc, has_read, line.wrote.as_slice())?;
+        html.fixed(Tag::ParagraphEnd)
+    }
+
+    /// Appends what a line printed: both outputs if it prints something else in the repaired run.
+    fn push_outputs(&self, html: &mut Html, line: &LineRow<'_>) -> Result<(), NoMem> {
+        if !self.contents.is_told(line.number) {
+            return push_output(html, self.alloc, line.output.as_slice());
+        }
+        let (old, new) = outputs_of(self.contents, line.number);
+        let merged = Merged::of(self.alloc, old, new)?;
+        push_pair(html, self.alloc, &merged)
+    }
+
+    /// Appends what the row of a line has inside.
+    fn push_body(&self, html: &mut Html, number: u32) -> Result<(), NoMem> {
+        html.fixed(Tag::Body)?;
+        html.fixed(Tag::Command)?;
+        push_command(html, self.alloc, self.contents, number)?;
+        html.fixed(Tag::PreEnd)?;
+        self.push_why(html, number)?;
+        if let Some(row) = self.contents.line(number) {
+            self.push_notes(html, row)?;
+            self.push_outputs(html, row)?;
+        }
+        html.fixed(Tag::BlockEnd)
+    }
+
+    /// Returns the row of a line but for its start.
+    pub(crate) fn rest_of_row(&self, line: (u32, Fate)) -> Result<Html, NoMem> {
+        let mut html = Html::new(self.alloc);
+        html.fixed(class_of(line.1, self.contents.is_told(line.0)))?;
+        html.number(self.alloc, u64::from(line.0))?;
+        html.fixed(Tag::LineTime)?;
+        let time = self.contents.labels.time_of(self.alloc, line.0)?;
+        html.shown(self.alloc, &time)?;
+        html.fixed(Tag::LineColumn)?;
+        html.number(self.alloc, u64::from(self.column_of(line.0)))?;
+        html.fixed(sign_of(line.1))?;
+        push_command(&mut html, self.alloc, self.contents, line.0)?;
+        html.fixed(Tag::LineEnd)?;
+        self.push_body(&mut html, line.0)?;
+        html.fixed(Tag::DetailsEnd)?;
+        Ok(html)
+    }
+}

@@ -1,0 +1,104 @@
+//! What several sections show: links to lines, commands and paths.
+use crate::NoMem;
+use crate::contents::Contents;
+use crate::html::Html;
+use crate::tag::Tag;
+use casebook_text::SafeLine;
+use casebook_view::Fate;
+use casebook_words::push_path;
+use retro_tree::Path;
+use std::alloc::Global;
+
+/// Appends the start of a link to the row of a line.
+pub(crate) fn push_link_start(html: &mut Html, alloc: Global, number: u32) -> Result<(), NoMem> {
+    html.fixed(Tag::LinkStart)?;
+    html.number(alloc, u64::from(number))?;
+    html.fixed(Tag::TagEnd)
+}
+
+/// Appends the number of a line as a link to its row.
+pub(crate) fn push_link(html: &mut Html, alloc: Global, number: u32) -> Result<(), NoMem> {
+    push_link_start(html, alloc, number)?;
+    html.number(alloc, u64::from(number))?;
+    html.fixed(Tag::LinkEnd)
+}
+
+/// Appends links to lines, with a space before each.
+pub(crate) fn push_links(html: &mut Html, alloc: Global, numbers: &[u32]) -> Result<(), NoMem> {
+    for number in numbers {
+        html.words(alloc, " ")?;
+        push_link(html, alloc, *number)?;
+    }
+    Ok(())
+}
+
+/// Returns the start of a link to a line that has a fate.
+fn link_of(fate: Option<Fate>) -> Tag {
+    match fate {
+        Some(Fate::Changed) => Tag::LinkChanged,
+        Some(Fate::Alike) => Tag::LinkAlike,
+        _ => Tag::LinkStart,
+    }
+}
+
+/// Appends links to lines in the colours of their fates, with a space before each.
+pub(crate) fn push_fated_links(
+    html: &mut Html,
+    alloc: Global,
+    contents: Contents<'_>,
+    numbers: &[u32],
+) -> Result<(), NoMem> {
+    for number in numbers {
+        html.words(alloc, " ")?;
+        html.fixed(link_of(contents.summary.fate_of(*number)))?;
+        html.number(alloc, u64::from(*number))?;
+        html.fixed(Tag::TagEnd)?;
+        html.number(alloc, u64::from(*number))?;
+        html.fixed(Tag::LinkEnd)?;
+    }
+    Ok(())
+}
+
+/// Appends the text of a line.
+pub(crate) fn push_command(
+    html: &mut Html,
+    alloc: Global,
+    contents: Contents<'_>,
+    number: u32,
+) -> Result<(), NoMem> {
+    let mut text = SafeLine::new(alloc);
+    if let Some(line) = contents.line(number) {
+        text.push_bytes(alloc, line.text.bytes())?;
+    }
+    html.shown(alloc, &text)
+}
+
+/// Appends a path.
+pub(crate) fn push_shown_path(html: &mut Html, alloc: Global, path: &Path) -> Result<(), NoMem> {
+    let mut line = SafeLine::new(alloc);
+    push_path(alloc, &mut line, path)?;
+    html.shown(alloc, &line)
+}
+
+/// Appends paths, with a comma between them. No path has a space in it, as it is shown.
+pub(crate) fn push_paths(html: &mut Html, alloc: Global, paths: &[Path]) -> Result<(), NoMem> {
+    let mut is_first = true;
+    for path in paths {
+        if !is_first {
+            html.words(alloc, ", ")?;
+        }
+        push_shown_path(html, alloc, path)?;
+        is_first = false;
+    }
+    Ok(())
+}
+
+/// Appends that a section has no rows, if it has none.
+pub(crate) fn push_none(html: &mut Html, alloc: Global, rows: usize) -> Result<(), NoMem> {
+    if rows > 0 {
+        return Ok(());
+    }
+    html.fixed(Tag::Small)?;
+    html.words(alloc, "none")?;
+    html.fixed(Tag::ParagraphEnd)
+}

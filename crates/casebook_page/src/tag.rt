@@ -1,0 +1,342 @@
+//! The constants of the template.
+ghost use Rattle.std.specs.Prelude.{◌≡◌};
+ghost use Rattle.casebook_page.specs.Template.{tag_text};
+
+use crate::script::SCRIPT;
+use crate::style::STYLE;
+
+/// A constant of the template.
+#[derive(Clone, Copy, Debug, PartialEq, Eq)]
+pub enum Tag {
+    /// The start of the page, with its policy, up to the title.
+    Begin,
+    /// The start of the style.
+    StyleStart,
+    /// The style.
+    Style,
+    /// The start of the body, up to the number of sessions.
+    BodyStart,
+    /// The start of the header, up to the title.
+    HeaderStart,
+    /// The rest of the header.
+    Header,
+    /// The footer and the start of the script.
+    ScriptStart,
+    /// The script.
+    Script,
+    /// The end of the script and of the page.
+    ScriptEnd,
+    /// A leading sentence.
+    Lead,
+    /// A paragraph.
+    Paragraph,
+    /// A paragraph in small type.
+    Small,
+    /// The end of a paragraph.
+    ParagraphEnd,
+    /// A strong text.
+    Strong,
+    /// The end of a strong text.
+    StrongEnd,
+    /// The overview.
+    Map,
+    /// The end of a block.
+    BlockEnd,
+    /// A span.
+    Span,
+    /// The end of a span and the start of a row of the overview, up to its width.
+    MapStart,
+    /// What comes before the label of a row of the overview.
+    MapLabel,
+    /// The end of a tag whose last attribute is quoted.
+    TagEnd,
+    /// The end of a row of the overview.
+    MapEnd,
+    /// The start of the tick of an untouched line, up to its place.
+    TickUntouched,
+    /// The start of the tick of a cancelled line.
+    TickCancelled,
+    /// The start of the tick of a line with another result.
+    TickChanged,
+    /// The start of the tick of a line with the same result.
+    TickAlike,
+    /// The start of the tick of a line that is kept.
+    TickKept,
+    /// The end of a tick with a link.
+    TickEnd,
+    /// The end of a tick without a link.
+    ShortTickEnd,
+    /// The start of a link to a line, up to its number.
+    LinkStart,
+    /// The start of a link to a line with another result.
+    LinkChanged,
+    /// The start of a link to a line with the same result.
+    LinkAlike,
+    /// The end of a link.
+    LinkEnd,
+    /// The boxes that show and hide lines.
+    Key,
+    /// The box of cancelled lines.
+    KeyCancelled,
+    /// The box of lines with another result.
+    KeyChanged,
+    /// The box of lines with the same result.
+    KeyAlike,
+    /// The box of lines that are kept.
+    KeyKept,
+    /// The box of untouched lines.
+    KeyUntouched,
+    /// The end of a box.
+    LabelEnd,
+    /// The end of the boxes.
+    KeyEnd,
+    /// The head of the section of cancelled lines.
+    Cancelled,
+    /// The head of the section of paths, up to their counts.
+    Restore,
+    /// The end of a section's head.
+    HeadEnd,
+    /// The head of the section of people.
+    Tell,
+    /// The head of the section of lines.
+    Lines,
+    /// The end of the section of lines.
+    LinesEnd,
+    /// The end of a section.
+    SectionEnd,
+    /// The head of a person's part.
+    Person,
+    /// The end of that head.
+    PersonEnd,
+    /// The row of a cancelled line.
+    Effect,
+    /// A bar of a line that led to others, up to how many percent have another result.
+    Bar,
+    /// What comes before how many percent have the same result.
+    BarAlike,
+    /// The end of a bar.
+    BarEnd,
+    /// How much was seen.
+    Leak,
+    /// The end of that.
+    LeakEnd,
+    /// The row of a path that changes.
+    Modified,
+    /// The row of a path that comes back.
+    Added,
+    /// The row of a path that goes.
+    Removed,
+    /// The row of what a person is told about.
+    Subject,
+    /// What comes after how often something was seen.
+    Times,
+    /// What comes before a row's text.
+    RowCode,
+    /// What comes after a row's text.
+    RowDetail,
+    /// The end of what a closed row shows.
+    RowBody,
+    /// The end of a row.
+    DetailsEnd,
+    /// A command.
+    Command,
+    /// A text of several lines.
+    Pre,
+    /// A diff.
+    Diff,
+    /// The end of a text of several lines.
+    PreEnd,
+    /// A note about a text, in the text: what is left out, or where a part of a diff is.
+    Cut,
+    /// The end of that.
+    CutEnd,
+    /// How many more lines differ.
+    More,
+    /// The end of that.
+    MoreEnd,
+    /// That a text is empty.
+    Nothing,
+    /// A text that goes.
+    Delete,
+    /// The end of a text that goes.
+    DeleteEnd,
+    /// A text that comes.
+    Insert,
+    /// The end of a text that comes.
+    InsertEnd,
+    /// A newline.
+    Newline,
+    /// Two texts side by side.
+    Pair,
+    /// What somebody saw.
+    Saw,
+    /// What somebody would have seen.
+    WouldSee,
+    /// The end of one of two texts.
+    FigureEnd,
+    /// The heads of the columns.
+    Columns,
+    /// The head of a column, up to its number.
+    Column,
+    /// The end of a span.
+    SpanEnd,
+    /// What comes after the address of a cancelled line.
+    LineCancelled,
+    /// What comes after the address of a line with another result.
+    LineChanged,
+    /// What comes after the address of a line with another result that somebody saw.
+    LineTold,
+    /// What comes after the address of a line with the same result.
+    LineAlike,
+    /// What comes after the address of a line that is kept.
+    LineKept,
+    /// What comes after the address of an untouched line.
+    LineUntouched,
+    /// What comes before a line's time.
+    LineTime,
+    /// What comes before a line's column.
+    LineColumn,
+    /// The sign of a cancelled line.
+    SignCancelled,
+    /// The sign of a line with another result.
+    SignChanged,
+    /// The sign of a line with the same result.
+    SignAlike,
+    /// The sign of a line that is kept.
+    SignKept,
+    /// The sign of an untouched line.
+    SignUntouched,
+    /// The end of what the closed row of a line shows.
+    LineEnd,
+    /// What the row of a line has inside.
+    Body,
+    /// Folded lines.
+    Fold,
+    /// The end of what a fold shows.
+    FoldEnd,
+    /// What comes between two causes.
+    Arrow,
+}
+
+impl Tag {
+    /// Returns the text of a constant.
+    #[tactic(auto, unfolding(crate::specs::Template::tag_text))]
+    pub(crate) fn as_str(self) -> &'static str
+        ensures { result.now ≡ tag_text self }
+    {
+        match self {
+            Tag::Begin =>
+                "<!doctype html><html lang=en><meta charset=utf-8><meta name=viewport content=\"width=device-width\"><meta http-equiv=Content-Security-Policy content=\"default-src 'none'; style-src 'unsafe-inline'; script-src 'sha256-RecdBngLGHf2XbiOLeTrnCvwPvPErXDENIM4Du3o3Wg='\"><title>",
+            Tag::StyleStart => "</title><style>",
+            Tag::Style => STYLE,
+            Tag::BodyStart => "</style><body style=\"--n:",
+            Tag::HeaderStart => "\"><header><h1>",
+            Tag::Header =>
+                "</h1><nav><a href=#cancelled>Cancelled</a><a href=#restore>Restore</a><a href=#tell>Tell</a><a href=#lines>Lines</a></nav><input id=q type=search placeholder=\"/ to search\" aria-label=\"search lines\" hidden><label title=\"dark\"><input type=checkbox id=dark>&#9680;</label></header><main>",
+            Tag::ScriptStart =>
+                "</main><footer>/ search, j and k go through lines, o opens, e opens all</footer><script>",
+            Tag::Script => SCRIPT,
+            Tag::ScriptEnd => "</script></body></html>\n",
+            Tag::Lead => "<p class=lead>",
+            Tag::Paragraph => "<p>",
+            Tag::Small => "<p class=io>",
+            Tag::ParagraphEnd => "</p>",
+            Tag::Strong => "<strong>",
+            Tag::StrongEnd => "</strong>",
+            Tag::Map => "<div class=map>",
+            Tag::BlockEnd => "</div>",
+            Tag::Span => "<span>",
+            Tag::MapStart => "</span><svg viewBox=\"0 0 ",
+            Tag::MapLabel => " 10\" preserveAspectRatio=none role=img aria-label=\"lines of ",
+            Tag::TagEnd => "\">",
+            Tag::MapEnd => "</svg>",
+            Tag::TickUntouched => "<path class=u d=\"M",
+            Tag::TickCancelled => "<path class=c d=\"M",
+            Tag::TickChanged => "<path class=r d=\"M",
+            Tag::TickAlike => "<path class=s d=\"M",
+            Tag::TickKept => "<path class=k d=\"M",
+            Tag::TickEnd => ".5 0v10\"/></a>",
+            Tag::ShortTickEnd => ".5 3v4\"/>",
+            Tag::LinkStart => "<a href=\"#l",
+            Tag::LinkChanged => "<a class=r href=\"#l",
+            Tag::LinkAlike => "<a class=s href=\"#l",
+            Tag::LinkEnd => "</a>",
+            Tag::Key => "<form class=key>",
+            Tag::KeyCancelled =>
+                "<label class=c><input type=checkbox id=fc checked><i>&#10005;</i>",
+            Tag::KeyChanged => "<label class=r><input type=checkbox id=fr checked><i>&#8635;</i>",
+            Tag::KeyAlike => "<label class=s><input type=checkbox id=fs checked><i>=</i>",
+            Tag::KeyKept => "<label class=k><input type=checkbox id=fk checked><i>&asymp;</i>",
+            Tag::KeyUntouched =>
+                "<label class=u><input type=checkbox id=fu checked><i>&middot;</i>",
+            Tag::LabelEnd => "</label>",
+            Tag::KeyEnd => "</form>",
+            Tag::Cancelled =>
+                "<section id=cancelled><h2>Cancelled <small>what each line led to</small></h2>",
+            Tag::Restore => "<section id=restore><h2>Restore <small>",
+            Tag::HeadEnd => "</small></h2>",
+            Tag::Tell =>
+                "<section id=tell><h2>Tell <small>nobody can take back what somebody read</small></h2>",
+            Tag::Lines =>
+                "<section id=lines><h2>Lines <small>open one to see why</small></h2><div class=t>",
+            Tag::LinesEnd => "</div></section>",
+            Tag::SectionEnd => "</section>",
+            Tag::Person => "<h3>",
+            Tag::PersonEnd => "</h3>",
+            Tag::Effect => "<details class=\"f c\"><summary><i>",
+            Tag::Bar => "<b class=bar style=\"--p:",
+            Tag::BarAlike => ";--q:",
+            Tag::BarEnd => "\"></b>",
+            Tag::Leak => "<mark>",
+            Tag::LeakEnd => "</mark>",
+            Tag::Modified => "<details class=\"f change\"><summary><i>M</i><code>",
+            Tag::Added => "<details class=\"f restore\"><summary><i>A</i><code>",
+            Tag::Removed => "<details class=\"f remove\"><summary><i>D</i><code>",
+            Tag::Subject => "<details class=f><summary><i>",
+            Tag::Times => "&times;</i><code>",
+            Tag::RowCode => "</i><code>",
+            Tag::RowDetail => "</code><span>",
+            Tag::RowBody => "</span></summary>",
+            Tag::DetailsEnd => "</details>\n",
+            Tag::Command => "<pre class=cmd>",
+            Tag::Pre => "<pre>\n",
+            Tag::Diff => "<pre class=diff>",
+            Tag::PreEnd => "</pre>",
+            Tag::Cut => "<u>",
+            Tag::CutEnd => "</u>",
+            Tag::More => " <small>",
+            Tag::MoreEnd => "</small>",
+            Tag::Nothing => "<u>nothing</u>",
+            Tag::Delete => "<del>",
+            Tag::DeleteEnd => "</del>",
+            Tag::Insert => "<ins>",
+            Tag::InsertEnd => "</ins>",
+            Tag::Newline => "\n",
+            Tag::Pair => "<div class=pair>",
+            Tag::Saw => "<figure><figcaption>saw</figcaption><pre>\n",
+            Tag::WouldSee => "<figure><figcaption>would have seen</figcaption><pre>\n",
+            Tag::FigureEnd => "</pre></figure>",
+            Tag::Columns => "<div class=head><b></b><time></time>",
+            Tag::Column => "<span style=\"--i:",
+            Tag::SpanEnd => "</span>",
+            Tag::LineCancelled => " class=\"l c\"><summary><b>",
+            Tag::LineChanged => " class=\"l r\"><summary><b>",
+            Tag::LineTold => " class=\"l r w\"><summary><b>",
+            Tag::LineAlike => " class=\"l s\"><summary><b>",
+            Tag::LineKept => " class=\"l k\"><summary><b>",
+            Tag::LineUntouched => " class=\"l u\"><summary><b>",
+            Tag::LineTime => "</b><time>",
+            Tag::LineColumn => "</time><code style=\"--i:",
+            Tag::SignCancelled => "\" title=\"cancelled\"><i>&#10005;</i>",
+            Tag::SignChanged => "\" title=\"run again, another result\"><i>&#8635;</i>",
+            Tag::SignAlike => "\" title=\"run again, the same result\"><i>=</i>",
+            Tag::SignKept => "\" title=\"met, kept as recorded\"><i>&asymp;</i>",
+            Tag::SignUntouched => "\" title=\"untouched\"><i>&middot;</i>",
+            Tag::LineEnd => "</code></summary>",
+            Tag::Body => "<div class=b>",
+            Tag::Fold => "<details class=fold><summary>",
+            Tag::FoldEnd => "</summary>",
+            Tag::Arrow => " &larr; ",
+        }
+    }
+}
