@@ -1,0 +1,4 @@
+pub mod Parting
+pub mod PartLemmas
+pub mod Restoring
+pub mod RowParts

@@ -1,0 +1,32 @@
+-- Lines that are made of parts, one part after another.
+use Rattle.std.proofs.Common.{◌≡◌, ℕ, ◌+◌, ◌<◌, ◌≤◌, List, [], ◌∷◌, ◌++◌, ap, append_assoc, drop, get_or, length, refl, subst, sym, ◌∙◌}
+use Rattle.std.proofs.lemmas.List.{append-nil, drop_all, drop_more}
+use Rattle.casebook_cause.specs.declared.changed_path.ChangedPath.{ChangedPath}
+use Rattle.retro_tree.specs.Tree.{Tree}
+use Rattle.casebook_screen.specs.Diffs.{AreParts, IsPathDiff}
+
+module _ {A : Type 0} (P : A → List (List ℕ) → Type 0) (xs : List A) where
+  -- one more part
+  pub parts_more : (i : ℕ) (x : A) (lines part : List (List ℕ)) → i < length xs → x ≡ get_or xs i x → P x part
+      → ((rest : List (List ℕ)) → AreParts P (drop i xs) rest → AreParts P xs (lines ++ rest))
+      → (rest : List (List ℕ)) → AreParts P (drop (i + 1) xs) rest → AreParts P xs ((lines ++ part) ++ rest)
+  parts_more i x lines part lt at holds so_far rest after =
+      let next : drop i xs ≡ x ∷ drop (i + 1) xs = drop_more xs i x lt ∙ ap (λ t. t ∷ drop (i + 1) xs) (sym at) in
+      subst (AreParts P xs) (sym (append_assoc lines part rest))
+      (so_far (part ++ rest) (subst (λ t. AreParts P t (part ++ rest)) (sym next) (part, rest, holds, after, refl)))
+
+  -- no part is left
+  pub parts_all : (i : ℕ) (lines : List (List ℕ)) → length xs ≤ i
+      → ((rest : List (List ℕ)) → AreParts P (drop i xs) rest → AreParts P xs (lines ++ rest)) → AreParts P xs lines
+  parts_all i lines le so_far =
+      subst (AreParts P xs) (append-nil lines)
+      (so_far [] (subst (λ t. AreParts P t []) (sym (drop_all i xs le)) refl))
+
+-- the diffs of paths in two trees are those in equal trees
+pub same_trees : (before after old new : Tree) (paths : List ChangedPath) (lines : List (List ℕ))
+    → before ≡ old → after ≡ new
+    → AreParts (λ (changed : ChangedPath). IsPathDiff before after changed.path) paths lines
+    → AreParts (λ (changed : ChangedPath). IsPathDiff old new changed.path) paths lines
+same_trees before after old new paths lines first second are =
+    subst (λ t. AreParts (λ (changed : ChangedPath). IsPathDiff t new changed.path) paths lines) first
+    (subst (λ t. AreParts (λ (changed : ChangedPath). IsPathDiff before t changed.path) paths lines) second are)

@@ -1,0 +1,49 @@
+-- What cancelled and replaced lines led to, as a summary shows it.
+use Rattle.std.specs.Prelude.{ℕ, List, [], ◌∷◌, ◌++◌, codes, decimal, encode_utf8, flat_map, length, map}
+use Rattle.std.specs.Prelude.{if◌then◌else◌, nat_le, take}
+use Rattle.retro_keep.specs.Recording.{RecordingValue}
+use Rattle.retro_tree.specs.Path.{PathValue}
+use Rattle.casebook_text.specs.SafeLine.{ellipsis}
+use Rattle.casebook_view.specs.Effects.{EffectValue}
+use Rattle.casebook_screen.specs.Layout.{count_width, left_aligned, right_aligned}
+use Rattle.casebook_screen.specs.LineTexts.{text_limit, text_of_line}
+use Rattle.casebook_screen.specs.RowTexts.{read_piece}
+
+-- how many paths are shown, and the widths of the columns of counts and of texts
+abbrev pub paths_shown : ℕ
+paths_shown = 2
+
+abbrev pub led_width : ℕ
+led_width = 5
+
+abbrev pub text_width : ℕ
+text_width = 60
+
+-- the first two paths, and an ellipsis if there are more
+unfoldable pub first_paths : List PathValue → List ℕ
+first_paths paths =
+    if nat_le (length paths) paths_shown then flat_map read_piece paths
+    else flat_map read_piece (take paths_shown paths) ++ codes " " ++ encode_utf8 ellipsis
+
+-- a line, and the paths that it wrote if there are any
+abbrev pub done_text : List ℕ → List PathValue → List ℕ
+done_text text [] = text
+done_text text (p ∷ paths) = left_aligned text_width text ++ codes " " ++ first_paths (p ∷ paths)
+
+-- the number of the line, how many lines it led to that have another result and that are run again
+-- alike, and what it did
+unfoldable pub effect_text : RecordingValue → EffectValue → List ℕ
+effect_text r effect =
+    right_aligned count_width (decimal effect.number)
+    ++ right_aligned led_width (decimal effect.changed)
+    ++ right_aligned led_width (decimal effect.alike)
+    ++ codes "  " ++ done_text (text_of_line text_limit r effect.number) effect.wrote
+
+unfoldable pub effects_head : List ℕ
+effects_head =
+    codes "CAUSES  what each cancelled line led to: lines with another result, "
+    ++ codes "run again alike, paths it wrote"
+
+-- an empty line, a head, and each of the lines
+abbrev pub effect_lines : RecordingValue → List EffectValue → List (List ℕ)
+effect_lines r effects = [] ∷ effects_head ∷ map (effect_text r) effects

@@ -1,0 +1,15 @@
+pub mod Layout
+pub mod Fields
+pub mod RowTexts
+pub mod Counts
+pub mod LineTexts
+pub mod Leaks
+pub mod Causes
+pub mod Restorations
+pub mod Notices
+pub mod Summary
+pub mod Why
+pub mod Unified
+pub mod Diffs
+pub mod Detail
+pub mod inner

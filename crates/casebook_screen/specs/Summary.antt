@@ -1,0 +1,70 @@
+-- Summaries of repairs, as a terminal shows them.
+use Rattle.std.specs.Prelude.{ℕ, ◌-◌, Bool, true, false, List, [], ◌∷◌, ◌++◌, codes, decimal, length, map}
+use Rattle.std.specs.Prelude.{Option, Some, None}
+use Rattle.std.specs.BTreeSet.{insert_key}
+use Rattle.std.specs.List.{fold, slice_get}
+use Rattle.std.specs.Ordering.{nat_cmp}
+use Rattle.retro_keep.specs.Recording.{RecordingValue}
+use Rattle.retro_keep.specs.declared.noted.Noted.{Noted}
+use Rattle.casebook_view.specs.Effects.{effect_value}
+use Rattle.casebook_view.specs.declared.fate.Fate.{Fate}
+use Rattle.casebook_view.specs.declared.fate.Fate.TheVariants.{Cancelled}
+use Rattle.casebook_view.specs.declared.summary.Summary.{Summary}
+use Rattle.casebook_words.specs.Labels.{time_words}
+use Rattle.casebook_words.specs.Words.{count_words}
+use Rattle.casebook_words.specs.declared.labels.Labels.{Labels}
+use Rattle.casebook_screen.specs.Causes.{effect_lines}
+use Rattle.casebook_screen.specs.Counts.{count_lines, count_of}
+use Rattle.casebook_screen.specs.Leaks.{leak_lines}
+use Rattle.casebook_screen.specs.Notices.{notice_lines}
+use Rattle.casebook_screen.specs.Restorations.{restoration_lines}
+use Rattle.casebook_view.specs.declared.group.Group.{Group}
+use Rattle.casebook_screen.specs.declared.restoration.Restoration.{Restoration}
+
+-- the sessions that ran lines, each once
+abbrev pub sessions_in : List (ℕ × Noted) → List ℕ
+sessions_in lines = fold (λ sessions line. insert_key nat_cmp sessions line.1.sid) [] lines
+
+-- from one time to another, if the first is known
+abbrev pub span_words : List ℕ → List ℕ → List ℕ
+span_words [] end = []
+span_words (b ∷ begin) end = codes ", " ++ (b ∷ begin) ++ codes " to " ++ end
+
+-- the times of two lines
+abbrev pub times_words : Labels → Option (ℕ × Noted) → Option (ℕ × Noted) → List ℕ
+times_words labels None last = []
+times_words labels (Some first) None = []
+times_words labels (Some first) (Some last) =
+    span_words (time_words first.0 labels) (time_words last.0 labels)
+
+-- the times of the first and the last line
+abbrev pub period_words : Labels → List (ℕ × Noted) → List ℕ
+period_words labels lines = times_words labels (slice_get lines 0) (slice_get lines (length lines - 1))
+
+-- how many lines and sessions the log has, from when to when, and how many lines are cancelled
+unfoldable pub head_text : RecordingValue → Labels → List (ℕ × Fate) → List ℕ
+head_text r labels fates =
+    count_words (codes "line") (length r.lines) ++ codes " of "
+    ++ count_words (codes "session") (length (sessions_in r.lines)) ++ period_words labels r.lines
+    ++ codes ". " ++ decimal (count_of fates Cancelled) ++ codes " cancelled."
+
+unfoldable pub basis_text : Bool → List ℕ
+basis_text true = codes "The log is a recording: yes."
+basis_text false = codes "The log is a recording: no. All below is what its notes say."
+
+-- what the log holds, whether it is a recording, and an empty line
+abbrev pub head_lines : RecordingValue → Labels → List (ℕ × Fate) → Bool → List (List ℕ)
+head_lines r labels fates is_recording =
+    head_text r labels fates ∷ basis_text is_recording ∷ [] ∷ []
+
+-- the head, how many lines have which fate, what is to be restored, whom to tell, what cancelled
+-- lines showed, and what they led to
+abbrev pub summary_lines :
+    RecordingValue → Summary → List Restoration → List Group → Bool → Labels → ℕ → List (List ℕ)
+summary_lines r summary restorations groups is_recording labels width =
+    head_lines r labels summary.fates.items is_recording
+    ++ count_lines summary.fates.items
+    ++ restoration_lines restorations
+    ++ notice_lines labels width (length summary.notices.items) groups
+    ++ leak_lines r labels width summary.leaks.items
+    ++ effect_lines r (map effect_value summary.effects.items)

@@ -1,0 +1,76 @@
+-- Why lines are run again, as a terminal shows it.
+use Rattle.std.specs.Prelude.{ℕ, Bool, false, List, [], ◌∷◌, ◌++◌, Option, Some, None}
+use Rattle.std.specs.Prelude.{codes, decimal, flat_map, length}
+use Rattle.std.specs.List.{filter}
+use Rattle.retro_keep.specs.Recording.{RecordingValue, noted_at}
+use Rattle.retro_redo.specs.declared.repair.Repair.{Repair}
+use Rattle.casebook_view.specs.Fates.{fate_at, fate_eq, session_in}
+use Rattle.casebook_view.specs.OtherAnswers.{AnswersValue, answers_of}
+use Rattle.casebook_view.specs.Reasons.{chain_from}
+use Rattle.casebook_view.specs.declared.fate.Fate.{Fate}
+use Rattle.casebook_view.specs.declared.fate.Fate.TheVariants.{Changed}
+use Rattle.casebook_view.specs.declared.reason.Reason.{Reason}
+use Rattle.casebook_view.specs.declared.summary.Summary.{Summary}
+use Rattle.casebook_words.specs.Difference.{difference_words}
+use Rattle.casebook_words.specs.Words.{query_words}
+use Rattle.casebook_words.specs.declared.labels.Labels.{Labels}
+use Rattle.casebook_screen.specs.LineTexts.{line_head, text_of_line}
+use Rattle.casebook_screen.specs.RowTexts.{indent}
+
+-- how many bytes of a line are shown
+abbrev pub why_limit : ℕ
+why_limit = 57
+
+-- ---- a reason
+
+-- the cause of a line, the cause of that, and so on; nothing if there is no cause
+abbrev pub earlier_words : ℕ → List ℕ
+earlier_words n = codes " < " ++ decimal n
+
+unfoldable pub causes_words : ℕ → List ℕ → List ℕ
+causes_words n numbers = codes "   because of " ++ decimal n ++ flat_map earlier_words numbers
+
+abbrev pub chain_words : List ℕ → List ℕ
+chain_words [] = []
+chain_words (n ∷ numbers) = causes_words n numbers
+
+-- the query that fails, and how its answers differ
+unfoldable pub failing_words : Option AnswersValue → List ℕ
+failing_words None = codes "its text is replaced"
+failing_words (Some found) = query_words found.ask ++ difference_words found.recorded found.repaired
+
+-- the first query of a line that has another answer in the repaired run, and the chain of lines that
+-- it comes from
+unfoldable pub reason_text : RecordingValue → Repair → List Reason → Reason → List ℕ
+reason_text r repair reasons reason =
+    indent ++ failing_words (answers_of r repair reason)
+    ++ chain_words (chain_from (length reasons) reasons reason.number)
+
+-- ---- lines
+
+-- the number, the session and the text of a line
+unfoldable pub why_head : RecordingValue → Labels → ℕ → ℕ → List ℕ
+why_head r labels width n =
+    line_head labels width n (session_in (noted_at n r.lines)) ++ text_of_line why_limit r n
+
+abbrev pub lines_of_why : RecordingValue → Repair → List Reason → Labels → ℕ → Reason → List (List ℕ)
+lines_of_why r repair reasons labels width reason =
+    why_head r labels width reason.number ∷ reason_text r repair reasons reason ∷ []
+
+abbrev pub is_changed : Option Fate → Bool
+is_changed None = false
+is_changed (Some fate) = fate_eq fate Changed
+
+-- whether the line of a reason has another result
+abbrev pub has_other_result : List (ℕ × Fate) → Reason → Bool
+has_other_result fates reason = is_changed (fate_at reason.number fates)
+
+abbrev pub why_title : List ℕ
+why_title = codes "WHY  lines run again with another result"
+
+-- an empty line, a title, and two lines for each line that has another result
+abbrev pub why_lines : RecordingValue → Repair → Summary → Labels → ℕ → List (List ℕ)
+why_lines r repair summary labels width =
+    [] ∷ why_title
+    ∷ flat_map (lines_of_why r repair summary.reasons.items labels width)
+    (filter (has_other_result summary.fates.items) summary.reasons.items)

@@ -1,0 +1,112 @@
+//! What cancelled and replaced lines led to, as a terminal shows it.
+ghost use Rattle.std.specs.Prelude.{◌≡◌, ◌++◌, IfOk, OnOk, map};
+ghost use Rattle.casebook_view.specs.Effects.{effect_value};
+ghost use Rattle.casebook_screen.specs.Causes.{done_text, effect_lines, effect_text, effects_head};
+ghost use Rattle.casebook_screen.specs.Causes.{first_paths};
+
+use crate::NoMem;
+use crate::layout::{COUNT_WIDTH, number_column, push_padded};
+use crate::line_text::{TEXT_LIMIT, push_text};
+use crate::row_text::push_paths;
+use casebook_text::SafeLine;
+use casebook_view::Effect;
+use retro_keep::Recording;
+use retro_tree::Path;
+use std::alloc::Global;
+
+/// How many paths are shown.
+const PATHS_SHOWN: usize = 2;
+
+/// The width of the columns of counts.
+const LED_WIDTH: usize = 5;
+
+/// The width of the column of texts.
+const TEXT_WIDTH: usize = 60;
+
+/// Appends the first paths, and an ellipsis if there are more.
+#[tactic(auto, unfolding(crate::specs::Causes::first_paths))]
+fn push_first_paths(alloc: Global, line: &mut SafeLine, paths: &[Path]) -> Result<(), NoMem>
+    ensures { OnOk result (line.new ≡ line.old ++ first_paths paths.now) }
+{
+    if paths.len() <= PATHS_SHOWN {
+        return push_paths(alloc, line, paths);
+    }
+    push_paths(alloc, line, &paths[..PATHS_SHOWN])?;
+    line.push_ascii(" ")?;
+    line.push_ellipsis()
+}
+
+/// Appends a line, and the paths that it wrote if there are any.
+fn push_done(
+    alloc: Global,
+    line: &mut SafeLine,
+    text: &SafeLine,
+    paths: &[Path],
+) -> Result<(), NoMem>
+    ensures { OnOk result (line.new ≡ line.old ++ done_text text.now paths.now) }
+{
+    if paths.is_empty() {
+        return line.push_line(text);
+    }
+    push_padded(line, text, TEXT_WIDTH)?;
+    line.push_ascii(" ")?;
+    push_first_paths(alloc, line, paths)
+}
+
+/// Returns what a line led to.
+#[tactic(auto, unfolding(crate::specs::Causes::effect_text))]
+fn effect_line(alloc: Global, recording: &Recording, effect: &Effect) -> Result<SafeLine, NoMem>
+    ensures { IfOk result (λ line. line ≡ effect_text recording.now (effect_value effect.now)) }
+{
+    let mut text = SafeLine::new(alloc);
+    push_text(alloc, &mut text, recording, effect.number, TEXT_LIMIT)?;
+    let mut line = number_column(alloc, u64::from(effect.number), COUNT_WIDTH)?;
+    line.push_line(&number_column(alloc, effect.changed as u64, LED_WIDTH)?)?;
+    line.push_line(&number_column(alloc, effect.alike as u64, LED_WIDTH)?)?;
+    line.push_ascii("  ")?;
+    push_done(alloc, &mut line, &text, effect.wrote.as_slice())?;
+    Ok(line)
+}
+
+/// Returns the head of what lines led to.
+#[tactic(auto, unfolding(crate::specs::Causes::effects_head))]
+fn effects_head(alloc: Global) -> Result<SafeLine, NoMem>
+    ensures { IfOk result (λ line. line ≡ effects_head) }
+{
+    let mut line = SafeLine::new(alloc);
+    line.push_ascii("CAUSES  what each cancelled line led to: lines with another result, ")?;
+    line.push_ascii("run again alike, paths it wrote")?;
+    Ok(line)
+}
+
+/// Appends a line for each line that led to others.
+fn push_effects(
+    alloc: Global,
+    lines: &mut Vec<SafeLine>,
+    recording: &Recording,
+    effects: &[Effect],
+) -> Result<(), NoMem>
+    ensures { OnOk result (lines.new.items ≡ lines.old.items
+        ++ map (λ effect. effect_text recording.now (effect_value effect)) effects.now) }
+{
+    for effect in effects {
+        lines.push(effect_line(alloc, recording, effect)?)?;
+    }
+    Ok(())
+}
+
+/// Returns what cancelled and replaced lines led to: an empty line, a head, and each of the lines.
+pub(crate) fn effect_lines(
+    alloc: Global,
+    recording: &Recording,
+    effects: &[Effect],
+) -> Result<Vec<SafeLine>, NoMem>
+    ensures { IfOk result (λ lines. lines.items
+        ≡ effect_lines recording.now (map effect_value effects.now)) }
+{
+    let mut lines = Vec::new(alloc);
+    lines.push(SafeLine::new(alloc))?;
+    lines.push(effects_head(alloc)?)?;
+    push_effects(alloc, &mut lines, recording, effects)?;
+    Ok(lines)
+}

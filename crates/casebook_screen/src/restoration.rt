@@ -1,0 +1,152 @@
+//! What is to be restored, path by path.
+ghost use Rattle.std.specs.Prelude.{◌≡◌, IfOk};
+ghost use Rattle.std.specs.Option.{option_copied};
+ghost use Rattle.casebook_words.specs.FileLines.{lines_at};
+ghost use Rattle.retro_keep.specs.Recording.{last_state};
+ghost use Rattle.retro_redo.specs.Repair.{repaired_state};
+ghost use Rattle.casebook_screen.specs.Restorations.{AreCounts, AreRestorations, IsExtent};
+ghost use Rattle.casebook_screen.specs.Restorations.{IsRestoration, kind_of, lone_file};
+
+use crate::NoMem;
+use casebook_cause::{ChangedPath, PathChange};
+use casebook_view::Case;
+use casebook_words::{FileLines, count_added, count_removed};
+use retro_tree::{Bytes, Entry, Path, Tree};
+use std::alloc::Global;
+
+/// How many lines are in one of two texts alone.
+#[derive(Clone, Copy, Debug, PartialEq, Eq)]
+pub struct LineCounts {
+    /// How many are in the new text alone.
+    pub added: usize,
+    /// How many are in the old text alone.
+    pub removed: usize,
+}
+
+/// How much is to be restored at a path.
+#[derive(Clone, Copy, Debug, PartialEq, Eq)]
+pub enum Extent {
+    /// A directory comes or goes.
+    Directory,
+    /// An empty file comes or goes.
+    EmptyFile,
+    /// A file becomes a directory.
+    ToDirectory,
+    /// A directory becomes a file.
+    ToFile,
+    /// Lines come or go. A missing file has no lines.
+    Lines(LineCounts),
+}
+
+/// What is to be restored at a path.
+#[derive(Drop)]
+pub struct Restoration {
+    /// The path.
+    pub path: Path,
+    /// How the path differs.
+    pub change: PathChange,
+    /// How much of it.
+    pub extent: Extent,
+}
+
+/// Returns how many lines at a path are in one of two trees alone.
+fn count_lines(alloc: Global, before: &Tree, after: &Tree, path: &Path) -> Result<LineCounts, NoMem>
+    ensures { IfOk result (AreCounts (lines_at path.now before.now) (lines_at path.now after.now)) }
+{
+    let lines = FileLines::of(alloc, before, after, path)?;
+    let merged = lines.merged(alloc)?;
+    Ok(LineCounts {
+        added: count_added(merged.as_slice()),
+        removed: count_removed(merged.as_slice()),
+    })
+}
+
+/// Returns the extent of a file that comes or goes, if the file is empty.
+fn lone_file(bytes: &Bytes) -> Option<Extent>
+    ensures { result ≡ lone_file bytes.now }
+{
+    if bytes.is_empty() {
+        Some(Extent::EmptyFile)
+    } else {
+        None
+    }
+}
+
+/// Returns how much is to be restored of a path, unless it is lines.
+fn kind_of(before: Option<&Entry>, after: Option<&Entry>) -> Option<Extent>
+    ensures { result ≡ kind_of (option_copied before.entry) (option_copied after.entry) }
+{
+    match (before, after) {
+        (Some(Entry::Dir), None) => Some(Extent::Directory),
+        (None, Some(Entry::Dir)) => Some(Extent::Directory),
+        (Some(Entry::File(bytes)), None) => lone_file(bytes),
+        (None, Some(Entry::File(bytes))) => lone_file(bytes),
+        (Some(Entry::Dir), Some(Entry::File(_))) => Some(Extent::ToFile),
+        (Some(Entry::File(_)), Some(Entry::Dir)) => Some(Extent::ToDirectory),
+        _ => None,
+    }
+}
+
+/// Returns how much is to be restored of a path.
+fn extent_of(alloc: Global, before: &Tree, after: &Tree, path: &Path) -> Result<Extent, NoMem>
+    ensures { IfOk result (IsExtent before.now after.now path.now) }
+{
+    match kind_of(before.get(path), after.get(path)) {
+        Some(extent) => Ok(extent),
+        None => {
+            let counts = count_lines(alloc, before, after, path)?;
+            Ok(Extent::Lines(counts))
+        }
+    }
+}
+
+/// Returns what is to be restored at a path.
+fn restoration_of(
+    alloc: Global,
+    before: &Tree,
+    after: &Tree,
+    changed: &ChangedPath,
+) -> Result<Restoration, NoMem>
+    ensures { IfOk result (IsRestoration before.now after.now changed.now) }
+{
+    Ok(Restoration {
+        path: changed.path.copy()?,
+        change: changed.change,
+        extent: extent_of(alloc, before, after, &changed.path)?,
+    })
+}
+
+/// Returns what is to be restored at each of the paths in which two trees differ.
+fn restorations_of(
+    alloc: Global,
+    before: &Tree,
+    after: &Tree,
+    changed: &[ChangedPath],
+) -> Result<Vec<Restoration>, NoMem>
+    ensures { IfOk result (λ found. AreRestorations before.now after.now changed.now found.items) }
+{
+    let mut found = Vec::new(alloc);
+    for path in changed {
+        found.push(restoration_of(alloc, before, after, path)?)?;
+    }
+    Ok(found)
+}
+
+/// Returns what is to be restored at each of the paths in which the recorded and the repaired
+/// machine differ at the end, in order. The lines of each file are compared.
+pub fn to_restore(
+    alloc: Global,
+    case: Case<'_>,
+    changed: &[ChangedPath],
+) -> Result<Vec<Restoration>, NoMem>
+    ensures { IfOk result (λ found. AreRestorations
+        (last_state case.entry.recording.now.lines case.entry.recording.now.first).tree
+        (repaired_state case.entry.repair.now).tree changed.now found.items) }
+{
+    restorations_of(
+        alloc,
+        case.recording.last().tree(),
+        case.repair.state().tree(),
+        changed,
+    )
+}

@@ -1,0 +1,133 @@
+//! What is to be restored, as a terminal shows it.
+ghost use Rattle.std.specs.Prelude.{◌≡◌, ◌++◌, IfOk, OnOk, map};
+ghost use Rattle.casebook_words.specs.Words.{path_words};
+ghost use Rattle.casebook_screen.specs.Restorations.{change_sign, count_changed, extent_words};
+ghost use Rattle.casebook_screen.specs.Restorations.{restoration_lines, restoration_text};
+ghost use Rattle.casebook_screen.specs.Restorations.{restorations_head, widest};
+
+use crate::NoMem;
+use crate::layout::push_padded;
+use crate::restoration::{Extent, Restoration};
+use casebook_cause::PathChange;
+use casebook_text::SafeLine;
+use casebook_words::push_path;
+use retro_tree::Path;
+use std::alloc::Global;
+
+/// Appends how much of a path is to be restored.
+#[tactic(auto, unfolding(crate::specs::Restorations::extent_words))]
+fn push_extent(alloc: Global, line: &mut SafeLine, extent: Extent) -> Result<(), NoMem>
+    ensures { OnOk result (line.new ≡ line.old ++ extent_words extent) }
+{
+    match extent {
+        Extent::Directory => line.push_ascii("directory"),
+        Extent::EmptyFile => line.push_ascii("empty file"),
+        Extent::ToDirectory => line.push_ascii("becomes a directory"),
+        Extent::ToFile => line.push_ascii("becomes a file"),
+        Extent::Lines(counts) => {
+            line.push_ascii("+")?;
+            line.push_number(alloc, counts.added as u64)?;
+            line.push_ascii(" -")?;
+            line.push_number(alloc, counts.removed as u64)
+        }
+    }
+}
+
+/// Appends the letter of a change.
+#[tactic(auto, unfolding(crate::specs::Restorations::change_sign))]
+fn push_sign(line: &mut SafeLine, change: PathChange) -> Result<(), NoMem>
+    ensures { OnOk result (line.new ≡ line.old ++ change_sign change) }
+{
+    match change {
+        PathChange::Added => line.push_ascii("  A "),
+        PathChange::Removed => line.push_ascii("  D "),
+        PathChange::Modified => line.push_ascii("  M "),
+    }
+}
+
+/// Returns a path as a line.
+fn path_line(alloc: Global, path: &Path) -> Result<SafeLine, NoMem>
+    ensures { IfOk result (λ line. line ≡ path_words path.now) }
+{
+    let mut line = SafeLine::new(alloc);
+    push_path(alloc, &mut line, path)?;
+    Ok(line)
+}
+
+/// Returns the width of the widest path.
+fn widest(alloc: Global, paths: &[Restoration]) -> Result<usize, NoMem>
+    ensures { IfOk result (λ width. width ≡ widest paths.now) }
+{
+    let mut width = 0_usize;
+    for path in paths {
+        width = width.max(path_line(alloc, &path.path)?.width());
+    }
+    Ok(width)
+}
+
+/// Returns what is to be restored at a path.
+#[tactic(auto, unfolding(crate::specs::Restorations::restoration_text))]
+fn restoration_line(alloc: Global, path: &Restoration, width: usize) -> Result<SafeLine, NoMem>
+    ensures { IfOk result (λ line. line ≡ restoration_text width path.now) }
+{
+    let mut line = SafeLine::new(alloc);
+    push_sign(&mut line, path.change)?;
+    push_padded(&mut line, &path_line(alloc, &path.path)?, width)?;
+    line.push_ascii("  ")?;
+    push_extent(alloc, &mut line, path.extent)?;
+    Ok(line)
+}
+
+/// Returns how many paths are restored in a way.
+fn count_changed(paths: &[Restoration], change: PathChange) -> usize
+    ensures { result ≡ count_changed paths.now change }
+{
+    paths.iter().filter(|path| path.change == change).count()
+}
+
+/// Returns how many paths are to be restored.
+#[tactic(auto, unfolding(crate::specs::Restorations::restorations_head))]
+fn restorations_head(alloc: Global, paths: &[Restoration]) -> Result<SafeLine, NoMem>
+    ensures { IfOk result (λ line. line ≡ restorations_head paths.now) }
+{
+    let mut line = SafeLine::new(alloc);
+    line.push_ascii("RESTORE  ")?;
+    line.push_number(alloc, count_changed(paths, PathChange::Modified) as u64)?;
+    line.push_ascii(" change, ")?;
+    line.push_number(alloc, count_changed(paths, PathChange::Added) as u64)?;
+    line.push_ascii(" come back, ")?;
+    line.push_number(alloc, count_changed(paths, PathChange::Removed) as u64)?;
+    line.push_ascii(" go")?;
+    Ok(line)
+}
+
+/// Appends a line for each path.
+fn push_restorations(
+    alloc: Global,
+    lines: &mut Vec<SafeLine>,
+    paths: &[Restoration],
+    width: usize,
+) -> Result<(), NoMem>
+    ensures { OnOk result (lines.new.items
+        ≡ lines.old.items ++ map (restoration_text width) paths.now) }
+{
+    for path in paths {
+        lines.push(restoration_line(alloc, path, width)?)?;
+    }
+    Ok(())
+}
+
+/// Returns what is to be restored: an empty line, how many paths there are, and each of them.
+pub(crate) fn restoration_lines(
+    alloc: Global,
+    paths: &[Restoration],
+) -> Result<Vec<SafeLine>, NoMem>
+    ensures { IfOk result (λ lines. lines.items ≡ restoration_lines paths.now) }
+{
+    let width = widest(alloc, paths)?;
+    let mut lines = Vec::new(alloc);
+    lines.push(SafeLine::new(alloc))?;
+    lines.push(restorations_head(alloc, paths)?)?;
+    push_restorations(alloc, &mut lines, paths, width)?;
+    Ok(lines)
+}

@@ -1,0 +1,58 @@
+//! Summaries of repairs, as a terminal shows them.
+ghost use Rattle.std.specs.Prelude.{◌≡◌, IfOk};
+ghost use Rattle.casebook_screen.specs.Summary.{summary_lines};
+
+use crate::NoMem;
+use crate::effect_text::effect_lines;
+use crate::fate_counts::count_lines;
+use crate::leak_text::leak_lines;
+use crate::names::Names;
+use crate::notice_text::notice_lines;
+use crate::restoration::Restoration;
+use crate::restoration_text::restoration_lines;
+use crate::summary_head::head_lines;
+use casebook_text::SafeLine;
+use casebook_view::{Group, Summary};
+use retro_keep::Recording;
+use std::alloc::Global;
+
+/// What is shown of a repair.
+#[derive(Drop, Clone, Copy)]
+pub struct Sheet<'a> {
+    /// The recording.
+    pub recording: &'a Recording,
+    /// What the repair would do.
+    pub summary: &'a Summary,
+    /// What is to be restored.
+    pub restorations: &'a [Restoration],
+    /// The summary's notices, by session and subject.
+    pub groups: &'a [Group],
+    /// Whether the log is a recording of its own lines.
+    pub is_recording: bool,
+}
+
+/// Returns a summary as the lines that a terminal shows: what the log holds, how many lines have
+/// which fate, what is to be restored, whom to tell about what, which cancelled lines showed
+/// something, and what each cancelled line led to.
+pub fn summary_lines(
+    alloc: Global,
+    sheet: Sheet<'_>,
+    names: Names<'_>,
+) -> Result<Vec<SafeLine>, NoMem>
+    ensures { IfOk result (λ lines. lines.items
+        ≡ summary_lines sheet.entry.recording.now sheet.entry.summary.now
+        sheet.entry.restorations.now sheet.entry.groups.now sheet.entry.is_recording
+        names.entry.labels.now names.entry.width) }
+{
+    let recording = sheet.recording;
+    let summary = sheet.summary;
+    let fates = summary.fates.as_slice();
+    let screens = summary.notices.len();
+    let mut lines = head_lines(alloc, recording, names.labels, fates, sheet.is_recording)?;
+    lines.append(&mut count_lines(alloc, fates)?)?;
+    lines.append(&mut restoration_lines(alloc, sheet.restorations)?)?;
+    lines.append(&mut notice_lines(alloc, names, screens, sheet.groups)?)?;
+    lines.append(&mut leak_lines(alloc, recording, names, summary.leaks.as_slice())?)?;
+    lines.append(&mut effect_lines(alloc, recording, summary.effects.as_slice())?)?;
+    Ok(lines)
+}

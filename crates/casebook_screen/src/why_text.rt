@@ -1,0 +1,226 @@
+//! Why lines are run again, as a terminal shows it.
+ghost use Rattle.std.specs.Prelude.{◌≡◌, ◌++◌, IfOk, IsTrue, OnOk, flat_map, map, option_map};
+ghost use Rattle.std.specs.List.{filter};
+ghost use Rattle.retro_keep.specs.Recording.{noted_at};
+ghost use Rattle.retro_keep.specs.Script.{rises_from};
+ghost use Rattle.casebook_view.specs.Fates.{session_in};
+ghost use Rattle.casebook_view.specs.OtherAnswers.{answers_of};
+ghost use Rattle.casebook_view.specs.Reasons.{number_in};
+ghost use Rattle.casebook_screen.specs.Why.{causes_words, chain_words, earlier_words, failing_words};
+ghost use Rattle.casebook_screen.specs.Why.{reason_text, why_head, why_lines, why_title};
+ghost use Rattle.casebook_screen.specs.Why.{has_other_result, lines_of_why};
+
+use crate::NoMem;
+use crate::layout::indented;
+use crate::line_text::{line_head, push_text};
+use crate::names::Names;
+use crate::row_text::INDENT;
+use casebook_text::SafeLine;
+use casebook_view::{Case, Fate, Reason, Summary, answers_of, chain};
+use casebook_words::{push_difference, push_query};
+use retro_history::History;
+use retro_keep::Recording;
+use std::alloc::Global;
+
+/// How many bytes of a line are shown.
+const TEXT_LIMIT: usize = 57;
+
+/// What explains why lines are run again.
+#[derive(Drop, Clone, Copy)]
+pub(crate) struct Explainer<'a, 'h> {
+    /// The recording and its repair.
+    pub(crate) case: Case<'a>,
+    /// The history of the repaired recording.
+    pub(crate) repaired: &'h History<'a>,
+    /// What the repair would do.
+    pub(crate) summary: &'h Summary,
+}
+
+/// Appends the causes of a cause.
+fn push_earlier(alloc: Global, line: &mut SafeLine, numbers: &[u32]) -> Result<(), NoMem>
+    ensures { OnOk result (line.new ≡ line.old ++ flat_map earlier_words numbers.now) }
+{
+    for number in numbers {
+        line.push_ascii(" < ")?;
+        line.push_number(alloc, u64::from(*number))?;
+    }
+    Ok(())
+}
+
+/// Appends the cause of a line, and the causes of that.
+fn push_causes(alloc: Global, line: &mut SafeLine, cause: u64, earlier: &[u32]) -> Result<(), NoMem>
+    ensures { OnOk result (line.new ≡ line.old ++ causes_words cause earlier.now) }
+{
+    line.push_ascii("   because of ")?;
+    line.push_number(alloc, cause)?;
+    push_earlier(alloc, line, earlier)?;
+    Ok(())
+}
+
+/// Appends the chain of lines that a line comes from, if there is one.
+fn push_chain(alloc: Global, line: &mut SafeLine, numbers: &[u32]) -> Result<(), NoMem>
+    ensures { OnOk result (line.new ≡ line.old ++ chain_words numbers.now) }
+{
+    match numbers {
+        [] => Ok(()),
+        [cause, earlier @ ..] => push_causes(alloc, line, u64::from(*cause), earlier),
+    }
+}
+
+/// Appends the query that fails by a reason, with both answers, or that no query fails.
+#[tactic(auto, unfolding(crate::specs::Why::failing_words))]
+fn push_failing(
+    alloc: Global,
+    line: &mut SafeLine,
+    explainer: Explainer<'_, '_>,
+    reason: &Reason,
+) -> Result<(), NoMem>
+    requires { explainer.repaired.now ≡ explainer.case.repair.now.recording }
+    ensures { OnOk result (line.new ≡ line.old ++ failing_words (answers_of
+        explainer.entry.case.recording.now explainer.entry.case.repair.now reason.now)) }
+{
+    match answers_of(alloc, explainer.case, explainer.repaired, reason)? {
+        Some(found) => {
+            push_query(alloc, line, found.ask)?;
+            push_difference(alloc, line, found.recorded, &found.repaired)
+        }
+        None => line.push_ascii("its text is replaced"),
+    }
+}
+
+/// Returns why a line is run again: the first query that has another answer, both answers, and the
+/// chain of lines that it comes from.
+#[tactic(auto, unfolding(crate::specs::Why::reason_text))]
+pub(crate) fn reason_line(
+    alloc: Global,
+    explainer: Explainer<'_, '_>,
+    reason: &Reason,
+) -> Result<SafeLine, NoMem>
+    requires { explainer.repaired.now ≡ explainer.case.repair.now.recording }
+    ensures { IsTrue (rises_from 0 (map number_in explainer.entry.summary.now.reasons.items))
+        → IfOk result (λ line. line ≡ reason_text explainer.entry.case.recording.now
+        explainer.entry.case.repair.now explainer.entry.summary.now.reasons.items reason.now) }
+{
+    let causes = chain(alloc, explainer.summary.reasons.as_slice(), reason.number)?;
+    let mut line = indented(alloc, INDENT)?;
+    push_failing(alloc, &mut line, explainer, reason)?;
+    push_chain(alloc, &mut line, causes.as_slice())?;
+    Ok(line)
+}
+
+/// Returns the session that ran a line, or 0 if there is no such line.
+fn session_of(recording: &Recording, number: u32) -> u32
+    ensures { result ≡ session_in (noted_at number recording.now.lines) }
+{
+    match recording.run_of(number) {
+        Some(noted) => noted.sid,
+        None => 0,
+    }
+}
+
+/// Returns the number, the session and the text of a line.
+#[tactic(auto, unfolding(crate::specs::Why::why_head))]
+fn why_head(
+    alloc: Global,
+    recording: &Recording,
+    names: Names<'_>,
+    number: u32,
+) -> Result<SafeLine, NoMem>
+    ensures { IfOk result (λ line. line
+        ≡ why_head recording.now names.entry.labels.now names.entry.width number) }
+{
+    let mut line = line_head(alloc, names, number, session_of(recording, number))?;
+    push_text(alloc, &mut line, recording, number, TEXT_LIMIT)?;
+    Ok(line)
+}
+
+/// Appends a line that is run again, and why.
+fn push_why(
+    alloc: Global,
+    lines: &mut Vec<SafeLine>,
+    explainer: Explainer<'_, '_>,
+    names: Names<'_>,
+    reason: &Reason,
+) -> Result<(), NoMem>
+    requires { explainer.repaired.now ≡ explainer.case.repair.now.recording }
+    ensures { IsTrue (rises_from 0 (map number_in explainer.entry.summary.now.reasons.items))
+        → OnOk result (lines.new.items ≡ lines.old.items ++ lines_of_why
+        explainer.entry.case.recording.now explainer.entry.case.repair.now
+        explainer.entry.summary.now.reasons.items names.entry.labels.now names.entry.width
+        reason.now) }
+{
+    let recording = explainer.case.recording;
+    lines.push(why_head(alloc, recording, names, reason.number)?)?;
+    lines.push(reason_line(alloc, explainer, reason)?)?;
+    Ok(())
+}
+
+/// Returns whether a line has another result.
+fn has_other_result(summary: &Summary, reason: &Reason) -> bool
+    ensures { IsTrue (rises_from 0 (map (λ f. f.0) summary.now.fates.items))
+        → result ≡ has_other_result summary.now.fates.items reason.now }
+{
+    summary.fate_of(reason.number) == Some(Fate::Changed)
+}
+
+/// Appends each line that is run again with another result, and why.
+fn push_whys(
+    alloc: Global,
+    lines: &mut Vec<SafeLine>,
+    explainer: Explainer<'_, '_>,
+    names: Names<'_>,
+) -> Result<(), NoMem>
+    requires { explainer.repaired.now ≡ explainer.case.repair.now.recording }
+    ensures { IsTrue (rises_from 0 (map (λ f. f.0) explainer.entry.summary.now.fates.items))
+        → IsTrue (rises_from 0 (map number_in explainer.entry.summary.now.reasons.items))
+        → OnOk result (lines.new.items
+        ≡ lines.old.items ++ flat_map (lines_of_why explainer.entry.case.recording.now
+        explainer.entry.case.repair.now explainer.entry.summary.now.reasons.items
+        names.entry.labels.now names.entry.width)
+        (filter (has_other_result explainer.entry.summary.now.fates.items)
+        explainer.entry.summary.now.reasons.items)) }
+{
+    for reason in &explainer.summary.reasons {
+        if has_other_result(explainer.summary, reason) {
+            push_why(alloc, lines, explainer, names, reason)?;
+        }
+    }
+    Ok(())
+}
+
+/// Returns the title.
+fn why_title(alloc: Global) -> Result<SafeLine, NoMem>
+    ensures { IfOk result (λ line. line ≡ why_title) }
+{
+    let mut line = SafeLine::new(alloc);
+    line.push_ascii("WHY  lines run again with another result")?;
+    Ok(line)
+}
+
+/// Returns why lines are run again: an empty line, a title, and two lines for each line that has
+/// another result. The first has its number, its session and its text. The second has the first
+/// query that has another answer in the repaired run, both answers, and the chain of lines that it
+/// comes from. The contract says so if the summary's lines are in order, as they are of a repair.
+pub fn why_lines(
+    alloc: Global,
+    case: Case<'_>,
+    summary: &Summary,
+    names: Names<'_>,
+) -> Result<Vec<SafeLine>, NoMem>
+    ensures { IsTrue (rises_from 0 (map (λ f. f.0) summary.now.fates.items))
+        → IsTrue (rises_from 0 (map number_in summary.now.reasons.items)) → IfOk result (λ lines. lines.items
+        ≡ why_lines case.entry.recording.now case.entry.repair.now summary.now
+        names.entry.labels.now names.entry.width) }
+{
+    let repaired = History::of(alloc, &case.repair.recording)?;
+    let explainer = Explainer {
+        case,
+        repaired: &repaired,
+        summary,
+    };
+    let mut lines = Vec::new(alloc);
+    lines.push(SafeLine::new(alloc))?;
+    lines.push(why_title(alloc)?)?;
+    push_whys(alloc, &mut lines, explainer, names)?;
+    Ok(lines)
+}
