@@ -1,0 +1,12 @@
+use Rattle.std.proofs.lemmas.Result.{IfErr-weaker}
+use Rattle.casebook_cli.specs.Request.{request_view}
+use Rattle.casebook_cli.specs.Stops.{no_answer}
+use Rattle.casebook_cli.proofs.Known.{one}
+use Rattle.casebook_cli.proofs.program.answer_to.Goals as goal
+
+pub returns-clause-err : goal.returns-clause-err
+returns-clause-err g c =
+    IfErr-weaker c.answer.result _ _
+    (λ stop h. one (g.D.Documents.bytes_of c.args.documents.now) _ _ h
+    (λ at stops. no_answer (request_view c.in_ok-request.request) c.in_ok-request.ensures.ok stops))
+    c.answer.ensures.err

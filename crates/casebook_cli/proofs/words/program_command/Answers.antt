@@ -1,0 +1,18 @@
+use Rattle.std.proofs.Common.{ap, ap₂, codes, ◌≡◌, ◌∙◌}
+use Rattle.std.proofs.lemmas.Result.{IfOk-weaker}
+use Rattle.clap.specs.Words.{App, Shape, app_of, with_subcommand}
+use Rattle.casebook_cli.specs.Words.{show_rules, with_command, without_repairs}
+use Rattle.casebook_cli.proofs.words.program_command.Goals as goal
+
+abbrev top : App → Shape
+top a = a.top
+
+pub returns : goal.returns
+returns c =
+    let one : app_of c.in_ok-subcommand.field-0 ≡ with_command without_repairs (codes "show") show_rules =
+    c.in_ok-subcommand.ensures.shape c.in_ok-show_command.ensures.local
+    ∙ ap₂ with_subcommand c.in_ok-program_without_repairs.ensures (ap top c.in_ok-show_command.ensures.shape) in
+    IfOk-weaker c.subcommand-2.result _ _
+    (λ m h. h.shape c.in_ok-page_command.ensures.local
+    ∙ ap₂ with_subcommand one (ap top c.in_ok-page_command.ensures.shape))
+    c.subcommand-2.ensures

@@ -1,0 +1,46 @@
+-- The answers to requests.
+use Rattle.std.specs.Prelude.{◌≡◌, ℕ, Bool, true, false, List, string_bytes}
+use Rattle.casebook_cli.specs.Checks.{IsChecked}
+use Rattle.casebook_cli.specs.Documents.{AllDocuments}
+use Rattle.casebook_cli.specs.Inputs.{AreInputs, InputsValue}
+use Rattle.casebook_cli.specs.Lines.{AreLines}
+use Rattle.casebook_cli.specs.Pages.{IsPage}
+use Rattle.casebook_cli.specs.Repairs.{sources_of}
+use Rattle.casebook_cli.specs.Request.{Query, Request, ask, check, help, help_text, lines, page, show}
+use Rattle.casebook_cli.specs.Screens.{IsShown}
+use Rattle.casebook_cli.specs.declared.answer.Answer.{Answer}
+
+-- an answer: its text, and whether it says that what was asked about isn't in order
+pub record AnswerValue : Type 0 where
+  pub text : List ℕ
+  pub is_no : Bool
+
+abbrev pub saying : List ℕ → AnswerValue
+saying text = record { text = text; is_no = false }
+
+-- The answer is a text of this kind, and doesn't say no.
+pub record Says (IsText : List ℕ → Type 0) (answer : AnswerValue) : Type 0 where
+  pub is_text : IsText answer.text
+  pub is_no_refusal : answer.is_no ≡ false
+
+-- the answer to a question about documents
+abbrev pub AnswersBy : InputsValue → Query → AnswerValue → Type 0
+AnswersBy inputs (lines request) answer = Says (AreLines inputs request) answer
+AnswersBy inputs (show request) answer = Says (IsShown inputs request) answer
+AnswersBy inputs (page request) answer = Says (IsPage inputs request) answer
+AnswersBy inputs (check log) answer = IsChecked inputs.log answer.is_no answer.text
+
+-- The answer to a question about the documents that it names.
+pub record AnswersQuery (at : AllDocuments) (query : Query) (answer : AnswerValue) : Type 0 where
+  pub inputs : InputsValue
+  pub are_inputs : AreInputs at (sources_of query) inputs
+  pub answers : AnswersBy inputs query answer
+
+abbrev pub Answers : AllDocuments → Request → AnswerValue → Type 0
+Answers at (help topic) answer = answer ≡ saying (help_text topic)
+Answers at (ask query) answer = AnswersQuery at query answer
+
+-- ---- values of the code
+
+abbrev pub answer_view : Answer → AnswerValue
+answer_view answer = record { text = string_bytes answer.text; is_no = answer.is_no }

@@ -1,0 +1,88 @@
+-- What is said of whether a document is a recording or a script.
+use Rattle.std.specs.Prelude.{◌≡◌, ℕ, Bool, true, false, List, [], ◌∷◌, ◌++◌, Option, Some, None, Result, Ok, Err}
+use Rattle.std.specs.Prelude.{codes, decimal, is_some, length, string_bytes}
+use Rattle.serde_json.specs.Data.{Data}
+use Rattle.serde_json.specs.Find.{get}
+use Rattle.retro_json.specs.declared.fault.Refusal.{Refusal}
+use Rattle.retro_keep.specs.Recording.{RecordingValue, IsRecordingOf, noted_at}
+use Rattle.retro_keep.specs.Recording as recordings
+use Rattle.retro_keep.specs.declared.noted.Noted.{Noted}
+use Rattle.retro_keep.specs.Script.{ScriptValue}
+use Rattle.retro_log.specs.Document.{json_of, log_in, script_in}
+use Rattle.casebook_check.specs.Texts.{AreUnlikeLines}
+use Rattle.casebook_check.specs.Unlike.{IsFirstUnlike}
+use Rattle.casebook_check.specs.declared.unlike.Unlike.{Unlike}
+use Rattle.casebook_text.specs.SafeLine.{text_of_lines}
+use Rattle.casebook_words.specs.Labels.{no_labels}
+use Rattle.casebook_cli.specs.Inputs.{DocumentValue}
+use Rattle.casebook_cli.specs.Messages.{about, numbered_words}
+use Rattle.casebook_cli.specs.declared.answer.Answer.{Answer}
+
+-- a document is refused, after words of what it isn't
+abbrev pub refused_text : List ℕ → List ℕ → Refusal → List ℕ
+refused_text name words refusal = text_of_lines ((about name words ++ numbered_words refusal) ∷ [])
+
+-- a document is something of so many lines
+abbrev pub counted_text : List ℕ → List ℕ → ℕ → List ℕ
+counted_text name words count = text_of_lines ((about name words ++ decimal count ++ codes " lines") ∷ [])
+
+-- the log is no recording
+abbrev pub isnt_line : List ℕ → List ℕ
+isnt_line name = about name (codes "no recording of its lines. The first that isn't as noted:")
+
+-- the lines that say how a line isn't as noted, if there is such a line
+abbrev pub AreUnlike : Option Noted → Unlike → List (List ℕ) → Type 0
+AreUnlike None unlike lines = lines ≡ []
+AreUnlike (Some noted) unlike lines = AreUnlikeLines no_labels unlike.number noted unlike.run lines
+
+-- The text says that a log is no recording, and of one of its lines how it isn't as noted.
+pub record IsUnlikeText (name : List ℕ) (r : RecordingValue) (unlike : Unlike) (text : List ℕ) : Type 0 where
+  pub lines : List (List ℕ)
+  pub are_unlike : AreUnlike (noted_at unlike.number r.lines) unlike lines
+  pub shown : text ≡ text_of_lines (isnt_line name ∷ lines)
+
+-- The answer says that a log is a recording, which it is.
+pub record SaysYes (name : List ℕ) (r : RecordingValue) (text : List ℕ) : Type 0 where
+  pub is_recording : IsRecordingOf (recordings.script_in r) r
+  pub shown : text ≡ counted_text name (codes "a recording of its ") (length r.lines)
+
+-- The answer says that a log is no recording, and how the first line that isn't as noted differs.
+pub record SaysNo (name : List ℕ) (r : RecordingValue) (text : List ℕ) : Type 0 where
+  pub unlike : Unlike
+  pub first : IsFirstUnlike r unlike
+  pub shown : IsUnlikeText name r unlike text
+
+abbrev pub SaysOf : Bool → List ℕ → RecordingValue → List ℕ → Type 0
+SaysOf false name r text = SaysYes name r text
+SaysOf true name r text = SaysNo name r text
+
+abbrev pub IsCheckedAs : List ℕ → RecordingValue → Answer → Type 0
+IsCheckedAs name r answer = SaysOf answer.is_no name r (string_bytes answer.text)
+
+-- the answer about a document that was read as a log
+abbrev pub IsCheckedLog : List ℕ → Result RecordingValue Refusal → Bool → List ℕ → Type 0
+IsCheckedLog name (Ok r) is_no text = SaysOf is_no name r text
+IsCheckedLog name (Err refusal) is_no text =
+    (is_no ≡ true) × (text ≡ refused_text name (codes "not a log: ") refusal)
+
+-- the answer about a document that was read as a script
+abbrev pub IsCheckedScript : List ℕ → Result ScriptValue Refusal → Bool → List ℕ → Type 0
+IsCheckedScript name (Ok script) is_no text =
+    (is_no ≡ false) × (text ≡ counted_text name (codes "a script of ") (length script.lines))
+IsCheckedScript name (Err refusal) is_no text =
+    (is_no ≡ true) × (text ≡ refused_text name (codes "not a script: ") refusal)
+
+-- whether a JSON value has the key that scripts have and logs don't
+abbrev pub has_script_key : Option Data → Bool
+has_script_key None = false
+has_script_key (Some d) = is_some (get (codes "script") d)
+
+abbrev pub is_for_script : List ℕ → Bool
+is_for_script bytes = has_script_key (json_of bytes)
+
+abbrev pub IsCheckedIf : Bool → DocumentValue → Bool → List ℕ → Type 0
+IsCheckedIf true document is_no text = IsCheckedScript document.name (script_in document.bytes) is_no text
+IsCheckedIf false document is_no text = IsCheckedLog document.name (log_in document.bytes) is_no text
+
+abbrev pub IsChecked : DocumentValue → Bool → List ℕ → Type 0
+IsChecked document is_no text = IsCheckedIf (is_for_script document.bytes) document is_no text

@@ -1,0 +1,60 @@
+-- The documents that a question is about.
+use Rattle.std.specs.Prelude.{◌≡◌, ℕ, List, Option, Some, None, option_map}
+use Rattle.casebook_cli.specs.Documents.{AllDocuments}
+use Rattle.casebook_cli.specs.declared.document.Document.{Document}
+use Rattle.casebook_cli.specs.declared.sources.Inputs.{Inputs}
+use Rattle.casebook_cli.specs.declared.sources.Sources.{Sources}
+
+-- a document: its name and its bytes
+pub record DocumentValue : Type 0 where
+  pub name : List ℕ
+  pub bytes : List ℕ
+
+-- the names of the log, of the document with the list of lines to cancel, and of that with names and times
+pub record SourcesValue : Type 0 where
+  pub log : List ℕ
+  pub list : Option (List ℕ)
+  pub about : Option (List ℕ)
+
+-- the same documents as they were read
+pub record InputsValue : Type 0 where
+  pub log : DocumentValue
+  pub list : Option DocumentValue
+  pub about : Option DocumentValue
+
+-- The document with a name is this one.
+pub record IsDocument (at : AllDocuments) (name : List ℕ) (document : DocumentValue) : Type 0 where
+  pub named : document.name ≡ name
+  pub found : at name ≡ Some document.bytes
+
+-- the same of a document that may not be named
+abbrev pub IsDocumentIf : AllDocuments → Option (List ℕ) → Option DocumentValue → Type 0
+IsDocumentIf at None None = Unit {0}
+IsDocumentIf at None (Some document) = ⊥
+IsDocumentIf at (Some name) None = ⊥
+IsDocumentIf at (Some name) (Some document) = IsDocument at name document
+
+-- The documents that are named are these.
+pub record AreInputs (at : AllDocuments) (sources : SourcesValue) (inputs : InputsValue) : Type 0 where
+  pub log : IsDocument at sources.log inputs.log
+  pub list : IsDocumentIf at sources.list inputs.list
+  pub about : IsDocumentIf at sources.about inputs.about
+
+-- ---- values of the code
+
+abbrev pub document_view : Document → DocumentValue
+document_view document = record { name = document.name.now; bytes = document.bytes.items }
+
+abbrev pub sources_view : Sources → SourcesValue
+sources_view sources = record {
+  log = sources.log.now;
+  list = option_map (λ s. s.now) sources.list;
+  about = option_map (λ s. s.now) sources.about;
+}
+
+abbrev pub inputs_view : Inputs → InputsValue
+inputs_view inputs = record {
+  log = document_view inputs.log;
+  list = option_map document_view inputs.list;
+  about = option_map document_view inputs.about;
+}

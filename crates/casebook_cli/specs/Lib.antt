@@ -1,0 +1,16 @@
+pub mod Answers
+pub mod Checks
+pub mod Documents
+pub mod Exit
+pub mod Inputs
+pub mod Labels
+pub mod Lines
+pub mod Messages
+pub mod Output
+pub mod Pages
+pub mod Program
+pub mod Repairs
+pub mod Request
+pub mod Screens
+pub mod Stops
+pub mod Words

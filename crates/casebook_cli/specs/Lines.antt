@@ -1,0 +1,123 @@
+-- What text answers a request for rows of lines.
+use Rattle.std.specs.Cmp.Lexicographic.{pointwise}
+use Rattle.std.specs.Prelude.{◌≡◌, ℕ, Bool, false, List, [], ◌∷◌, ◌++◌, nat_eq, Option, Some, None, Result, Ok, Err, chars, codes, decimal, flat_map}
+use Rattle.std.specs.Prelude.{fold, length, map, max, option_map}
+use Rattle.std.specs.List.{filter, join_with_byte}
+use Rattle.regex.specs.Bytes.{IsReadFromSource, regex_config, regex_pattern, regex_source}
+use Rattle.regex.specs.Patterns.{Re}
+use Rattle.regex.specs.declared.bytes.regex.Regex.{Regex}
+use Rattle.regex_syntax.specs.Verdict.{default_config}
+use Rattle.retro_keep.specs.Recording.{RecordingValue}
+use Rattle.retro_keep.specs.declared.noted.Noted.{Noted}
+use Rattle.retro_log.specs.Document.{log_in}
+use Rattle.casebook_text.specs.Lists.{comma}
+use Rattle.casebook_text.specs.SafeLine.{text_of_lines, text_of_rows}
+use Rattle.casebook_view.specs.Filters.{FiltersValue, passes}
+use Rattle.casebook_view.specs.Rows.{RowValue, row_of}
+use Rattle.casebook_view.specs.declared.line_test.LineTest.{LineTest}
+use Rattle.casebook_words.specs.Labels.{name_words}
+use Rattle.casebook_words.specs.declared.labels.Labels.{Labels}
+use Rattle.casebook_screen.specs.Fields.{fields_of}
+use Rattle.casebook_screen.specs.RowTexts.{lines_of_row}
+use Rattle.casebook_cli.specs.Inputs.{InputsValue}
+use Rattle.casebook_cli.specs.Labels.{AreLabels}
+use Rattle.casebook_cli.specs.Request.{LinesRequest, Test, of_sessions, test_view}
+use Rattle.casebook_cli.specs.declared.format.Format.{Format}
+use Rattle.casebook_cli.specs.declared.format.Format.TheVariants as formats
+use Rattle.casebook_cli.specs.declared.patterns.Patterns.{Patterns}
+
+-- ---- filters
+
+-- A text is read as this regular expression.
+pub record IsPattern (text : List ℕ) (pattern : Re) : Type 0 where
+  pub regex : Regex
+  pub source : regex_source regex ≡ text
+  pub config : regex_config regex ≡ (record default_config { utf8 = false })
+  pub read : IsReadFromSource regex
+  pub is : regex_pattern regex ≡ pattern
+
+-- a text that may be missing is read as a regular expression
+abbrev pub AreRead : Option (List ℕ) → Option Re → Type 0
+AreRead None None = Unit {0}
+AreRead None (Some pattern) = ⊥
+AreRead (Some text) None = ⊥
+AreRead (Some text) (Some pattern) = IsPattern text pattern
+
+-- the sessions of lines that are shown with a name
+abbrev pub is_named : Labels → List ℕ → ℕ → Bool
+is_named labels name session = pointwise nat_eq (name_words session labels) name
+
+abbrev pub session_of_line : ℕ × Noted → ℕ
+session_of_line line = line.1.sid
+
+abbrev pub sessions_named : Labels → List (ℕ × Noted) → List ℕ → List ℕ
+sessions_named labels lines name = filter (is_named labels name) (map session_of_line lines)
+
+-- the test that a session is shown with a name, if one is given
+abbrev pub user_tests : Labels → List (ℕ × Noted) → Option (List ℕ) → List Test
+user_tests labels lines None = []
+user_tests labels lines (Some name) = of_sessions (sessions_named labels lines name) ∷ []
+
+-- The filters that a request asks for, of some lines with their names.
+pub record AreFilters (request : LinesRequest) (labels : Labels) (lines : List (ℕ × Noted)) (filters : FiltersValue)
+    : Type 0 where
+  pub tests : map test_view filters.tests ≡ request.tests ++ user_tests labels lines request.user
+  pub text : AreRead request.text filters.text
+  pub shown : AreRead request.shown filters.shown
+
+-- the filters of tests and patterns of the code
+abbrev pub filters_by : List LineTest → Patterns → FiltersValue
+filters_by tests patterns = record {
+  tests = tests;
+  text = option_map regex_pattern patterns.text;
+  shown = option_map regex_pattern patterns.shown;
+}
+
+-- ---- rows as text
+
+-- the width of the widest name of a session of some lines
+abbrev pub wider : Labels → ℕ → ℕ × Noted → ℕ
+wider labels width line = max width (length (chars (name_words line.1.sid labels)))
+
+abbrev pub widest_name : Labels → List (ℕ × Noted) → ℕ
+widest_name labels lines = fold (wider labels) 0 lines
+
+-- rows as the lines that a terminal shows, as a table, and as a list of numbers in one line
+abbrev pub shown_text : Labels → ℕ → List RowValue → List ℕ
+shown_text labels width rows = text_of_lines (flat_map (lines_of_row labels width) rows)
+
+abbrev pub table_text : Labels → List RowValue → List ℕ
+table_text labels rows = text_of_rows (map (fields_of labels) rows)
+
+abbrev pub row_number : RowValue → ℕ
+row_number row = row.number
+
+abbrev pub numbers_text : List RowValue → List ℕ
+numbers_text rows = join_with_byte comma (map decimal (map row_number rows)) ++ codes "\n"
+
+-- rows in a format
+abbrev pub rows_text : Format → Labels → ℕ → List RowValue → List ℕ
+rows_text formats.Text labels width rows = shown_text labels width rows
+rows_text formats.Tsv labels width rows = table_text labels rows
+rows_text formats.Numbers labels width rows = numbers_text rows
+
+-- The text shows the lines of a recording that pass the tests of a request, and in which patterns are found.
+pub record IsAskedText (request : LinesRequest) (labels : Labels) (r : RecordingValue) (patterns : Patterns)
+    (text : List ℕ) : Type 0 where
+  pub tests : List LineTest
+  pub are_tests : map test_view tests ≡ request.tests ++ user_tests labels r.lines request.user
+  pub shown : text ≡ rows_text request.format labels (widest_name labels r.lines)
+      (map row_of (filter (passes (filters_by tests patterns)) r.lines))
+
+-- ---- the answer
+
+-- The text shows exactly the lines of the log that pass the filters, in order.
+pub record AreLines (inputs : InputsValue) (request : LinesRequest) (text : List ℕ) : Type 0 where
+  pub recording : RecordingValue
+  pub log : log_in inputs.log.bytes ≡ Ok recording
+  pub labels : Labels
+  pub are_labels : AreLabels inputs.about labels
+  pub filters : FiltersValue
+  pub are_filters : AreFilters request labels recording.lines filters
+  pub shown : text ≡ rows_text request.format labels (widest_name labels recording.lines)
+      (map row_of (filter (passes filters) recording.lines))

@@ -1,0 +1,147 @@
+-- Lines for standard error.
+use Rattle.std.specs.Prelude.{ℕ, List, [], ◌++◌, codes, decimal}
+use Rattle.retro_json.specs.Numbers.{refusal_number}
+use Rattle.retro_json.specs.declared.fault.Part.{Part}
+use Rattle.retro_json.specs.declared.fault.Part.TheVariants as parts
+use Rattle.retro_json.specs.declared.fault.Refusal.{Refusal}
+use Rattle.retro_json.specs.declared.fault.Refusal.TheVariants as refusals
+use Rattle.casebook_text.specs.SafeLine.{safe_bytes}
+use Rattle.casebook_text.specs.declared.list_fault.ItemFault.{ItemFault}
+use Rattle.casebook_text.specs.declared.list_fault.ItemFault.TheVariants as items
+use Rattle.casebook_text.specs.declared.list_fault.ListFault.{ListFault}
+use Rattle.casebook_text.specs.declared.list_fault.ListFault.TheVariants as lists
+use Rattle.casebook_about.specs.declared.fault.AboutFault.{AboutFault}
+use Rattle.casebook_about.specs.declared.fault.AboutFault.TheVariants as faults
+use Rattle.casebook_about.specs.declared.fault.Part.TheVariants as about_parts
+use Rattle.casebook_cli.specs.declared.exit.Exit.{Exit}
+use Rattle.casebook_cli.specs.declared.exit.Exit.TheVariants as exits
+use Rattle.casebook_cli.specs.declared.problem.Problem.{Problem}
+use Rattle.casebook_cli.specs.declared.problem.Problem.TheVariants as problems
+use Rattle.casebook_cli.specs.declared.searched.Searched.{Searched}
+use Rattle.casebook_cli.specs.declared.searched.Searched.TheVariants.{Text, Shown}
+use Rattle.casebook_cli.specs.declared.stop.Stop.{Stop}
+use Rattle.casebook_cli.specs.declared.stop.Stop.TheVariants as stops
+
+-- ---- in words
+
+unfoldable pub problem_words : Problem → List ℕ
+problem_words problems.NotText = codes "a word of the command line isn't UTF-8"
+problem_words problems.Words = codes "these words are no command with its options; see casebook help"
+problem_words problems.Topic = codes "there is no help on this; see casebook help"
+problem_words problems.NoLog = codes "no LOG is given; see casebook help"
+problem_words problems.NoList = codes "no --cancel LIST is given; see casebook help show"
+problem_words problems.Session = codes "--session: not a number"
+problem_words problems.From = codes "--from: not a number of a line"
+problem_words problems.To = codes "--to: not a number of a line"
+problem_words problems.Reads = codes "--reads: not a path from the root"
+problem_words problems.Writes = codes "--writes: not a path from the root"
+problem_words problems.Touches = codes "--touches: not a path from the root"
+problem_words problems.Line = codes "--line: not a number of a line"
+problem_words problems.Format = codes "--format: not text, tsv or numbers"
+
+unfoldable pub searched_words : Searched → List ℕ
+searched_words Text = codes "--text: not a regular expression, or too large a one"
+searched_words Shown = codes "--shown: not a regular expression, or too large a one"
+
+unfoldable pub part_words : Part → List ℕ
+part_words parts.Document = codes "no object, or a key is missing"
+part_words parts.Version = codes "its version isn't a number"
+part_words parts.Tree = codes "a directory or file has a wrong form"
+part_words parts.Sessions = codes "a session has a wrong form"
+part_words parts.Lines = codes "a line has a wrong form"
+
+unfoldable pub refusal_words : Refusal → List ℕ
+refusal_words refusals.NumbersNotRising = codes "the numbers of lines don't rise"
+refusal_words refusals.UnknownSession = codes "a line has a session that isn't listed"
+refusal_words refusals.LawlessTree = codes "the files or a change of them aren't possible"
+refusal_words refusals.OverLimit = codes "a name, a file or a value is too long"
+refusal_words refusals.NotJson = codes "no JSON text"
+refusal_words (refusals.WrongShape part) = part_words part
+refusal_words refusals.UnknownKey = codes "a key isn't one of such a document"
+refusal_words refusals.BadHex = codes "a text isn't pairs of hexadecimal digits"
+refusal_words refusals.BadVersion = codes "a version that isn't known"
+
+-- a text and a number
+abbrev pub counted : List ℕ → ℕ → List ℕ
+counted words number = words ++ decimal number
+
+abbrev pub range_words : ℕ → ℕ → List ℕ
+range_words n m = counted (codes "no line has a number from ") n ++ counted (codes " to ") m
+
+unfoldable pub item_words : ItemFault → List ℕ
+item_words items.NotAnItem = codes "not N, N-M, S:all, -N or -N-M"
+item_words (items.NoLine n) = counted (codes "no line has the number ") n
+item_words (items.EmptyRange n m) = range_words n m
+item_words (items.EmptySession s) = counted (codes "no line is of session ") s
+
+-- ---- lines
+
+-- a text after the program's name
+unfoldable pub said : List ℕ → List ℕ
+said words = codes "casebook: " ++ words
+
+-- a text about a document
+unfoldable pub said_of : List ℕ → List ℕ → List ℕ
+said_of name words = codes "casebook: " ++ safe_bytes name ++ codes ": " ++ words
+
+-- the same without the program's name
+unfoldable pub about : List ℕ → List ℕ → List ℕ
+about name words = safe_bytes name ++ codes ": " ++ words
+
+-- the number of a refusal
+unfoldable pub number_words : ℕ → List ℕ
+number_words number = codes " (refusal " ++ decimal number ++ codes ")"
+
+-- why a document is refused, with the number of the refusal
+unfoldable pub numbered_words : Refusal → List ℕ
+numbered_words refusal = refusal_words refusal ++ number_words (refusal_number refusal)
+
+unfoldable pub log_message : List ℕ → Refusal → List ℕ
+log_message name refusal = said_of name (codes "not a log: ") ++ numbered_words refusal
+
+unfoldable pub repair_message : ℕ → List ℕ
+repair_message number = said (codes "the repair is refused") ++ number_words number
+
+unfoldable pub list_message : ListFault → List ℕ
+list_message lists.NoMem = said (codes "out of memory")
+list_message (lists.BadItem place fault) =
+    said (codes "--cancel: item ") ++ decimal place ++ codes ": " ++ item_words fault
+
+-- what is wrong with an about document
+unfoldable pub about_words : AboutFault → List ℕ
+about_words faults.NoMem = codes "out of memory"
+about_words faults.NotJson = codes "no JSON text"
+about_words faults.NotAbout = codes "no about document: \"about\" isn't 1"
+about_words (faults.NotAList about_parts.Sessions) = codes "sessions: not a list"
+about_words (faults.NotAList about_parts.Lines) = codes "lines: not a list"
+about_words (faults.BadRow about_parts.Sessions place) = codes "sessions: not the number of a session and a name: row "
+about_words (faults.BadRow about_parts.Lines place) = codes "lines: not the number of a line and a time: row "
+
+-- where it is
+abbrev pub about_place : AboutFault → List ℕ
+about_place (faults.BadRow part place) = decimal place
+about_place other = []
+
+unfoldable pub about_message : List ℕ → AboutFault → List ℕ
+about_message name fault = said_of name (about_words fault) ++ about_place fault
+
+-- why there is no answer
+unfoldable pub stop_message : Stop → List ℕ
+stop_message (stops.BadWords problem) = said (problem_words problem)
+stop_message (stops.BadPattern searched) = said (searched_words searched)
+stop_message (stops.BadLog name refusal) = log_message name.now refusal
+stop_message (stops.BadText name) = said_of name.now (codes "not UTF-8")
+stop_message (stops.BadAbout name fault) = about_message name.now fault
+stop_message (stops.BadTime number) = said (counted (codes "--about: no such time: line ") number)
+stop_message (stops.BadList fault) = list_message fault
+stop_message (stops.NoLine number) = said (counted (codes "--line: no line has the number ") number)
+stop_message (stops.BadRepair number) = repair_message number
+stop_message stops.OutOfMemory = said (codes "out of memory")
+stop_message (stops.ReadFailed name) = said_of name.now (codes "can't be read")
+
+-- the line for standard error, empty if an answer was written
+unfoldable pub message_of : Exit → List ℕ
+message_of exits.Done = []
+message_of exits.No = []
+message_of (exits.Stopped stop) = stop_message stop
+message_of exits.WriteFailed = said (codes "the answer can't be written")

@@ -1,0 +1,91 @@
+-- The repairs that are asked for.
+use Rattle.std.specs.Prelude.{◌≡◌, ℕ, ◌==◌, List, [], ◌∷◌, Option, Some, None, Ok}
+use Rattle.std.specs.Prelude.{if◌then◌else◌, map}
+use Rattle.std.specs.Str.{IsUtf8}
+use Rattle.retro_keep.specs.Edit.{edit_of}
+use Rattle.retro_keep.specs.Recording.{RecordingValue, IsRecordingOf}
+use Rattle.retro_keep.specs.Recording as recordings
+use Rattle.retro_keep.specs.declared.noted.Noted.{Noted}
+use Rattle.retro_keep.specs.declared.edit.Edit.{Edit}
+use Rattle.retro_keep.specs.declared.edit.Edit.TheVariants.{Cancel}
+use Rattle.retro_log.specs.Document.{log_in}
+use Rattle.retro_redo.specs.Repair.{IsRepair}
+use Rattle.retro_redo.specs.Settled.{AreSettled}
+use Rattle.retro_redo.specs.declared.repair.Repair.{Repair}
+use Rattle.casebook_text.specs.ListFile.{list_of_file}
+use Rattle.casebook_text.specs.Item.{Line}
+use Rattle.casebook_text.specs.Lists.{lines_of_list}
+use Rattle.casebook_cli.specs.Inputs.{DocumentValue, InputsValue, SourcesValue}
+use Rattle.casebook_cli.specs.Labels.{AreLabels}
+use Rattle.casebook_cli.specs.Request.{LinesRequest, PageRequest, Query, RepairRequest, ShowRequest}
+use Rattle.casebook_cli.specs.Request.{check, lines, page, show}
+use Rattle.casebook_cli.specs.declared.repairs.Asked.{Asked}
+
+-- ---- documents
+
+abbrev pub at_sign : ℕ
+at_sign = 64
+
+-- the name of the document that has the list, if that is what is given
+unfoldable pub document_named : List ℕ → Option (List ℕ)
+document_named [] = None
+document_named (b ∷ name) = if b == at_sign then Some name else None
+
+abbrev pub repair_sources : RepairRequest → SourcesValue
+repair_sources request = record {
+  log = request.log;
+  list = document_named request.cancel;
+  about = request.about;
+}
+
+-- the documents that a question is about
+abbrev pub sources_of : Query → SourcesValue
+sources_of (lines request) = record { log = request.log; list = None; about = request.about }
+sources_of (show request) = repair_sources request.repair
+sources_of (page request) = repair_sources request.repair
+sources_of (check log) = record { log = log; list = None; about = None }
+
+-- ---- lists of lines
+
+-- The document has this list.
+pub record IsListIn (document : DocumentValue) (list : List ℕ) : Type 0 where
+  pub is_text : IsUtf8 document.bytes
+  pub is_list : list ≡ list_of_file document.bytes
+
+-- the list of what is given: itself, or that of the document which is named
+abbrev pub IsListGiven : List ℕ → Option DocumentValue → List ℕ → Type 0
+IsListGiven given None list = list ≡ given
+IsListGiven given (Some document) list = IsListIn document list
+
+-- the numbers and sessions of a recording's lines
+abbrev pub line_of : ℕ × Noted → Line
+line_of line = (line.0, line.1.sid)
+
+abbrev pub lines_in : RecordingValue → List Line
+lines_in r = map line_of r.lines
+
+-- ---- repairs
+
+-- The repair of a recording with its lines edited. It is exact if the recording is one of its lines.
+-- For any log, also a forged one, it is what choices for its lines come to.
+pub record IsRepairBy (edits : List Edit) (r : RecordingValue) (repair : Repair) : Type 0 where
+  pub is_repair : IsRecordingOf (recordings.script_in r) r → IsRepair (edit_of edits) r repair
+  pub settled : AreSettled (edit_of edits) r repair
+
+-- the edits that leave out the lines with these numbers
+abbrev pub cancelled : List ℕ → List Edit
+cancelled numbers = map Cancel numbers
+
+-- The repair of a recording without the lines that a list names.
+pub record IsRepairWithout (list : List ℕ) (r : RecordingValue) (repair : Repair) : Type 0 where
+  pub numbers : List ℕ
+  pub are_numbers : lines_of_list (lines_in r) list ≡ Ok numbers
+  pub is_repair : IsRepairBy (cancelled numbers) r repair
+
+-- The repair of the log without the lines of a list, with names and times.
+pub record IsAsked (inputs : InputsValue) (cancel : List ℕ) (asked : Asked) : Type 0 where
+  pub log : log_in inputs.log.bytes ≡ Ok asked.recording
+  pub list : List ℕ
+  pub is_list : IsListGiven cancel inputs.list list
+  pub is_repair : IsRepairWithout list asked.recording asked.repair
+  pub labels : AreLabels inputs.about asked.labels

@@ -1,0 +1,364 @@
+-- What the words of the command line ask for.
+use Rattle.std.specs.Prelude.{ℕ, ◌-◌, ◌==◌, Bool, false, List, [], ◌∷◌, ◌++◌, Option, Some, None, Result, Ok, Err, codes}
+use Rattle.std.specs.Prelude.{if◌then◌else◌, length, map, nat_eq, ok_or, option_map}
+use Rattle.std.specs.List.{slice_get}
+use Rattle.std.specs.Cmp.Lexicographic.{pointwise}
+use Rattle.clap.specs.Words.{Text, first_of}
+use Rattle.retro_path.specs.Ascii.{slash}
+use Rattle.retro_path.specs.Resolving.{resolve}
+use Rattle.retro_path.specs.declared.resolving.Resolved.{Resolved}
+use Rattle.retro_path.specs.declared.resolving.Resolved.TheVariants.{Is, Empty, LongName}
+use Rattle.retro_tree.specs.OutOfMemory.{UnlessOutOfMemory}
+use Rattle.casebook_text.specs.Numbers.{number_in}
+use Rattle.casebook_view.specs.declared.line_test.LineTest.{LineTest}
+use Rattle.casebook_view.specs.declared.line_test.LineTest.TheVariants.{Sessions, From, To, Reads, Writes, Touches}
+use Rattle.casebook_view.specs.declared.path_test.PathTest.{PathTest}
+use Rattle.casebook_cli.specs.Words.{Call, Named, bad, called, named_in, nothing}
+use Rattle.casebook_cli.specs.declared.format.Format.{Format}
+use Rattle.casebook_cli.specs.declared.format.Format.TheVariants as formats
+use Rattle.casebook_cli.specs.declared.help.TheConstants.{PROGRAM, LINES, SHOW, PAGE, CHECK, LISTS, DOCUMENTS, REFUSALS, PROFILE}
+use Rattle.casebook_cli.specs.declared.lines_request.LinesRequest.{LinesRequest as LinesCode}
+use Rattle.casebook_cli.specs.declared.problem.Problem.{Problem}
+use Rattle.casebook_cli.specs.declared.problem.Problem.TheVariants as problems
+use Rattle.casebook_cli.specs.declared.query.Query.{Query as QueryCode}
+use Rattle.casebook_cli.specs.declared.query.Query.TheVariants as queries
+use Rattle.casebook_cli.specs.declared.repair_request.PageRequest.{PageRequest as PageCode}
+use Rattle.casebook_cli.specs.declared.repair_request.RepairRequest.{RepairRequest as RepairCode}
+use Rattle.casebook_cli.specs.declared.repair_request.ShowRequest.{ShowRequest as ShowCode}
+use Rattle.casebook_cli.specs.declared.request.Request.{Request as RequestCode}
+use Rattle.casebook_cli.specs.declared.request.Request.TheVariants as requests
+use Rattle.casebook_cli.specs.declared.shown.Extras.{Extras}
+use Rattle.casebook_cli.specs.declared.shown.Shown.{Shown}
+use Rattle.casebook_cli.specs.declared.shown.Shown.TheVariants as parts
+use Rattle.casebook_cli.specs.declared.topic.Topic.{Topic}
+use Rattle.casebook_cli.specs.declared.topic.Topic.TheVariants as topics
+use Rattle.casebook_cli.specs.declared.words.WordsFault.{WordsFault}
+use Rattle.casebook_cli.specs.declared.words.WordsFault.TheVariants as faults
+
+-- ---- requests
+
+-- a test that lines pass: one of these sessions ran the line, its number is at least or at most so much, or it
+-- read or wrote such a path or did either
+pub data Test : Type 0 where
+  of_sessions : List ℕ → Test
+  at_least : ℕ → Test
+  at_most : ℕ → Test
+  read_path : PathTest → Test
+  wrote_path : PathTest → Test
+  touched_path : PathTest → Test
+
+-- which lines of which log are shown, and how: those of a user, if one is given, that pass tests
+pub record LinesRequest : Type 0 where
+  pub log : Text
+  pub about : Option Text
+  pub user : Option Text
+  pub tests : List Test
+  pub text : Option Text
+  pub shown : Option Text
+  pub format : Format
+
+-- the repair of which log, without which lines, and which names and times
+pub record RepairRequest : Type 0 where
+  pub log : Text
+  pub cancel : Text
+  pub about : Option Text
+
+-- which repair a terminal shows, and what of it
+pub record ShowRequest : Type 0 where
+  pub repair : RepairRequest
+  pub shown : Shown
+
+-- the page of which repair, with which title, and whether all lines are on it
+pub record PageRequest : Type 0 where
+  pub repair : RepairRequest
+  pub title : Option Text
+  pub all : Bool
+
+-- a question about documents: which lines are in a log, what a repair would do, that as a page, and whether a
+-- document is a recording of its lines, or a script
+pub data Query : Type 0 where
+  lines : LinesRequest → Query
+  show : ShowRequest → Query
+  page : PageRequest → Query
+  check : Text → Query
+
+pub data Request : Type 0 where
+  help : Topic → Request
+  ask : Query → Request
+
+-- ---- steps, of which the first problem ends them
+
+infixl 10 ◌>>=◌
+abbrev pub ◌>>=◌ : {A B : Type 0} → Result A Problem → (A → Result B Problem) → Result B Problem
+(Ok x) >>= f = f x
+(Err problem) >>= f = Err problem
+
+-- ---- help
+
+abbrev pub is_text : Text → Text → Bool
+is_text wanted text = pointwise nat_eq text wanted
+
+unfoldable pub topic_in : Text → Option Topic
+topic_in text =
+    if is_text (codes "lines") text then Some topics.Lines
+    else if is_text (codes "show") text then Some topics.Show
+    else if is_text (codes "page") text then Some topics.Page
+    else if is_text (codes "check") text then Some topics.Check
+    else if is_text (codes "lists") text then Some topics.Lists
+    else if is_text (codes "documents") text then Some topics.Documents
+    else if is_text (codes "refusals") text then Some topics.Refusals
+    else if is_text (codes "profile") text then Some topics.Profile else None
+
+-- what help is about that is asked for by the command `help`
+abbrev pub topic_asked : Option Text → Result Topic Problem
+topic_asked None = Ok topics.Program
+topic_asked (Some text) = ok_or (topic_in text) problems.Topic
+
+-- what help is about that is asked for by an option of a command
+abbrev pub topic_or_program : Option Topic → Topic
+topic_or_program None = topics.Program
+topic_or_program (Some topic) = topic
+
+abbrev pub help_text : Topic → Text
+help_text topics.Program = PROGRAM.now
+help_text topics.Lines = LINES.now
+help_text topics.Show = SHOW.now
+help_text topics.Page = PAGE.now
+help_text topics.Check = CHECK.now
+help_text topics.Lists = LISTS.now
+help_text topics.Documents = DOCUMENTS.now
+help_text topics.Refusals = REFUSALS.now
+help_text topics.Profile = PROFILE.now
+
+-- ---- what a command is given
+
+abbrev pub given : Text → Call → Option Text
+given name call = first_of name call.rows
+
+abbrev pub log_given : Call → Result Text Problem
+log_given call = ok_or (given (codes "log") call) problems.NoLog
+
+abbrev pub some_or : {A : Type 0} → Problem → Option A → Result (Option A) Problem
+some_or problem None = Err problem
+some_or problem (Some x) = Ok (Some x)
+
+-- the meaning of an option's text, which may be missing
+abbrev pub read_option : {A : Type 0} → Problem → (Text → Option A) → Option Text → Result (Option A) Problem
+read_option problem meaning None = Ok None
+read_option problem meaning (Some text) = some_or problem (meaning text)
+
+-- ---- paths
+
+abbrev pub test_of : Bool → Resolved → Option PathTest
+test_of below (Is path) = Some (record { path = path; below = below })
+test_of below Empty = None
+test_of below LongName = None
+
+abbrev pub begins_at_root : Text → Bool
+begins_at_root [] = false
+begins_at_root (b ∷ text) = b == slash
+
+abbrev pub is_slash : Option ℕ → Bool
+is_slash None = false
+is_slash (Some b) = b == slash
+
+-- whether the last byte is a slash
+abbrev pub ends_with_slash : Text → Bool
+ends_with_slash text = is_slash (slice_get text (length text - 1))
+
+-- The path that a text names, which begins at the root. The paths below it count too if the text ends
+-- with a slash.
+unfoldable pub path_in : Text → Option PathTest
+path_in text = if begins_at_root text then test_of (ends_with_slash text) (resolve [] text) else None
+
+-- ---- tests
+
+abbrev pub listed : {A : Type 0} → Option A → List A
+listed None = []
+listed (Some x) = x ∷ []
+
+abbrev pub of_session : ℕ → Test
+of_session session = of_sessions (session ∷ [])
+
+abbrev pub of_numbers : Option ℕ → Option ℕ → Option ℕ → List Test
+of_numbers session from to =
+    listed (option_map of_session session) ++ listed (option_map at_least from) ++ listed (option_map at_most to)
+
+abbrev pub of_paths : Option PathTest → Option PathTest → Option PathTest → List Test
+of_paths reads writes touches =
+    listed (option_map read_path reads) ++ listed (option_map wrote_path writes)
+    ++ listed (option_map touched_path touches)
+
+-- the tests of the session and of the numbers
+abbrev pub number_tests : Call → Result (List Test) Problem
+number_tests call = do
+  session ← read_option problems.Session number_in (given (codes "session") call)
+  from ← read_option problems.From number_in (given (codes "from") call)
+  to ← read_option problems.To number_in (given (codes "to") call)
+  Ok (of_numbers session from to)
+
+-- the tests of paths
+abbrev pub path_tests : Call → Result (List Test) Problem
+path_tests call = do
+  reads ← read_option problems.Reads path_in (given (codes "reads") call)
+  writes ← read_option problems.Writes path_in (given (codes "writes") call)
+  touches ← read_option problems.Touches path_in (given (codes "touches") call)
+  Ok (of_paths reads writes touches)
+
+-- ---- formats
+
+unfoldable pub format_named : Text → Option Format
+format_named text =
+    if is_text (codes "text") text then Some formats.Text
+    else if is_text (codes "tsv") text then Some formats.Tsv
+    else if is_text (codes "numbers") text then Some formats.Numbers else None
+
+-- text, unless another format is given
+abbrev pub format_given : Option Text → Result Format Problem
+format_given None = Ok formats.Text
+format_given (Some text) = ok_or (format_named text) problems.Format
+
+-- ---- requests
+
+abbrev pub lines_with : Text → List Test → Call → Format → LinesRequest
+lines_with log tests call format = record {
+  log = log;
+  about = given (codes "about") call;
+  user = given (codes "user") call;
+  tests = tests;
+  text = given (codes "text") call;
+  shown = given (codes "shown") call;
+  format = format;
+}
+
+abbrev pub lines_request : Call → Result LinesRequest Problem
+lines_request call = do
+  log ← log_given call
+  numbers ← number_tests call
+  paths ← path_tests call
+  format ← format_given (given (codes "format") call)
+  Ok (lines_with log (numbers ++ paths) call format)
+
+abbrev pub repair_request : Call → Result RepairRequest Problem
+repair_request call = do
+  log ← log_given call
+  cancel ← ok_or (given (codes "cancel") call) problems.NoList
+  Ok (record { log = log; cancel = cancel; about = given (codes "about") call })
+
+-- whether an option without a value is given
+abbrev pub is_set : Option Text → Bool
+is_set None = false
+is_set (Some text) = is_text (codes "true") text
+
+abbrev pub is_given : Text → Call → Bool
+is_given name call = is_set (given name call)
+
+-- one line, if its number is given, and otherwise the summary with what else is asked for
+abbrev pub shown_with : Extras → Option ℕ → Shown
+shown_with extras None = parts.Summary extras
+shown_with extras (Some number) = parts.Line number
+
+abbrev pub extras_of : Call → Extras
+extras_of call = record { why = is_given (codes "why") call; diff = is_given (codes "diff") call }
+
+abbrev pub shown_of : Call → Result Shown Problem
+shown_of call = do
+  line ← read_option problems.Line number_in (given (codes "line") call)
+  Ok (shown_with (extras_of call) line)
+
+abbrev pub show_request : Call → Result ShowRequest Problem
+show_request call = do
+  repair ← repair_request call
+  shown ← shown_of call
+  Ok (record { repair = repair; shown = shown })
+
+abbrev pub page_request : Call → Result PageRequest Problem
+page_request call = do
+  repair ← repair_request call
+  Ok (record { repair = repair; title = given (codes "title") call; all = is_given (codes "all") call })
+
+abbrev pub result_map : {A B : Type 0} → (A → B) → Result A Problem → Result B Problem
+result_map f (Ok x) = Ok (f x)
+result_map f (Err problem) = Err problem
+
+-- the question of a command, which isn't asked for help
+unfoldable pub query_in : Call → Result Query Problem
+query_in call =
+    if is_text (codes "lines") call.name then result_map lines (lines_request call)
+    else if is_text (codes "show") call.name then result_map show (show_request call)
+    else if is_text (codes "page") call.name then result_map page (page_request call)
+    else if is_text (codes "check") call.name then result_map check (log_given call)
+    else Err problems.Words
+
+-- the request of a command
+unfoldable pub command_request : Call → Result Request Problem
+command_request call =
+    if is_given (codes "help") call then Ok (help (topic_or_program (topic_in call.name)))
+    else if is_text (codes "help") call.name then result_map help (topic_asked (given (codes "command") call))
+    else result_map ask (query_in call)
+
+abbrev pub request_of : Named → Result Request Problem
+request_of (bad problem) = Err problem
+request_of nothing = Ok (help topics.Program)
+request_of (called call) = command_request call
+
+-- what the words ask for, or what is wrong with them
+unfoldable pub request_in : List Text → Result Request Problem
+request_in words = request_of (named_in words)
+
+-- ---- values of the code
+
+abbrev pub test_view : LineTest → Test
+test_view (Sessions sessions) = of_sessions sessions.items
+test_view (From n) = at_least n
+test_view (To n) = at_most n
+test_view (Reads test) = read_path test
+test_view (Writes test) = wrote_path test
+test_view (Touches test) = touched_path test
+
+abbrev pub lines_view : LinesCode → LinesRequest
+lines_view request = record {
+  log = request.log.now;
+  about = option_map (λ s. s.now) request.about;
+  user = option_map (λ s. s.now) request.user;
+  tests = map test_view request.tests.items;
+  text = option_map (λ s. s.now) request.text;
+  shown = option_map (λ s. s.now) request.shown;
+  format = request.format;
+}
+
+abbrev pub repair_view : RepairCode → RepairRequest
+repair_view request = record {
+  log = request.log.now;
+  cancel = request.cancel.now;
+  about = option_map (λ s. s.now) request.about;
+}
+
+abbrev pub show_view : ShowCode → ShowRequest
+show_view request = record { repair = repair_view request.repair; shown = request.shown }
+
+abbrev pub page_view : PageCode → PageRequest
+page_view request = record {
+  repair = repair_view request.repair;
+  title = option_map (λ s. s.now) request.title;
+  all = request.all;
+}
+
+abbrev pub query_view : QueryCode → Query
+query_view (queries.Lines request) = lines (lines_view request)
+query_view (queries.Show request) = show (show_view request)
+query_view (queries.Page request) = page (page_view request)
+query_view (queries.Check log) = check log.now
+
+abbrev pub request_view : RequestCode → Request
+request_view (requests.Help topic) = help topic
+request_view (requests.Ask query) = ask (query_view query)
+
+-- what a fault says of the words: what is wrong with them, or None if memory ran out
+abbrev pub refused : {Y : Type 0} → WordsFault → Option (Result Y Problem)
+refused faults.NoMem = None
+refused (faults.Bad problem) = Some (Err problem)
+
+-- the result is as defined, unless memory ran out
+abbrev pub Means : {X Y : Type 0} → (X → Y) → Result X WordsFault → Result Y Problem → Type 0
+Means view result meant = UnlessOutOfMemory (λ x. Ok (view x)) refused result meant

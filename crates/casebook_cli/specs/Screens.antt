@@ -1,0 +1,141 @@
+-- What a terminal shows of a repair.
+use Rattle.std.specs.Prelude.{◌≡◌, ℕ, Bool, true, false, IsTrue, List, [], ◌++◌, map}
+use Rattle.retro_keep.specs.Recording.{RecordingValue, IsRecordingOf, last_state}
+use Rattle.retro_keep.specs.Recording as recordings
+use Rattle.retro_keep.specs.Script.{rises_from}
+use Rattle.retro_redo.specs.Repair.{repaired_state}
+use Rattle.retro_redo.specs.declared.repair.Repair.{Repair}
+use Rattle.casebook_cause.specs.ChangedPaths.{AreChangedPaths}
+use Rattle.casebook_cause.specs.Compensations.{leaks, tellings}
+use Rattle.casebook_view.specs.Effects.{effect_value, effects_of}
+use Rattle.casebook_view.specs.Fates.{AreFates}
+use Rattle.casebook_view.specs.Groups.{group_value, grouped}
+use Rattle.casebook_view.specs.Reasons.{AreReasons, number_in}
+use Rattle.casebook_view.specs.Summaries.{leak_for, notice_for}
+use Rattle.casebook_view.specs.declared.group.Group.{Group}
+use Rattle.casebook_view.specs.declared.summary.Summary.{Summary}
+use Rattle.casebook_screen.specs.Detail.{detail_lines}
+use Rattle.casebook_screen.specs.Diffs.{AreDiffs}
+use Rattle.casebook_screen.specs.Restorations.{AreRestorations}
+use Rattle.casebook_screen.specs.Summary.{summary_lines}
+use Rattle.casebook_screen.specs.Why.{why_lines}
+use Rattle.casebook_screen.specs.declared.restoration.Restoration.{Restoration}
+use Rattle.casebook_text.specs.SafeLine.{text_of_lines}
+use Rattle.casebook_words.specs.declared.labels.Labels.{Labels}
+use Rattle.casebook_cli.specs.Inputs.{InputsValue}
+use Rattle.casebook_cli.specs.Lines.{widest_name}
+use Rattle.casebook_cli.specs.Repairs.{IsAsked}
+use Rattle.casebook_cli.specs.Request.{ShowRequest}
+use Rattle.casebook_cli.specs.declared.repairs.Asked.{Asked}
+use Rattle.casebook_cli.specs.declared.screens.Screen.{Screen}
+use Rattle.casebook_cli.specs.declared.shown.Extras.{Extras}
+use Rattle.casebook_cli.specs.declared.shown.Shown.{Shown}
+use Rattle.casebook_cli.specs.declared.shown.Shown.TheVariants as parts
+
+-- ---- summaries
+
+-- What a repair would do.
+pub record IsSummary (r : RecordingValue) (repair : Repair) (summary : Summary) : Type 0 where
+  pub fates : AreFates r repair repair.verdicts.items summary.fates.items
+  pub reasons : AreReasons r repair summary.reasons.items
+  pub restorations : AreChangedPaths (last_state r.lines r.first).tree (repaired_state repair).tree
+      summary.restorations.items
+  pub notices : IsTrue (rises_from 0 (map number_in summary.reasons.items))
+      → summary.notices.items ≡ map (notice_for r summary.reasons.items) (tellings repair)
+  pub leaks : summary.leaks.items ≡ map (leak_for r) (leaks repair)
+  pub effects : IsTrue (rises_from 0 (map number_in summary.reasons.items))
+      → map effect_value summary.effects.items ≡ effects_of r summary.reasons.items summary.fates.items
+
+-- what is shown of a repair, and how: the recording, its repair, what that would do, names and times, and the width of
+-- the column of names
+pub record ScreenValue : Type 0 where
+  pub recording : RecordingValue
+  pub repair : Repair
+  pub summary : Summary
+  pub labels : Labels
+  pub width : ℕ
+
+-- The lines show a summary. They say that the log is a recording only if it is one.
+pub record AreSummaryLines (s : ScreenValue) (lines : List (List ℕ)) : Type 0 where
+  pub restorations : List Restoration
+  pub are_restorations : AreRestorations (last_state s.recording.lines s.recording.first).tree
+      (repaired_state s.repair).tree s.summary.restorations.items restorations
+  pub groups : List Group
+  pub are_groups : map group_value groups ≡ grouped s.summary.notices.items
+  pub is_recording : Bool
+  pub checked : is_recording ≡ true → IsRecordingOf (recordings.script_in s.recording) s.recording
+  pub are_lines : lines ≡ summary_lines s.recording s.summary restorations groups is_recording s.labels s.width
+
+-- ---- reasons and differences
+
+-- whether the numbers of the lines that the summary speaks of rise, as they do if those of the recording do
+abbrev pub Rise : Summary → Type 0
+Rise summary =
+    IsTrue (rises_from 0 (map (λ f. f.0) summary.fates.items))
+    × IsTrue (rises_from 0 (map number_in summary.reasons.items))
+
+-- why lines are run again, if that is asked for
+abbrev pub AreWhyLines : Bool → ScreenValue → List (List ℕ) → Type 0
+AreWhyLines false s lines = lines ≡ []
+AreWhyLines true s lines =
+    Rise s.summary → lines ≡ why_lines s.recording s.repair s.summary s.labels s.width
+
+-- how files and outputs differ, if that is asked for
+abbrev pub AreDiffLines : Bool → ScreenValue → List (List ℕ) → Type 0
+AreDiffLines false s lines = lines ≡ []
+AreDiffLines true s lines = AreDiffs s.recording s.repair s.summary.restorations.items lines
+
+-- ---- texts
+
+-- The text is the summary with what else is asked for.
+pub record IsScreenText (extras : Extras) (s : ScreenValue) (text : List ℕ) : Type 0 where
+  pub summary : List (List ℕ)
+  pub whys : List (List ℕ)
+  pub diffs : List (List ℕ)
+  pub are_summary : AreSummaryLines s summary
+  pub are_whys : AreWhyLines extras.why s whys
+  pub are_diffs : AreDiffLines extras.diff s diffs
+  pub is_text : text ≡ text_of_lines ((summary ++ whys) ++ diffs)
+
+-- the text is one line in full
+abbrev pub IsLineText : ℕ → ScreenValue → List ℕ → Type 0
+IsLineText number s text =
+    IsTrue (rises_from 0 (map number_in s.summary.reasons.items))
+    → text ≡ text_of_lines (detail_lines s.recording s.repair s.summary s.labels s.width number)
+
+abbrev pub IsTextOf : Shown → ScreenValue → List ℕ → Type 0
+IsTextOf (parts.Summary extras) s text = IsScreenText extras s text
+IsTextOf (parts.Line number) s text = IsLineText number s text
+
+-- all of a repair that a text shows
+abbrev pub screen_of : Asked → Summary → ScreenValue
+screen_of asked summary = record {
+  recording = asked.recording;
+  repair = asked.repair;
+  summary = summary;
+  labels = asked.labels;
+  width = widest_name asked.labels asked.recording.lines;
+}
+
+-- The text shows a repair.
+pub record IsShownOf (asked : Asked) (shown : Shown) (text : List ℕ) : Type 0 where
+  pub summary : Summary
+  pub is_summary : IsSummary asked.recording asked.repair summary
+  pub is_text : IsTextOf shown (screen_of asked summary) text
+
+-- The text shows the repair of the log without the lines of the list.
+pub record IsShown (inputs : InputsValue) (request : ShowRequest) (text : List ℕ) : Type 0 where
+  pub asked : Asked
+  pub is_asked : IsAsked inputs request.repair.cancel asked
+  pub is_shown : IsShownOf asked request.shown text
+
+-- ---- values of the code
+
+abbrev pub screen_view : Screen → ScreenValue
+screen_view screen = record {
+  recording = screen.asked.now.recording;
+  repair = screen.asked.now.repair;
+  summary = screen.summary.now;
+  labels = screen.names.labels.now;
+  width = screen.names.width;
+}

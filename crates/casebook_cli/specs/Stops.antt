@@ -1,0 +1,196 @@
+-- Why there is no answer.
+use Rattle.std.specs.Prelude.{◌≡◌, ◌≢◌, ℕ, ℤ, false, List, [], ◌∷◌, Option, Some, None, Ok, Err}
+use Rattle.std.specs.List.{slice_get}
+use Rattle.std.specs.Str.{IsUtf8}
+use Rattle.regex.specs.Sources.{IsRefusal as IsRefusedAs}
+use Rattle.regex.specs.declared.error.Error.{Error}
+use Rattle.regex.specs.declared.error.Error.TheVariants.{OutOfMemory}
+use Rattle.regex_syntax.specs.Verdict.{default_config}
+use Rattle.retro_keep.specs.Recording.{RecordingValue, noted_at}
+use Rattle.retro_keep.specs.declared.edit.Edit.{Edit}
+use Rattle.retro_log.specs.Document.{log_in}
+use Rattle.retro_redo.specs.Editing.{Refuses}
+use Rattle.retro_redo.specs.RepairFault.{fault_number}
+use Rattle.retro_redo.specs.declared.repair_fault.RepairFault.{RepairFault}
+use Rattle.casebook_about.specs.About.{AboutView, about_in}
+use Rattle.casebook_text.specs.Item.{Line}
+use Rattle.casebook_text.specs.Lists.{lines_of_list}
+use Rattle.casebook_cli.specs.Documents.{AllDocuments}
+use Rattle.casebook_cli.specs.Inputs.{AreInputs, DocumentValue, InputsValue, SourcesValue}
+use Rattle.casebook_cli.specs.Labels.{IsAbout}
+use Rattle.casebook_cli.specs.Repairs.{IsAsked, IsListGiven, cancelled, lines_in, sources_of}
+use Rattle.casebook_cli.specs.Request.{LinesRequest, Query, Request, ShowRequest, ask, check, help, lines, page, request_in, show}
+use Rattle.casebook_cli.specs.declared.repairs.Asked.{Asked}
+use Rattle.casebook_cli.specs.declared.searched.Searched.{Searched}
+use Rattle.casebook_cli.specs.declared.searched.Searched.TheVariants as searched_in
+use Rattle.casebook_cli.specs.declared.shown.Shown.{Shown}
+use Rattle.casebook_cli.specs.declared.shown.Shown.TheVariants as parts
+use Rattle.casebook_cli.specs.declared.stop.Stop.{Stop}
+use Rattle.casebook_cli.specs.declared.stop.Stop.TheVariants as stops
+
+-- ---- reading
+
+-- the document with a name can't be read
+abbrev pub IsUnread : AllDocuments → List ℕ → Stop → Type 0
+IsUnread at wanted (stops.ReadFailed name) = (name.now ≡ wanted) × (at wanted ≡ None)
+IsUnread at wanted stops.OutOfMemory = Unit {0}
+IsUnread at wanted other = ⊥
+
+abbrev pub IsUnreadIf : AllDocuments → Option (List ℕ) → Stop → Type 0
+IsUnreadIf at None stop = ⊥
+IsUnreadIf at (Some wanted) stop = IsUnread at wanted stop
+
+-- one of some documents can't be read
+pub data StopsReading (at : AllDocuments) (sources : SourcesValue) (stop : Stop) : Type 0 where
+  no_log : IsUnread at sources.log stop → StopsReading at sources stop
+  no_list : IsUnreadIf at sources.list stop → StopsReading at sources stop
+  no_about : IsUnreadIf at sources.about stop → StopsReading at sources stop
+
+-- ---- documents
+
+-- a document isn't a log
+abbrev pub StopsLog : DocumentValue → Stop → Type 0
+StopsLog document (stops.BadLog name refusal) = (name.now ≡ document.name) × (log_in document.bytes ≡ Err refusal)
+StopsLog document stops.OutOfMemory = Unit {0}
+StopsLog document other = ⊥
+
+-- a document doesn't hold names and times
+abbrev pub IsNoAbout : DocumentValue → Stop → Type 0
+IsNoAbout document (stops.BadText name) = (name.now ≡ document.name) × ¬ (IsUtf8 document.bytes)
+IsNoAbout document (stops.BadAbout name fault) = (name.now ≡ document.name) × (about_in document.bytes ≡ Err fault)
+IsNoAbout document stops.OutOfMemory = Unit {0}
+IsNoAbout document other = ⊥
+
+-- the time of a line can't be shown
+abbrev pub IsBadTime : ℕ → Stop → Type 0
+IsBadTime number (stops.BadTime named) = named ≡ number
+IsBadTime number stops.OutOfMemory = Unit {0}
+IsBadTime number other = ⊥
+
+-- The time of one of some lines can't be shown.
+pub record AreBadTimes (times : List (ℕ × ℤ)) (stop : Stop) : Type 0 where
+  pub index : ℕ
+  pub time : ℕ × ℤ
+  pub found : slice_get times index ≡ Some time
+  pub is_bad : IsBadTime time.0 stop
+
+pub data StopsAbout (document : DocumentValue) (stop : Stop) : Type 0 where
+  no_about : IsNoAbout document stop → StopsAbout document stop
+  bad_time : (about : AboutView) → IsAbout document about → AreBadTimes about.times stop → StopsAbout document stop
+  no_memory : stop ≡ stops.OutOfMemory → StopsAbout document stop
+
+abbrev pub StopsLabels : Option DocumentValue → Stop → Type 0
+StopsLabels None stop = ⊥
+StopsLabels (Some document) stop = StopsAbout document stop
+
+-- ---- rows of lines
+
+-- A text isn't a regular expression, or is too large a one.
+pub record IsNoPattern (given : Option (List ℕ)) : Type 0 where
+  pub text : List ℕ
+  pub is : given ≡ Some text
+  pub error : Error
+  pub memory : error ≢ OutOfMemory
+  pub refused : IsRefusedAs (record default_config { utf8 = false }) text error
+
+-- a pattern is refused
+abbrev pub StopsPattern : Option (List ℕ) → Searched → Stop → Type 0
+StopsPattern given wanted (stops.BadPattern searched) = (searched ≡ wanted) × IsNoPattern given
+StopsPattern given wanted stops.OutOfMemory = Unit {0}
+StopsPattern given wanted other = ⊥
+
+pub data StopsPatterns (request : LinesRequest) (stop : Stop) : Type 0 where
+  no_text : StopsPattern request.text searched_in.Text stop → StopsPatterns request stop
+  no_shown : StopsPattern request.shown searched_in.Shown stop → StopsPatterns request stop
+
+pub data StopsLines (inputs : InputsValue) (request : LinesRequest) (stop : Stop) : Type 0 where
+  no_patterns : StopsPatterns request stop → StopsLines inputs request stop
+  no_labels : StopsLabels inputs.about stop → StopsLines inputs request stop
+  no_log : StopsLog inputs.log stop → StopsLines inputs request stop
+  no_memory : stop ≡ stops.OutOfMemory → StopsLines inputs request stop
+
+-- ---- repairs
+
+-- the document that should have the list isn't UTF-8
+abbrev pub IsNoTextOf : DocumentValue → Stop → Type 0
+IsNoTextOf document (stops.BadText name) = (name.now ≡ document.name) × ¬ (IsUtf8 document.bytes)
+IsNoTextOf document stops.OutOfMemory = Unit {0}
+IsNoTextOf document other = ⊥
+
+abbrev pub IsNoText : Option DocumentValue → Stop → Type 0
+IsNoText None stop = stop ≡ stops.OutOfMemory
+IsNoText (Some document) stop = IsNoTextOf document stop
+
+-- a list is refused
+abbrev pub StopsNumbers : List Line → List ℕ → Stop → Type 0
+StopsNumbers known list (stops.BadList fault) = lines_of_list known list ≡ Err fault
+StopsNumbers known list stops.OutOfMemory = Unit {0}
+StopsNumbers known list other = ⊥
+
+-- edits are refused, with a number
+pub record AreRefused (edits : List Edit) (r : RecordingValue) (number : ℕ) : Type 0 where
+  pub fault : RepairFault
+  pub is : number ≡ fault_number fault
+  pub refused : Refuses edits r fault
+
+abbrev pub StopsRepair : List Edit → RecordingValue → Stop → Type 0
+StopsRepair edits r (stops.BadRepair number) = AreRefused edits r number
+StopsRepair edits r stops.OutOfMemory = Unit {0}
+StopsRepair edits r other = ⊥
+
+pub data StopsWithout (list : List ℕ) (r : RecordingValue) (stop : Stop) : Type 0 where
+  no_numbers : StopsNumbers (lines_in r) list stop → StopsWithout list r stop
+  no_repair : (numbers : List ℕ) → lines_of_list (lines_in r) list ≡ Ok numbers
+      → StopsRepair (cancelled numbers) r stop → StopsWithout list r stop
+  no_memory : stop ≡ stops.OutOfMemory → StopsWithout list r stop
+
+pub data StopsAsked (inputs : InputsValue) (cancel : List ℕ) (stop : Stop) : Type 0 where
+  no_labels : StopsLabels inputs.about stop → StopsAsked inputs cancel stop
+  no_log : StopsLog inputs.log stop → StopsAsked inputs cancel stop
+  no_list : IsNoText inputs.list stop → StopsAsked inputs cancel stop
+  no_repair : (r : RecordingValue) (list : List ℕ) → log_in inputs.log.bytes ≡ Ok r
+      → IsListGiven cancel inputs.list list → StopsWithout list r stop → StopsAsked inputs cancel stop
+  no_memory : stop ≡ stops.OutOfMemory → StopsAsked inputs cancel stop
+
+-- no line has the number that is asked about
+abbrev pub IsNoLine : ℕ → RecordingValue → Stop → Type 0
+IsNoLine number r (stops.NoLine named) = (named ≡ number) × (noted_at number r.lines ≡ None)
+IsNoLine number r stops.OutOfMemory = Unit {0}
+IsNoLine number r other = ⊥
+
+abbrev pub StopsShown : Shown → RecordingValue → Stop → Type 0
+StopsShown (parts.Line number) r stop = IsNoLine number r stop
+StopsShown (parts.Summary extras) r stop = stop ≡ stops.OutOfMemory
+
+pub data StopsShow (inputs : InputsValue) (request : ShowRequest) (stop : Stop) : Type 0 where
+  not_asked : StopsAsked inputs request.repair.cancel stop → StopsShow inputs request stop
+  not_shown : (asked : Asked) → IsAsked inputs request.repair.cancel asked
+      → StopsShown request.shown asked.recording stop → StopsShow inputs request stop
+
+-- ---- requests
+
+-- a question about documents isn't answered for this reason
+abbrev pub StopsBy : InputsValue → Query → Stop → Type 0
+StopsBy inputs (lines request) stop = StopsLines inputs request stop
+StopsBy inputs (show request) stop = StopsShow inputs request stop
+StopsBy inputs (page request) stop = StopsAsked inputs request.repair.cancel stop
+StopsBy inputs (check log) stop = stop ≡ stops.OutOfMemory
+
+pub data StopsQuery (at : AllDocuments) (query : Query) (stop : Stop) : Type 0 where
+  unread : StopsReading at (sources_of query) stop → StopsQuery at query stop
+  refused : (inputs : InputsValue) → AreInputs at (sources_of query) inputs → StopsBy inputs query stop
+      → StopsQuery at query stop
+
+abbrev pub Stops : AllDocuments → Request → Stop → Type 0
+Stops at (help topic) stop = stop ≡ stops.OutOfMemory
+Stops at (ask query) stop = StopsQuery at query stop
+
+-- words make no request
+abbrev pub IsBadWords : List (List ℕ) → Stop → Type 0
+IsBadWords words (stops.BadWords problem) = request_in words ≡ Err problem
+IsBadWords words stops.OutOfMemory = Unit {0}
+IsBadWords words other = ⊥
+
+pub data StopsWords (words : List (List ℕ)) (at : AllDocuments) (stop : Stop) : Type 0 where
+  bad_words : IsBadWords words stop → StopsWords words at stop
+  no_answer : (request : Request) → request_in words ≡ Ok request → Stops at request stop → StopsWords words at stop

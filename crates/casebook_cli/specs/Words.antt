@@ -1,0 +1,138 @@
+-- The program's command line, and the command that words name there, as `clap` reads them.
+use Rattle.std.specs.Prelude.{List, [], ◌∷◌, ◌++◌, true, Option, Some, None, Result, codes, option_map}
+use Rattle.clap.specs.Words.{App, Kinds, Row, Rule, Shape, Text, fault_of, new_app, new_rule, rows_of, subcommand_of}
+use Rattle.clap.specs.Words.{with_subcommand}
+use Rattle.clap.specs.Matches.{found_of}
+use Rattle.clap.specs.declared.builder.action.ArgAction.TheVariants.{Set, SetTrue}
+use Rattle.casebook_cli.specs.declared.problem.Problem.{Problem}
+use Rattle.casebook_cli.specs.declared.problem.Problem.TheVariants as problems
+use Rattle.retro_tree.specs.OutOfMemory.{UnlessOutOfMemory}
+use Rattle.casebook_cli.specs.declared.words.CommandCall.{CommandCall}
+use Rattle.casebook_cli.specs.declared.words.WordsFault.{WordsFault}
+use Rattle.casebook_cli.specs.declared.words.WordsFault.TheVariants as faults
+
+-- ---- the command line
+
+-- an option of one value
+abbrev pub option : Text → Rule
+option name = record (new_rule name) { long = Some name; action = Some Set }
+
+-- an option without a value
+abbrev pub flag : Text → Rule
+flag name = record (new_rule name) { long = Some name; action = Some SetTrue }
+
+-- a word that isn't an option
+abbrev pub word : Text → Rule
+word name = record (new_rule name) { action = Some Set }
+
+-- the option that asks for help
+abbrev pub help_flag : Rule
+help_flag = record (new_rule (codes "help")) {
+  long = Some (codes "help");
+  short = Some 104;
+  action = Some SetTrue;
+}
+
+abbrev pub help_rules : List Rule
+help_rules = help_flag ∷ word (codes "command") ∷ []
+
+-- of `lines`: the log and the options of numbers, those of paths and of users, and all
+abbrev pub number_rules : List Rule
+number_rules =
+    help_flag ∷ word (codes "log") ∷ option (codes "session") ∷ option (codes "from") ∷ option (codes "to") ∷ []
+
+abbrev pub path_rules : List Rule
+path_rules =
+    number_rules
+    ++ (option (codes "reads") ∷ option (codes "writes") ∷ option (codes "touches") ∷ option (codes "user") ∷ [])
+
+abbrev pub lines_rules : List Rule
+lines_rules =
+    path_rules
+    ++ (option (codes "text") ∷ option (codes "shown") ∷ option (codes "about") ∷ option (codes "format") ∷ [])
+
+-- of a command about a repair: what all of them have, and all
+abbrev pub repair_rules : List Rule
+repair_rules = help_flag ∷ word (codes "log") ∷ option (codes "cancel") ∷ option (codes "about") ∷ []
+
+abbrev pub show_rules : List Rule
+show_rules = repair_rules ++ (flag (codes "why") ∷ flag (codes "diff") ∷ option (codes "line") ∷ [])
+
+abbrev pub page_rules : List Rule
+page_rules = repair_rules ++ (option (codes "title") ∷ flag (codes "all") ∷ [])
+
+abbrev pub check_rules : List Rule
+check_rules = help_flag ∷ word (codes "log") ∷ []
+
+-- a command with an own option for help
+abbrev pub command : Text → List Rule → Shape
+command name rules = record (new_app name).top { disable_help_flag = true; rules = rules }
+
+-- help is a command of the program's own, and no command is required
+abbrev pub bare : App
+bare = record {
+  top = record (new_app (codes "casebook")).top {
+    disable_help_flag = true;
+    disable_help_subcommand = true;
+    rules = help_flag ∷ [];
+  };
+  subs = [];
+}
+
+abbrev pub with_command : App → Text → List Rule → App
+with_command app name rules = with_subcommand app (command name rules)
+
+abbrev pub without_repairs : App
+without_repairs =
+    with_command
+    (with_command (with_command bare (codes "help") help_rules) (codes "lines") lines_rules)
+    (codes "check") check_rules
+
+abbrev pub program : App
+program = with_command (with_command without_repairs (codes "show") show_rules) (codes "page") page_rules
+
+-- ---- the command in words, as `clap` reads them
+
+-- a command's name, and what it is given
+pub record Call : Type 0 where
+  pub name : Text
+  pub rows : List Row
+
+abbrev pub call_of : Text × List Row → Call
+call_of p = record { name = p.0; rows = p.1 }
+
+-- what words name: a command or none; or they are bad
+pub data Named : Type 0 where
+  called : Call → Named
+  nothing : Named
+  bad : Problem → Named
+
+abbrev pub named : Option Call → Named
+named None = nothing
+named (Some call) = called call
+
+abbrev pub unless_fault : Kinds → Option Call → Named
+unless_fault [] call = named call
+unless_fault (k ∷ ks) call = bad problems.Words
+
+-- what words name, which are bad if `clap` refuses them
+unfoldable pub named_in : List Text → Named
+named_in words = unless_fault (fault_of program words) (option_map call_of (subcommand_of program words))
+
+-- ---- values of the code
+
+abbrev pub call_view : CommandCall → Call
+call_view call = record { name = call.name.now; rows = rows_of (found_of call.given) }
+
+abbrev pub named_view : Option CommandCall → Named
+named_view None = nothing
+named_view (Some call) = called (call_view call)
+
+-- what a fault says of the words: what is wrong with them, or None if memory ran out
+abbrev pub not_named : WordsFault → Option Named
+not_named faults.NoMem = None
+not_named (faults.Bad problem) = Some (bad problem)
+
+-- the result is what the words name, unless memory ran out
+abbrev pub Names : Result (Option CommandCall) WordsFault → Named → Type 0
+Names result meant = UnlessOutOfMemory named_view not_named result meant

@@ -1,0 +1,164 @@
+//! Whether documents are recordings or scripts.
+ghost use Rattle.std.specs.Prelude.{◌≡◌, ◌∷◌, [], true, IfOk, IsTrue, string_bytes};
+ghost use Rattle.std.specs.List.{list_all};
+ghost use Rattle.casebook_text.specs.SafeLine.{text_of_lines};
+ghost use Rattle.casebook_text.specs.SafeText.{is_printable};
+ghost use Rattle.retro_keep.specs.Recording.{noted_at};
+ghost use Rattle.retro_log.specs.Document.{log_in, script_in};
+ghost use Rattle.casebook_cli.specs.Checks.{AreUnlike, IsChecked, IsCheckedAs, IsCheckedLog};
+ghost use Rattle.casebook_cli.specs.Checks.{IsCheckedScript, IsUnlikeText, counted_text};
+ghost use Rattle.casebook_cli.specs.Checks.{is_for_script, refused_text};
+ghost use Rattle.casebook_cli.specs.Inputs.{document_view};
+
+use crate::NoMem;
+use crate::answer::Answer;
+use crate::document::Document;
+use crate::messages::{about, push_refusal};
+use casebook_check::{Unlike, first_unlike, unlike_lines};
+use casebook_text::{SafeLine, text_of_lines};
+use casebook_words::Labels;
+use retro_keep::Recording;
+use retro_log::{LogFault, Refusal, read_log, read_script};
+use serde_json::Value;
+use std::alloc::Global;
+
+/// Returns a line as a text.
+fn text_of_line(alloc: Global, line: SafeLine) -> Result<String, NoMem>
+    ensures { IfOk result (λ text. string_bytes text ≡ text_of_lines (line ∷ [])) }
+{
+    let mut lines = Vec::new(alloc);
+    lines.push(line)?;
+    text_of_lines(alloc, lines.as_slice())
+}
+
+/// Returns that a document is refused, after words of what it isn't.
+fn refused(alloc: Global, name: &str, words: &str, refusal: Refusal) -> Result<Answer, NoMem>
+    requires { IsTrue (list_all is_printable words.now) }
+    ensures text { IfOk result (λ answer.
+        string_bytes answer.text ≡ refused_text name.now words.now refusal) }
+    ensures no { IfOk result (λ answer. answer.is_no ≡ true) }
+{
+    let mut line = about(alloc, name, words)?;
+    push_refusal(alloc, &mut line, refusal)?;
+    Ok(Answer {
+        text: text_of_line(alloc, line)?,
+        is_no: true,
+    })
+}
+
+/// Returns a text about a document, with a number of lines in it.
+fn counted_text(alloc: Global, name: &str, words: &str, count: usize) -> Result<String, NoMem>
+    requires { IsTrue (list_all is_printable words.now) }
+    ensures { IfOk result (λ text. string_bytes text ≡ counted_text name.now words.now count) }
+{
+    let mut line = about(alloc, name, words)?;
+    line.push_number(alloc, count as u64)?;
+    line.push_ascii(" lines")?;
+    text_of_line(alloc, line)
+}
+
+/// Returns how a line of a log isn't as noted, or no lines if the log has no such line.
+fn lines_of_unlike(
+    alloc: Global,
+    recording: &Recording,
+    unlike: &Unlike,
+) -> Result<Vec<SafeLine>, NoMem>
+    ensures { IfOk result (λ lines.
+        AreUnlike (noted_at unlike.now.number recording.now.lines) unlike.now lines.items) }
+{
+    match recording.run_of(unlike.number) {
+        Some(noted) => unlike_lines(alloc, &Labels::none(alloc), noted, unlike),
+        None => Ok(Vec::new(alloc)),
+    }
+}
+
+/// Returns which line of a log isn't as noted, and how.
+fn unlike_text(
+    alloc: Global,
+    name: &str,
+    recording: &Recording,
+    unlike: &Unlike,
+) -> Result<String, NoMem>
+    ensures { IfOk result (λ text.
+        IsUnlikeText name.now recording.now unlike.now (string_bytes text)) }
+{
+    let mut lines = Vec::new(alloc);
+    lines.push(about(
+        alloc,
+        name,
+        "no recording of its lines. The first that isn't as noted:",
+    )?)?;
+    lines.append(&mut lines_of_unlike(alloc, recording, unlike)?)?;
+    text_of_lines(alloc, lines.as_slice())
+}
+
+/// Returns whether a log is a recording of its lines.
+fn checked_log(alloc: Global, name: &str, recording: &Recording) -> Result<Answer, NoMem>
+    ensures { IfOk result (IsCheckedAs name.now recording.now) }
+{
+    match first_unlike(alloc, recording)? {
+        None => {
+            let count = recording.lines().len();
+            Ok(Answer::of(counted_text(alloc, name, "a recording of its ", count)?))
+        }
+        Some(unlike) => Ok(Answer {
+            text: unlike_text(alloc, name, recording, &unlike)?,
+            is_no: true,
+        }),
+    }
+}
+
+/// Returns whether a document is a log and a recording of its lines.
+fn log_answer(alloc: Global, document: &Document<'_>) -> Result<Answer, NoMem>
+    ensures { IfOk result (λ answer. IsCheckedLog (document_view document.now).name
+        (log_in (document_view document.now).bytes) answer.is_no (string_bytes answer.text)) }
+{
+    match read_log(alloc, document.bytes.as_slice()) {
+        Ok(recording) => checked_log(alloc, document.name, &recording),
+        Err(LogFault::NoMem) => Err(NoMem),
+        Err(LogFault::Refused(refusal)) => { refused(alloc, document.name, "not a log: ", refusal) }
+    }
+}
+
+/// Returns whether a document is a script.
+fn script_answer(alloc: Global, document: &Document<'_>) -> Result<Answer, NoMem>
+    ensures { IfOk result (λ answer. IsCheckedScript (document_view document.now).name
+        (script_in (document_view document.now).bytes) answer.is_no (string_bytes answer.text)) }
+{
+    match read_script(alloc, document.bytes.as_slice()) {
+        Ok(script) => {
+            let count = script.lines().len();
+            Ok(Answer::of(counted_text(alloc, document.name, "a script of ", count)?))
+        }
+        Err(LogFault::NoMem) => Err(NoMem),
+        Err(LogFault::Refused(refusal)) => {
+            refused(alloc, document.name, "not a script: ", refusal)
+        }
+    }
+}
+
+/// Returns whether bytes are a JSON value with the key `script`, which scripts have and logs don't.
+fn is_for_script(alloc: Global, bytes: &[u8]) -> Result<bool, NoMem>
+    ensures { IfOk result (λ yes. yes ≡ is_for_script bytes.now) }
+{
+    let Ok(text) = std::str::from_utf8(bytes) else {
+        return Ok(false);
+    };
+    match Value::from_str(alloc, text) {
+        Ok(value) => Ok(value.get("script").is_some()),
+        Err(error) if error.is_memory() => Err(NoMem),
+        Err(_) => Ok(false),
+    }
+}
+
+/// Returns whether a document is a recording of its lines, or a script.
+pub(crate) fn check_answer(alloc: Global, document: &Document<'_>) -> Result<Answer, NoMem>
+    ensures { IfOk result (λ answer. IsChecked (document_view document.now) answer.is_no
+        (string_bytes answer.text)) }
+{
+    if is_for_script(alloc, document.bytes.as_slice())? {
+        script_answer(alloc, document)
+    } else {
+        log_answer(alloc, document)
+    }
+}

@@ -1,0 +1,319 @@
+//! What the program says of itself.
+ghost use Rattle.std.specs.Prelude.{◌≡◌};
+ghost use Rattle.casebook_cli.specs.Request.{help_text};
+
+use crate::topic::Topic;
+
+/// Help on the program.
+const PROGRAM: &str = "\
+casebook - what an intruder's commands led to, and what to do about it
+
+A log, as `retro record` writes it, holds the lines that people typed on a
+machine, what each line read and wrote, and what it printed. casebook reads a
+log. It shows which lines there are, and what would be if some of them had never
+run: which files to restore, whom to tell what, and what leaked. It changes
+nothing.
+
+    casebook lines LOG [FILTER..] [--format text|tsv|numbers]
+        Which lines are in the log, who ran them, what they read and wrote.
+    casebook show LOG --cancel LIST [--why] [--diff] [--line N]
+        What would be without the lines of LIST.
+    casebook page LOG --cancel LIST [--title TEXT] [--all]
+        The same as a page for a browser: one HTML file, on standard output.
+    casebook check DOCUMENT
+        Whether a log is a recording, and if not, which line isn't as it notes; of
+        another document, whether it is a script, and why it is refused.
+    casebook help [lines|show|page|check|lists|documents|refusals|profile]
+        This text, or more on a command, on lists of lines, on the documents that
+        casebook reads, on why it refuses them, or on what a line may be.
+
+LOG is the name of a file, or - for standard input.
+
+From a log to an answer:
+
+ 1. Find the lines of the intruder. Say that he used session 5, and that you know
+    that he changed the price list:
+
+        casebook lines log.json --session 5
+        casebook lines log.json --writes /srv/shop/prices
+
+    The first column is the number of a line, and the second its session. Below a
+    line is what it read, what it wrote (+ put, > appended, - removed) and the
+    start of what it printed.
+
+ 2. Write down the lines that shouldn't have run. Session 5 but for lines 41 and
+    44, which were honest, is the list 5:all,-41,-44 (see casebook help lists).
+
+ 3. See what would be without them:
+
+        casebook show log.json --cancel 5:all,-41,-44
+
+    RESTORE  the files that would be different now, and by how many lines:
+             M changes, A comes back, D goes
+    TELL     the sessions whose lines printed what would have been different, by
+             the path that it came from: their users were misled, so tell them
+    LEAKED   the cancelled lines that showed something: the intruder saw this
+    CAUSES   what each cancelled line led to, and which paths it wrote
+
+    --why adds why each line with another result was run again, --diff how files
+    and screens differ. One line in full, or all of it for a browser:
+
+        casebook show log.json --cancel 5:all,-41,-44 --line 183
+        casebook page log.json --cancel 5:all,-41,-44 > incident.html
+
+ 4. If somebody else's line is at fault too, or one of the lines was honest,
+    change the list, and look again.
+
+The answer is that of the log: it is as right as the log is. The second row of
+`show` says whether the log is a recording of its lines. What the machine did and
+the log doesn't say isn't in the answer.
+
+With --about FILE the answers have the names of users and the times of lines (see
+casebook help documents).
+
+The same repair for programs, with the files that are to be restored:
+
+    retro repair --cancel NUMBERS < log.json
+
+NUMBERS is what `casebook lines .. --format numbers` prints.
+
+Exit status: 0 done, 1 the words or a document are refused, 2 out of memory,
+3 a read or a write failed, 4 `check` says no. With 1 and 2, and if a read failed,
+nothing is written to standard output, and standard error has one line that says
+why.
+";
+
+/// Help on the command `lines`.
+const LINES: &str = "\
+casebook lines LOG [FILTER..] [--format FORMAT]
+
+Shows the lines of a log, in order. With filters it shows the lines for which all
+of them hold. LOG is the name of a file, or - for standard input.
+
+    --session S       session S ran the line
+    --user NAME       a session ran the line that is shown as NAME (see --about)
+    --from N          the line's number is at least N
+    --to N            the line's number is at most N
+    --reads PATH      the line asked about PATH: read it, listed it, or tested
+                      whether it is there
+    --writes PATH     the line wrote to PATH, made it or removed it
+    --touches PATH    the line did one or the other
+    --text REGEX      REGEX is found in the line
+    --shown REGEX     REGEX is found in what the line printed
+
+    --about FILE      shows the names of users and the times of lines
+
+PATH begins with a slash. With a slash at the end, as /srv/shop/, it also means
+all paths below it. REGEX is a regular expression, as in `grep -E`.
+
+    --format text     one to four rows a line: number, session and line; what it
+                      read; what it wrote (+ put, > appended, - removed); how much
+                      it printed, and the start of it. The default.
+    --format tsv      one row a line, with tabs between the fields: number, time,
+                      session, its name, line, what it printed, and then =PATH for
+                      each path that it read, and +PATH, >PATH or -PATH for each
+                      that it wrote
+    --format numbers  the numbers, with commas between them: a list for
+                      `casebook show --cancel` and for `retro repair --cancel`
+
+Bytes of the log that could do harm in a terminal are shown by their codes, as
+\u{27E8}U+001B\u{27E9} or \u{27E8}FF\u{27E9}.
+
+Examples:
+
+    casebook lines log.json --session 5
+    casebook lines log.json --writes /etc/ --from 90 --to 400
+    casebook lines log.json --text '^rm ' --format numbers
+    retro record < script.json | casebook lines -
+";
+
+/// Help on the command `show`.
+const SHOW: &str = "\
+casebook show LOG --cancel LIST [--why] [--diff] [--line N] [--about FILE]
+
+Shows what would be if the lines of LIST hadn't run. LOG is the name of a file, or
+- for standard input. `casebook help lists` says what a LIST is.
+
+    --why         adds, for each line that is run again with another result, the
+                  first thing that it asked about and that isn't as noted, with
+                  the answer before and after, and the lines that it comes from,
+                  back to a cancelled one
+    --diff        adds unified diffs of the files that differ, and of what lines
+                  printed
+    --line N      shows line N in full instead: what it asked and changed, and what
+                  it printed, as recorded and without the lines of LIST
+    --about FILE  shows the names of users and the times of lines
+
+The screen has these parts:
+
+    N lines of N sessions. N cancelled.
+    Whether the log is a recording: whether running its lines gives what it notes.
+    If it isn't, all below is only what its notes say.
+
+    How many lines are cancelled; are run again, with another result or with the
+    same; read or wrote what differs but are kept as recorded; or have nothing to
+    do with it.
+
+    RESTORE  each path that would be different at the end:
+             M changes, A comes back, D goes; lines that come (+) and go (-)
+    TELL     session, path, how often, which lines: what these lines printed would
+             have been different, since the path would have been
+    LEAKED   cancelled lines that printed something, and how many bytes
+    CAUSES   each cancelled line, how many lines have another result because of it,
+             how many were run again alike, and the paths that it wrote
+
+Each line that is run again counts for the cancelled line at which its chain of
+causes ends.
+
+Examples:
+
+    casebook show log.json --cancel 90,92,96-98
+    casebook show log.json --cancel 5:all,-41,-44 --why
+    casebook show log.json --cancel @intruder.txt --line 183
+";
+
+/// Help on the command `page`.
+const PAGE: &str = "\
+casebook page LOG --cancel LIST [--title TEXT] [--all] [--about FILE]
+
+Writes what `casebook show` shows, and all lines, as one HTML file for a browser. It
+asks for nothing from a network, and can be read without JavaScript. With it, / is
+a search, j and k go to the next and the previous line that isn't as recorded, o
+opens what is under the cursor, and e opens or closes all.
+
+    --title TEXT  the title, otherwise the name of the log
+    --all         all lines. Without it, if the log has over 5,000 lines, those that
+                  nothing reached are counted, and aren't shown.
+    --about FILE  shows the names of users and the times of lines
+
+Nothing of the log gets into the page but as text.
+
+Example:
+
+    casebook page log.json --cancel @intruder.txt --title 'May 6' > incident.html
+";
+
+/// Help on the command `check`.
+const CHECK: &str = "\
+casebook check DOCUMENT
+
+Says whether a log is a recording: whether running its lines one by one, from the
+files that it begins with, gives the notes and outputs that it has. If not, it says
+which line is the first that isn't as noted, with what is noted and what the line
+does. If the document is no log and no script, it says why.
+
+Exit status: 0 a recording or a script, 4 another log, or neither log nor script.
+
+An answer about a log that is no recording is only what its notes say.
+";
+
+/// Help on lists of lines.
+const LISTS: &str = "\
+Lists of lines
+
+A list names lines of a log. It has items with commas between them, and no spaces.
+They are read from the left, and each adds lines to the set or takes lines away:
+
+    90         adds line 90
+    90-98      adds the lines from 90 to 98
+    5:all      adds all lines of session 5
+    -41        takes line 41 away
+    -41-44     takes the lines from 41 to 44 away
+
+So 5:all,-41,-44 is session 5 without lines 41 and 44. An item that means no line
+of the log is refused.
+
+@FILE is the list in a file. There each line of text has items, with spaces around
+them if you like, and what comes after # is a remark:
+
+    # the guest account, day 1
+    90-98
+    106,108     # prices
+    128
+
+The lines that `casebook lines .. --format numbers` prints are such a list.
+";
+
+/// Help on the documents that the program reads.
+const DOCUMENTS: &str = "\
+Documents
+
+LOG is a log as `retro record` and `retro relog` write it: JSON with the files and
+sessions at the start, and the lines with what they read, changed and printed.
+`retro record` makes it of a script: the files, sessions and lines alone.
+
+The FILE of --about says who typed in which session, and when. It is JSON like this,
+of which both lists may be missing:
+
+    {\"about\":1,
+     \"sessions\":[[1,\"alice\"],[5,\"guest\"]],
+     \"lines\":[[106,1746528720],[107,1746528755]]}
+
+A session has a number and a name, and a line a number and a time: seconds since the
+start of 1970 (UTC), as `date +%s` prints them. Times are shown in UTC. More cells in
+a row, and more keys, don't count.
+
+The FILE of --cancel @FILE has a list: see casebook help lists.
+";
+
+/// Help on why documents are refused.
+const REFUSALS: &str = "\
+Why documents are refused
+
+`retro` says `refused N` where casebook says it in words. The numbers are these:
+
+     8  the numbers of lines don't rise, or are below the log's first
+     9  a line has a session that isn't listed
+    10  the files aren't possible, such as a file in a directory that isn't there, or
+        a noted change isn't possible where it is noted
+    11  a name is over 255 bytes, a file over 1,048,576, or a value over 65,536
+    12  no JSON text in UTF-8
+    13  a value has a wrong form, or a key is missing
+    14  a key isn't one of such a document
+    15  a text isn't pairs of hexadecimal digits
+    16  a version that isn't known
+    21  a line is to be cancelled that isn't in the log
+    25  a line is to be cancelled from before the log begins
+    31  the words of the command line
+
+`casebook check DOCUMENT` says which of them holds of a log or a script.
+";
+
+/// Help on what the lines of a log may be.
+const PROFILE: &str = "\
+What a line may be
+
+The lines of a log were run by retro's own shell, which knows a part of what a real
+one knows. What it doesn't know it doesn't do, and an answer is only as right as the
+log is. Look for lines that weren't understood:
+
+    casebook lines log.json --shown 'unsupported line|: not found|: usage'
+
+    unsupported line   the whole line did nothing: it has a here-document, $(..), &,
+                       2>, a loop with while, or the like
+    NAME: not found    a command that the shell doesn't have, such as ls, vi or git,
+                       did nothing
+    NAME: usage        a command had options that it doesn't have, and did nothing
+
+Others differ without a word. There are no permissions, so a line that the machine
+refused succeeds. * and {a,b} stand for themselves. The terminal's input is empty, so
+`cat > letter` empties the letter. So compare what the log says with the real files
+before you restore anything.
+";
+
+/// Returns the help on a topic.
+pub(crate) fn help_text(topic: Topic) -> &'static str
+    ensures { result.now ≡ help_text topic }
+{
+    match topic {
+        Topic::Program => PROGRAM,
+        Topic::Lines => LINES,
+        Topic::Show => SHOW,
+        Topic::Page => PAGE,
+        Topic::Check => CHECK,
+        Topic::Lists => LISTS,
+        Topic::Documents => DOCUMENTS,
+        Topic::Refusals => REFUSALS,
+        Topic::Profile => PROFILE,
+    }
+}

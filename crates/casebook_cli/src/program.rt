@@ -1,0 +1,83 @@
+//! A run of the program.
+ghost use Rattle.std.specs.Prelude.{◌≡◌, ◌↔◌, true, false, Ok, IfOk, IfErr, IfSome, map};
+ghost use Rattle.std.specs.Prelude.{string_bytes};
+ghost use Rattle.casebook_cli.specs.Answers.{answer_view};
+ghost use Rattle.casebook_cli.specs.Exit.{writes_nothing};
+ghost use Rattle.casebook_cli.specs.Program.{AnswersWords, Ends, Runs};
+ghost use Rattle.casebook_cli.specs.Request.{request_in, request_view};
+ghost use Rattle.casebook_cli.specs.Stops.{IsBadWords, StopsWords};
+ghost use Rattle.casebook_cli.specs.declared.exit.Exit.TheVariants as exits;
+
+use crate::answer::Answer;
+use crate::answers::answer;
+use crate::documents::Documents;
+use crate::exit::Exit;
+use crate::options::read_words;
+use crate::output::Output;
+use crate::request::Request;
+use crate::stop::Stop;
+use crate::words::WordsFault;
+use std::alloc::Global;
+use std::io::Write;
+
+/// Returns the request that words make.
+fn request_of<'a>(alloc: Global, words: &'a [String]) -> Result<Request<'a>, Stop<'a>>
+    ensures ok { IfOk result (λ request.
+        request_in (map string_bytes words.entry.now) ≡ Ok (request_view request)) }
+    ensures err { IfErr result (IsBadWords (map string_bytes words.entry.now)) }
+{
+    match read_words(alloc, words) {
+        Ok(request) => Ok(request),
+        Err(WordsFault::NoMem) => Err(Stop::OutOfMemory),
+        Err(WordsFault::Bad(problem)) => Err(Stop::BadWords(problem)),
+    }
+}
+
+/// Returns the answer to the request that words make.
+fn answer_to<'a, D: Documents>(
+    alloc: Global,
+    words: &'a [String],
+    documents: &D,
+) -> Result<Answer, Stop<'a>>
+    ensures ok { IfOk result (λ answer. IfSome (D.bytes_of documents.now) (λ at.
+        AnswersWords (map string_bytes words.entry.now) at (answer_view answer))) }
+    ensures err { IfErr result (λ stop. IfSome (D.bytes_of documents.now) (λ at.
+        StopsWords (map string_bytes words.entry.now) at stop)) }
+{
+    let request = request_of(alloc, words)?;
+    answer(alloc, documents, request)
+}
+
+/// Writes an answer, and returns how the program ends then.
+fn written<'a, W: Write>(answer: &Answer, output: &mut Output<W>) -> Exit<'a>
+    ensures ends { Ends (answer_view answer.now)
+        (W.contents output.old.writer) (W.contents output.new.writer) result }
+    ensures write_failure { output.old.has_failed ≡ false →
+        (output.new.has_failed ≡ true) ↔ (result ≡ exits.WriteFailed) }
+{
+    if output.write_all(answer.text.as_bytes()).is_err() {
+        return Exit::WriteFailed;
+    }
+    if answer.is_no { Exit::No } else { Exit::Done }
+}
+
+/// Runs the program: reads the command line, whose first word is the program's name, reads the
+/// documents that it names, and writes the answer. Returns how the program ends.
+pub fn run_with<'a, D: Documents, W: Write>(
+    alloc: Global,
+    words: &'a [String],
+    documents: &D,
+    output: &mut Output<W>,
+) -> Exit<'a>
+    ensures runs { IfSome (D.bytes_of documents.now) (λ at.
+        Runs (map string_bytes words.entry.now) at
+        (W.contents output.old.writer) (W.contents output.new.writer) result) }
+    ensures unwritten { writes_nothing result ≡ true → output.new ≡ output.old }
+    ensures write_failure { output.old.has_failed ≡ false →
+        (output.new.has_failed ≡ true) ↔ (result ≡ exits.WriteFailed) }
+{
+    match answer_to(alloc, words, documents) {
+        Ok(answer) => written(&answer, output),
+        Err(stop) => Exit::Stopped(stop),
+    }
+}

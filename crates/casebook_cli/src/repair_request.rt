@@ -1,0 +1,33 @@
+//! Requests for repairs.
+use crate::shown::Shown;
+
+/// Which repair is asked for.
+#[derive(Clone, Copy, Debug, Drop)]
+pub(crate) struct RepairRequest<'a> {
+    /// The name of the log.
+    pub(crate) log: &'a str,
+    /// The list of the lines that are cancelled. After `@` it is the name of a document with a list.
+    pub(crate) cancel: &'a str,
+    /// The name of the document with names and times, if one is given.
+    pub(crate) about: Option<&'a str>,
+}
+
+/// What a terminal is to show of a repair.
+#[derive(Clone, Copy, Debug, Drop)]
+pub(crate) struct ShowRequest<'a> {
+    /// The repair.
+    pub(crate) repair: RepairRequest<'a>,
+    /// What is shown of it.
+    pub(crate) shown: Shown,
+}
+
+/// The page of which repair is asked for.
+#[derive(Clone, Copy, Debug, Drop)]
+pub(crate) struct PageRequest<'a> {
+    /// The repair.
+    pub(crate) repair: RepairRequest<'a>,
+    /// The title, if one is given. Otherwise it is the name of the log.
+    pub(crate) title: Option<&'a str>,
+    /// Whether untouched lines have rows also if there are many lines.
+    pub(crate) all: bool,
+}

@@ -1,0 +1,19 @@
+//! What a terminal shows of a repair.
+
+/// What a terminal shows of a repair.
+#[derive(Clone, Copy, Debug, Drop, PartialEq, Eq)]
+pub(crate) enum Shown {
+    /// The summary, and more if it is asked for.
+    Summary(Extras),
+    /// One line in full.
+    Line(u32),
+}
+
+/// What is shown after the summary of a repair.
+#[derive(Clone, Copy, Debug, Drop, PartialEq, Eq)]
+pub(crate) struct Extras {
+    /// Why lines were run again.
+    pub(crate) why: bool,
+    /// How files and outputs differ.
+    pub(crate) diff: bool,
+}

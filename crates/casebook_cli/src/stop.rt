@@ -1,0 +1,68 @@
+//! Why there is no answer.
+ghost use Rattle.std.specs.Prelude.{◌≡◌};
+ghost use Rattle.casebook_cli.specs.Exit.{stop_status};
+ghost use Rattle.casebook_cli.specs.declared.stop.Stop.TheVariants as stops;
+
+use crate::NoMem;
+use crate::problem::Problem;
+use crate::searched::Searched;
+use casebook_about::AboutFault;
+use casebook_text::ListFault;
+use retro_log::Refusal;
+
+/// Why there is no answer. Names of documents are those of the command line.
+#[derive(Clone, Copy, Debug, Drop, PartialEq, Eq)]
+pub enum Stop<'a> {
+    /// The command line is refused.
+    BadWords(Problem),
+    /// What an option gives isn't a regular expression, or is one that is too large.
+    BadPattern(Searched),
+    /// A document isn't a log.
+    BadLog(&'a str, Refusal),
+    /// A document that should be text isn't UTF-8.
+    BadText(&'a str),
+    /// A document doesn't hold names and times.
+    BadAbout(&'a str, AboutFault),
+    /// The time of the line with this number isn't in one of the years -9999 to 9999.
+    BadTime(u32),
+    /// The list of lines to cancel is refused.
+    BadList(ListFault),
+    /// No line has the number that is asked about.
+    NoLine(u32),
+    /// The repair of the log is refused, with the refusal's number.
+    BadRepair(u8),
+    /// Allocation failed.
+    OutOfMemory,
+    /// A document couldn't be read.
+    ReadFailed(&'a str),
+}
+
+impl<'a> From<NoMem> for Stop<'a> {
+    ghost from_gives = { λ _ stop. stop ≡ stops.OutOfMemory };
+
+    fn from(_error: NoMem) -> Stop<'a> {
+        Stop::OutOfMemory
+    }
+}
+
+impl Stop<'_> {
+    /// Returns the exit status of the process: 1 if words or documents are refused, 2 if memory ran
+    /// out, 3 if a document couldn't be read.
+    pub(crate) fn status(self) -> u8
+        ensures { result ≡ stop_status self.entry }
+    {
+        match self {
+            Stop::BadWords(_)
+            | Stop::BadPattern(_)
+            | Stop::BadLog(_, _)
+            | Stop::BadText(_)
+            | Stop::BadAbout(_, _)
+            | Stop::BadTime(_)
+            | Stop::BadList(_)
+            | Stop::NoLine(_)
+            | Stop::BadRepair(_) => 1,
+            Stop::OutOfMemory => 2,
+            Stop::ReadFailed(_) => 3,
+        }
+    }
+}

@@ -1,0 +1,247 @@
+//! The command that the words of the command line name, as `clap` reads them.
+ghost use Rattle.std.specs.Prelude.{◌≡◌, ◌∷◌, [], false, codes, map, option_map, IfOk};
+ghost use Rattle.std.specs.Prelude.{string_bytes};
+ghost use Rattle.clap.specs.Words.{app_of, first_of, rule_of};
+ghost use Rattle.clap.specs.declared.builder.command.Command.TheViews.{out-Command as fields_of};
+ghost use Rattle.casebook_cli.specs.Words.{Names, bare, call_view, check_rules, command, flag};
+ghost use Rattle.casebook_cli.specs.Words.{help_flag, help_rules, lines_rules, named_in};
+ghost use Rattle.casebook_cli.specs.Words.{number_rules, option, page_rules, path_rules, program};
+ghost use Rattle.casebook_cli.specs.Words.{repair_rules, show_rules, without_repairs, word};
+ghost use Rattle.casebook_cli.specs.declared.words.WordsFault.TheVariants as faults;
+
+use crate::NoMem;
+use crate::problem::Problem;
+use clap::error::ErrorKind;
+use clap::{Arg, ArgAction, ArgMatches, Command};
+use std::alloc::{AllocFailed, Global};
+
+/// Why words make no request.
+#[derive(Clone, Copy, Debug, PartialEq, Eq)]
+pub(crate) enum WordsFault {
+    /// Allocation failed.
+    NoMem,
+    /// The words are bad.
+    Bad(Problem),
+}
+
+impl From<NoMem> for WordsFault {
+    ghost from_gives = { λ _ e. e ≡ faults.NoMem };
+
+    fn from(_error: NoMem) -> WordsFault {
+        WordsFault::NoMem
+    }
+}
+
+impl<T: Drop> From<AllocFailed<T>> for WordsFault {
+    ghost from_gives = { λ _ e. e ≡ faults.NoMem };
+
+    fn from(_error: AllocFailed<T>) -> WordsFault {
+        WordsFault::NoMem
+    }
+}
+
+/// The command that words name, and what they give it.
+#[derive(Drop)]
+pub(crate) struct CommandCall<'a> {
+    /// The command's name.
+    pub(crate) name: &'a str,
+    /// The words and options that it is given.
+    pub(crate) given: ArgMatches<'a>,
+}
+
+impl<'a> CommandCall<'a> {
+    /// Returns the text of an option or of a word, if it is given.
+    pub(crate) fn text_of(&self, name: &str) -> Option<&'a str>
+        ensures { option_map (λ s. s.now) result ≡ first_of name.now (call_view self.now).rows }
+    {
+        self.given.get_str(name)
+    }
+}
+
+/// Returns an option that takes one value.
+fn option<'a>(alloc: Global, name: &'a str) -> Arg<'a>
+    ensures rule { rule_of result ≡ option name.entry.now }
+    ensures local { result.global ≡ false }
+{
+    Arg::new(alloc, name).long(name).action(ArgAction::Set)
+}
+
+/// Returns an option without a value.
+fn flag<'a>(alloc: Global, name: &'a str) -> Arg<'a>
+    ensures rule { rule_of result ≡ flag name.entry.now }
+    ensures local { result.global ≡ false }
+{
+    Arg::new(alloc, name).long(name).action(ArgAction::SetTrue)
+}
+
+/// Returns a word that isn't an option.
+fn word<'a>(alloc: Global, name: &'a str) -> Arg<'a>
+    ensures rule { rule_of result ≡ word name.entry.now }
+    ensures local { result.global ≡ false }
+{
+    Arg::new(alloc, name).action(ArgAction::Set)
+}
+
+/// Returns the option that asks for help.
+fn help_flag<'a>(alloc: Global) -> Arg<'a>
+    ensures rule { rule_of result ≡ help_flag }
+    ensures local { result.global ≡ false }
+{
+    Arg::new(alloc, "help")
+        .long("help")
+        .short('h')
+        .action(ArgAction::SetTrue)
+}
+
+/// Returns a command that can be asked for help.
+fn bare_command<'a>(alloc: Global, name: &'a str) -> Result<Command<'a>, NoMem>
+    ensures shape { IfOk result (λ c.
+        app_of c ≡ record { top = command name.entry.now (help_flag ∷ []); subs = [] }) }
+    ensures local { IfOk result (λ c. (fields_of c).has_globals ≡ false) }
+{
+    Command::new(alloc, name)
+        .disable_help_flag(true)
+        .arg(help_flag(alloc))
+}
+
+/// Returns the command that says how the program is used.
+fn help_command<'a>(alloc: Global) -> Result<Command<'a>, NoMem>
+    ensures shape { IfOk result (λ c.
+        app_of c ≡ record { top = command (codes "help") help_rules; subs = [] }) }
+    ensures local { IfOk result (λ c. (fields_of c).has_globals ≡ false) }
+{
+    bare_command(alloc, "help")?.arg(word(alloc, "command"))
+}
+
+/// Returns the command that shows rows of lines, as far as its options of numbers.
+fn lines_by_number<'a>(alloc: Global) -> Result<Command<'a>, NoMem>
+    ensures shape { IfOk result (λ c.
+        app_of c ≡ record { top = command (codes "lines") number_rules; subs = [] }) }
+    ensures local { IfOk result (λ c. (fields_of c).has_globals ≡ false) }
+{
+    bare_command(alloc, "lines")?
+        .arg(word(alloc, "log"))?
+        .arg(option(alloc, "session"))?
+        .arg(option(alloc, "from"))?
+        .arg(option(alloc, "to"))
+}
+
+/// Returns the command that shows rows of lines, as far as its options of paths and of users.
+fn lines_by_path<'a>(alloc: Global) -> Result<Command<'a>, NoMem>
+    ensures shape { IfOk result (λ c.
+        app_of c ≡ record { top = command (codes "lines") path_rules; subs = [] }) }
+    ensures local { IfOk result (λ c. (fields_of c).has_globals ≡ false) }
+{
+    lines_by_number(alloc)?
+        .arg(option(alloc, "reads"))?
+        .arg(option(alloc, "writes"))?
+        .arg(option(alloc, "touches"))?
+        .arg(option(alloc, "user"))
+}
+
+/// Returns the command that shows rows of lines.
+fn lines_command<'a>(alloc: Global) -> Result<Command<'a>, NoMem>
+    ensures shape { IfOk result (λ c.
+        app_of c ≡ record { top = command (codes "lines") lines_rules; subs = [] }) }
+    ensures local { IfOk result (λ c. (fields_of c).has_globals ≡ false) }
+{
+    lines_by_path(alloc)?
+        .arg(option(alloc, "text"))?
+        .arg(option(alloc, "shown"))?
+        .arg(option(alloc, "about"))?
+        .arg(option(alloc, "format"))
+}
+
+/// Returns a command about a repair, as far as the options that all of them have.
+fn repair_command<'a>(alloc: Global, name: &'a str) -> Result<Command<'a>, NoMem>
+    ensures shape { IfOk result (λ c.
+        app_of c ≡ record { top = command name.entry.now repair_rules; subs = [] }) }
+    ensures local { IfOk result (λ c. (fields_of c).has_globals ≡ false) }
+{
+    bare_command(alloc, name)?
+        .arg(word(alloc, "log"))?
+        .arg(option(alloc, "cancel"))?
+        .arg(option(alloc, "about"))
+}
+
+/// Returns the command that shows what a repair would do.
+fn show_command<'a>(alloc: Global) -> Result<Command<'a>, NoMem>
+    ensures shape { IfOk result (λ c.
+        app_of c ≡ record { top = command (codes "show") show_rules; subs = [] }) }
+    ensures local { IfOk result (λ c. (fields_of c).has_globals ≡ false) }
+{
+    repair_command(alloc, "show")?
+        .arg(flag(alloc, "why"))?
+        .arg(flag(alloc, "diff"))?
+        .arg(option(alloc, "line"))
+}
+
+/// Returns the command that writes the page of a repair.
+fn page_command<'a>(alloc: Global) -> Result<Command<'a>, NoMem>
+    ensures shape { IfOk result (λ c.
+        app_of c ≡ record { top = command (codes "page") page_rules; subs = [] }) }
+    ensures local { IfOk result (λ c. (fields_of c).has_globals ≡ false) }
+{
+    repair_command(alloc, "page")?
+        .arg(option(alloc, "title"))?
+        .arg(flag(alloc, "all"))
+}
+
+/// Returns the command that says whether a document is a recording.
+fn check_command<'a>(alloc: Global) -> Result<Command<'a>, NoMem>
+    ensures shape { IfOk result (λ c.
+        app_of c ≡ record { top = command (codes "check") check_rules; subs = [] }) }
+    ensures local { IfOk result (λ c. (fields_of c).has_globals ≡ false) }
+{
+    bare_command(alloc, "check")?.arg(word(alloc, "log"))
+}
+
+/// Returns the program's command line without its commands. Of `clap`'s own help nothing is left.
+fn bare_program<'a>(alloc: Global) -> Result<Command<'a>, NoMem>
+    ensures { IfOk result (λ c. app_of c ≡ bare) }
+{
+    Command::new(alloc, "casebook")
+        .disable_help_flag(true)
+        .disable_help_subcommand(true)
+        .arg(help_flag(alloc))
+}
+
+/// Returns the program's command line with the commands that aren't about repairs.
+fn program_without_repairs<'a>(alloc: Global) -> Result<Command<'a>, NoMem>
+    ensures { IfOk result (λ c. app_of c ≡ without_repairs) }
+{
+    bare_program(alloc)?
+        .subcommand(help_command(alloc)?)?
+        .subcommand(lines_command(alloc)?)?
+        .subcommand(check_command(alloc)?)
+}
+
+/// Returns the program's command line with all its commands.
+fn program_command<'a>(alloc: Global) -> Result<Command<'a>, NoMem>
+    ensures { IfOk result (λ c. app_of c ≡ program) }
+{
+    program_without_repairs(alloc)?
+        .subcommand(show_command(alloc)?)?
+        .subcommand(page_command(alloc)?)
+}
+
+/// Returns the command that words name, as `clap` reads them, or `None` if they name none. Fails
+/// with `Bad` if `clap` refuses them.
+pub(crate) fn read_call<'a>(
+    alloc: Global,
+    words: &'a [String],
+) -> Result<Option<CommandCall<'a>>, WordsFault>
+    ensures { Names result (named_in (map string_bytes words.entry.now)) }
+{
+    let command = program_command(alloc)?;
+    match command.try_get_matches_from(words) {
+        Ok(mut matches) => match matches.remove_subcommand() {
+            Some((name, given)) => Ok(Some(CommandCall { name, given })),
+            None => Ok(None),
+        },
+        Err(error) => match error.kind() {
+            ErrorKind::OutOfMemory => Err(WordsFault::NoMem),
+            _ => Err(WordsFault::Bad(Problem::Words)),
+        },
+    }
+}

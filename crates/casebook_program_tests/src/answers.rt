@@ -1,0 +1,100 @@
+//! Tests of answers.
+use crate::memory::written;
+use std::alloc::Global;
+use std::test::Fail;
+
+/// Both lines, as text.
+const BOTH: &str =
+    "    1 2 echo fig > /f\n        wrote +/f >/f\n    2 1 cat /f\n        read  /f\n        \
+shown 4 bytes: fig\n";
+
+/// The second line.
+const SECOND: &str = "    2 1 cat /f\n        read  /f\n        shown 4 bytes: fig\n";
+
+/// The first line, as a table.
+const TABLE: &str = "1\t\t2\t2\techo fig > /f\t\t+/f\t>/f\n";
+
+/// What would be without the first line.
+const SHOWN: &str = "2 lines of 2 sessions. 1 cancelled.
+The log is a recording: yes.
+
+      1 cancelled
+      1 run again, another result
+      0 run again, the same result
+      0 met, kept as recorded
+      0 untouched
+
+RESTORE  0 change, 0 come back, 1 go
+  D /f  +0 -1
+
+TELL  1 people about 1 screen
+  1 /f                                   1x  lines 2
+
+LEAKED  0 cancelled lines showed something
+
+CAUSES  what each cancelled line led to: lines with another result, run again alike, paths it wrote
+      1    1    0  echo fig > /f                                                 /f
+";
+
+/// Fails unless the program writes a text.
+fn hold(alloc: Global, given: &str, wanted: &str) -> Result<(), Fail> {
+    let text = written(alloc, given)?;
+    if text.as_str() != wanted {
+        let told = format!(in alloc; "{given}: {}\nwanted: {wanted}", text.as_str())?;
+        Err(told)?
+    }
+    Ok(())
+}
+
+/// Fails unless the help that words ask for begins so.
+fn hold_help(alloc: Global, given: &str, begin: &str) -> Result<(), Fail> {
+    let text = written(alloc, given)?;
+    if !text.as_str().starts_with(begin) {
+        let told = format!(in alloc; "{given}: {}", text.as_str())?;
+        Err(told)?
+    }
+    Ok(())
+}
+
+#[test]
+fn lines_are_shown(rt: HostRuntime) -> Result<(), Fail> {
+    let alloc = rt.alloc();
+    hold(alloc, "lines log", BOTH)?;
+    hold(alloc, "lines -", BOTH)?;
+    hold(alloc, "lines ~[2J --format text", BOTH)?;
+    hold(alloc, "lines log --session 1", SECOND)?;
+    hold(alloc, "lines log --user 1", SECOND)?;
+    hold(alloc, "lines log --user ann", "")?;
+    hold(alloc, "lines log --reads /f", SECOND)?;
+    hold(alloc, "lines log --from 2 --to 2", SECOND)?;
+    hold(alloc, "lines log --text ^c.t --shown ^fig$", "")?;
+    hold(alloc, "lines log --text ^c.t --shown ^fig", SECOND)
+}
+
+#[test]
+fn lines_are_tabulated(rt: HostRuntime) -> Result<(), Fail> {
+    let alloc = rt.alloc();
+    hold(alloc, "lines log --writes / --format tsv", TABLE)?;
+    hold(alloc, "lines log --touches /f --format numbers", "1,2\n")?;
+    hold(alloc, "lines log --touches /g/ --format numbers", "\n")
+}
+
+#[test]
+fn repairs_are_shown(rt: HostRuntime) -> Result<(), Fail> {
+    let alloc = rt.alloc();
+    hold(alloc, "show log --cancel 1", SHOWN)?;
+    hold(alloc, "show - --cancel @list", SHOWN)?;
+    hold(alloc, "show log --cancel 1-2,-2", SHOWN)
+}
+
+#[test]
+fn help_is_given(rt: HostRuntime) -> Result<(), Fail> {
+    let alloc = rt.alloc();
+    hold_help(alloc, "", "casebook - ")?;
+    hold_help(alloc, "--help", "casebook - ")?;
+    hold_help(alloc, "help", "casebook - ")?;
+    hold_help(alloc, "help lines", "casebook lines LOG")?;
+    hold_help(alloc, "lines -h", "casebook lines LOG")?;
+    hold_help(alloc, "show --help", "casebook show LOG")?;
+    hold_help(alloc, "help lists", "Lists of lines")
+}

@@ -1,0 +1,106 @@
+//! Documents in memory, and runs of the program on them.
+ghost use Rattle.std.specs.Prelude.{None};
+
+use casebook_cli::{Documents, Exit, NoMem, Output, ReadFault, run_with};
+use retro_rows::{fail, text, utf8};
+use std::alloc::Global;
+use std::test::Fail;
+
+/// A log of two lines: session 2 makes a file, and session 1 shows it.
+const LOG: &str = r#"{"from":1,"lines":[
+[1,2,"echo fig > /f",[["canwrite","/f",0,"yes"],["put","/f",["f",""]],["canwrite","/f",4,"yes"],
+["grow","/f","6669670a"],["setstatus",0]],""],
+[2,1,"cat /f",[["bytes","/f",["f","6669670a"]],["setstatus",0]],"6669670a"]],
+"log":2,"sessions":[[1,"/",0,[]],[2,"/",0,[]]],"tree":[]}"#;
+
+/// The same log, but for what the second line is noted to have read and printed.
+const FORGED: &str = r#"{"from":1,"lines":[
+[1,2,"echo fig > /f",[["canwrite","/f",0,"yes"],["put","/f",["f",""]],["canwrite","/f",4,"yes"],
+["grow","/f","6669670a"],["setstatus",0]],""],
+[2,1,"cat /f",[["bytes","/f",["f","706c756d0a"]],["setstatus",0]],"706c756d0a"]],
+"log":2,"sessions":[[1,"/",0,[]],[2,"/",0,[]]],"tree":[]}"#;
+
+/// The documents that there are.
+#[derive(Clone, Copy, Drop)]
+pub(crate) struct Memory;
+
+/// Returns the bytes of a document.
+fn bytes_of(name: &str) -> Option<&'static [u8]> {
+    match name {
+        "log" | "-" | "\u{1B}[2J" => Some(LOG.as_bytes()),
+        "forged" => Some(FORGED.as_bytes()),
+        "about" => Some(
+            br#"{"about":1,"sessions":[[1,"ann"],[2,"guest"]],"lines":[[1,1746528600],[2,1746528720]]}"#,
+        ),
+        "late" => Some(br#"{"about":1,"lines":[[2,999999999999999]]}"#),
+        "rows" => Some(br#"{"about":1,"sessions":[[1,"ann"],["guest"]]}"#),
+        "list" => Some(b"# the guest\n 2:all \n"),
+        "list\u{1B}" => Some(b"\xFF"),
+        "no\u{1B}json" => Some(b"{"),
+        "script" => Some(br#"{"script":1,"tree":[],"sessions":[],"lines":[]}"#),
+        "torn" => Some(br#"{"script":1,"tree":[],"sessions":[],"lines":[[1,1,"ls"]]}"#),
+        "shape" => Some(br#"{"from":1,"lines":5,"log":2,"sessions":[],"tree":[]}"#),
+        _ => None,
+    }
+}
+
+impl Documents for Memory {
+    ghost bytes_of = { λ _. None };
+
+    fn read(&self, alloc: Global, name: &str) -> Result<Vec<u8>, ReadFault> {
+        match bytes_of(name) {
+            Some(bytes) => Ok(Vec::from_slice(alloc, bytes)?),
+            None => Err(ReadFault::Unreadable),
+        }
+    }
+}
+
+/// Returns the words of a command line. The program's name isn't among those that are given. `~`
+/// stands for an escape, and `_` for a space in a word.
+pub(crate) fn words(alloc: Global, given: &str) -> Result<Vec<String>, NoMem> {
+    let mut words = Vec::new(alloc);
+    words.push(text(alloc, "casebook")?)?;
+    if given.is_empty() {
+        return Ok(words);
+    }
+    for word in given.split(' ') {
+        let word = word.replace(alloc, "~", "\u{1B}")?;
+        words.push(word.as_str().replace(alloc, "_", " ")?)?;
+    }
+    Ok(words)
+}
+
+/// Runs the program on words.
+pub(crate) fn run<'a>(alloc: Global, words: &'a [String], out: &mut Vec<u8>) -> Exit<'a> {
+    run_with(alloc, words, &Memory, &mut Output::new(out))
+}
+
+/// Returns what the program writes if it is done.
+pub(crate) fn written(alloc: Global, given: &str) -> Result<String, Fail> {
+    let words = words(alloc, given)?;
+    let mut out = Vec::new(alloc);
+    match run(alloc, words.as_slice(), &mut out) {
+        Exit::Done => Ok(text(alloc, utf8(out.as_slice())?)?),
+        _ => fail("the program isn't done"),
+    }
+}
+
+/// Returns the status with which the program ends, and what it writes.
+pub(crate) fn ended(alloc: Global, given: &str) -> Result<String, Fail> {
+    let words = words(alloc, given)?;
+    let mut out = Vec::new(alloc);
+    let status = run(alloc, words.as_slice(), &mut out).status();
+    Ok(format!(in alloc; "{status} {}", utf8(out.as_slice())?)?)
+}
+
+/// Returns the status with which the program ends, and its message. Nothing must be written.
+pub(crate) fn refused(alloc: Global, given: &str) -> Result<String, Fail> {
+    let words = words(alloc, given)?;
+    let mut out = Vec::new(alloc);
+    let exit = run(alloc, words.as_slice(), &mut out);
+    if !out.is_empty() {
+        return fail("something is written");
+    }
+    let line = exit.message(alloc)?;
+    Ok(format!(in alloc; "{} {}", exit.status(), line.as_str())?)
+}

@@ -1,0 +1,66 @@
+//! Tests of writers that fail.
+use crate::memory::{Memory, words};
+use casebook_cli::{Exit, Output, run_with};
+use retro_rows::fail;
+use std::alloc::Global;
+use std::io;
+use std::io::{ErrorKind, Write};
+use std::test::Fail;
+
+/// Takes one byte a call, up to a call that fails.
+#[derive(Drop)]
+struct Sip {
+    held: Vec<u8>,
+    calls: usize,
+    fails: usize,
+}
+
+impl Write for Sip {
+    fn write(&mut self, buf: &[u8]) -> io::Result<usize> {
+        if self.calls == self.fails {
+            return Err(io::Error::from(ErrorKind::BrokenPipe));
+        }
+        match buf {
+            [first, ..] => {
+                self.held.push(*first)?;
+                self.calls = self.calls.saturating_add(1);
+                Ok(1)
+            }
+            [] => Ok(0),
+        }
+    }
+
+    fn flush(&mut self) -> io::Result<()> {
+        Ok(())
+    }
+}
+
+/// Returns how many bytes a writer takes that fails at a call, if the program says that it failed.
+fn taken(alloc: Global, given: &str, fails: usize) -> Result<usize, Fail> {
+    let words = words(alloc, given)?;
+    let mut writer = Sip {
+        held: Vec::new(alloc),
+        calls: 0,
+        fails,
+    };
+    match run_with(
+        alloc,
+        words.as_slice(),
+        &Memory,
+        &mut Output::new(&mut writer),
+    ) {
+        Exit::WriteFailed => Ok(writer.held.len()),
+        _ => fail("the program doesn't say that it failed"),
+    }
+}
+
+#[test]
+fn failed_writes_are_told(rt: HostRuntime) -> Result<(), Fail> {
+    let alloc = rt.alloc();
+    for fails in 0..6_usize {
+        if taken(alloc, "lines log", fails)? != fails {
+            return fail("another number of bytes");
+        }
+    }
+    Ok(())
+}
