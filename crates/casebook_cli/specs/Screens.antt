@@ -1,6 +1,6 @@
 -- What a terminal shows of a repair.
-use Rattle.std.specs.Prelude.{◌≡◌, ℕ, Bool, true, false, IsTrue, List, [], ◌++◌, map}
-use Rattle.retro_keep.specs.Recording.{RecordingValue, IsRecordingOf, last_state}
+use Rattle.std.specs.Prelude.{◌≡◌, ◌≢◌, None, ℕ, Bool, true, false, IsTrue, List, [], ◌++◌, map}
+use Rattle.retro_keep.specs.Recording.{RecordingValue, IsRecordingOf, last_state, noted_at}
 use Rattle.retro_keep.specs.Recording as recordings
 use Rattle.retro_keep.specs.Script.{rises_from}
 use Rattle.retro_redo.specs.Repair.{repaired_state}
@@ -97,11 +97,11 @@ pub record IsScreenText (extras : Extras) (s : ScreenValue) (text : List ℕ) : 
   pub are_diffs : AreDiffLines extras.diff s diffs
   pub is_text : text ≡ text_of_lines ((summary ++ whys) ++ diffs)
 
--- the text is one line in full
-abbrev pub IsLineText : ℕ → ScreenValue → List ℕ → Type 0
-IsLineText number s text =
-    IsTrue (rises_from 0 (map number_in s.summary.reasons.items))
-    → text ≡ text_of_lines (detail_lines s.recording s.repair s.summary s.labels s.width number)
+-- The text is one line in full, which there is.
+pub record IsLineText (number : ℕ) (s : ScreenValue) (text : List ℕ) : Type 0 where
+  pub exists : noted_at number s.recording.lines ≢ None
+  pub is_text : IsTrue (rises_from 0 (map number_in s.summary.reasons.items))
+      → text ≡ text_of_lines (detail_lines s.recording s.repair s.summary s.labels s.width number)
 
 abbrev pub IsTextOf : Shown → ScreenValue → List ℕ → Type 0
 IsTextOf (parts.Summary extras) s text = IsScreenText extras s text
