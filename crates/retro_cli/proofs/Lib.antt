@@ -1,4 +1,3 @@
-pub mod Edits
 pub mod Floats
 pub mod CallLemmas
 pub mod NumberLemmas

@@ -10,8 +10,8 @@ use Rattle.retro_keep.specs.declared.edit.Edit.{Edit}
 use Rattle.retro_keep.specs.declared.edit.Edit.TheVariants.{Cancel}
 use Rattle.retro_json.specs.declared.fault.LogFault.{LogFault}
 use Rattle.retro_json.specs.declared.fault.LogFault.TheVariants as documents
+use Rattle.retro_json.specs.Replacements.{replacements_in}
 use Rattle.retro_cli.specs.Numbers.{list_in, number_in}
-use Rattle.retro_cli.specs.Replacements.{replacements_in}
 use Rattle.retro_cli.specs.declared.repair_options.RepairOptions.{RepairOptions as OptionsValue}
 use Rattle.retro_cli.specs.declared.words.CommandCall.{CommandCall}
 use Rattle.retro_cli.specs.declared.words.Request.{Request as RequestValue}

@@ -1,5 +1,6 @@
 pub mod Json
 pub mod Each
+pub mod Edits
 pub mod Names
 pub mod Keyed
 pub mod Limits

@@ -18,4 +18,5 @@ pub mod ReadBack
 pub mod Views
 pub mod Rows
 pub mod ReadFaults
+pub mod Replacements
 pub mod inner

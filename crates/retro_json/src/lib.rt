@@ -6,6 +6,8 @@
 //! [`sessions_value`] and [`hex_value`] return the values that `specs/Values.antt` defines, and
 //! [`notes_value`] those of `specs/NoteValues.antt`.
 //!
+//! [`read_replacements`] reads the new texts of lines, which an option of a command line lists.
+//!
 //! If allocation fails, calls return `NoMem`, alone or as a variant of their error, and leave
 //! borrowed arguments unchanged.
 #![tactic(auto)]
@@ -16,7 +18,7 @@ mod writing;
 
 pub use fault::{LogFault, Part, Refusal};
 pub use reading::{
-    OrRefusal, Row, both, cells, hex_field, notes_field, read_session_rows, read_tree_rows, text,
-    tree_of_rows, u32_in, with_item, with_sessions,
+    OrRefusal, Row, both, cells, hex_field, notes_field, read_replacements, read_session_rows,
+    read_tree_rows, text, tree_of_rows, u32_in, with_item, with_sessions,
 };
 pub use writing::{hex_value, notes_value, number_value, push_value, sessions_value, tree_value};

@@ -5,6 +5,7 @@ mod hex_text;
 mod made;
 mod notes;
 mod path;
+mod replacements;
 mod sessions;
 mod shape;
 mod tree;
@@ -12,6 +13,7 @@ mod worst;
 
 pub use fields::hex_field;
 pub use notes::notes_field;
+pub use replacements::read_replacements;
 pub use sessions::{Row, read_session_rows, with_sessions};
 pub use shape::{cells, text, u32_in};
 pub use tree::{read_tree_rows, tree_of_rows};

@@ -1,4 +1,5 @@
--- Lines whose text is replaced, on a command line: a JSON list of `[number,"text"]` (RFC 8259).
+-- Lines whose text is replaced, as an option of a command line lists them: a JSON list of
+-- `[number,"text"]` (RFC 8259).
 use Rattle.std.specs.Prelude.{List, [], ◌∷◌, Option, Result, Ok, Err, ok_or}
 use Rattle.std.specs.Result.{result_ok}
 use Rattle.serde_json.specs.Data.{Data}

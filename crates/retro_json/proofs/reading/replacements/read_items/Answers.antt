@@ -1,8 +1,8 @@
 use Rattle.std.proofs.lemmas.Result.{err_from_is_err_and}
 use Rattle.retro_value.specs.Borrowed.{value_data}
-use Rattle.retro_cli.specs.Replacements.{replacement_of}
+use Rattle.retro_json.specs.Replacements.{replacement_of}
 use Rattle.retro_json.proofs.Each.{loop_goes_on, loop_ends, loop_done}
-use Rattle.retro_cli.proofs.replacements.read_items.Goals as goal
+use Rattle.retro_json.proofs.reading.replacements.read_items.Goals as goal
 
 pub returns-in_err-replacement_of : goal.returns-in_err-replacement_of
 returns-in_err-replacement_of c =
