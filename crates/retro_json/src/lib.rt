@@ -18,7 +18,8 @@ mod writing;
 
 pub use fault::{LogFault, Part, Refusal};
 pub use reading::{
-    OrRefusal, Row, both, cells, hex_field, notes_field, read_replacements, read_session_rows,
-    read_tree_rows, text, tree_of_rows, u32_in, with_item, with_sessions,
+    OrRefusal, Row, SessionParts, both, cells, hex_field, notes_field, read_replacements,
+    read_session_row, read_session_rows, read_tree_row, read_tree_rows, text, tree_of_rows, u32_in,
+    with_item, with_sessions,
 };
 pub use writing::{hex_value, notes_value, number_value, push_value, sessions_value, tree_value};

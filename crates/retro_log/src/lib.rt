@@ -9,6 +9,9 @@
 //! doesn't, and begins at line 1. [`read_log`] reads both, and [`write_log`] writes version 2, as
 //! `specs/LogText.antt` defines it.
 //!
+//! [`read_script_line`], [`read_log_line`] and [`line_number`] read a single value of a document.
+//! They are for callers that look for the value for which a document is refused.
+//!
 //! [`check`] tests whether a recording is one of its own lines.
 //!
 //! Documents and reports are made of the JSON values of states and notes, which `retro_json` reads
@@ -23,6 +26,6 @@ mod reading;
 mod writing;
 
 pub use checking::check;
-pub use reading::{read_log, read_script};
+pub use reading::{line_number, read_log, read_log_line, read_script, read_script_line};
 pub use retro_json::{LogFault, Part, Refusal, hex_value, sessions_value, tree_value};
 pub use writing::write_log;

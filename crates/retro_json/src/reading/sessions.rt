@@ -193,10 +193,10 @@ fn row_of_cells(alloc: Global, cells: &[Value<'_>]) -> Result<OrRefusal<Row>, No
     }
 }
 
-/// Reads a row. A fault of the session itself is kept in the row, so that the rows' numbers can be
-/// compared first.
+/// Reads a row of the sessions. A fault of the session itself is kept in the row, so that the rows'
+/// numbers can be compared first.
 #[tactic(auto, unfolding(crate::specs::SessionsPart::row_of))]
-fn read_row(alloc: Global, value: &Value<'_>) -> Result<OrRefusal<Row>, NoMem>
+pub fn read_session_row(alloc: Global, value: &Value<'_>) -> Result<OrRefusal<Row>, NoMem>
     ensures { IfOk result (λ row. seen row_view row ≡ row_of (value_data value.now)) }
 {
     match cells(Part::Sessions, value) {
@@ -209,7 +209,7 @@ fn read_row(alloc: Global, value: &Value<'_>) -> Result<OrRefusal<Row>, NoMem>
 fn take_row(alloc: Global, value: Value<'_>) -> Result<OrRefusal<Row>, NoMem>
     ensures { IfOk result (λ row. seen row_view row ≡ row_of (value_data value.entry)) }
 {
-    read_row(alloc, &value)
+    read_session_row(alloc, &value)
 }
 
 /// Reads the rows that are left of an array, or returns the worst refusal of their shapes and

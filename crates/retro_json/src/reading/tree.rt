@@ -56,9 +56,9 @@ fn row_of_cells(alloc: Global, cells: &[Value<'_>]) -> Result<OrRefusal<(Path, E
     }
 }
 
-/// Reads a row: the path of a directory, or the path and the bytes of a file.
+/// Reads a row of a tree: the path of a directory, or the path and the bytes of a file.
 #[tactic(auto, unfolding(crate::specs::TreePart::row_of))]
-fn read_row(alloc: Global, value: &Value<'_>) -> Result<OrRefusal<(Path, Entry)>, NoMem>
+pub fn read_tree_row(alloc: Global, value: &Value<'_>) -> Result<OrRefusal<(Path, Entry)>, NoMem>
     ensures { IfOk result (λ row. row ≡ row_of (value_data value.now)) }
 {
     match cells(Part::Tree, value) {
@@ -71,7 +71,7 @@ fn read_row(alloc: Global, value: &Value<'_>) -> Result<OrRefusal<(Path, Entry)>
 fn take_row(alloc: Global, value: Value<'_>) -> Result<OrRefusal<(Path, Entry)>, NoMem>
     ensures { IfOk result (λ row. row ≡ row_of (value_data value.entry)) }
 {
-    read_row(alloc, &value)
+    read_tree_row(alloc, &value)
 }
 
 /// Reads the rows that are left of an array, or returns their worst refusal.

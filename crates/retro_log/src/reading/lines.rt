@@ -64,9 +64,9 @@ fn line_of_cells(alloc: Global, cells: &[Value<'_>]) -> Result<OrRefusal<ScriptL
     }
 }
 
-/// Reads a line: `[number,sid,text]`.
+/// Reads a line of a script: `[number,sid,text]`.
 #[tactic(auto, unfolding(crate::specs::LinesPart::line_of))]
-fn read_line(alloc: Global, value: &Value<'_>) -> Result<OrRefusal<ScriptLine>, NoMem>
+pub fn read_script_line(alloc: Global, value: &Value<'_>) -> Result<OrRefusal<ScriptLine>, NoMem>
     ensures { IfOk result (λ line. line ≡ line_of (value_data value.now)) }
 {
     match cells(Part::Lines, value) {
@@ -79,7 +79,7 @@ fn read_line(alloc: Global, value: &Value<'_>) -> Result<OrRefusal<ScriptLine>, 
 fn take_line(alloc: Global, value: Value<'_>) -> Result<OrRefusal<ScriptLine>, NoMem>
     ensures { IfOk result (λ line. line ≡ line_of (value_data value.entry)) }
 {
-    read_line(alloc, &value)
+    read_script_line(alloc, &value)
 }
 
 /// Reads the lines that are left of an array, one after another, or returns a refusal.

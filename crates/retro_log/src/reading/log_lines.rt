@@ -56,9 +56,9 @@ fn line_of_cells(alloc: Global, cells: &[Value<'_>]) -> Result<OrRefusal<(u32, N
     }
 }
 
-/// Reads a line: `[number,sid,text,notes,"hex"]`.
+/// Reads a line of a log: `[number,sid,text,notes,"hex"]`.
 #[tactic(auto, unfolding(crate::specs::LogLinesPart::log_line_of))]
-fn read_line(alloc: Global, value: &Value<'_>) -> Result<OrRefusal<(u32, Noted)>, NoMem>
+pub fn read_log_line(alloc: Global, value: &Value<'_>) -> Result<OrRefusal<(u32, Noted)>, NoMem>
     ensures { IfOk result (λ line. line ≡ log_line_of (value_data value.now)) }
 {
     match cells(Part::Lines, value) {
@@ -71,7 +71,7 @@ fn read_line(alloc: Global, value: &Value<'_>) -> Result<OrRefusal<(u32, Noted)>
 fn take_line(alloc: Global, value: Value<'_>) -> Result<OrRefusal<(u32, Noted)>, NoMem>
     ensures { IfOk result (λ line. line ≡ log_line_of (value_data value.entry)) }
 {
-    read_line(alloc, &value)
+    read_log_line(alloc, &value)
 }
 
 /// Reads the lines that are left of an array, one after another, or returns their worst refusal.
