@@ -1,7 +1,7 @@
 //! Tests of the libraries of `casebook`, over public items alone.
 //!
 //! A table is a text of rows `GIVEN => WANTED`, one a line. What rows want comes from the rules of
-//! display, of HTML and of lists, never from the program's own output.
+//! display, of HTML, of lists and of documents, never from the program's own output.
 #![tactic(auto)]
 
 #[cfg(test)]
@@ -12,6 +12,8 @@ mod diffs;
 mod hunks;
 #[cfg(test)]
 mod lists;
+#[cfg(test)]
+mod places;
 #[cfg(test)]
 mod rows;
 #[cfg(test)]

@@ -1,0 +1,4 @@
+pub mod Keys
+pub mod Items
+pub mod Place
+pub mod Words
