@@ -1,0 +1,123 @@
+-- The document nests few arrays and objects, so its text can be read back.
+use Rattle.std.proofs.Common.{◌≡◌, ℕ, ◌≤◌, List, [], ◌∷◌, Bool, true, false, Option, Some, None}
+use Rattle.std.proofs.Common.{arith, cond, map, refl}
+use Rattle.serde_json.specs.Data.{Data, null, string, depth, items_depth}
+use Rattle.serde_json.specs.Read.{max_depth}
+use Rattle.serde_json.specs.View.{items_of}
+use Rattle.retro_json.specs.Values.{number_data}
+use Rattle.retro_keep.specs.Recording.{RecordingValue}
+use Rattle.casebook_view.specs.Effects.{EffectValue, effect_value}
+use Rattle.casebook_view.specs.Groups.{GroupValue, group_value}
+use Rattle.casebook_view.specs.Reasons.{cause_in, failing_in, reason_at}
+use Rattle.casebook_view.specs.declared.effect.Effect.{Effect}
+use Rattle.casebook_view.specs.declared.fate.Fate.{Fate}
+use Rattle.casebook_view.specs.declared.group.Group.{Group}
+use Rattle.casebook_view.specs.declared.leak.Leak.{Leak}
+use Rattle.casebook_view.specs.declared.reason.Reason.{Reason}
+use Rattle.casebook_view.specs.declared.subject.Subject.{Subject}
+use Rattle.casebook_view.specs.declared.subject.Subject.TheVariants.{At, Directory, Variable}
+use Rattle.casebook_view.specs.declared.subject.Subject.TheVariants.{Status, Text}
+use Rattle.casebook_view.specs.declared.summary.Summary.{Summary}
+use Rattle.casebook_words.specs.declared.labels.Labels.{Labels}
+use Rattle.casebook_screen.specs.declared.restoration.Restoration.{Restoration}
+use Rattle.casebook_json.specs.Causes.{effect_data}
+use Rattle.casebook_json.specs.Counts.{counts_data}
+use Rattle.casebook_json.specs.Leaked.{leak_data}
+use Rattle.casebook_json.specs.Lines.{line_data, line_with_reason, origin_in}
+use Rattle.casebook_json.specs.Restore.{added_in, removed_in, restoration_data}
+use Rattle.casebook_json.specs.Summary.{summary_data, summary_with}
+use Rattle.casebook_json.specs.Tell.{group_data, subject_path, subject_variable}
+use Rattle.casebook_json.specs.Values.{number_or_null, path_data, user_data}
+
+number_depth : (n : Option ℕ) → depth (number_or_null n) ≡ 0
+number_depth None = refl
+number_depth (Some n) = refl
+
+user_depth : (labels : Labels) (session : ℕ) → depth (user_data labels session) ≡ 0
+user_depth labels session = by_test _ _
+  where
+    by_test : (same : Bool) (name : List ℕ) → depth (cond same null (string name)) ≡ 0
+    by_test true name = refl
+    by_test false name = refl
+
+path_depth : (subject : Subject) → depth (subject_path subject) ≡ 0
+path_depth (At path) = refl
+path_depth Directory = refl
+path_depth (Variable name) = refl
+path_depth Status = refl
+path_depth Text = refl
+
+variable_depth : (subject : Subject) → depth (subject_variable subject) ≡ 0
+variable_depth (At path) = refl
+variable_depth Directory = refl
+variable_depth (Variable name) = refl
+variable_depth Status = refl
+variable_depth Text = refl
+
+-- an array nests one more than its items
+items_low : {X : Type 0} (f : X → Data) (n : ℕ) → ((x : X) → depth (f x) ≤ n) → (xs : List X)
+    → items_depth (items_of (map f xs)) ≤ n
+items_low f n one [] = omega arith
+items_low f n one (x ∷ xs) = let a = one x in let b = items_low f n one xs in omega (arith, a, b)
+
+restoration_low : (r : Restoration) → depth (restoration_data r) ≤ 1
+unfolding restoration_data
+restoration_low r =
+    let a = number_depth (added_in r.extent) in
+    let b = number_depth (removed_in r.extent) in
+    omega (arith, a, b)
+
+group_low : (labels : Labels) (g : GroupValue) → depth (group_data labels g) ≤ 2
+unfolding group_data
+group_low labels g =
+    let a = items_low number_data 0 (λ n. omega arith) g.lines in
+    let b = path_depth g.subject in
+    let c = user_depth labels g.session in
+    let d = variable_depth g.subject in
+    omega (arith, a, b, c, d)
+
+leak_low : (labels : Labels) (leak : Leak) → depth (leak_data labels leak) ≤ 1
+unfolding leak_data
+leak_low labels leak = let a = user_depth labels leak.session in omega (arith, a)
+
+effect_low : (effect : EffectValue) → depth (effect_data effect) ≤ 2
+unfolding effect_data
+effect_low effect =
+    let a = items_low path_data 0 (λ p. omega arith) effect.wrote in
+    omega (arith, a)
+
+reasoned_low : (session : ℕ) (reason : Option Reason) (line : ℕ × Fate)
+    → depth (line_with_reason session reason line) ≤ 1
+unfolding line_with_reason
+reasoned_low session reason line =
+    let a = number_depth (cause_in reason) in
+    let b = number_depth (failing_in reason) in
+    let c = number_depth (origin_in reason) in
+    omega (arith, a, b, c)
+
+line_low : (r : RecordingValue) (reasons : List Reason) (line : ℕ × Fate)
+    → depth (line_data r reasons line) ≤ 1
+line_low r reasons line = reasoned_low _ (reason_at line.0 reasons) line
+
+counts_low : (fates : List (ℕ × Fate)) → depth (counts_data fates) ≤ 1
+unfolding counts_data
+counts_low fates = omega arith
+
+pub summary_low : (r : RecordingValue) (summary : Summary) (restorations : List Restoration)
+    (groups : List Group) (is_recording : Bool) (labels : Labels)
+    → depth (summary_data r summary restorations groups is_recording labels) ≤ max_depth
+unfolding summary_with
+summary_low r summary restorations groups is_recording labels =
+    let a =
+    items_low (λ (e : Effect). effect_data (effect_value e)) 2 (λ e. effect_low (effect_value e))
+    summary.effects.items in
+    let b = counts_low summary.fates.items in
+    let c = items_low (leak_data labels) 1 (leak_low labels) summary.leaks.items in
+    let d =
+    items_low (line_data r summary.reasons.items) 1 (line_low r summary.reasons.items)
+    summary.fates.items in
+    let e = items_low restoration_data 1 restoration_low restorations in
+    let f =
+    items_low (λ (g : Group). group_data labels (group_value g)) 2
+    (λ g. group_low labels (group_value g)) groups in
+    omega (arith, a, b, c, d, e, f)

@@ -1,0 +1,108 @@
+-- The document has no float, so its text is determined.
+use Rattle.std.proofs.Common.{◌≡◌, ℕ, List, Bool, true, false, Option, Some, None, refl, cond}
+use Rattle.serde_json.specs.Data.{null, string}
+use Rattle.serde_json.specs.Written.{has_float}
+use Rattle.retro_json.proofs.Floats.{array_float}
+use Rattle.retro_json.specs.Values.{number_data}
+use Rattle.retro_keep.specs.Recording.{RecordingValue}
+use Rattle.casebook_view.specs.Effects.{EffectValue, effect_value}
+use Rattle.casebook_view.specs.Groups.{GroupValue, group_value}
+use Rattle.casebook_view.specs.Reasons.{cause_in, failing_in, reason_at}
+use Rattle.casebook_view.specs.declared.effect.Effect.{Effect}
+use Rattle.casebook_view.specs.declared.fate.Fate.{Fate}
+use Rattle.casebook_view.specs.declared.group.Group.{Group}
+use Rattle.casebook_view.specs.declared.leak.Leak.{Leak}
+use Rattle.casebook_view.specs.declared.reason.Reason.{Reason}
+use Rattle.casebook_view.specs.declared.subject.Subject.{Subject}
+use Rattle.casebook_view.specs.declared.subject.Subject.TheVariants.{At, Directory, Variable}
+use Rattle.casebook_view.specs.declared.subject.Subject.TheVariants.{Status, Text}
+use Rattle.casebook_view.specs.declared.summary.Summary.{Summary}
+use Rattle.casebook_words.specs.declared.labels.Labels.{Labels}
+use Rattle.casebook_screen.specs.declared.restoration.Restoration.{Restoration}
+use Rattle.casebook_json.specs.Causes.{effect_data}
+use Rattle.casebook_json.specs.Counts.{counts_data}
+use Rattle.casebook_json.specs.Leaked.{leak_data}
+use Rattle.casebook_json.specs.Lines.{line_data, line_with_reason, origin_in}
+use Rattle.casebook_json.specs.Restore.{added_in, removed_in, restoration_data}
+use Rattle.casebook_json.specs.Summary.{summary_data, summary_with}
+use Rattle.casebook_json.specs.Tell.{group_data, subject_path, subject_variable}
+use Rattle.casebook_json.specs.Values.{number_or_null, path_data, user_data}
+
+number_float : (n : Option ℕ) → has_float (number_or_null n) ≡ false
+number_float None = refl
+number_float (Some n) = refl
+
+user_float : (labels : Labels) (session : ℕ) → has_float (user_data labels session) ≡ false
+user_float labels session = by_test _ _
+  where
+    by_test : (same : Bool) (name : List ℕ) → has_float (cond same null (string name)) ≡ false
+    by_test true name = refl
+    by_test false name = refl
+
+path_float : (subject : Subject) → has_float (subject_path subject) ≡ false
+path_float (At path) = refl
+path_float Directory = refl
+path_float (Variable name) = refl
+path_float Status = refl
+path_float Text = refl
+
+variable_float : (subject : Subject) → has_float (subject_variable subject) ≡ false
+variable_float (At path) = refl
+variable_float Directory = refl
+variable_float (Variable name) = refl
+variable_float Status = refl
+variable_float Text = refl
+
+restoration_float : (r : Restoration) → has_float (restoration_data r) ≡ false
+unfolding restoration_data
+restoration_float r = rw (number_float (added_in r.extent), number_float (removed_in r.extent)) refl
+
+group_float : (labels : Labels) (g : GroupValue) → has_float (group_data labels g) ≡ false
+unfolding group_data
+group_float labels g = rw (
+  array_float number_data (λ n. refl) g.lines,
+  path_float g.subject,
+  user_float labels g.session,
+  variable_float g.subject,
+) refl
+
+leak_float : (labels : Labels) (leak : Leak) → has_float (leak_data labels leak) ≡ false
+unfolding leak_data
+leak_float labels leak = rw (user_float labels leak.session) refl
+
+effect_float : (effect : EffectValue) → has_float (effect_data effect) ≡ false
+unfolding effect_data
+effect_float effect = rw (array_float path_data (λ p. refl) effect.wrote) refl
+
+reasoned_float : (session : ℕ) (reason : Option Reason) (line : ℕ × Fate)
+    → has_float (line_with_reason session reason line) ≡ false
+unfolding line_with_reason
+reasoned_float session reason line = rw (
+  number_float (cause_in reason),
+  number_float (failing_in reason),
+  number_float (origin_in reason),
+) refl
+
+line_float : (r : RecordingValue) (reasons : List Reason) (line : ℕ × Fate)
+    → has_float (line_data r reasons line) ≡ false
+line_float r reasons line = reasoned_float _ (reason_at line.0 reasons) line
+
+counts_float : (fates : List (ℕ × Fate)) → has_float (counts_data fates) ≡ false
+unfolding counts_data
+counts_float fates = refl
+
+pub summary_float : (r : RecordingValue) (summary : Summary) (restorations : List Restoration)
+    (groups : List Group) (is_recording : Bool) (labels : Labels)
+    → has_float (summary_data r summary restorations groups is_recording labels) ≡ false
+unfolding summary_with
+summary_float r summary restorations groups is_recording labels = rw (
+  array_float (λ (e : Effect). effect_data (effect_value e)) (λ e. effect_float (effect_value e))
+      summary.effects.items,
+  counts_float summary.fates.items,
+  array_float (leak_data labels) (leak_float labels) summary.leaks.items,
+  array_float (line_data r summary.reasons.items) (line_float r summary.reasons.items)
+      summary.fates.items,
+  array_float restoration_data restoration_float restorations,
+  array_float (λ (g : Group). group_data labels (group_value g))
+      (λ g. group_float labels (group_value g)) groups,
+) refl

@@ -1,0 +1,47 @@
+-- What a repair would do, as JSON.
+use Rattle.std.specs.Prelude.{ℕ, Bool, List, ◌++◌, codes, map}
+use Rattle.serde_json.specs.Data.{Data, boolean, object, no_members, member}
+use Rattle.serde_json.specs.Written.{compact_text}
+use Rattle.retro_json.specs.Values.{array_of, number_data}
+use Rattle.retro_keep.specs.Recording.{RecordingValue}
+use Rattle.casebook_view.specs.Effects.{effect_value}
+use Rattle.casebook_view.specs.Groups.{group_value}
+use Rattle.casebook_view.specs.declared.group.Group.{Group}
+use Rattle.casebook_view.specs.declared.summary.Summary.{Summary}
+use Rattle.casebook_words.specs.declared.labels.Labels.{Labels}
+use Rattle.casebook_screen.specs.declared.restoration.Restoration.{Restoration}
+use Rattle.casebook_json.specs.Causes.{effect_data}
+use Rattle.casebook_json.specs.Counts.{counts_data}
+use Rattle.casebook_json.specs.Leaked.{leak_data}
+use Rattle.casebook_json.specs.Lines.{line_data}
+use Rattle.casebook_json.specs.Restore.{restoration_data}
+use Rattle.casebook_json.specs.Tell.{group_data}
+
+-- `{"causes":..,"counts":..,"leaked":..,"lines":..,"recording":..,"restore":..,"show":1,
+-- "tell":..}`, with the keys in byte order, where these are the lines
+unfoldable pub summary_with : Data → Summary → List Restoration → List Group → Bool → Labels → Data
+summary_with lines summary restorations groups is_recording labels = object
+    (member (codes "causes")
+    (array_of (map (λ effect. effect_data (effect_value effect)) summary.effects.items))
+    (member (codes "counts") (counts_data summary.fates.items)
+    (member (codes "leaked") (array_of (map (leak_data labels) summary.leaks.items))
+    (member (codes "lines") lines
+    (member (codes "recording") (boolean is_recording)
+    (member (codes "restore") (array_of (map restoration_data restorations))
+    (member (codes "show") (number_data 1)
+    (member (codes "tell")
+    (array_of (map (λ group. group_data labels (group_value group)) groups)) no_members))))))))
+
+abbrev pub lines_data : RecordingValue → Summary → Data
+lines_data r summary = array_of (map (line_data r summary.reasons.items) summary.fates.items)
+
+abbrev pub summary_data :
+    RecordingValue → Summary → List Restoration → List Group → Bool → Labels → Data
+summary_data r summary restorations groups is_recording labels =
+    summary_with (lines_data r summary) summary restorations groups is_recording labels
+
+-- the document: compact, with a newline at the end
+unfoldable pub summary_text :
+    RecordingValue → Summary → List Restoration → List Group → Bool → Labels → List ℕ
+summary_text r summary restorations groups is_recording labels =
+    compact_text (summary_data r summary restorations groups is_recording labels) ++ codes "\n"

@@ -1,0 +1,22 @@
+//! What a repair would do, as one JSON document for programs.
+//!
+//! [`summary_json`] writes a `Sheet` of `casebook_screen`, which is also what a terminal shows of a
+//! repair. Each value of the sheet becomes a JSON value by a definition of its own in `specs/`, and
+//! nothing is computed anew. Every object has all its keys, and what there isn't is null.
+//!
+//! If allocation fails, calls return `NoMem`.
+#![tactic(auto)]
+
+mod count_value;
+mod effect_value;
+mod group_value;
+mod leak_value;
+mod line_value;
+mod restoration_value;
+mod summary;
+mod value;
+
+pub use summary::summary_json;
+
+/// Allocation failed.
+pub use retro_tree::NoMem;

@@ -1,0 +1,80 @@
+//! The document.
+ghost use Rattle.std.specs.Prelude.{◌≡◌, IfOk, IsTrue, Some, map, string_bytes};
+ghost use Rattle.serde_json.specs.Read.{read};
+ghost use Rattle.serde_json.specs.View.{view};
+ghost use Rattle.retro_json.specs.Values.{array_of};
+ghost use Rattle.retro_keep.specs.Script.{rises_from};
+ghost use Rattle.casebook_view.specs.Reasons.{number_in};
+ghost use Rattle.casebook_json.specs.Summary.{summary_data, summary_text, summary_with};
+
+use crate::NoMem;
+use crate::count_value::counts_value;
+use crate::effect_value::effect_values;
+use crate::group_value::group_values;
+use crate::leak_value::leak_values;
+use crate::line_value::line_values;
+use crate::restoration_value::restoration_values;
+use casebook_screen::Sheet;
+use casebook_words::Labels;
+use serde_json::{Value, json};
+use std::alloc::Global;
+
+/// The version of the document.
+const VERSION: u32 = 1;
+
+/// Returns the JSON value of what a repair would do, with these lines.
+#[tactic(auto, unfolding(crate::specs::Summary::summary_with))]
+fn summary_with(
+    alloc: Global,
+    lines: Vec<Value>,
+    sheet: Sheet<'_>,
+    labels: &Labels,
+) -> Result<Value, NoMem>
+    ensures { IfOk result (λ v. view v ≡ summary_with (array_of (map view lines.items))
+        sheet.entry.summary.now sheet.entry.restorations.now sheet.entry.groups.now
+        sheet.entry.is_recording labels.now) }
+{
+    let summary = sheet.summary;
+    json!(in alloc; {
+        "causes": effect_values(alloc, summary.effects.as_slice())?,
+        "counts": counts_value(alloc, summary.fates.as_slice())?,
+        "leaked": leak_values(alloc, labels, summary.leaks.as_slice())?,
+        "lines": lines,
+        "recording": sheet.is_recording,
+        "restore": restoration_values(alloc, sheet.restorations)?,
+        "show": VERSION,
+        "tell": group_values(alloc, labels, sheet.groups)?
+    })
+}
+
+/// Returns the JSON value of what a repair would do.
+fn summary_value(alloc: Global, sheet: Sheet<'_>, labels: &Labels) -> Result<Value, NoMem>
+    ensures { IsTrue (rises_from 0 (map number_in sheet.entry.summary.now.reasons.items))
+        → IfOk result (λ v. view v ≡ summary_data sheet.entry.recording.now
+        sheet.entry.summary.now sheet.entry.restorations.now sheet.entry.groups.now
+        sheet.entry.is_recording labels.now) }
+{
+    let reasons = sheet.summary.reasons.as_slice();
+    let fates = sheet.summary.fates.as_slice();
+    let lines = line_values(alloc, sheet.recording, reasons, fates)?;
+    summary_with(alloc, lines, sheet, labels)
+}
+
+/// Returns what a repair would do, for programs: compact JSON (RFC 8259) with keys in byte order,
+/// and a newline. The contract says so if the summary's reasons are in order of lines, as they are
+/// of a repair.
+pub fn summary_json(alloc: Global, sheet: Sheet<'_>, labels: &Labels) -> Result<String, NoMem>
+    ensures text { IsTrue (rises_from 0 (map number_in sheet.entry.summary.now.reasons.items))
+        → IfOk result (λ text. string_bytes text ≡ summary_text sheet.entry.recording.now
+        sheet.entry.summary.now sheet.entry.restorations.now sheet.entry.groups.now
+        sheet.entry.is_recording labels.now) }
+    ensures read { IsTrue (rises_from 0 (map number_in sheet.entry.summary.now.reasons.items))
+        → IfOk result (λ text. read (string_bytes text) ≡ Some (summary_data
+        sheet.entry.recording.now sheet.entry.summary.now sheet.entry.restorations.now
+        sheet.entry.groups.now sheet.entry.is_recording labels.now)) }
+{
+    let value = summary_value(alloc, sheet, labels)?;
+    let mut text = value.to_string(alloc)?;
+    text.push('\n')?;
+    Ok(text)
+}
