@@ -27,7 +27,7 @@ The log is a recording: yes.
 RESTORE  0 change, 0 come back, 1 go
   D /f  +0 -1
 
-TELL  1 people about 1 screen
+TELL  1 person about 1 screen
   1 /f                                   1x  lines 2
 
 LEAKED  0 cancelled lines showed something

@@ -55,9 +55,13 @@ people_after last [] = zero
 people_after last (g ∷ groups) =
     (if is_session last g.session then zero else suc zero) + people_after (Some g.session) groups
 
+-- how many people there are: '1 person', '2 people'
+unfoldable pub people_words : ℕ → List ℕ
+people_words people = decimal people ++ (if people == 1 then codes " person" else codes " people")
+
 unfoldable pub notices_head : ℕ → ℕ → List ℕ
 notices_head people screens =
-    codes "TELL  " ++ decimal people ++ codes " people about " ++ count_words (codes "screen") screens
+    codes "TELL  " ++ people_words people ++ codes " about " ++ count_words (codes "screen") screens
 
 -- an empty line, how many people are told and about how many screens, and each group
 abbrev pub notice_lines : Labels → ℕ → ℕ → List Group → List (List ℕ)

@@ -3,7 +3,7 @@ ghost use Rattle.std.specs.Prelude.{◌≡◌, ◌++◌, IfOk, None, OnOk, flat_
 ghost use Rattle.casebook_view.specs.Groups.{group_value};
 ghost use Rattle.casebook_screen.specs.Notices.{first_numbers, group_text};
 ghost use Rattle.casebook_screen.specs.Notices.{is_session, notice_lines, notices_head};
-ghost use Rattle.casebook_screen.specs.Notices.{number_piece, people_after, subject_words};
+ghost use Rattle.casebook_screen.specs.Notices.{number_piece, people_after, people_words, subject_words};
 
 use crate::NoMem;
 use crate::layout::{indented, number_column, push_padded};
@@ -115,6 +115,19 @@ fn count_people(groups: &[Group]) -> usize
     people
 }
 
+/// Appends how many people there are.
+#[tactic(auto, unfolding(crate::specs::Notices::people_words))]
+fn push_people(alloc: Global, line: &mut SafeLine, people: usize) -> Result<(), NoMem>
+    ensures { OnOk result (line.new ≡ line.old ++ people_words people) }
+{
+    line.push_number(alloc, people as u64)?;
+    if people == 1 {
+        line.push_ascii(" person")
+    } else {
+        line.push_ascii(" people")
+    }
+}
+
 /// Returns how many people are told, and about how many screens.
 #[tactic(auto, unfolding(crate::specs::Notices::notices_head))]
 fn notices_head(alloc: Global, people: usize, screens: usize) -> Result<SafeLine, NoMem>
@@ -122,8 +135,8 @@ fn notices_head(alloc: Global, people: usize, screens: usize) -> Result<SafeLine
 {
     let mut line = SafeLine::new(alloc);
     line.push_ascii("TELL  ")?;
-    line.push_number(alloc, people as u64)?;
-    line.push_ascii(" people about ")?;
+    push_people(alloc, &mut line, people)?;
+    line.push_ascii(" about ")?;
     push_count(alloc, &mut line, screens, "screen")?;
     Ok(line)
 }

@@ -55,7 +55,7 @@ RESTORE  3 change, 0 come back, 1 go
   D /d/made    directory
   M /d/turned  becomes a file
 
-TELL  1 people about 2 screens
+TELL  1 person about 2 screens
   1        /d/last                              1x  lines 3
   1        a replaced line                      1x  lines 4
 
