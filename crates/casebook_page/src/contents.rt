@@ -6,7 +6,7 @@ use casebook_words::Labels;
 #[derive(Drop, Clone, Copy)]
 pub struct Contents<'a> {
     /// The recording and its repair.
-    pub case: Case<'a>,
+    pub case: &'a Case<'a>,
     /// What the repair would do.
     pub summary: &'a Summary,
     /// The rows of the recording, in order.

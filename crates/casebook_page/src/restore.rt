@@ -6,17 +6,9 @@ use crate::merged::Merged;
 use crate::pair::{push_diff, push_preview};
 use crate::shown::{push_link, push_none, push_shown_path};
 use crate::tag::Tag;
-use casebook_cause::{ChangedPath, PathChange, cause_of};
-use retro_history::History;
+use casebook_cause::{ChangedPath, PathChange};
 use retro_tree::{Ask, Entry, Path, Tree};
 use std::alloc::Global;
-
-/// The histories of a recording and of its repaired recording.
-#[derive(Drop, Clone, Copy)]
-struct Histories<'h, 'r> {
-    recorded: &'h History<'r>,
-    repaired: &'h History<'r>,
-}
 
 /// Returns how many paths differ in a way.
 fn count(paths: &[ChangedPath], change: PathChange) -> usize {
@@ -76,18 +68,11 @@ fn push_kind(
 fn push_writer(
     html: &mut Html,
     alloc: Global,
-    histories: Histories<'_, '_>,
+    contents: Contents<'_>,
     path: &Path,
 ) -> Result<(), NoMem> {
     let ask = Ask::Bytes(path.copy()?);
-    let last = cause_of(
-        alloc,
-        histories.recorded,
-        histories.repaired,
-        u32::MAX,
-        &ask,
-    )?;
-    if let Some(number) = last {
+    if let Some(number) = contents.case.cause_of(alloc, u32::MAX, &ask)? {
         html.fixed(Tag::Small)?;
         html.words(alloc, "last written otherwise by ")?;
         push_link(html, alloc, number)?;
@@ -101,11 +86,10 @@ fn push_row(
     html: &mut Html,
     alloc: Global,
     contents: Contents<'_>,
-    histories: Histories<'_, '_>,
     path: &ChangedPath,
 ) -> Result<(), NoMem> {
-    let before = contents.case.recording.last().tree();
-    let after = contents.case.repair.state().tree();
+    let before = contents.case.recording().last().tree();
+    let after = contents.case.repair().state().tree();
     let old = file_at(before, &path.path);
     let new = file_at(after, &path.path);
     let merged = Merged::of(alloc, old, new)?;
@@ -115,7 +99,7 @@ fn push_row(
     push_kind(html, alloc, before.get(&path.path), after.get(&path.path))?;
     push_preview(html, alloc, &merged)?;
     html.fixed(Tag::RowBody)?;
-    push_writer(html, alloc, histories, &path.path)?;
+    push_writer(html, alloc, contents, &path.path)?;
     push_diff(html, alloc, &merged)?;
     html.fixed(Tag::DetailsEnd)
 }
@@ -127,14 +111,8 @@ fn push_rows(
     contents: Contents<'_>,
     paths: &[ChangedPath],
 ) -> Result<(), NoMem> {
-    let recorded = History::of(alloc, contents.case.recording)?;
-    let repaired = History::of(alloc, &contents.case.repair.recording)?;
-    let histories = Histories {
-        recorded: &recorded,
-        repaired: &repaired,
-    };
     for path in paths {
-        push_row(html, alloc, contents, histories, path)?;
+        push_row(html, alloc, contents, path)?;
     }
     Ok(())
 }

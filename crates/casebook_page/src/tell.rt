@@ -29,8 +29,8 @@ fn push_subject(html: &mut Html, alloc: Global, subject: &Subject) -> Result<(),
 /// Returns what a line printed, and what it prints in the repaired run.
 pub(crate) fn outputs_of(contents: Contents<'_>, number: u32) -> (&[u8], &[u8]) {
     match (
-        contents.case.recording.run_of(number),
-        contents.case.repair.recording.run_of(number),
+        contents.case.recording().run_of(number),
+        contents.case.repair().recording.run_of(number),
     ) {
         (Some(old), Some(new)) => (old.output.as_slice(), new.output.as_slice()),
         _ => (&[], &[]),

@@ -54,14 +54,14 @@ fn labels_of(alloc: Global, names: &[(u32, &str)]) -> Result<Labels, Fail> {
 }
 
 /// Returns the page of a repair.
-fn page_of_case(alloc: Global, case: Case<'_>, given: Given<'_>) -> Result<String, Fail> {
+fn page_of_case(alloc: Global, case: &Case<'_>, given: Given<'_>) -> Result<String, Fail> {
     let summary = Summary::of(alloc, case)?;
     let mut filters = Filters {
         tests: Vec::new(alloc),
         text: None,
         shown: None,
     };
-    let lines = rows(alloc, case.recording, &mut filters)?;
+    let lines = rows(alloc, case.recording(), &mut filters)?;
     let labels = labels_of(alloc, given.names)?;
     let contents = Contents {
         case,
@@ -79,9 +79,6 @@ fn page_of_case(alloc: Global, case: Case<'_>, given: Given<'_>) -> Result<Strin
 pub(crate) fn page_of(alloc: Global, given: Given<'_>) -> Result<String, Fail> {
     let recording = recording_of(alloc, given.script)?;
     let repair = repair_of(alloc, &recording, given.cancelled)?;
-    let case = Case {
-        recording: &recording,
-        repair: &repair,
-    };
-    page_of_case(alloc, case, given)
+    let case = Case::of(alloc, &recording, &repair)?;
+    page_of_case(alloc, &case, given)
 }

@@ -19,7 +19,6 @@ use crate::why_text::{Explainer, reason_line};
 use casebook_text::SafeLine;
 use casebook_view::{Case, Fate, Reason, Summary};
 use casebook_words::{push_note, shown_lines};
-use retro_history::History;
 use retro_keep::Noted;
 use retro_redo::Repair;
 use retro_tree::Note;
@@ -133,10 +132,9 @@ fn reason_lines(
     explainer: Explainer<'_, '_>,
     reason: Option<&Reason>,
 ) -> Result<Vec<SafeLine>, NoMem>
-    requires { explainer.repaired.now ≡ explainer.case.repair.now.recording }
     ensures { IsTrue (rises_from 0 (map number_in explainer.entry.summary.now.reasons.items))
-        → IfOk result (λ lines. lines.items ≡ reason_lines explainer.entry.case.recording.now
-        explainer.entry.case.repair.now explainer.entry.summary.now.reasons.items
+        → IfOk result (λ lines. lines.items ≡ reason_lines explainer.entry.case.now.recording
+        explainer.entry.case.now.repair explainer.entry.summary.now.reasons.items
         (option_copied reason.entry)) }
 {
     let mut lines = Vec::new(alloc);
@@ -181,10 +179,9 @@ fn outcome_lines(
     explainer: Explainer<'_, '_>,
     number: u32,
 ) -> Result<Vec<SafeLine>, NoMem>
-    requires { explainer.repaired.now ≡ explainer.case.repair.now.recording }
     ensures { IsTrue (rises_from 0 (map number_in explainer.entry.summary.now.reasons.items))
-        → IfOk result (λ lines. lines.items ≡ outcome_lines explainer.entry.case.recording.now
-        explainer.entry.case.repair.now explainer.entry.summary.now number) }
+        → IfOk result (λ lines. lines.items ≡ outcome_lines explainer.entry.case.now.recording
+        explainer.entry.case.now.repair explainer.entry.summary.now number) }
 {
     let summary = explainer.summary;
     let reason = reason_of(summary.reasons.as_slice(), number);
@@ -218,13 +215,12 @@ fn lines_of_detail(
     number: u32,
     noted: &Noted,
 ) -> Result<Vec<SafeLine>, NoMem>
-    requires { explainer.repaired.now ≡ explainer.case.repair.now.recording }
     ensures { IsTrue (rises_from 0 (map number_in explainer.entry.summary.now.reasons.items))
-        → IfOk result (λ lines. lines.items ≡ lines_of_detail explainer.entry.case.recording.now
-        explainer.entry.case.repair.now explainer.entry.summary.now names.entry.labels.now
+        → IfOk result (λ lines. lines.items ≡ lines_of_detail explainer.entry.case.now.recording
+        explainer.entry.case.now.repair explainer.entry.summary.now names.entry.labels.now
         names.entry.width number noted.now) }
 {
-    let repair = explainer.case.repair;
+    let repair = explainer.case.repair();
     let reason = reason_of(explainer.summary.reasons.as_slice(), number);
     let mut lines = Vec::new(alloc);
     lines.push(detail_head(alloc, names, number, noted)?)?;
@@ -239,23 +235,18 @@ fn lines_of_detail(
 /// order of lines, as they are of a repair.
 pub fn detail_lines(
     alloc: Global,
-    case: Case<'_>,
+    case: &Case<'_>,
     summary: &Summary,
     names: Names<'_>,
     number: u32,
 ) -> Result<Vec<SafeLine>, NoMem>
     ensures { IsTrue (rises_from 0 (map number_in summary.now.reasons.items))
-        → IfOk result (λ lines. lines.items ≡ detail_lines case.entry.recording.now
-        case.entry.repair.now summary.now names.entry.labels.now names.entry.width number) }
+        → IfOk result (λ lines. lines.items ≡ detail_lines case.now.recording
+        case.now.repair summary.now names.entry.labels.now names.entry.width number) }
 {
-    let Some(noted) = case.recording.run_of(number) else {
+    let Some(noted) = case.recording().run_of(number) else {
         return Ok(Vec::new(alloc));
     };
-    let repaired = History::of(alloc, &case.repair.recording)?;
-    let explainer = Explainer {
-        case,
-        repaired: &repaired,
-        summary,
-    };
+    let explainer = Explainer { case, summary };
     lines_of_detail(alloc, explainer, names, number, noted)
 }

@@ -145,17 +145,18 @@ fn output_diffs(alloc: Global, compensations: &[Compensation]) -> Result<Vec<Saf
 /// as that of a directory, has none. The lines of texts are compared as they are shown.
 pub fn diff_lines(
     alloc: Global,
-    case: Case<'_>,
+    case: &Case<'_>,
     changed: &[ChangedPath],
 ) -> Result<Vec<SafeLine>, NoMem>
     ensures { IfOk result (λ lines. AreDiffs
-        case.entry.recording.now case.entry.repair.now changed.now lines.items) }
+        case.now.recording case.now.repair changed.now lines.items) }
 {
-    let before = case.recording.last().tree();
-    let after = case.repair.state().tree();
+    let repair = case.repair();
+    let before = case.recording().last().tree();
+    let after = repair.state().tree();
     let mut lines = Vec::new(alloc);
     lines.push(SafeLine::new(alloc))?;
     lines.append(&mut path_diffs(alloc, before, after, changed)?)?;
-    lines.append(&mut output_diffs(alloc, case.repair.compensations.as_slice())?)?;
+    lines.append(&mut output_diffs(alloc, repair.compensations.as_slice())?)?;
     Ok(lines)
 }

@@ -136,17 +136,17 @@ fn restorations_of(
 /// machine differ at the end, in order. The lines of each file are compared.
 pub fn to_restore(
     alloc: Global,
-    case: Case<'_>,
+    case: &Case<'_>,
     changed: &[ChangedPath],
 ) -> Result<Vec<Restoration>, NoMem>
     ensures { IfOk result (λ found. AreRestorations
-        (last_state case.entry.recording.now.lines case.entry.recording.now.first).tree
-        (repaired_state case.entry.repair.now).tree changed.now found.items) }
+        (last_state case.now.recording.lines case.now.recording.first).tree
+        (repaired_state case.now.repair).tree changed.now found.items) }
 {
     restorations_of(
         alloc,
-        case.recording.last().tree(),
-        case.repair.state().tree(),
+        case.recording().last().tree(),
+        case.repair().state().tree(),
         changed,
     )
 }

@@ -18,7 +18,6 @@ use crate::row_text::INDENT;
 use casebook_text::SafeLine;
 use casebook_view::{Case, Fate, Reason, Summary, answers_of, chain};
 use casebook_words::{push_difference, push_query};
-use retro_history::History;
 use retro_keep::Recording;
 use std::alloc::Global;
 
@@ -29,9 +28,7 @@ const TEXT_LIMIT: usize = 57;
 #[derive(Drop, Clone, Copy)]
 pub(crate) struct Explainer<'a, 'h> {
     /// The recording and its repair.
-    pub(crate) case: Case<'a>,
-    /// The history of the repaired recording.
-    pub(crate) repaired: &'h History<'a>,
+    pub(crate) case: &'h Case<'a>,
     /// What the repair would do.
     pub(crate) summary: &'h Summary,
 }
@@ -75,11 +72,10 @@ fn push_failing(
     explainer: Explainer<'_, '_>,
     reason: &Reason,
 ) -> Result<(), NoMem>
-    requires { explainer.repaired.now ≡ explainer.case.repair.now.recording }
     ensures { OnOk result (line.new ≡ line.old ++ failing_words (answers_of
-        explainer.entry.case.recording.now explainer.entry.case.repair.now reason.now)) }
+        explainer.entry.case.now.recording explainer.entry.case.now.repair reason.now)) }
 {
-    match answers_of(alloc, explainer.case, explainer.repaired, reason)? {
+    match answers_of(alloc, explainer.case, reason)? {
         Some(found) => {
             push_query(alloc, line, found.ask)?;
             push_difference(alloc, line, found.recorded, &found.repaired)
@@ -96,10 +92,9 @@ pub(crate) fn reason_line(
     explainer: Explainer<'_, '_>,
     reason: &Reason,
 ) -> Result<SafeLine, NoMem>
-    requires { explainer.repaired.now ≡ explainer.case.repair.now.recording }
     ensures { IsTrue (rises_from 0 (map number_in explainer.entry.summary.now.reasons.items))
-        → IfOk result (λ line. line ≡ reason_text explainer.entry.case.recording.now
-        explainer.entry.case.repair.now explainer.entry.summary.now.reasons.items reason.now) }
+        → IfOk result (λ line. line ≡ reason_text explainer.entry.case.now.recording
+        explainer.entry.case.now.repair explainer.entry.summary.now.reasons.items reason.now) }
 {
     let causes = chain(alloc, explainer.summary.reasons.as_slice(), reason.number)?;
     let mut line = indented(alloc, INDENT)?;
@@ -142,14 +137,13 @@ fn push_why(
     names: Names<'_>,
     reason: &Reason,
 ) -> Result<(), NoMem>
-    requires { explainer.repaired.now ≡ explainer.case.repair.now.recording }
     ensures { IsTrue (rises_from 0 (map number_in explainer.entry.summary.now.reasons.items))
         → OnOk result (lines.new.items ≡ lines.old.items ++ lines_of_why
-        explainer.entry.case.recording.now explainer.entry.case.repair.now
+        explainer.entry.case.now.recording explainer.entry.case.now.repair
         explainer.entry.summary.now.reasons.items names.entry.labels.now names.entry.width
         reason.now) }
 {
-    let recording = explainer.case.recording;
+    let recording = explainer.case.recording();
     lines.push(why_head(alloc, recording, names, reason.number)?)?;
     lines.push(reason_line(alloc, explainer, reason)?)?;
     Ok(())
@@ -170,12 +164,11 @@ fn push_whys(
     explainer: Explainer<'_, '_>,
     names: Names<'_>,
 ) -> Result<(), NoMem>
-    requires { explainer.repaired.now ≡ explainer.case.repair.now.recording }
     ensures { IsTrue (rises_from 0 (map (λ f. f.0) explainer.entry.summary.now.fates.items))
         → IsTrue (rises_from 0 (map number_in explainer.entry.summary.now.reasons.items))
         → OnOk result (lines.new.items
-        ≡ lines.old.items ++ flat_map (lines_of_why explainer.entry.case.recording.now
-        explainer.entry.case.repair.now explainer.entry.summary.now.reasons.items
+        ≡ lines.old.items ++ flat_map (lines_of_why explainer.entry.case.now.recording
+        explainer.entry.case.now.repair explainer.entry.summary.now.reasons.items
         names.entry.labels.now names.entry.width)
         (filter (has_other_result explainer.entry.summary.now.fates.items)
         explainer.entry.summary.now.reasons.items)) }
@@ -203,21 +196,16 @@ fn why_title(alloc: Global) -> Result<SafeLine, NoMem>
 /// comes from. The contract says so if the summary's lines are in order, as they are of a repair.
 pub fn why_lines(
     alloc: Global,
-    case: Case<'_>,
+    case: &Case<'_>,
     summary: &Summary,
     names: Names<'_>,
 ) -> Result<Vec<SafeLine>, NoMem>
     ensures { IsTrue (rises_from 0 (map (λ f. f.0) summary.now.fates.items))
         → IsTrue (rises_from 0 (map number_in summary.now.reasons.items)) → IfOk result (λ lines. lines.items
-        ≡ why_lines case.entry.recording.now case.entry.repair.now summary.now
+        ≡ why_lines case.now.recording case.now.repair summary.now
         names.entry.labels.now names.entry.width) }
 {
-    let repaired = History::of(alloc, &case.repair.recording)?;
-    let explainer = Explainer {
-        case,
-        repaired: &repaired,
-        summary,
-    };
+    let explainer = Explainer { case, summary };
     let mut lines = Vec::new(alloc);
     lines.push(SafeLine::new(alloc))?;
     lines.push(why_title(alloc)?)?;

@@ -29,7 +29,7 @@ enum Show {
 /// A repair, its summary, and what sessions and lines are called.
 #[derive(Drop, Clone, Copy)]
 struct Shown<'a> {
-    case: Case<'a>,
+    case: &'a Case<'a>,
     summary: &'a Summary,
     names: Names<'a>,
 }
@@ -82,7 +82,7 @@ fn lines_of_summary(
     let restorations = to_restore(alloc, shown.case, paths)?;
     let groups = grouped(alloc, shown.summary.notices.as_slice())?;
     let sheet = Sheet {
-        recording: shown.case.recording,
+        recording: shown.case.recording(),
         summary: shown.summary,
         restorations: restorations.as_slice(),
         groups: groups.as_slice(),
@@ -124,7 +124,7 @@ fn hold_rows(alloc: Global, shown: Shown<'_>, rows: &[(Show, &str)]) -> Result<(
 /// Compares what is shown of a repair with this summary.
 fn hold_summary<'a>(
     alloc: Global,
-    case: Case<'a>,
+    case: &'a Case<'a>,
     summary: &'a Summary,
     table: Table<'_>,
 ) -> Result<(), Fail> {
@@ -142,7 +142,7 @@ fn hold_summary<'a>(
 }
 
 /// Compares what is shown of a repair.
-fn hold_case(alloc: Global, case: Case<'_>, table: Table<'_>) -> Result<(), Fail> {
+fn hold_case(alloc: Global, case: &Case<'_>, table: Table<'_>) -> Result<(), Fail> {
     let summary = Summary::of(alloc, case)?;
     hold_summary(alloc, case, &summary, table)
 }
@@ -155,11 +155,8 @@ fn hold_repair(
     table: Table<'_>,
 ) -> Result<(), Fail> {
     let repair = repair_of(alloc, recording, edited)?;
-    let case = Case {
-        recording,
-        repair: &repair,
-    };
-    hold_case(alloc, case, table)
+    let case = Case::of(alloc, recording, &repair)?;
+    hold_case(alloc, &case, table)
 }
 
 /// Compares what is shown of the repair of a script.

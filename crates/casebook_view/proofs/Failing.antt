@@ -67,20 +67,22 @@ one_cause : (r : RecordingValue) (repair : Repair) (n : ℕ) (q : Ask) (cause : 
 one_cause r repair n q None none some = none refl
 one_cause r repair n q (Some m) none some = some
 
-cause_from : (r : RecordingValue) (repair : Repair) (n : ℕ) (q : Ask) (query : Option Ask) (cause : Option ℕ)
-    → Some q ≡ query → (cause ≡ None → (m : ℕ) → m < n → IsAlike q r repair.recording m)
-    → IfSome cause (IsCause q n r repair.recording) → IsCauseOf r repair n query cause
-cause_from r repair n q query cause is none some =
-    subst (λ o. IsCauseOf r repair n o cause) is (one_cause r repair n q cause none some)
+-- the cause as it is found in recordings that are those of a case
+pub cause_in_both : {E : Type 0} (r one two : RecordingValue) (repair : Repair) (n : ℕ) (q : Ask)
+    (found : Result (Option ℕ) E) → one ≡ r → two ≡ repair.recording
+    → IfOk found (λ cause. cause ≡ None → (m : ℕ) → m < n → IsAlike q one two m)
+    → IfOk found (λ cause. IfSome cause (IsCause q n one two)) → IfOk found (IsCauseOf r repair n (Some q))
+cause_in_both r one two repair n q (Ok cause) is_r is_repaired none some =
+    one_cause r repair n q cause
+    (subst (λ t. cause ≡ None → (m : ℕ) → m < n → IsAlike q r t m) is_repaired
+    (subst (λ o. cause ≡ None → (m : ℕ) → m < n → IsAlike q o two m) is_r none))
+    (subst (λ t. IfSome cause (IsCause q n r t)) is_repaired (subst (λ o. IfSome cause (IsCause q n o two)) is_r some))
+cause_in_both r one two repair n q (Err e) is_r is_repaired none some = tt
 
-pub cause_from_ok : {E : Type 0} (r : RecordingValue) (repair : Repair) (n : ℕ) (q : Ask) (query : Option Ask)
-    (found : Result (Option ℕ) E)
-    → Some q ≡ query
-    → IfOk found (λ cause. cause ≡ None → (m : ℕ) → m < n → IsAlike q r repair.recording m)
-    → IfOk found (λ cause. IfSome cause (IsCause q n r repair.recording))
+pub cause_from : {E : Type 0} (r : RecordingValue) (repair : Repair) (n : ℕ) (q : Ask) (query : Option Ask)
+    (found : Result (Option ℕ) E) → Some q ≡ query → IfOk found (IsCauseOf r repair n (Some q))
     → IfOk found (IsCauseOf r repair n query)
-cause_from_ok r repair n q query (Ok cause) is none some = cause_from r repair n q query cause is none some
-cause_from_ok r repair n q query (Err e) is none some = tt
+cause_from r repair n q query found is cause = subst (λ o. IfOk found (IsCauseOf r repair n o)) is cause
 
 pub no_cause : (r : RecordingValue) (repair : Repair) (n : ℕ) (query : Option Ask)
     → None ≡ query → IsCauseOf r repair n query None

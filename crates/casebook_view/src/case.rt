@@ -1,39 +1,110 @@
 //! Recordings with their repairs.
-ghost use Rattle.std.specs.Prelude.{◌≡◌};
+ghost use Rattle.std.specs.Prelude.{◌≡◌, IfOk, Some};
 ghost use Rattle.std.specs.Option.{option_copied};
+ghost use Rattle.retro_keep.specs.Recorded.{recorded_before};
 ghost use Rattle.retro_keep.specs.Recording.{noted_at};
 ghost use Rattle.casebook_view.specs.Fates.{session_in};
+ghost use Rattle.casebook_view.specs.Reasons.{IsCauseOf};
 
+use crate::NoMem;
+use casebook_cause::cause_of;
+use retro_history::{At, History};
 use retro_keep::{Noted, Recording};
 use retro_redo::Repair;
+use retro_tree::Ask;
+use std::alloc::Global;
+use std::marker::Model;
 
 /// A recording and a repair of it. Everything that is shown of a repair is read from these two.
-#[derive(Drop, Clone, Copy)]
+///
+/// A case borrows both, and keeps the histories of the recording and of the repaired one. Making it
+/// takes one pass over the notes of each.
+#[derive(Drop)]
 pub struct Case<'a> {
-    /// The recording.
-    pub recording: &'a Recording,
-    /// Its repair.
-    pub repair: &'a Repair,
+    recorded: History<'a>,
+    repaired: History<'a>,
+    repair: &'a Repair,
+}
+
+impl<'a> Model for Case<'a> {
+    ghost use Rattle.std.specs.Prelude.{◌≡◌};
+    ghost use Rattle.casebook_view.specs.inner.Cases.{CaseValue, coded_case};
+
+    ghost Value = { CaseValue };
+
+    ghost coded = { coded_case };
+
+    ghost view = { λ a. record { recording = a.recorded; repair = a.repair.now } };
+
+    ghost invariant = { λ a. a.repaired ≡ a.repair.now.recording };
 }
 
 impl<'a> Case<'a> {
+    /// Returns a recording with a repair of it.
+    pub fn of(
+        alloc: Global,
+        recording: &'a Recording,
+        repair: &'a Repair,
+    ) -> Result<Case<'a>, NoMem>
+        ensures recording { IfOk result (λ case. case.recording ≡ recording.now) }
+        ensures repair { IfOk result (λ case. case.repair ≡ repair.now) }
+    {
+        Ok(Case {
+            recorded: History::of(alloc, recording)?,
+            repaired: History::of(alloc, &repair.recording)?,
+            repair,
+        })
+    }
+
+    /// Returns the recording.
+    pub fn recording(&self) -> &'a Recording
+        ensures { result.now ≡ self.now.recording }
+    {
+        self.recorded.recording()
+    }
+
+    /// Returns its repair.
+    pub fn repair(&self) -> &'a Repair
+        ensures { result.now ≡ self.now.repair }
+    {
+        self.repair
+    }
+
+    /// Returns the cause of what a query answers before the line with a number: the last line
+    /// before it that changes the cells of the query otherwise in the repaired recording. Returns
+    /// `None` if all lines before it change these cells alike.
+    pub fn cause_of(&self, alloc: Global, number: u32, ask: &Ask) -> Result<Option<u32>, NoMem>
+        ensures { IfOk result
+            (IsCauseOf self.now.recording self.now.repair number (Some ask.now)) }
+    {
+        cause_of(alloc, &self.recorded, &self.repaired, number, ask)
+    }
+
+    /// Returns the repaired state before the line with a number, as a view. No line needs to have
+    /// the number. Takes no memory.
+    pub(crate) fn repaired_before(&self, number: u32) -> At<'_, 'a>
+        ensures { result ≡ recorded_before number self.now.repair.recording }
+    {
+        self.repaired.at(number)
+    }
+
     /// Returns a line as it was recorded.
     pub(crate) fn recorded(&self, number: u32) -> Option<&'a Noted>
-        ensures { option_copied result ≡ noted_at number self.now.recording.now.lines }
+        ensures { option_copied result ≡ noted_at number self.now.recording.lines }
     {
-        self.recording.run_of(number)
+        self.recording().run_of(number)
     }
 
     /// Returns a line as it runs in the repaired recording.
     pub(crate) fn repaired(&self, number: u32) -> Option<&'a Noted>
-        ensures { option_copied result ≡ noted_at number self.now.repair.now.recording.lines }
+        ensures { option_copied result ≡ noted_at number self.now.repair.recording.lines }
     {
         self.repair.recording.run_of(number)
     }
 
     /// Returns the session that ran a line, or 0 if there is no such line.
     pub(crate) fn session_of(&self, number: u32) -> u32
-        ensures { result ≡ session_in (noted_at number self.now.recording.now.lines) }
+        ensures { result ≡ session_in (noted_at number self.now.recording.lines) }
     {
         match self.recorded(number) {
             Some(noted) => noted.sid,

@@ -71,9 +71,9 @@ fn is_origin(reasons: &[Reason], line: &(u32, Fate)) -> bool
 }
 
 /// Returns the paths that a line wrote.
-fn wrote(alloc: Global, case: Case<'_>, number: u32) -> Result<Vec<Path>, NoMem>
+fn wrote(alloc: Global, case: &Case<'_>, number: u32) -> Result<Vec<Path>, NoMem>
     ensures { IfOk result (λ paths.
-        paths.items ≡ paths_written case.entry.recording.now number) }
+        paths.items ≡ paths_written case.now.recording number) }
 {
     match case.recorded(number) {
         Some(noted) => written_paths(alloc, noted.notes.as_slice()),
@@ -84,14 +84,14 @@ fn wrote(alloc: Global, case: Case<'_>, number: u32) -> Result<Vec<Path>, NoMem>
 /// Returns what a line led to.
 fn effect_of(
     alloc: Global,
-    case: Case<'_>,
+    case: &Case<'_>,
     reasons: &[Reason],
     fates: &[(u32, Fate)],
     number: u32,
 ) -> Result<Effect, NoMem>
     ensures { IsTrue (rises_from 0 (map number_in reasons.now)) → IfOk result (λ effect.
         effect_value effect
-        ≡ effect_of case.entry.recording.now reasons.now fates.now number) }
+        ≡ effect_of case.now.recording reasons.now fates.now number) }
 {
     Ok(Effect {
         number,
@@ -105,13 +105,13 @@ fn effect_of(
 /// to the number of these lines times the number of all lines.
 pub fn effects(
     alloc: Global,
-    case: Case<'_>,
+    case: &Case<'_>,
     reasons: &[Reason],
     fates: &[(u32, Fate)],
 ) -> Result<Vec<Effect>, NoMem>
     ensures { IsTrue (rises_from 0 (map number_in reasons.now)) → IfOk result (λ found.
         map effect_value found.items
-        ≡ effects_of case.entry.recording.now reasons.now fates.now) }
+        ≡ effects_of case.now.recording reasons.now fates.now) }
 {
     let mut found = Vec::new(alloc);
     for line in fates {

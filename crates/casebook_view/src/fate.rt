@@ -42,9 +42,9 @@ fn fate_of_runs(old: &Noted, new: &Noted) -> Fate
 }
 
 /// Returns what becomes of a line that is run again, by its recorded run.
-fn fate_after(case: Case<'_>, number: u32, old: &Noted) -> Fate
+fn fate_after(case: &Case<'_>, number: u32, old: &Noted) -> Fate
     ensures { IsRedoneFate (Some old.now)
-        (noted_at number case.entry.repair.now.recording.lines) result }
+        (noted_at number case.now.repair.recording.lines) result }
 {
     match case.repaired(number) {
         Some(new) => fate_of_runs(old, new),
@@ -53,9 +53,9 @@ fn fate_after(case: Case<'_>, number: u32, old: &Noted) -> Fate
 }
 
 /// Returns what becomes of a line that is run again.
-fn fate_of_redone(case: Case<'_>, number: u32) -> Fate
-    ensures { IsRedoneFate (noted_at number case.entry.recording.now.lines)
-        (noted_at number case.entry.repair.now.recording.lines) result }
+fn fate_of_redone(case: &Case<'_>, number: u32) -> Fate
+    ensures { IsRedoneFate (noted_at number case.now.recording.lines)
+        (noted_at number case.now.repair.recording.lines) result }
 {
     match case.recorded(number) {
         Some(old) => fate_after(case, number, old),
@@ -85,10 +85,10 @@ fn met_lines(alloc: Global, met: &[u32]) -> Result<BTreeSet<u32>, NoMem>
 }
 
 /// Returns what becomes of a line with a verdict.
-fn fate_of(case: Case<'_>, met: &BTreeSet<u32>, number: u32, verdict: Verdict) -> Fate
+fn fate_of(case: &Case<'_>, met: &BTreeSet<u32>, number: u32, verdict: Verdict) -> Fate
     ensures { ((n : ℕ) → list_any (is_at (nat_cmp n)) met.now.keys
-        ≡ is_among case.entry.repair.now.met.items n)
-        → IsFate case.entry.recording.now case.entry.repair.now number verdict result }
+        ≡ is_among case.now.repair.met.items n)
+        → IsFate case.now.recording case.now.repair number verdict result }
 {
     match verdict {
         Verdict::Cancelled => Fate::Cancelled,
@@ -104,13 +104,13 @@ fn fate_of(case: Case<'_>, met: &BTreeSet<u32>, number: u32, verdict: Verdict) -
 }
 
 /// Returns what becomes of each line, in order.
-pub fn fates(alloc: Global, case: Case<'_>) -> Result<Vec<(u32, Fate)>, NoMem>
-    ensures { IfOk result (λ fates. AreFates case.entry.recording.now case.entry.repair.now
-        case.entry.repair.now.verdicts.items fates.items) }
+pub fn fates(alloc: Global, case: &Case<'_>) -> Result<Vec<(u32, Fate)>, NoMem>
+    ensures { IfOk result (λ fates. AreFates case.now.recording case.now.repair
+        case.now.repair.verdicts.items fates.items) }
 {
-    let met = met_lines(alloc, case.repair.met.as_slice())?;
+    let met = met_lines(alloc, case.repair().met.as_slice())?;
     let mut fates = Vec::new(alloc);
-    for line in &case.repair.verdicts {
+    for line in &case.repair().verdicts {
         fates.push((line.0, fate_of(case, &met, line.0, line.1)))?;
     }
     Ok(fates)

@@ -21,8 +21,8 @@ pub struct Leak {
 }
 
 /// Returns the leak of a cancelled line that is compensated.
-fn leak_of(case: Case<'_>, compensation: &Compensation) -> Leak
-    ensures { result ≡ leak_for case.entry.recording.now compensation.entry.now }
+fn leak_of(case: &Case<'_>, compensation: &Compensation) -> Leak
+    ensures { result ≡ leak_for case.now.recording compensation.entry.now }
 {
     Leak {
         number: compensation.number,
@@ -32,11 +32,11 @@ fn leak_of(case: Case<'_>, compensation: &Compensation) -> Leak
 }
 
 /// Returns the cancelled lines that showed something, in order.
-pub fn leaks_of(alloc: Global, case: Case<'_>) -> Result<Vec<Leak>, NoMem>
+pub fn leaks_of(alloc: Global, case: &Case<'_>) -> Result<Vec<Leak>, NoMem>
     ensures { IfOk result (λ found. found.items
-        ≡ map (leak_for case.entry.recording.now) (leaks case.entry.repair.now)) }
+        ≡ map (leak_for case.now.recording) (leaks case.now.repair)) }
 {
-    let compensations = leaks(alloc, case.repair)?;
+    let compensations = leaks(alloc, case.repair())?;
     let mut found = Vec::new(alloc);
     for compensation in &compensations {
         found.push(leak_of(case, compensation))?;

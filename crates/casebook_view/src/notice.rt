@@ -28,12 +28,12 @@ pub struct Notice {
 /// Returns what a line's first query with another answer is about.
 fn subject_of(
     alloc: Global,
-    case: Case<'_>,
+    case: &Case<'_>,
     reasons: &[Reason],
     number: u32,
 ) -> Result<Subject, NoMem>
     ensures { IsTrue (rises_from 0 (map number_in reasons.now)) → IfOk result (λ subject.
-        subject ≡ line_subject case.entry.recording.now reasons.now number) }
+        subject ≡ line_subject case.now.recording reasons.now number) }
 {
     let failing = failing_in(reasons, number);
     match failing_ask(case, number, failing) {
@@ -45,13 +45,13 @@ fn subject_of(
 /// Returns the notice of a line that is compensated.
 fn notice_of(
     alloc: Global,
-    case: Case<'_>,
+    case: &Case<'_>,
     reasons: &[Reason],
     compensation: &Compensation,
 ) -> Result<Notice, NoMem>
     ensures line { IfOk result (λ notice. notice.number ≡ compensation.entry.now.number) }
     ensures value { IsTrue (rises_from 0 (map number_in reasons.now)) → IfOk result (λ notice.
-        notice ≡ notice_for case.entry.recording.now reasons.now compensation.entry.now) }
+        notice ≡ notice_for case.now.recording reasons.now compensation.entry.now) }
 {
     let number = compensation.number;
     Ok(Notice {
@@ -63,14 +63,14 @@ fn notice_of(
 
 /// Returns whom to tell about what: a notice for each line that isn't cancelled and prints something
 /// else, in order.
-pub fn notices(alloc: Global, case: Case<'_>, reasons: &[Reason]) -> Result<Vec<Notice>, NoMem>
+pub fn notices(alloc: Global, case: &Case<'_>, reasons: &[Reason]) -> Result<Vec<Notice>, NoMem>
     ensures lines { IfOk result (λ found. map line_told found.items
-        ≡ map number_of (tellings case.entry.repair.now)) }
+        ≡ map number_of (tellings case.now.repair)) }
     ensures values { IsTrue (rises_from 0 (map number_in reasons.now)) → IfOk result (λ found.
-        found.items ≡ map (notice_for case.entry.recording.now reasons.now)
-        (tellings case.entry.repair.now)) }
+        found.items ≡ map (notice_for case.now.recording reasons.now)
+        (tellings case.now.repair)) }
 {
-    let compensations = tellings(alloc, case.repair)?;
+    let compensations = tellings(alloc, case.repair())?;
     let mut found = Vec::new(alloc);
     for compensation in &compensations {
         found.push(notice_of(alloc, case, reasons, compensation)?)?;

@@ -9,7 +9,7 @@ ghost use Rattle.casebook_view.specs.OtherAnswers.{answers_in, answers_of, answe
 use crate::NoMem;
 use crate::case::Case;
 use crate::reason::Reason;
-use retro_history::{At, History};
+use retro_history::At;
 use retro_tree::{Answer, Ask, Note, Overlay};
 use std::alloc::Global;
 
@@ -95,16 +95,13 @@ fn answers_in<'a>(
 }
 
 /// Returns the query that fails by a reason with both its answers, or `None` if no query fails.
-/// `repaired` is the history of the repaired recording.
 pub fn answers_of<'a>(
     alloc: Global,
-    case: Case<'a>,
-    repaired: &History<'_>,
+    case: &Case<'a>,
     reason: &Reason,
 ) -> Result<Option<OtherAnswer<'a>>, NoMem>
-    requires { repaired.now ≡ case.repair.now.recording }
     ensures { IfOk result (λ found. option_map answers_value found
-        ≡ answers_of case.entry.recording.now case.entry.repair.now reason.now) }
+        ≡ answers_of case.now.recording case.now.repair reason.now) }
 {
     let Some(index) = reason.failing else {
         return Ok(None);
@@ -113,7 +110,7 @@ pub fn answers_of<'a>(
         Some(noted) => answers_in(
             alloc,
             noted.notes.as_slice(),
-            &repaired.at(reason.number),
+            &case.repaired_before(reason.number),
             index,
         ),
         None => Ok(None),

@@ -11,8 +11,7 @@ ghost use Rattle.casebook_view.specs.Reasons.{reason_at};
 
 use crate::NoMem;
 use crate::case::Case;
-use casebook_cause::{cause_of, first_failing_note};
-use retro_history::History;
+use casebook_cause::first_failing_note;
 use retro_keep::Noted;
 use retro_redo::Verdict;
 use retro_tree::{Ask, Note};
@@ -30,13 +29,6 @@ pub struct Reason {
     pub cause: Option<u32>,
     /// The line at which the chain of causes ends. It is cancelled, or its text is replaced.
     pub origin: u32,
-}
-
-/// The histories of a recording and of its repaired recording.
-#[derive(Clone, Copy, Drop)]
-struct Histories<'h, 'r> {
-    recorded: &'h History<'r>,
-    repaired: &'h History<'r>,
 }
 
 /// Returns the query of a note, if it is one.
@@ -87,9 +79,13 @@ fn origin_of(reasons: &[Reason], number: u32, cause: Option<u32>) -> u32
 }
 
 /// Returns the query of a line's failing note, or `None` if no note fails.
-pub(crate) fn failing_ask(case: Case<'_>, number: u32, failing: Option<usize>) -> Option<&Ask>
+pub(crate) fn failing_ask<'a>(
+    case: &Case<'a>,
+    number: u32,
+    failing: Option<usize>,
+) -> Option<&'a Ask>
     ensures { option_copied result
-        ≡ failing_query failing (notes_at number case.entry.recording.now) }
+        ≡ failing_query failing (notes_at number case.now.recording) }
 {
     match (case.recorded(number), failing) {
         (Some(noted), Some(index)) => query_at(noted, index),
@@ -99,19 +95,13 @@ pub(crate) fn failing_ask(case: Case<'_>, number: u32, failing: Option<usize>) -
 
 /// Returns the index of the first note of a line that doesn't hold in the repaired state before it,
 /// or `None` if all hold.
-fn failing_note(
-    alloc: Global,
-    case: Case<'_>,
-    repaired: &History<'_>,
-    number: u32,
-) -> Result<Option<usize>, NoMem>
-    requires { repaired.now ≡ case.repair.now.recording }
+fn failing_note(alloc: Global, case: &Case<'_>, number: u32) -> Result<Option<usize>, NoMem>
     ensures { IfOk result (λ failing. IsFailing failing
-        (notes_at number case.entry.recording.now)
-        (recorded_before number case.entry.repair.now.recording)) }
+        (notes_at number case.now.recording)
+        (recorded_before number case.now.repair.recording)) }
 {
     match case.recorded(number) {
-        Some(noted) => first_failing_note(alloc, &noted.notes, &repaired.at(number)),
+        Some(noted) => first_failing_note(alloc, &noted.notes, &case.repaired_before(number)),
         None => Ok(None),
     }
 }
@@ -119,18 +109,15 @@ fn failing_note(
 /// Returns the last line before a line that changes otherwise what a failing query asks about.
 fn cause_at(
     alloc: Global,
-    case: Case<'_>,
-    histories: Histories<'_, '_>,
+    case: &Case<'_>,
     number: u32,
     failing: Option<usize>,
 ) -> Result<Option<u32>, NoMem>
-    requires recorded { histories.recorded.now ≡ case.recording.now }
-    requires repaired { histories.repaired.now ≡ case.repair.now.recording }
-    ensures { IfOk result (IsCauseOf case.entry.recording.now case.entry.repair.now number
-        (failing_query failing (notes_at number case.entry.recording.now))) }
+    ensures { IfOk result (IsCauseOf case.now.recording case.now.repair number
+        (failing_query failing (notes_at number case.now.recording))) }
 {
     match failing_ask(case, number, failing) {
-        Some(ask) => cause_of(alloc, histories.recorded, histories.repaired, number, ask),
+        Some(ask) => case.cause_of(alloc, number, ask),
         None => Ok(None),
     }
 }
@@ -138,19 +125,16 @@ fn cause_at(
 /// Returns why a line is run again. `earlier` are the reasons of the lines before it.
 fn reason_for(
     alloc: Global,
-    case: Case<'_>,
-    histories: Histories<'_, '_>,
+    case: &Case<'_>,
     earlier: &[Reason],
     number: u32,
 ) -> Result<Reason, NoMem>
-    requires recorded { histories.recorded.now ≡ case.recording.now }
-    requires repaired { histories.repaired.now ≡ case.repair.now.recording }
     ensures number { IfOk result (λ reason. reason.number ≡ number) }
     ensures next { IfOk result
-        (IsNextReason case.entry.recording.now case.entry.repair.now earlier.now) }
+        (IsNextReason case.now.recording case.now.repair earlier.now) }
 {
-    let failing = failing_note(alloc, case, histories.repaired, number)?;
-    let cause = cause_at(alloc, case, histories, number, failing)?;
+    let failing = failing_note(alloc, case, number)?;
+    let cause = cause_at(alloc, case, number, failing)?;
     Ok(Reason {
         number,
         failing,
@@ -163,41 +147,32 @@ fn reason_for(
 #[tactic(auto, using(crate::proofs::Reasoning::one_more))]
 fn push_reason(
     alloc: Global,
-    case: Case<'_>,
-    histories: Histories<'_, '_>,
+    case: &Case<'_>,
     reasons: &mut Vec<Reason>,
     line: (u32, Verdict),
 ) -> Result<(), NoMem>
-    requires recorded { histories.recorded.now ≡ case.recording.now }
-    requires repaired { histories.repaired.now ≡ case.repair.now.recording }
     ensures lines { OnOk result (map number_in reasons.new.items
         ≡ map number_in reasons.old.items ++ redone_lines (line ∷ [])) }
     ensures each { OnOk result
-        (AreReasonsAfter case.entry.recording.now case.entry.repair.now [] reasons.old.items
-        → AreReasonsAfter case.entry.recording.now case.entry.repair.now []
+        (AreReasonsAfter case.now.recording case.now.repair [] reasons.old.items
+        → AreReasonsAfter case.now.recording case.now.repair []
         reasons.new.items) }
 {
     if let Verdict::Redone = line.1 {
-        let reason = reason_for(alloc, case, histories, reasons.as_slice(), line.0)?;
+        let reason = reason_for(alloc, case, reasons.as_slice(), line.0)?;
         reasons.push(reason)?;
     }
     Ok(())
 }
 
 /// Returns why each line is run again that is, in order.
-pub fn reasons(alloc: Global, case: Case<'_>) -> Result<Vec<Reason>, NoMem>
+pub fn reasons(alloc: Global, case: &Case<'_>) -> Result<Vec<Reason>, NoMem>
     ensures { IfOk result (λ found.
-        AreReasons case.entry.recording.now case.entry.repair.now found.items) }
+        AreReasons case.now.recording case.now.repair found.items) }
 {
-    let recorded = History::of(alloc, case.recording)?;
-    let repaired = History::of(alloc, &case.repair.recording)?;
-    let histories = Histories {
-        recorded: &recorded,
-        repaired: &repaired,
-    };
     let mut reasons = Vec::new(alloc);
-    for line in &case.repair.verdicts {
-        push_reason(alloc, case, histories, &mut reasons, *line)?;
+    for line in &case.repair().verdicts {
+        push_reason(alloc, case, &mut reasons, *line)?;
     }
     Ok(reasons)
 }

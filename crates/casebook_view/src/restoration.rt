@@ -11,14 +11,14 @@ use std::alloc::Global;
 
 /// Returns the paths in which the recorded and the repaired machine differ at the end, in order of
 /// paths.
-pub fn restorations(alloc: Global, case: Case<'_>) -> Result<Vec<ChangedPath>, NoMem>
+pub fn restorations(alloc: Global, case: &Case<'_>) -> Result<Vec<ChangedPath>, NoMem>
     ensures { IfOk result (λ found. AreChangedPaths
-        (last_state case.entry.recording.now.lines case.entry.recording.now.first).tree
-        (repaired_state case.entry.repair.now).tree found.items) }
+        (last_state case.now.recording.lines case.now.recording.first).tree
+        (repaired_state case.now.repair).tree found.items) }
 {
     changed_paths(
         alloc,
-        case.recording.last().tree(),
-        case.repair.state().tree(),
+        case.recording().last().tree(),
+        case.repair().state().tree(),
     )
 }

@@ -52,28 +52,28 @@ fn fate_in(fates: &[(u32, Fate)], number: u32) -> Option<Fate>
 
 impl Summary {
     /// Returns the summary of a repair.
-    pub fn of(alloc: Global, case: Case<'_>) -> Result<Summary, NoMem>
+    pub fn of(alloc: Global, case: &Case<'_>) -> Result<Summary, NoMem>
         ensures fates { IfOk result (λ summary.
-            AreFates case.entry.recording.now case.entry.repair.now
-            case.entry.repair.now.verdicts.items summary.fates.items) }
+            AreFates case.now.recording case.now.repair
+            case.now.repair.verdicts.items summary.fates.items) }
         ensures reasons { IfOk result (λ summary.
-            AreReasons case.entry.recording.now case.entry.repair.now summary.reasons.items) }
+            AreReasons case.now.recording case.now.repair summary.reasons.items) }
         ensures restorations { IfOk result (λ summary. AreChangedPaths
-            (last_state case.entry.recording.now.lines case.entry.recording.now.first).tree
-            (repaired_state case.entry.repair.now).tree summary.restorations.items) }
+            (last_state case.now.recording.lines case.now.recording.first).tree
+            (repaired_state case.now.repair).tree summary.restorations.items) }
         ensures lines_told { IfOk result (λ summary. map line_told summary.notices.items
-            ≡ map number_of (tellings case.entry.repair.now)) }
+            ≡ map number_of (tellings case.now.repair)) }
         ensures notices { IfOk result (λ summary.
             IsTrue (rises_from 0 (map number_in summary.reasons.items))
             → summary.notices.items
-            ≡ map (notice_for case.entry.recording.now summary.reasons.items)
-            (tellings case.entry.repair.now)) }
+            ≡ map (notice_for case.now.recording summary.reasons.items)
+            (tellings case.now.repair)) }
         ensures leaks { IfOk result (λ summary. summary.leaks.items
-            ≡ map (leak_for case.entry.recording.now) (leaks case.entry.repair.now)) }
+            ≡ map (leak_for case.now.recording) (leaks case.now.repair)) }
         ensures effects { IfOk result (λ summary.
             IsTrue (rises_from 0 (map number_in summary.reasons.items))
             → map effect_value summary.effects.items
-            ≡ effects_of case.entry.recording.now summary.reasons.items summary.fates.items) }
+            ≡ effects_of case.now.recording summary.reasons.items summary.fates.items) }
     {
         let fates = fates(alloc, case)?;
         let reasons = reasons(alloc, case)?;

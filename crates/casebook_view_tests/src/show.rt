@@ -5,7 +5,6 @@ use casebook_cause::PathChange;
 use casebook_view::{
     Case, Effect, Fate, Notice, OtherAnswer, Reason, Subject, Summary, answers_of, chain,
 };
-use retro_history::History;
 use retro_rows::fail;
 use retro_tree::{Answer, Ask, Node};
 use std::alloc::Global;
@@ -189,16 +188,15 @@ fn reason_of(summary: &Summary, number: u32) -> Option<&Reason> {
 }
 
 /// Fails if the query of a reason isn't about the prices.
-fn hold_prices(alloc: Global, case: Case<'_>, reason: &Reason) -> Result<(), Fail> {
-    let history = History::of(alloc, &case.repair.recording)?;
-    match answers_of(alloc, case, &history, reason)? {
+fn hold_prices(alloc: Global, case: &Case<'_>, reason: &Reason) -> Result<(), Fail> {
+    match answers_of(alloc, case, reason)? {
         Some(found) if are_prices(&found) => Ok(()),
         _ => fail("the query of line 11 or its answers are others"),
     }
 }
 
 /// Fails if line 11 didn't read other prices in the repaired state.
-fn hold_answers(alloc: Global, case: Case<'_>, summary: &Summary) -> Result<(), Fail> {
+fn hold_answers(alloc: Global, case: &Case<'_>, summary: &Summary) -> Result<(), Fail> {
     match reason_of(summary, 11) {
         Some(reason) => hold_prices(alloc, case, reason),
         None => fail("line 11 isn't run again"),
@@ -218,7 +216,7 @@ fn hold_leaks(summary: &Summary) -> Result<(), Fail> {
 }
 
 /// Compares all parts of a summary.
-fn hold_summary(alloc: Global, case: Case<'_>, summary: &Summary) -> Result<(), Fail> {
+fn hold_summary(alloc: Global, case: &Case<'_>, summary: &Summary) -> Result<(), Fail> {
     hold_fates(alloc, summary)?;
     hold_restorations(alloc, summary)?;
     hold_notices(alloc, summary)?;
@@ -229,7 +227,7 @@ fn hold_summary(alloc: Global, case: Case<'_>, summary: &Summary) -> Result<(), 
 }
 
 /// Compares the summary of a repair.
-fn hold_case(alloc: Global, case: Case<'_>) -> Result<(), Fail> {
+fn hold_case(alloc: Global, case: &Case<'_>) -> Result<(), Fail> {
     let summary = Summary::of(alloc, case)?;
     hold_summary(alloc, case, &summary)
 }
@@ -239,9 +237,6 @@ fn summaries_say_what_a_repair_would_do(rt: HostRuntime) -> Result<(), Fail> {
     let alloc = rt.alloc();
     let recording = recording(alloc)?;
     let repair = repair(alloc, &recording)?;
-    let case = Case {
-        recording: &recording,
-        repair: &repair,
-    };
-    hold_case(alloc, case)
+    let case = Case::of(alloc, &recording, &repair)?;
+    hold_case(alloc, &case)
 }

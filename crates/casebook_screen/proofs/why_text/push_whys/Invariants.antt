@@ -14,5 +14,5 @@ invariant-loop-reason l =
     → l.lines.items
     ≡ l.fn.lines.items
     ++ flat_map
-    (lines_of_why l.explainer.case.recording.now l.explainer.case.repair.now l.explainer.summary.now.reasons.items l.names.labels.now l.names.width)
+    (lines_of_why l.explainer.case.now.recording l.explainer.case.now.repair l.explainer.summary.now.reasons.items l.names.labels.now l.names.width)
     (filter (has_other_result l.explainer.summary.now.fates.items) (take l.reason-index l.reason-items))

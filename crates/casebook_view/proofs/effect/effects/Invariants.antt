@@ -10,4 +10,4 @@ abbrev pub invariant-loop-line : goal.invariant-loop-line
 invariant-loop-line l =
     IsTrue (rises_from 0 (map number_in l.reasons))
     → map effect_value l.found.items
-    ≡ map (λ line. effect_of l.case.recording.now l.reasons l.fates line.0) (filter (is_origin l.reasons) (take l.line-index l.fates))
+    ≡ map (λ line. effect_of l.case.recording l.reasons l.fates line.0) (filter (is_origin l.reasons) (take l.line-index l.fates))

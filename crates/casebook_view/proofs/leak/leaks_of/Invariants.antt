@@ -7,5 +7,5 @@ use Rattle.casebook_view.proofs.leak.leaks_of.Given as goal
 abbrev pub invariant-loop-compensation : goal.invariant-loop-compensation
 invariant-loop-compensation l =
     l.found.items
-    ++ map (leak_for l.case.recording.now) (map (λ c. c.now) (drop l.compensation-index l.compensation-items))
-    ≡ map (leak_for l.case.recording.now) (leaks l.case.repair.now)
+    ++ map (leak_for l.case.recording) (map (λ c. c.now) (drop l.compensation-index l.compensation-items))
+    ≡ map (leak_for l.case.recording) (leaks l.case.repair)

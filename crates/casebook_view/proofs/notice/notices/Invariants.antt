@@ -10,9 +10,9 @@ abbrev pub invariant-loop-compensation : goal.invariant-loop-compensation
 invariant-loop-compensation l = record {
   lines : map line_told l.found.items
       ++ map number_of (map (λ c. c.now) (drop l.compensation-index l.compensation-items))
-      ≡ map number_of (tellings l.case.repair.now);
+      ≡ map number_of (tellings l.case.repair);
   values : IsTrue (rises_from 0 (map number_in l.reasons))
       → l.found.items
-      ++ map (notice_for l.case.recording.now l.reasons) (map (λ c. c.now) (drop l.compensation-index l.compensation-items))
-      ≡ map (notice_for l.case.recording.now l.reasons) (tellings l.case.repair.now);
+      ++ map (notice_for l.case.recording l.reasons) (map (λ c. c.now) (drop l.compensation-index l.compensation-items))
+      ≡ map (notice_for l.case.recording l.reasons) (tellings l.case.repair);
 }

@@ -1,4 +1,5 @@
 use Rattle.std.proofs.Common.{ℕ, ap, map, refl, take_all, ◌∙◌}
+use Rattle.retro_redo.specs.declared.repair.Repair.{Repair}
 use Rattle.retro_redo.specs.declared.verdict.Verdict.{Verdict}
 use Rattle.casebook_view.specs.Reasons.{is_redone, number_in, redone_lines}
 use Rattle.casebook_view.proofs.FirstLemmas.{kept_at}
@@ -16,6 +17,7 @@ pub returns : goal.returns
 returns c = record {
   lines = c.loop-line.invariant.lines
       ∙ ap redone_lines (take_all c.loop-line.line-index c.deref-line-items.result.now c.loop-line-test.false)
-      ∙ ap redone_lines c.deref-line-items.ensures.value;
+      ∙ ap redone_lines c.deref-line-items.ensures.value
+      ∙ ap (λ (repair : Repair). redone_lines repair.verdicts.items) c.repair.ensures;
   each = c.loop-line.invariant.each;
 }

@@ -1,0 +1,21 @@
+-- Recordings with their repairs, as the type of cases has them in contracts.
+use Rattle.std.specs.Prelude.{refl}
+use Rattle.std.specs.Coded.{Coded, code_by, coded×}
+use Rattle.retro_keep.specs.Recording.{RecordingValue}
+use Rattle.retro_keep.specs.inner.RecordingCode.{coded_recording}
+use Rattle.retro_redo.specs.declared.repair.Repair.{Repair}
+use Rattle.retro_redo.specs.contracts.repair.Repair as repair_type
+
+-- a recording and a repair of it
+pub record CaseValue : Type 0 where
+  pub recording : RecordingValue
+  pub repair : Repair
+
+abbrev pub coded_repair : Coded Repair
+coded_repair = (repair_type.the_row).coded
+
+-- a recording with its repair is stored as the pair of them
+abbrev pub coded_case : Coded CaseValue
+coded_case =
+    code_by (RecordingValue × Repair) (coded× coded_recording coded_repair) (λ c. (c.recording, c.repair))
+    (λ p. record { recording = p.0; repair = p.1 }) (λ _. refl)
