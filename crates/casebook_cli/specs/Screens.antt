@@ -133,8 +133,8 @@ pub record IsShown (inputs : InputsValue) (request : ShowRequest) (text : List â
 
 abbrev pub screen_view : Screen â†’ ScreenValue
 screen_view screen = record {
-  recording = screen.asked.now.recording;
-  repair = screen.asked.now.repair;
+  recording = screen.case.now.recording;
+  repair = screen.case.now.repair;
   summary = screen.summary.now;
   labels = screen.names.labels.now;
   width = screen.names.width;

@@ -3,7 +3,7 @@ ghost use Rattle.std.specs.Prelude.{IfOk, string_bytes};
 ghost use Rattle.casebook_cli.specs.Pages.{IsPageOf};
 
 use crate::NoMem;
-use crate::repairs::Asked;
+use crate::repairs::{Asked, summary_of};
 use casebook_page::{Contents, page};
 use casebook_view::{Filters, rows};
 use retro_log::check;
@@ -28,11 +28,12 @@ pub(crate) fn page_text(
 ) -> Result<String, NoMem>
     ensures { IfOk result (λ text. IsPageOf asked.now all (string_bytes text)) }
 {
-    let summary = asked.summary(alloc)?;
+    let case = asked.case(alloc)?;
+    let summary = summary_of(alloc, &case)?;
     let mut filters = no_filters(alloc);
     let lines = rows(alloc, &asked.recording, &mut filters)?;
     let contents = Contents {
-        case: asked.case(),
+        case: &case,
         summary: &summary,
         lines: lines.as_slice(),
         labels: &asked.labels,

@@ -30,22 +30,19 @@ pub(crate) struct Asked {
 
 impl Asked {
     /// Returns the recording with its repair.
-    pub(crate) fn case(&self) -> Case<'_>
-        ensures recording { result.recording.now ≡ self.now.recording }
-        ensures repair { result.repair.now ≡ self.now.repair }
+    pub(crate) fn case(&self, alloc: Global) -> Result<Case<'_>, NoMem>
+        ensures recording { IfOk result (λ case. case.recording ≡ self.now.recording) }
+        ensures repair { IfOk result (λ case. case.repair ≡ self.now.repair) }
     {
-        Case {
-            recording: &self.recording,
-            repair: &self.repair,
-        }
+        Case::of(alloc, &self.recording, &self.repair)
     }
+}
 
-    /// Returns what the repair would do.
-    pub(crate) fn summary(&self, alloc: Global) -> Result<Summary, NoMem>
-        ensures { IfOk result (IsSummary self.now.recording self.now.repair) }
-    {
-        Summary::of(alloc, self.case())
-    }
+/// Returns what a repair would do.
+pub(crate) fn summary_of(alloc: Global, case: &Case<'_>) -> Result<Summary, NoMem>
+    ensures { IfOk result (IsSummary case.now.recording case.now.repair) }
+{
+    Summary::of(alloc, case)
 }
 
 /// Returns the repair of a recording with its lines edited.

@@ -5,7 +5,7 @@ ghost use Rattle.casebook_cli.specs.Screens.{IsScreenText, IsShownOf, IsTextOf, 
 ghost use Rattle.casebook_cli.specs.Stops.{IsNoLine, StopsShown};
 
 use crate::NoMem;
-use crate::repairs::Asked;
+use crate::repairs::{Asked, summary_of};
 use crate::rows_text::widest_name;
 use crate::shown::{Extras, Shown};
 use crate::stop::Stop;
@@ -13,15 +13,15 @@ use casebook_screen::{
     Names, Sheet, detail_lines, diff_lines, summary_lines, to_restore, why_lines,
 };
 use casebook_text::{SafeLine, text_of_lines};
-use casebook_view::{Summary, grouped};
+use casebook_view::{Case, Summary, grouped};
 use retro_log::check;
 use std::alloc::Global;
 
 /// What is shown of a repair, and how.
 #[derive(Clone, Copy, Drop)]
 struct Screen<'a> {
-    /// The repair.
-    asked: &'a Asked,
+    /// The recording and its repair.
+    case: &'a Case<'a>,
     /// What it would do.
     summary: &'a Summary,
     /// What sessions and lines are called.
@@ -33,15 +33,15 @@ impl Screen<'_> {
     fn summary_lines(self, alloc: Global) -> Result<Vec<SafeLine>, NoMem>
         ensures { IfOk result (λ lines. AreSummaryLines (screen_view self.entry) lines.items) }
     {
-        let (asked, summary) = (self.asked, self.summary);
-        let restorations = to_restore(alloc, asked.case(), summary.restorations.as_slice())?;
+        let (case, summary) = (self.case, self.summary);
+        let restorations = to_restore(alloc, case, summary.restorations.as_slice())?;
         let groups = grouped(alloc, summary.notices.as_slice())?;
         let sheet = Sheet {
-            recording: &asked.recording,
+            recording: case.recording(),
             summary,
             restorations: restorations.as_slice(),
             groups: groups.as_slice(),
-            is_recording: check(alloc, &asked.recording)?,
+            is_recording: check(alloc, case.recording())?,
         };
         summary_lines(alloc, sheet, self.names)
     }
@@ -54,7 +54,7 @@ impl Screen<'_> {
         if !is_asked {
             return Ok(Vec::new(alloc));
         }
-        why_lines(alloc, self.asked.case(), self.summary, self.names)
+        why_lines(alloc, self.case, self.summary, self.names)
     }
 
     /// Returns how files and outputs differ, if that is asked for.
@@ -65,11 +65,7 @@ impl Screen<'_> {
         if !is_asked {
             return Ok(Vec::new(alloc));
         }
-        diff_lines(
-            alloc,
-            self.asked.case(),
-            self.summary.restorations.as_slice(),
-        )
+        diff_lines(alloc, self.case, self.summary.restorations.as_slice())
     }
 
     /// Returns the summary with what else is asked for.
@@ -87,13 +83,12 @@ impl Screen<'_> {
     fn line<'a>(self, alloc: Global, number: u32) -> Result<String, Stop<'a>>
         ensures ok { IfOk result (λ text.
             IsLineText number (screen_view self.entry) (string_bytes text)) }
-        ensures err { IfErr result (IsNoLine number self.entry.asked.now.recording) }
+        ensures err { IfErr result (IsNoLine number self.entry.case.now.recording) }
     {
-        if self.asked.recording.run_of(number).is_none() {
+        if self.case.recording().run_of(number).is_none() {
             return Err(Stop::NoLine(number));
         }
-        let (case, summary) = (self.asked.case(), self.summary);
-        let lines = detail_lines(alloc, case, summary, self.names, number)?;
+        let lines = detail_lines(alloc, self.case, self.summary, self.names, number)?;
         Ok(text_of_lines(alloc, lines.as_slice())?)
     }
 
@@ -101,7 +96,7 @@ impl Screen<'_> {
     fn shown<'a>(self, alloc: Global, shown: Shown) -> Result<String, Stop<'a>>
         ensures ok { IfOk result (λ text.
             IsTextOf shown (screen_view self.entry) (string_bytes text)) }
-        ensures err { IfErr result (StopsShown shown self.entry.asked.now.recording) }
+        ensures err { IfErr result (StopsShown shown self.entry.case.now.recording) }
     {
         match shown {
             Shown::Summary(extras) => Ok(self.text(alloc, extras)?),
@@ -115,10 +110,11 @@ pub(crate) fn shown_text<'a>(alloc: Global, asked: &Asked, shown: Shown) -> Resu
     ensures ok { IfOk result (λ text. IsShownOf asked.now shown (string_bytes text)) }
     ensures err { IfErr result (StopsShown shown asked.now.recording) }
 {
-    let summary = asked.summary(alloc)?;
+    let case = asked.case(alloc)?;
+    let summary = summary_of(alloc, &case)?;
     let width = widest_name(alloc, &asked.labels, asked.recording.lines())?;
     let screen = Screen {
-        asked,
+        case: &case,
         summary: &summary,
         names: Names {
             labels: &asked.labels,
