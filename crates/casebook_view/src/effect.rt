@@ -1,14 +1,18 @@
 //! What cancelled lines led to.
-ghost use Rattle.std.specs.Prelude.{◌≡◌, IfOk, IsTrue, map};
+ghost use Rattle.std.specs.Prelude.{◌≡◌, ℕ, List, IfOk, IsTrue, map};
 ghost use Rattle.retro_keep.specs.Script.{rises_from};
-ghost use Rattle.casebook_view.specs.Effects.{count_led, effect_of, effect_value, effects_of};
-ghost use Rattle.casebook_view.specs.Effects.{ends_at, is_led_to, is_origin, paths_written};
+ghost use Rattle.casebook_view.specs.Effects.{effect_of, effect_value, effects_of, ends_at};
+ghost use Rattle.casebook_view.specs.Effects.{is_origin, paths_written};
 ghost use Rattle.casebook_view.specs.Reasons.{number_in, reason_at};
+ghost use Rattle.casebook_view.specs.declared.fate.Fate.{Fate as FateValue};
+ghost use Rattle.casebook_view.specs.declared.reason.Reason.{Reason as ReasonValue};
+ghost use Rattle.casebook_view.specs.inner.Origins.{AreOrigins};
 
 use crate::NoMem;
 use crate::case::Case;
 use crate::fate::Fate;
 use crate::note_paths::written_paths;
+use crate::origins::Origins;
 use crate::reason::{Reason, reason_of};
 use retro_tree::Path;
 use std::alloc::Global;
@@ -38,25 +42,6 @@ fn ends_at(reasons: &[Reason], number: u32, origin: u32) -> bool
     }
 }
 
-/// Returns whether a line has a fate and a chain of causes that ends at another line.
-fn is_led_to(reasons: &[Reason], origin: u32, fate: Fate, line: &(u32, Fate)) -> bool
-    ensures { IsTrue (rises_from 0 (map number_in reasons.now))
-        → result ≡ is_led_to reasons.now origin fate line.now }
-{
-    line.0 != origin && line.1 == fate && ends_at(reasons, line.0, origin)
-}
-
-/// Returns how many lines have a fate and a chain of causes that ends at a line, without that line.
-fn count_led(reasons: &[Reason], fates: &[(u32, Fate)], origin: u32, fate: Fate) -> usize
-    ensures { IsTrue (rises_from 0 (map number_in reasons.now))
-        → result ≡ count_led reasons.now fates.now origin fate }
-{
-    fates
-        .iter()
-        .filter(|line| is_led_to(reasons, origin, fate, line))
-        .count()
-}
-
 /// Returns whether a line is where chains of causes end: it is cancelled, or run again since its
 /// text is replaced.
 fn is_origin(reasons: &[Reason], line: &(u32, Fate)) -> bool
@@ -81,28 +66,29 @@ fn wrote(alloc: Global, case: &Case<'_>, number: u32) -> Result<Vec<Path>, NoMem
     }
 }
 
-/// Returns what a line led to.
+/// Returns what a line led to. The contract says so of the reasons and fates whose chains end at
+/// these lines.
 fn effect_of(
     alloc: Global,
     case: &Case<'_>,
-    reasons: &[Reason],
-    fates: &[(u32, Fate)],
+    origins: &Origins,
     number: u32,
 ) -> Result<Effect, NoMem>
-    ensures { IsTrue (rises_from 0 (map number_in reasons.now)) → IfOk result (λ effect.
-        effect_value effect
-        ≡ effect_of case.now.recording reasons.now fates.now number) }
+    ensures { (reasons : List ReasonValue) (fates : List (ℕ × FateValue))
+        → AreOrigins reasons fates origins.now → IfOk result (λ effect.
+        effect_value effect ≡ effect_of case.now.recording reasons fates number) }
 {
+    let wrote = wrote(alloc, case, number)?;
     Ok(Effect {
         number,
-        changed: count_led(reasons, fates, number, Fate::Changed),
-        alike: count_led(reasons, fates, number, Fate::Alike),
-        wrote: wrote(alloc, case, number)?,
+        changed: origins.count_changed(number),
+        alike: origins.count_alike(number),
+        wrote,
     })
 }
 
 /// Returns what each line that is cancelled or replaced led to, in order. Takes time in proportion
-/// to the number of these lines times the number of all lines.
+/// to the number of these lines times the number of lines that are run again.
 pub fn effects(
     alloc: Global,
     case: &Case<'_>,
@@ -113,10 +99,11 @@ pub fn effects(
         map effect_value found.items
         ≡ effects_of case.now.recording reasons.now fates.now) }
 {
+    let origins = Origins::of(alloc, reasons, fates)?;
     let mut found = Vec::new(alloc);
     for line in fates {
         if is_origin(reasons, line) {
-            found.push(effect_of(alloc, case, reasons, fates, line.0)?)?;
+            found.push(effect_of(alloc, case, &origins, line.0)?)?;
         }
     }
     Ok(found)

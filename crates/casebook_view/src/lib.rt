@@ -26,6 +26,7 @@ mod line_rows;
 mod line_test;
 mod note_paths;
 mod notice;
+mod origins;
 mod other_answer;
 mod path_test;
 mod path_write;
