@@ -60,6 +60,14 @@ impl Html {
         self.text.push_str(tag.as_str())
     }
 
+    /// Appends another part.
+    pub fn part(&mut self, other: &Html) -> Result<(), NoMem>
+        ensures ok { OnOk result (self.new ≡ self.old ++ other.now) }
+        ensures err { OnErr result (self.new ≡ self.old) }
+    {
+        self.text.push_str(other.as_str())
+    }
+
     /// Appends a text that is safe to show, and escapes it.
     fn escaped(&mut self, alloc: Global, text: &str) -> Result<(), NoMem>
         requires { IsTrue (is_safe_text text.now) }

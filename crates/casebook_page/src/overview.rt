@@ -40,16 +40,26 @@ pub(crate) fn session_of(contents: Contents<'_>, number: u32) -> u32 {
     }
 }
 
-/// Appends the ticks of a session.
+/// Returns the sessions of all lines, in order.
+fn sessions(alloc: Global, contents: Contents<'_>) -> Result<Vec<u32>, NoMem> {
+    let mut sessions = Vec::new(alloc);
+    for line in &contents.summary.fates {
+        sessions.push(session_of(contents, line.0))?;
+    }
+    Ok(sessions)
+}
+
+/// Appends the ticks of a session. `sessions` are those of all lines.
 fn push_ticks(
     html: &mut Html,
     alloc: Global,
     contents: Contents<'_>,
+    sessions: &[u32],
     session: u32,
 ) -> Result<(), NoMem> {
     let mut place = 0_u64;
-    for line in &contents.summary.fates {
-        if session_of(contents, line.0) == session {
+    for (line, line_session) in contents.summary.fates.iter().zip(sessions) {
+        if *line_session == session {
             push_tick(html, alloc, place, *line)?;
         }
         place = place.saturating_add(1);
@@ -62,6 +72,7 @@ fn push_session(
     html: &mut Html,
     alloc: Global,
     contents: Contents<'_>,
+    sessions: &[u32],
     session: u32,
 ) -> Result<(), NoMem> {
     let name = contents.labels.name_of(alloc, session)?;
@@ -72,7 +83,7 @@ fn push_session(
     html.fixed(Tag::MapLabel)?;
     html.shown(alloc, &name)?;
     html.fixed(Tag::TagEnd)?;
-    push_ticks(html, alloc, contents, session)?;
+    push_ticks(html, alloc, contents, sessions, session)?;
     html.fixed(Tag::MapEnd)
 }
 
@@ -97,9 +108,10 @@ pub(crate) fn push_overview(
     contents: Contents<'_>,
     columns: &BTreeMap<u32, u32>,
 ) -> Result<(), NoMem> {
+    let sessions = sessions(alloc, contents)?;
     html.fixed(Tag::Map)?;
     for (session, _) in columns {
-        push_session(html, alloc, contents, *session)?;
+        push_session(html, alloc, contents, sessions.as_slice(), *session)?;
     }
     html.fixed(Tag::BlockEnd)
 }

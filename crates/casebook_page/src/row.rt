@@ -4,7 +4,7 @@ use crate::contents::Contents;
 use crate::html::Html;
 use crate::merged::Merged;
 use crate::pair::{push_output, push_pair};
-use crate::shown::{push_command, push_link, push_paths, push_shown_path};
+use crate::shown::{command_of, push_link, push_paths, push_shown_path};
 use crate::tag::Tag;
 use crate::tell::outputs_of;
 use casebook_text::SafeLine;
@@ -141,10 +141,10 @@ impl<'a> Rows<'a> {
     }
 
     /// Appends what the row of a line has inside.
-    fn push_body(&self, html: &mut Html, number: u32) -> Result<(), NoMem> {
+    fn push_body(&self, html: &mut Html, number: u32, command: &Html) -> Result<(), NoMem> {
         html.fixed(Tag::Body)?;
         html.fixed(Tag::Command)?;
-        push_command(html, self.alloc, self.contents, number)?;
+        html.part(command)?;
         html.fixed(Tag::PreEnd)?;
         self.push_why(html, number)?;
         if let Some(row) = self.contents.line(number) {
@@ -156,6 +156,7 @@ impl<'a> Rows<'a> {
 
     /// Returns the row of a line but for its start.
     pub(crate) fn rest_of_row(&self, line: (u32, Fate)) -> Result<Html, NoMem> {
+        let command = command_of(self.alloc, self.contents, line.0)?;
         let mut html = Html::new(self.alloc);
         html.fixed(class_of(line.1, self.contents.is_told(line.0)))?;
         html.number(self.alloc, u64::from(line.0))?;
@@ -165,9 +166,9 @@ impl<'a> Rows<'a> {
         html.fixed(Tag::LineColumn)?;
         html.number(self.alloc, u64::from(self.column_of(line.0)))?;
         html.fixed(sign_of(line.1))?;
-        push_command(&mut html, self.alloc, self.contents, line.0)?;
+        html.part(&command)?;
         html.fixed(Tag::LineEnd)?;
-        self.push_body(&mut html, line.0)?;
+        self.push_body(&mut html, line.0, &command)?;
         html.fixed(Tag::DetailsEnd)?;
         Ok(html)
     }

@@ -73,6 +73,17 @@ pub(crate) fn push_command(
     html.shown(alloc, &text)
 }
 
+/// Returns the text of a line.
+pub(crate) fn command_of(
+    alloc: Global,
+    contents: Contents<'_>,
+    number: u32,
+) -> Result<Html, NoMem> {
+    let mut html = Html::new(alloc);
+    push_command(&mut html, alloc, contents, number)?;
+    Ok(html)
+}
+
 /// Appends a path.
 pub(crate) fn push_shown_path(html: &mut Html, alloc: Global, path: &Path) -> Result<(), NoMem> {
     let mut line = SafeLine::new(alloc);
