@@ -9,7 +9,7 @@ use casebook_view::Effect;
 use std::alloc::Global;
 
 /// Returns the numbers of the lines that are run again because of a line, in order.
-fn led_to(alloc: Global, contents: Contents<'_>, origin: u32) -> Result<Vec<u32>, NoMem> {
+fn led_to(alloc: Global, contents: Contents<'_, '_>, origin: u32) -> Result<Vec<u32>, NoMem> {
     let mut numbers = Vec::new(alloc);
     for reason in &contents.summary.reasons {
         if reason.origin == origin && reason.number != origin {
@@ -60,7 +60,7 @@ fn push_led(html: &mut Html, alloc: Global, effect: &Effect, most: usize) -> Res
 fn push_leak(
     html: &mut Html,
     alloc: Global,
-    contents: Contents<'_>,
+    contents: Contents<'_, '_>,
     number: u32,
 ) -> Result<(), NoMem> {
     for leak in &contents.summary.leaks {
@@ -89,7 +89,7 @@ fn push_wrote(html: &mut Html, alloc: Global, effect: &Effect) -> Result<(), NoM
 fn push_then(
     html: &mut Html,
     alloc: Global,
-    contents: Contents<'_>,
+    contents: Contents<'_, '_>,
     numbers: &[u32],
 ) -> Result<(), NoMem> {
     if numbers.is_empty() {
@@ -105,7 +105,7 @@ fn push_then(
 fn push_inside(
     html: &mut Html,
     alloc: Global,
-    contents: Contents<'_>,
+    contents: Contents<'_, '_>,
     effect: &Effect,
 ) -> Result<(), NoMem> {
     push_wrote(html, alloc, effect)?;
@@ -121,7 +121,7 @@ fn push_inside(
 fn push_effect(
     html: &mut Html,
     alloc: Global,
-    contents: Contents<'_>,
+    contents: Contents<'_, '_>,
     effect: &Effect,
     most: usize,
 ) -> Result<(), NoMem> {
@@ -141,7 +141,7 @@ fn push_effect(
 pub(crate) fn push_cancelled(
     html: &mut Html,
     alloc: Global,
-    contents: Contents<'_>,
+    contents: Contents<'_, '_>,
 ) -> Result<(), NoMem> {
     let effects = contents.summary.effects.as_slice();
     let most = most_led(effects);

@@ -4,9 +4,9 @@ use casebook_words::Labels;
 
 /// What a page shows.
 #[derive(Drop, Clone, Copy)]
-pub struct Contents<'a> {
+pub struct Contents<'a, 'r> {
     /// The recording and its repair.
-    pub case: &'a Case<'a>,
+    pub case: &'a Case<'r>,
     /// What the repair would do.
     pub summary: &'a Summary,
     /// The rows of the recording, in order.
@@ -21,7 +21,7 @@ pub struct Contents<'a> {
     pub shows_all: bool,
 }
 
-impl<'a> Contents<'a> {
+impl<'a> Contents<'a, '_> {
     /// Returns the row of the line with a number.
     pub(crate) fn line(&self, number: u32) -> Option<&'a LineRow<'a>> {
         match self.lines.binary_search_by_key(&number, |line| line.number) {

@@ -19,7 +19,7 @@ use crate::why::whys;
 use std::alloc::Global;
 
 /// Returns all of a page that comes before the rows of lines.
-fn front(contents: Contents<'_>, rows: &Rows<'_>) -> Result<Html, NoMem> {
+fn front(contents: Contents<'_, '_>, rows: &Rows<'_, '_>) -> Result<Html, NoMem> {
     let alloc = rows.alloc;
     let mut html = Html::new(alloc);
     push_head(&mut html, alloc, contents.title, rows.columns.len())?;
@@ -46,7 +46,7 @@ fn back(alloc: Global) -> Result<Html, NoMem> {
 /// Returns the page of a repair. It is made of constants of the template, of escaped texts, and of
 /// the starts of rows: one for each line, but for untouched lines if there are more than 5,000
 /// lines and not all are asked for.
-pub fn page(alloc: Global, contents: Contents<'_>) -> Result<String, NoMem>
+pub fn page(alloc: Global, contents: Contents<'_, '_>) -> Result<String, NoMem>
     ensures { IfOk result (λ text. IsHtml
         (written_lines (shows_untouched contents.entry.shows_all contents.entry.summary.now.fates.items)
         contents.entry.summary.now.fates.items) (string_bytes text)) }

@@ -30,13 +30,13 @@ pub(crate) fn push_head(
 }
 
 /// Returns how many lines have a fate.
-fn count_fate(contents: Contents<'_>, fate: Fate) -> usize {
+fn count_fate(contents: Contents<'_, '_>, fate: Fate) -> usize {
     let fates = &contents.summary.fates;
     fates.iter().filter(|line| line.1 == fate).count()
 }
 
 /// Returns how many sessions ran lines that are told about.
-fn count_people(alloc: Global, contents: Contents<'_>) -> Result<usize, NoMem> {
+fn count_people(alloc: Global, contents: Contents<'_, '_>) -> Result<usize, NoMem> {
     let mut sessions = BTreeSet::new(alloc);
     for notice in &contents.summary.notices {
         sessions.insert(notice.session)?;
@@ -45,7 +45,7 @@ fn count_people(alloc: Global, contents: Contents<'_>) -> Result<usize, NoMem> {
 }
 
 /// Appends how many people would have seen something else, on how many screens.
-fn push_people(html: &mut Html, alloc: Global, contents: Contents<'_>) -> Result<(), NoMem> {
+fn push_people(html: &mut Html, alloc: Global, contents: Contents<'_, '_>) -> Result<(), NoMem> {
     let people = count_people(alloc, contents)?;
     html.fixed(Tag::Strong)?;
     html.number(alloc, people as u64)?;
@@ -65,7 +65,7 @@ fn push_people(html: &mut Html, alloc: Global, contents: Contents<'_>) -> Result
 fn push_rests(
     html: &mut Html,
     alloc: Global,
-    contents: Contents<'_>,
+    contents: Contents<'_, '_>,
     sessions: usize,
 ) -> Result<(), NoMem> {
     html.count(alloc, contents.summary.fates.len(), "line")?;
@@ -85,7 +85,7 @@ fn push_rests(
 pub(crate) fn push_lead(
     html: &mut Html,
     alloc: Global,
-    contents: Contents<'_>,
+    contents: Contents<'_, '_>,
     sessions: usize,
 ) -> Result<(), NoMem> {
     html.fixed(Tag::Lead)?;
@@ -129,7 +129,7 @@ fn push_fate(html: &mut Html, alloc: Global, fate: Fate) -> Result<(), NoMem> {
 fn push_box(
     html: &mut Html,
     alloc: Global,
-    contents: Contents<'_>,
+    contents: Contents<'_, '_>,
     fate: Fate,
 ) -> Result<(), NoMem> {
     html.fixed(box_of(fate))?;
@@ -142,7 +142,7 @@ fn push_box(
 pub(crate) fn push_key(
     html: &mut Html,
     alloc: Global,
-    contents: Contents<'_>,
+    contents: Contents<'_, '_>,
 ) -> Result<(), NoMem> {
     html.fixed(Tag::Key)?;
     push_box(html, alloc, contents, Fate::Cancelled)?;

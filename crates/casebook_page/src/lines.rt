@@ -58,7 +58,7 @@ pub(crate) fn part_of(alloc: Global, tag: Tag) -> Result<Html, NoMem> {
     Ok(html)
 }
 
-impl<'a> Rows<'a> {
+impl Rows<'_, '_> {
     /// Appends the row of a line, if it has one.
     fn with_line(&self, sheet: Sheet, line: (u32, Fate)) -> Result<Sheet, NoMem>
         ensures { IfOk result (λ s. s.rows

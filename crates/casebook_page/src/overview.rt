@@ -33,7 +33,7 @@ fn push_tick(html: &mut Html, alloc: Global, place: u64, line: (u32, Fate)) -> R
 }
 
 /// Returns the session of a line, or 0 if there is no such line.
-pub(crate) fn session_of(contents: Contents<'_>, number: u32) -> u32 {
+pub(crate) fn session_of(contents: Contents<'_, '_>, number: u32) -> u32 {
     match contents.line(number) {
         Some(line) => line.session,
         None => 0,
@@ -41,7 +41,7 @@ pub(crate) fn session_of(contents: Contents<'_>, number: u32) -> u32 {
 }
 
 /// Returns the sessions of all lines, in order.
-fn sessions(alloc: Global, contents: Contents<'_>) -> Result<Vec<u32>, NoMem> {
+fn sessions(alloc: Global, contents: Contents<'_, '_>) -> Result<Vec<u32>, NoMem> {
     let mut sessions = Vec::new(alloc);
     for line in &contents.summary.fates {
         sessions.push(session_of(contents, line.0))?;
@@ -53,7 +53,7 @@ fn sessions(alloc: Global, contents: Contents<'_>) -> Result<Vec<u32>, NoMem> {
 fn push_ticks(
     html: &mut Html,
     alloc: Global,
-    contents: Contents<'_>,
+    contents: Contents<'_, '_>,
     sessions: &[u32],
     session: u32,
 ) -> Result<(), NoMem> {
@@ -71,7 +71,7 @@ fn push_ticks(
 fn push_session(
     html: &mut Html,
     alloc: Global,
-    contents: Contents<'_>,
+    contents: Contents<'_, '_>,
     sessions: &[u32],
     session: u32,
 ) -> Result<(), NoMem> {
@@ -88,7 +88,10 @@ fn push_session(
 }
 
 /// Returns the sessions that ran lines, each with its column, from 0 on.
-pub(crate) fn columns(alloc: Global, contents: Contents<'_>) -> Result<BTreeMap<u32, u32>, NoMem> {
+pub(crate) fn columns(
+    alloc: Global,
+    contents: Contents<'_, '_>,
+) -> Result<BTreeMap<u32, u32>, NoMem> {
     let mut columns = BTreeMap::new(alloc);
     for line in contents.lines {
         columns.insert(line.session, 0_u32)?;
@@ -105,7 +108,7 @@ pub(crate) fn columns(alloc: Global, contents: Contents<'_>) -> Result<BTreeMap<
 pub(crate) fn push_overview(
     html: &mut Html,
     alloc: Global,
-    contents: Contents<'_>,
+    contents: Contents<'_, '_>,
     columns: &BTreeMap<u32, u32>,
 ) -> Result<(), NoMem> {
     let sessions = sessions(alloc, contents)?;

@@ -68,7 +68,7 @@ fn push_kind(
 fn push_writer(
     html: &mut Html,
     alloc: Global,
-    contents: Contents<'_>,
+    contents: Contents<'_, '_>,
     path: &Path,
 ) -> Result<(), NoMem> {
     let ask = Ask::Bytes(path.copy()?);
@@ -85,7 +85,7 @@ fn push_writer(
 fn push_row(
     html: &mut Html,
     alloc: Global,
-    contents: Contents<'_>,
+    contents: Contents<'_, '_>,
     path: &ChangedPath,
 ) -> Result<(), NoMem> {
     let before = contents.case.recording().last().tree();
@@ -108,7 +108,7 @@ fn push_row(
 fn push_rows(
     html: &mut Html,
     alloc: Global,
-    contents: Contents<'_>,
+    contents: Contents<'_, '_>,
     paths: &[ChangedPath],
 ) -> Result<(), NoMem> {
     for path in paths {
@@ -121,7 +121,7 @@ fn push_rows(
 pub(crate) fn push_restore(
     html: &mut Html,
     alloc: Global,
-    contents: Contents<'_>,
+    contents: Contents<'_, '_>,
 ) -> Result<(), NoMem> {
     let paths = contents.summary.restorations.as_slice();
     html.fixed(Tag::Restore)?;

@@ -14,11 +14,11 @@ use std::collections::BTreeMap;
 
 /// What the rows of lines are written from.
 #[derive(Drop, Clone, Copy)]
-pub(crate) struct Rows<'a> {
+pub(crate) struct Rows<'a, 'r> {
     /// The allocator.
     pub(crate) alloc: Global,
     /// What the page shows.
-    pub(crate) contents: Contents<'a>,
+    pub(crate) contents: Contents<'a, 'r>,
     /// The column of each session, from 0 on.
     pub(crate) columns: &'a BTreeMap<u32, u32>,
     /// Why lines are run again.
@@ -79,7 +79,7 @@ fn push_writes(
     Ok(())
 }
 
-impl<'a> Rows<'a> {
+impl Rows<'_, '_> {
     /// Returns the column of a line.
     fn column_of(&self, number: u32) -> u32 {
         match self.contents.line(number) {

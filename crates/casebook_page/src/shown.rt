@@ -45,7 +45,7 @@ fn link_of(fate: Option<Fate>) -> Tag {
 pub(crate) fn push_fated_links(
     html: &mut Html,
     alloc: Global,
-    contents: Contents<'_>,
+    contents: Contents<'_, '_>,
     numbers: &[u32],
 ) -> Result<(), NoMem> {
     for number in numbers {
@@ -63,7 +63,7 @@ pub(crate) fn push_fated_links(
 pub(crate) fn push_command(
     html: &mut Html,
     alloc: Global,
-    contents: Contents<'_>,
+    contents: Contents<'_, '_>,
     number: u32,
 ) -> Result<(), NoMem> {
     let mut text = SafeLine::new(alloc);
@@ -76,7 +76,7 @@ pub(crate) fn push_command(
 /// Returns the text of a line.
 pub(crate) fn command_of(
     alloc: Global,
-    contents: Contents<'_>,
+    contents: Contents<'_, '_>,
     number: u32,
 ) -> Result<Html, NoMem> {
     let mut html = Html::new(alloc);

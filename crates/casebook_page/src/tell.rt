@@ -27,7 +27,7 @@ fn push_subject(html: &mut Html, alloc: Global, subject: &Subject) -> Result<(),
 }
 
 /// Returns what a line printed, and what it prints in the repaired run.
-pub(crate) fn outputs_of(contents: Contents<'_>, number: u32) -> (&[u8], &[u8]) {
+pub(crate) fn outputs_of<'r>(contents: Contents<'_, 'r>, number: u32) -> (&'r [u8], &'r [u8]) {
     match (
         contents.case.recording().run_of(number),
         contents.case.repair().recording.run_of(number),
@@ -46,7 +46,7 @@ fn first_of(group: &Group) -> u32 {
 fn push_inside(
     html: &mut Html,
     alloc: Global,
-    contents: Contents<'_>,
+    contents: Contents<'_, '_>,
     group: &Group,
     merged: &Merged<'_>,
 ) -> Result<(), NoMem> {
@@ -69,7 +69,7 @@ fn push_inside(
 fn push_group(
     html: &mut Html,
     alloc: Global,
-    contents: Contents<'_>,
+    contents: Contents<'_, '_>,
     group: &Group,
 ) -> Result<(), NoMem> {
     let (old, new) = outputs_of(contents, first_of(group));
@@ -89,7 +89,7 @@ fn push_group(
 fn push_person(
     html: &mut Html,
     alloc: Global,
-    contents: Contents<'_>,
+    contents: Contents<'_, '_>,
     session: u32,
 ) -> Result<(), NoMem> {
     html.fixed(Tag::Person)?;
@@ -103,7 +103,7 @@ fn push_person(
 pub(crate) fn push_tell(
     html: &mut Html,
     alloc: Global,
-    contents: Contents<'_>,
+    contents: Contents<'_, '_>,
 ) -> Result<(), NoMem> {
     let groups = grouped(alloc, contents.summary.notices.as_slice())?;
     let mut last = None;

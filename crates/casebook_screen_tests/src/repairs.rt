@@ -28,8 +28,8 @@ enum Show {
 
 /// A repair, its summary, and what sessions and lines are called.
 #[derive(Drop, Clone, Copy)]
-struct Shown<'a> {
-    case: &'a Case<'a>,
+struct Shown<'a, 'r> {
+    case: &'a Case<'r>,
     summary: &'a Summary,
     names: Names<'a>,
 }
@@ -75,7 +75,7 @@ const PERIOD: [(u32, &str); 2] = [(1, "May 05 09:30"), (4, "May 06 10:52")];
 /// Returns a summary as lines.
 fn lines_of_summary(
     alloc: Global,
-    shown: Shown<'_>,
+    shown: Shown<'_, '_>,
     is_recording: bool,
 ) -> Result<Vec<SafeLine>, NoMem> {
     let paths = shown.summary.restorations.as_slice();
@@ -92,7 +92,7 @@ fn lines_of_summary(
 }
 
 /// Returns what is shown as lines.
-fn lines_of(alloc: Global, shown: Shown<'_>, show: Show) -> Result<Vec<SafeLine>, NoMem> {
+fn lines_of(alloc: Global, shown: Shown<'_, '_>, show: Show) -> Result<Vec<SafeLine>, NoMem> {
     let Shown {
         case,
         summary,
@@ -107,13 +107,13 @@ fn lines_of(alloc: Global, shown: Shown<'_>, show: Show) -> Result<Vec<SafeLine>
 }
 
 /// Returns what is shown as the text that a terminal shows.
-fn text_of(alloc: Global, shown: Shown<'_>, show: Show) -> Result<String, NoMem> {
+fn text_of(alloc: Global, shown: Shown<'_, '_>, show: Show) -> Result<String, NoMem> {
     let lines = lines_of(alloc, shown, show)?;
     text_of_lines(alloc, lines.as_slice())
 }
 
 /// Compares each row of a table.
-fn hold_rows(alloc: Global, shown: Shown<'_>, rows: &[(Show, &str)]) -> Result<(), Fail> {
+fn hold_rows(alloc: Global, shown: Shown<'_, '_>, rows: &[(Show, &str)]) -> Result<(), Fail> {
     for (show, wanted) in rows {
         let text = text_of(alloc, shown, *show)?;
         compare(alloc, text.as_str(), wanted)?;
@@ -124,7 +124,7 @@ fn hold_rows(alloc: Global, shown: Shown<'_>, rows: &[(Show, &str)]) -> Result<(
 /// Compares what is shown of a repair with this summary.
 fn hold_summary<'a>(
     alloc: Global,
-    case: &'a Case<'a>,
+    case: &'a Case<'_>,
     summary: &'a Summary,
     table: Table<'_>,
 ) -> Result<(), Fail> {
