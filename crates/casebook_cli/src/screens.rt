@@ -19,16 +19,16 @@ use std::alloc::Global;
 
 /// What is shown of a repair, and how.
 #[derive(Clone, Copy, Drop)]
-struct Screen<'a> {
+struct Screen<'a, 'r> {
     /// The recording and its repair.
-    case: &'a Case<'a>,
+    case: &'a Case<'r>,
     /// What it would do.
     summary: &'a Summary,
     /// What sessions and lines are called.
     names: Names<'a>,
 }
 
-impl Screen<'_> {
+impl Screen<'_, '_> {
     /// Returns what the repair would do.
     fn summary_lines(self, alloc: Global) -> Result<Vec<SafeLine>, NoMem>
         ensures { IfOk result (λ lines. AreSummaryLines (screen_view self.entry) lines.items) }
