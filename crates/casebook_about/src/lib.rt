@@ -3,7 +3,8 @@
 //! [`read_about`] reads it from an about document: JSON (RFC 8259) of an object with `"about": 1`,
 //! with `"sessions"`, rows that begin with a session's number and the name of its user, and with
 //! `"lines"`, rows that begin with a line's number and a time in seconds since the start of 1970
-//! (UTC). Both may be missing, further cells and keys don't count. [`time_text`] shows a time.
+//! (UTC). Both may be missing, further cells and keys don't count. [`time_text`] shows a time, and
+//! [`second_of`] reads one.
 //!
 //! If allocation fails, calls return `OutOfMemory` as a variant of their error.
 #![tactic(auto)]
@@ -16,4 +17,4 @@ mod time;
 pub use about::{About, read_about};
 pub use fault::{AboutFault, Part};
 pub use rows::{LineTime, SessionUser};
-pub use time::{TIME_FORMAT, time_text};
+pub use time::{TIME_FORMAT, second_of, time_text};
