@@ -22,12 +22,6 @@ struct Table<'a> {
     rows: &'a [(&'a str, &'a str)],
 }
 
-/// No edits.
-const NOTHING: Edited<'static> = Edited {
-    cancelled: &[],
-    replaced: &[],
-};
-
 /// A script without lines.
 const EMPTY: &str = r#"{"script":1,"tree":[],"sessions":[],"lines":[]}"#;
 
@@ -42,10 +36,18 @@ const UNEDITED: &str = r#"{
 /// A session that is named by its number.
 const NUMBERED: [(u32, &str); 1] = [(1, "1")];
 
+/// Returns no edits.
+fn nothing() -> Edited<'static> {
+    Edited {
+        cancelled: &[],
+        replaced: &[],
+    }
+}
+
 /// Returns the document of a repair with this summary.
 fn text_of(
     alloc: Global,
-    case: Case<'_>,
+    case: &Case<'_>,
     summary: &Summary,
     labels: &Labels,
     is_recording: bool,
@@ -53,7 +55,7 @@ fn text_of(
     let restorations = to_restore(alloc, case, summary.restorations.as_slice())?;
     let groups = grouped(alloc, summary.notices.as_slice())?;
     let sheet = Sheet {
-        recording: case.recording,
+        recording: case.recording(),
         summary,
         restorations: restorations.as_slice(),
         groups: groups.as_slice(),
@@ -101,7 +103,7 @@ fn hold_text(alloc: Global, text: &str, rows: &[(&str, &str)]) -> Result<(), Fai
 /// Compares the document of a repair with this summary.
 fn hold_summary(
     alloc: Global,
-    case: Case<'_>,
+    case: &Case<'_>,
     summary: &Summary,
     table: Table<'_>,
 ) -> Result<(), Fail> {
@@ -115,7 +117,7 @@ fn hold_summary(
 }
 
 /// Compares the document of a repair.
-fn hold_case(alloc: Global, case: Case<'_>, table: Table<'_>) -> Result<(), Fail> {
+fn hold_case(alloc: Global, case: &Case<'_>, table: Table<'_>) -> Result<(), Fail> {
     let summary = Summary::of(alloc, case)?;
     hold_summary(alloc, case, &summary, table)
 }
@@ -123,11 +125,8 @@ fn hold_case(alloc: Global, case: Case<'_>, table: Table<'_>) -> Result<(), Fail
 /// Compares the document of the repair of a recording.
 fn hold_repair(alloc: Global, recording: &Recording, table: Table<'_>) -> Result<(), Fail> {
     let repair = repair_of(alloc, recording, table.edited)?;
-    let case = Case {
-        recording,
-        repair: &repair,
-    };
-    hold_case(alloc, case, table)
+    let case = Case::of(alloc, recording, &repair)?;
+    hold_case(alloc, &case, table)
 }
 
 /// Compares the document of the repair of a script.
@@ -140,7 +139,7 @@ fn hold(alloc: Global, table: Table<'_>) -> Result<(), Fail> {
 fn few_lines_are_written(rt: HostRuntime) -> Result<(), Fail> {
     let empty = Table {
         script: EMPTY,
-        edited: NOTHING,
+        edited: nothing(),
         names: &[],
         is_recording: true,
         rows: &documents::EMPTY,
@@ -148,7 +147,7 @@ fn few_lines_are_written(rt: HostRuntime) -> Result<(), Fail> {
     hold(rt.alloc(), empty)?;
     let unedited = Table {
         script: UNEDITED,
-        edited: NOTHING,
+        edited: nothing(),
         names: &[],
         is_recording: true,
         rows: &documents::UNEDITED,

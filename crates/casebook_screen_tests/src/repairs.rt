@@ -6,6 +6,7 @@ use casebook_screen::{
 };
 use casebook_text::{SafeLine, text_of_lines};
 use casebook_view::{Case, Summary, grouped};
+use casebook_words::Labels;
 use retro_keep::Recording;
 use std::alloc::Global;
 use std::test::Fail;
@@ -121,16 +122,16 @@ fn hold_rows(alloc: Global, shown: Shown<'_, '_>, rows: &[(Show, &str)]) -> Resu
     Ok(())
 }
 
-/// Compares what is shown of a repair with this summary.
-fn hold_summary<'a>(
+/// Compares what is shown of a repair with this summary and these names.
+fn hold_named<'a>(
     alloc: Global,
     case: &'a Case<'_>,
     summary: &'a Summary,
-    table: Table<'_>,
+    labels: &'a Labels,
+    rows: &[(Show, &str)],
 ) -> Result<(), Fail> {
-    let labels = labels_of(alloc, table.named)?;
     let names = Names {
-        labels: &labels,
+        labels,
         width: WIDTH,
     };
     let shown = Shown {
@@ -138,7 +139,18 @@ fn hold_summary<'a>(
         summary,
         names,
     };
-    hold_rows(alloc, shown, table.rows)
+    hold_rows(alloc, shown, rows)
+}
+
+/// Compares what is shown of a repair with this summary.
+fn hold_summary(
+    alloc: Global,
+    case: &Case<'_>,
+    summary: &Summary,
+    table: Table<'_>,
+) -> Result<(), Fail> {
+    let labels = labels_of(alloc, table.named)?;
+    hold_named(alloc, case, summary, &labels, table.rows)
 }
 
 /// Compares what is shown of a repair.
