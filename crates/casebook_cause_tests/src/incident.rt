@@ -1,10 +1,10 @@
 //! A test of what a person asks of one repair.
 use casebook_cause::{cause_of, first_failing_note, has_another_result, leaks, tellings};
 use retro_history::History;
-use retro_keep::{Edit, Noted, Recording, Script, ScriptLine, keep_alone};
+use retro_keep::{Edit, Recording, Script, ScriptLine, keep_alone};
 use retro_redo::{Compensation, Repair, repair_alone};
 use retro_rows::{fail, path};
-use retro_tree::{Ask, Note, Path, State, Text};
+use retro_tree::{Ask, NoMem, Note, Path, State, Text};
 use std::alloc::Global;
 use std::collections::BTreeMap;
 use std::test::Fail;
@@ -47,13 +47,8 @@ fn repair(alloc: Global, recording: &Recording) -> Result<Repair, Fail> {
     }
 }
 
-/// Returns a line of a recording.
-fn line(recording: &Recording, number: u32) -> Result<&Noted, Fail> {
-    Ok(recording.run_of(number).ok_or("no such line")?)
-}
-
 /// Returns the numbers of compensations.
-fn numbers(alloc: Global, compensations: &[&Compensation]) -> Result<Vec<u32>, Fail> {
+fn numbers(alloc: Global, compensations: &[&Compensation]) -> Result<Vec<u32>, NoMem> {
     let mut numbers = Vec::new(alloc);
     for compensation in compensations {
         numbers.push(compensation.number)?;
@@ -61,71 +56,132 @@ fn numbers(alloc: Global, compensations: &[&Compensation]) -> Result<Vec<u32>, F
     Ok(numbers)
 }
 
-/// Returns the cause of a line's first query that has another answer in the repaired state. Fails
-/// if that query isn't about `/a`.
-fn cause(
-    alloc: Global,
-    recording: &Recording,
-    repair: &Repair,
-    number: u32,
-) -> Result<Option<u32>, Fail> {
-    let notes = &line(recording, number)?.notes;
-    let recorded = History::of(alloc, recording)?;
-    let history = History::of(alloc, &repair.recording)?;
-    let index = first_failing_note(alloc, notes, &history.at(number))?.ok_or("all notes hold")?;
-    match notes.as_slice().get(index) {
-        Some(Note::Asked(ask, _)) if is_about(ask, &path(alloc, "/a")?) => {
-            Ok(cause_of(alloc, &recorded, &history, number, ask)?)
-        }
-        _ => fail("another query"),
-    }
-}
-
-/// Returns whether a query is about the node at a path.
-fn is_about(ask: &Ask, path: &Path) -> bool {
-    match ask {
-        Ask::Kind(at) | Ask::Bytes(at) => at == path,
-        _ => false,
-    }
-}
-
-/// Returns whether the first line leaks, and the second has to be told.
-fn is_separated(alloc: Global, repair: &Repair) -> Result<bool, Fail> {
+/// Returns whether the first line leaks, and no other.
+fn has_leaked(alloc: Global, repair: &Repair) -> Result<bool, NoMem> {
     let leaked = numbers(alloc, leaks(alloc, repair)?.as_slice())?;
+    Ok(leaked.as_slice() == [1].as_slice())
+}
+
+/// Returns whether the second line has to be told, and no other.
+fn is_told(alloc: Global, repair: &Repair) -> Result<bool, NoMem> {
     let told = numbers(alloc, tellings(alloc, repair)?.as_slice())?;
-    Ok(leaked.as_slice() == [1].as_slice() && told.as_slice() == [2].as_slice())
+    Ok(told.as_slice() == [2].as_slice())
 }
 
-/// Returns whether a line has another result in the repaired recording.
-fn differs(recording: &Recording, repair: &Repair, number: u32) -> Result<bool, Fail> {
-    let old = line(recording, number)?;
-    Ok(has_another_result(old, line(&repair.recording, number)?))
+/// A recording and its repair, with what each line met, and the path of the file that matters.
+#[derive(Clone, Copy, Drop)]
+struct Sides<'h, 'r> {
+    recording: &'r Recording,
+    repair: &'r Repair,
+    recorded: &'h History<'r>,
+    repaired: &'h History<'r>,
+    file: &'h Path,
 }
 
-/// Returns whether all notes of a line hold in the repaired state.
-fn is_held(
+impl<'r> Sides<'_, 'r> {
+    /// Returns the index of a line's first note that doesn't hold in the repaired state.
+    fn failing(self, alloc: Global, number: u32) -> Result<Option<usize>, NoMem> {
+        match self.recording.run_of(number) {
+            Some(noted) => first_failing_note(alloc, &noted.notes, &self.repaired.at(number)),
+            None => Ok(None),
+        }
+    }
+
+    /// Returns the query of a line's note, if it is about the node at the file's path.
+    fn query(self, number: u32, index: usize) -> Option<&'r Ask> {
+        match self.recording.run_of(number)?.notes.as_slice().get(index)? {
+            Note::Asked(ask, _) if self.is_about_the_file(ask) => Some(ask),
+            _ => None,
+        }
+    }
+
+    /// Returns whether a query is about the node at the file's path.
+    fn is_about_the_file(self, ask: &Ask) -> bool {
+        match ask {
+            Ask::Kind(at) | Ask::Bytes(at) => at == self.file,
+            _ => false,
+        }
+    }
+
+    /// Returns the cause of a line's first query that has another answer in the repaired state, or
+    /// `None` if that query isn't about the file.
+    fn cause(self, alloc: Global, number: u32) -> Result<Option<u32>, NoMem> {
+        let index = self.failing(alloc, number)?;
+        match index.and_then(|index| self.query(number, index)) {
+            Some(ask) => cause_of(alloc, self.recorded, self.repaired, number, ask),
+            None => Ok(None),
+        }
+    }
+
+    /// Returns whether a line has another result in the repaired recording.
+    fn differs(self, number: u32) -> Option<bool> {
+        let old = self.recording.run_of(number)?;
+        Some(has_another_result(old, self.repair.recording.run_of(number)?))
+    }
+
+    /// Returns whether the lines are explained.
+    fn are_explained(self, alloc: Global) -> Result<bool, NoMem> {
+        let second = self.differs(2) == Some(true) && self.cause(alloc, 2)? == Some(1);
+        let third = self.differs(3) == Some(false) && self.cause(alloc, 3)? == Some(1);
+        let fourth = self.differs(4) == Some(false) && self.failing(alloc, 4)?.is_none();
+        Ok(second && third && fourth)
+    }
+}
+
+/// Returns whether the lines are explained, by the history of a recording.
+fn are_explained<'r>(
+    alloc: Global,
+    recording: &'r Recording,
+    repair: &'r Repair,
+    recorded: &History<'r>,
+    file: &Path,
+) -> Result<bool, NoMem> {
+    let repaired = History::of(alloc, &repair.recording)?;
+    let sides = Sides {
+        recording,
+        repair,
+        recorded,
+        repaired: &repaired,
+        file,
+    };
+    sides.are_explained(alloc)
+}
+
+/// Returns whether the repair of a recording is explained.
+fn is_explained(
     alloc: Global,
     recording: &Recording,
     repair: &Repair,
-    number: u32,
-) -> Result<bool, Fail> {
-    let history = History::of(alloc, &repair.recording)?;
-    let notes = &line(recording, number)?.notes;
-    Ok(first_failing_note(alloc, notes, &history.at(number))?.is_none())
+    file: &Path,
+) -> Result<bool, NoMem> {
+    let recorded = History::of(alloc, recording)?;
+    are_explained(alloc, recording, repair, &recorded, file)
 }
 
-/// Returns whether the repair is explained.
-fn is_explained(alloc: Global, recording: &Recording, repair: &Repair) -> Result<bool, Fail> {
-    let second = differs(recording, repair, 2)? && cause(alloc, recording, repair, 2)? == Some(1);
-    let third = !differs(recording, repair, 3)? && cause(alloc, recording, repair, 3)? == Some(1);
-    Ok(second && third && !differs(recording, repair, 4)? && is_held(alloc, recording, repair, 4)?)
+/// Returns whether the repair of a recording is explained, and says whom to tell.
+fn is_whole(
+    alloc: Global,
+    recording: &Recording,
+    repair: &Repair,
+    file: &Path,
+) -> Result<bool, NoMem> {
+    Ok(
+        has_leaked(alloc, repair)?
+            && is_told(alloc, repair)?
+            && is_explained(alloc, recording, repair, file)?,
+    )
+}
+
+/// Returns whether the repair without the first line is explained.
+fn holds(alloc: Global, recording: &Recording) -> Result<bool, Fail> {
+    let file = path(alloc, "/a")?;
+    let repair = repair(alloc, recording)?;
+    Ok(is_whole(alloc, recording, &repair, &file)?)
 }
 
 #[test]
 fn repairs_are_explained(rt: HostRuntime) -> Result<(), Fail> {
     let recording = recording(rt.alloc())?;
-    let repair = repair(rt.alloc(), &recording)?;
-    assert!(rt; is_separated(rt.alloc(), &repair)?);
-    assert!(rt; is_explained(rt.alloc(), &recording, &repair)?);
+    assert!(rt; holds(rt.alloc(), &recording)?);
     Ok(())
 }
