@@ -3,16 +3,55 @@
 
 ghost use Rattle.std.specs.Prelude.{None};
 
-use casebook_cli::{Documents, Exit, Output, Problem, ReadFault, Stop, run_with};
+use casebook_cli::{Documents, Exit, Output, Problem, Progress, ReadFault, Step, Stop, run_with};
 use std::alloc::Global;
-use std::fs;
+use std::cell::Cell;
 use std::io::{ErrorKind, Read, Write};
 use std::process::ExitCode;
+use std::{env, fs};
+
+/// From so many bytes on, reading a log takes a second or more.
+const LONG_LOG: usize = 10_000_000;
+
+/// From so many lines on, a repair takes a second or more.
+const MANY_LINES: usize = 10_000;
+
+/// Goes to the start of a terminal's line, and empties it.
+const CLEAR: &str = "\r\u{1B}[K";
 
 /// The files of the process, and its standard input under the name `-`.
-#[derive(Clone, Copy, Drop)]
+#[derive(Drop)]
 struct Files<'a> {
     rt: &'a HostRuntime,
+    /// Whether standard error is a terminal, on which it is said how far the work is.
+    tells: bool,
+    /// Whether something is said there now.
+    has_told: Cell<bool>,
+}
+
+/// Returns whether an open file of the process is a terminal, by its name below `/dev`. Where there
+/// is no `/proc`, nothing is one.
+fn is_terminal(rt: &HostRuntime, descriptor: &str) -> bool {
+    match fs::read_link(rt, descriptor) {
+        Ok(path) => match path.to_str() {
+            Some(name) => name.starts_with("/dev/pts/") || name.starts_with("/dev/tty"),
+            None => false,
+        },
+        Err(_) => false,
+    }
+}
+
+/// Returns whether the environment asks for no colours: `NO_COLOR` has a value, or the terminal is
+/// one without any.
+fn is_plain(rt: &HostRuntime) -> bool {
+    let is_asked = match env::var(rt, "NO_COLOR") {
+        Ok(value) => !value.as_str().is_empty(),
+        Err(_) => false,
+    };
+    match env::var(rt, "TERM") {
+        Ok(terminal) => is_asked || terminal.as_str() == "dumb",
+        Err(_) => is_asked,
+    }
 }
 
 /// Returns why a file couldn't be read.
@@ -41,6 +80,40 @@ impl Documents for Files<'_> {
     }
 }
 
+impl Files<'_> {
+    /// Says on standard error what is done, in place of what is said there. If standard error takes
+    /// nothing, nobody is told.
+    fn tell(&self, doing: &str, count: usize, what: &str) {
+        let mut error = self.rt.stderr();
+        let _ = write!(error, "{CLEAR}casebook: {doing} {count} {what}");
+        self.has_told.set(true);
+    }
+}
+
+impl Progress for Files<'_> {
+    fn begin(&self, step: Step) {
+        if !self.tells {
+            return;
+        }
+        match step {
+            Step::Reading(bytes) if bytes >= LONG_LOG => {
+                self.tell("reading", bytes / 1_000_000, "MB");
+            }
+            Step::Repairing(lines) if lines >= MANY_LINES => {
+                self.tell("repairing", lines, "lines");
+            }
+            Step::Showing(lines) if lines >= MANY_LINES => {
+                self.tell("comparing", lines, "lines");
+            }
+            Step::Writing if self.has_told.get() => {
+                let mut error = self.rt.stderr();
+                let _ = write!(error, "{CLEAR}");
+            }
+            _ => {}
+        }
+    }
+}
+
 /// Writes the message of an exit on standard error, and returns the exit's status.
 fn end(rt: &HostRuntime, exit: Exit<'_>) -> ExitCode {
     // If standard error takes nothing, the status is the same.
@@ -54,7 +127,7 @@ fn end(rt: &HostRuntime, exit: Exit<'_>) -> ExitCode {
 
 /// Returns the words of the command line.
 fn words_of(rt: &HostRuntime) -> Result<Vec<String>, Stop<'static>> {
-    match std::env::args(rt) {
+    match env::args(rt) {
         Ok(args) => match args.collect(rt.alloc()) {
             Ok(words) => Ok(words),
             Err(_) => Err(Stop::OutOfMemory),
@@ -69,8 +142,13 @@ fn main(rt: HostRuntime) -> ExitCode {
         Ok(words) => words,
         Err(stop) => return end(&rt, Exit::Stopped(stop)),
     };
-    let files = Files { rt: &rt };
+    let files = Files {
+        rt: &rt,
+        tells: is_terminal(&rt, "/proc/self/fd/2"),
+        has_told: Cell::new(false),
+    };
+    let colours = is_terminal(&rt, "/proc/self/fd/1") && !is_plain(&rt);
     let mut output = Output::new(rt.stdout());
-    let exit = run_with(rt.alloc(), words.as_slice(), &files, &mut output);
+    let exit = run_with(&rt, words.as_slice(), &files, colours, &mut output);
     end(&rt, exit)
 }
