@@ -10,7 +10,7 @@ use Rattle.clap.specs.declared.parser.matches.SubCommand.{SubCommand}
 use Rattle.clap.specs.declared.error.Error.{Error}
 use Rattle.clap.specs.declared.error.kind.ErrorKind.TheVariants as kind
 use Rattle.clap.proofs.OnLiterals.{clap_on_literals}
-use Rattle.casebook_cli.specs.Words.{Call, Named, bad, call_of, called, named_in, nothing, program, unless_fault}
+use Rattle.casebook_cli.specs.Words.{Call, Named, bad, call_of, named_in, program, unless_fault}
 use Rattle.casebook_cli.specs.declared.problem.Problem.TheVariants as problems
 
 pub is_plain_program : is_simple program ≡ true

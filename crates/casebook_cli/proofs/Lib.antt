@@ -1,7 +1,9 @@
 pub mod CallLemmas
+pub mod CheckLemmas
 pub mod KindLemmas
 pub mod Known
 pub mod NamedLemmas
+pub mod NumberLemmas
 pub mod RowLemmas
 pub mod RunLemmas
 pub mod ScreenLemmas

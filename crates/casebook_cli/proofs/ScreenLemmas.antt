@@ -1,32 +1,82 @@
--- What a screen shows of the case that is asked for, and the width of its column of names.
-use Rattle.std.proofs.Common.{◌≡◌, ℕ, List, subst}
+-- What a screen and a page show of the case that is asked for.
+use Rattle.std.proofs.Common.{◌≡◌, ℕ, Bool, IsTrue, List, map, Result, Ok, Err, IfOk, ap, subst, ◌∙◌}
 use Rattle.retro_keep.specs.Recording.{RecordingValue}
 use Rattle.retro_redo.specs.declared.repair.Repair.{Repair}
+use Rattle.retro_keep.specs.Script.{rises_from}
+use Rattle.casebook_json.specs.Summary.{summary_text}
+use Rattle.casebook_screen.specs.Summary.{summary_lines}
+use Rattle.casebook_screen.specs.declared.restoration.Restoration.{Restoration}
+use Rattle.casebook_view.specs.Reasons.{number_in}
+use Rattle.casebook_view.specs.declared.group.Group.{Group}
 use Rattle.casebook_view.specs.declared.summary.Summary.{Summary}
 use Rattle.casebook_words.specs.declared.labels.Labels.{Labels}
 use Rattle.casebook_cli.specs.Lines.{widest_name}
-use Rattle.casebook_cli.specs.Screens.{IsSummary, IsTextOf, ScreenValue, screen_of}
-use Rattle.casebook_cli.specs.declared.repairs.Asked.{Asked}
+use Rattle.casebook_cli.specs.Pages.{IsPageOf}
+use Rattle.casebook_cli.specs.Screens.{AreParts, AreSummaryLines, IsJson, IsShownOf, IsTextOf, ScreenValue}
+use Rattle.casebook_cli.specs.declared.screens.Parts.{Parts}
 use Rattle.casebook_cli.specs.declared.shown.Shown.{Shown}
 
-abbrev pub wide : RecordingValue → Repair → Summary → Labels → ℕ → ScreenValue
-wide r repair summary labels width = record {
+abbrev pub wide : RecordingValue → Repair → Summary → Labels → Bool → ℕ → ScreenValue
+wide r repair summary labels colours width = record {
   recording = r;
   repair = repair;
   summary = summary;
   labels = labels;
   width = width;
+  colours = colours;
 }
 
-module _ (asked : Asked) (r : RecordingValue) (repair : Repair) (summary : Summary)
-    (is_recording : r ≡ asked.recording) (is_repair : repair ≡ asked.repair) where
-  pub same_summary : IsSummary r repair summary → IsSummary asked.recording asked.repair summary
-  same_summary h =
-      subst (λ p. IsSummary asked.recording p summary) is_repair (subst (λ o. IsSummary o repair summary) is_recording h)
+pub at_width : (shown : Shown) (r : RecordingValue) (repair : Repair) (summary : Summary) (labels : Labels)
+    (colours : Bool) (width : ℕ) (text : List ℕ) → width ≡ widest_name labels r.lines
+    → IsTextOf shown (wide r repair summary labels colours width) text
+    → IsTextOf shown (wide r repair summary labels colours (widest_name labels r.lines)) text
+at_width shown r repair summary labels colours width text is h =
+    subst (λ w. IsTextOf shown (wide r repair summary labels colours w) text) is h
 
-  pub at_width : (shown : Shown) (width : ℕ) (text : List ℕ) → width ≡ widest_name asked.labels asked.recording.lines
-      → IsTextOf shown (wide r repair summary asked.labels width) text → IsTextOf shown (screen_of asked summary) text
-  at_width shown width text is_width h =
-      subst (λ w. IsTextOf shown (wide asked.recording asked.repair summary asked.labels w) text) is_width
-      (subst (λ p. IsTextOf shown (wide asked.recording p summary asked.labels width) text) is_repair
-      (subst (λ o. IsTextOf shown (wide o repair summary asked.labels width) text) is_recording h))
+-- ---- a sheet of the code, as the parts of a screen
+
+module _ (s : ScreenValue) (parts : Parts) {r : RecordingValue} {restorations : List Restoration} {groups : List Group}
+    (is_recording : r ≡ s.recording) (are_restorations : restorations ≡ parts.restorations.items)
+    (are_groups : groups ≡ parts.groups.items) (are_parts : AreParts s parts) where
+  same_lines : summary_lines r s.summary restorations groups parts.is_recording s.labels s.width
+      ≡ summary_lines s.recording s.summary parts.restorations.items parts.groups.items parts.is_recording s.labels
+      s.width
+  same_lines =
+      ap (λ (o : RecordingValue). summary_lines o s.summary restorations groups parts.is_recording s.labels s.width)
+      is_recording
+      ∙ ap (λ (rs : List Restoration). summary_lines s.recording s.summary rs groups parts.is_recording s.labels s.width)
+      are_restorations
+      ∙ ap (λ (gs : List Group). summary_lines s.recording s.summary parts.restorations.items gs parts.is_recording
+      s.labels s.width) are_groups
+
+  same_text : summary_text r s.summary restorations groups parts.is_recording s.labels
+      ≡ summary_text s.recording s.summary parts.restorations.items parts.groups.items parts.is_recording s.labels
+  same_text =
+      ap (λ (o : RecordingValue). summary_text o s.summary restorations groups parts.is_recording s.labels) is_recording
+      ∙ ap (λ (rs : List Restoration). summary_text s.recording s.summary rs groups parts.is_recording s.labels)
+      are_restorations
+      ∙ ap (λ (gs : List Group). summary_text s.recording s.summary parts.restorations.items gs parts.is_recording
+      s.labels) are_groups
+
+  pub lines_of_sheet : (lines : List (List ℕ))
+      → lines ≡ summary_lines r s.summary restorations groups parts.is_recording s.labels s.width
+      → AreSummaryLines s lines
+  lines_of_sheet lines h = record { parts = parts; are_parts = are_parts; are_lines = h ∙ same_lines }
+
+  pub json_of_sheet : {A E : Type 0} (bytes : A → List ℕ) (result : Result A E)
+      → (IsTrue (rises_from 0 (map number_in s.summary.reasons.items))
+      → IfOk result (λ text. bytes text ≡ summary_text r s.summary restorations groups parts.is_recording s.labels))
+      → IfOk result (λ text. IsJson s (bytes text))
+  json_of_sheet bytes (Ok text) h = record { parts = parts; are_parts = are_parts; is_text = λ rise. h rise ∙ same_text }
+  json_of_sheet bytes (Err e) h = tt
+
+module _ {r s : RecordingValue} {repair other : Repair} (is_recording : r ≡ s) (is_repair : repair ≡ other) where
+  pub shown_same : (labels : Labels) (shown : Shown) (colours : Bool) (text : List ℕ)
+      → IsShownOf r repair labels shown colours text → IsShownOf s other labels shown colours text
+  shown_same labels shown colours text h =
+      subst (λ p. IsShownOf s p labels shown colours text) is_repair
+      (subst (λ o. IsShownOf o repair labels shown colours text) is_recording h)
+
+  pub page_same : (all : Bool) (text : List ℕ) → IsPageOf r repair all text → IsPageOf s other all text
+  page_same all text h =
+      subst (λ p. IsPageOf s p all text) is_repair (subst (λ o. IsPageOf o repair all text) is_recording h)

@@ -1,5 +1,5 @@
 -- The answers to requests.
-use Rattle.std.specs.Prelude.{◌≡◌, ℕ, Bool, true, false, List, string_bytes}
+use Rattle.std.specs.Prelude.{◌≡◌, ℕ, Bool, false, List, string_bytes}
 use Rattle.casebook_cli.specs.Checks.{IsChecked}
 use Rattle.casebook_cli.specs.Documents.{AllDocuments}
 use Rattle.casebook_cli.specs.Inputs.{AreInputs, InputsValue}
@@ -23,22 +23,22 @@ pub record Says (IsText : List ℕ → Type 0) (answer : AnswerValue) : Type 0 w
   pub is_text : IsText answer.text
   pub is_no_refusal : answer.is_no ≡ false
 
--- the answer to a question about documents
-abbrev pub AnswersBy : InputsValue → Query → AnswerValue → Type 0
-AnswersBy inputs (lines request) answer = Says (AreLines inputs request) answer
-AnswersBy inputs (show request) answer = Says (IsShown inputs request) answer
-AnswersBy inputs (page request) answer = Says (IsPage inputs request) answer
-AnswersBy inputs (check log) answer = IsChecked inputs.log answer.is_no answer.text
+-- the answer to a question about documents, with colours if they are wanted
+abbrev pub AnswersBy : Bool → InputsValue → Query → AnswerValue → Type 0
+AnswersBy colours inputs (lines request) answer = Says (AreLines inputs request) answer
+AnswersBy colours inputs (show request) answer = Says (IsShown colours inputs request) answer
+AnswersBy colours inputs (page request) answer = Says (IsPage inputs request) answer
+AnswersBy colours inputs (check log) answer = IsChecked inputs.log answer.is_no answer.text
 
 -- The answer to a question about the documents that it names.
-pub record AnswersQuery (at : AllDocuments) (query : Query) (answer : AnswerValue) : Type 0 where
+pub record AnswersQuery (colours : Bool) (at : AllDocuments) (query : Query) (answer : AnswerValue) : Type 0 where
   pub inputs : InputsValue
   pub are_inputs : AreInputs at (sources_of query) inputs
-  pub answers : AnswersBy inputs query answer
+  pub answers : AnswersBy colours inputs query answer
 
-abbrev pub Answers : AllDocuments → Request → AnswerValue → Type 0
-Answers at (help topic) answer = answer ≡ saying (help_text topic)
-Answers at (ask query) answer = AnswersQuery at query answer
+abbrev pub Answers : Bool → AllDocuments → Request → AnswerValue → Type 0
+Answers colours at (help topic) answer = answer ≡ saying (help_text topic)
+Answers colours at (ask query) answer = AnswersQuery colours at query answer
 
 -- ---- values of the code
 

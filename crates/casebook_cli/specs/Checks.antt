@@ -12,15 +12,19 @@ use Rattle.retro_log.specs.Document.{json_of, log_in, script_in}
 use Rattle.casebook_check.specs.Texts.{AreUnlikeLines}
 use Rattle.casebook_check.specs.Unlike.{IsFirstUnlike}
 use Rattle.casebook_check.specs.declared.unlike.Unlike.{Unlike}
+use Rattle.casebook_place.specs.Place.{IsPlaceInLog, IsPlaceInScript}
+use Rattle.casebook_place.specs.Words.{place_words}
+use Rattle.casebook_place.specs.declared.place.Place.{Place}
 use Rattle.casebook_text.specs.SafeLine.{text_of_lines}
 use Rattle.casebook_words.specs.Labels.{no_labels}
 use Rattle.casebook_cli.specs.Inputs.{DocumentValue}
 use Rattle.casebook_cli.specs.Messages.{about, numbered_words}
 use Rattle.casebook_cli.specs.declared.answer.Answer.{Answer}
 
--- a document is refused, after words of what it isn't
-abbrev pub refused_text : List ℕ → List ℕ → Refusal → List ℕ
-refused_text name words refusal = text_of_lines ((about name words ++ numbered_words refusal) ∷ [])
+-- a document is refused, after words of what it isn't, and where
+unfoldable pub refused_line : List ℕ → List ℕ → Refusal → Place → List ℕ
+refused_line name words refusal place =
+    ((about name words ++ numbered_words refusal) ++ codes ": ") ++ place_words place
 
 -- a document is something of so many lines
 abbrev pub counted_text : List ℕ → List ℕ → ℕ → List ℕ
@@ -59,18 +63,26 @@ SaysOf true name r text = SaysNo name r text
 abbrev pub IsCheckedAs : List ℕ → RecordingValue → Answer → Type 0
 IsCheckedAs name r answer = SaysOf answer.is_no name r (string_bytes answer.text)
 
+-- The answer says that a document is refused, after words of what it isn't, and a place where it breaks the rule.
+pub record SaysWhere (IsPlace : Place → Type 0) (name words : List ℕ) (refusal : Refusal) (is_no : Bool) (text : List ℕ)
+    : Type 0 where
+  pub place : Place
+  pub is_place : IsPlace place
+  pub says_no : is_no ≡ true
+  pub shown : text ≡ text_of_lines (refused_line name words refusal place ∷ [])
+
 -- the answer about a document that was read as a log
-abbrev pub IsCheckedLog : List ℕ → Result RecordingValue Refusal → Bool → List ℕ → Type 0
-IsCheckedLog name (Ok r) is_no text = SaysOf is_no name r text
-IsCheckedLog name (Err refusal) is_no text =
-    (is_no ≡ true) × (text ≡ refused_text name (codes "not a log: ") refusal)
+abbrev pub IsCheckedLog : DocumentValue → Result RecordingValue Refusal → Bool → List ℕ → Type 0
+IsCheckedLog document (Ok r) is_no text = SaysOf is_no document.name r text
+IsCheckedLog document (Err refusal) is_no text =
+    SaysWhere (IsPlaceInLog document.bytes refusal) document.name (codes "not a log: ") refusal is_no text
 
 -- the answer about a document that was read as a script
-abbrev pub IsCheckedScript : List ℕ → Result ScriptValue Refusal → Bool → List ℕ → Type 0
-IsCheckedScript name (Ok script) is_no text =
-    (is_no ≡ false) × (text ≡ counted_text name (codes "a script of ") (length script.lines))
-IsCheckedScript name (Err refusal) is_no text =
-    (is_no ≡ true) × (text ≡ refused_text name (codes "not a script: ") refusal)
+abbrev pub IsCheckedScript : DocumentValue → Result ScriptValue Refusal → Bool → List ℕ → Type 0
+IsCheckedScript document (Ok script) is_no text =
+    (is_no ≡ false) × (text ≡ counted_text document.name (codes "a script of ") (length script.lines))
+IsCheckedScript document (Err refusal) is_no text =
+    SaysWhere (IsPlaceInScript document.bytes refusal) document.name (codes "not a script: ") refusal is_no text
 
 -- whether a JSON value has the key that scripts have and logs don't
 abbrev pub has_script_key : Option Data → Bool
@@ -81,8 +93,8 @@ abbrev pub is_for_script : List ℕ → Bool
 is_for_script bytes = has_script_key (json_of bytes)
 
 abbrev pub IsCheckedIf : Bool → DocumentValue → Bool → List ℕ → Type 0
-IsCheckedIf true document is_no text = IsCheckedScript document.name (script_in document.bytes) is_no text
-IsCheckedIf false document is_no text = IsCheckedLog document.name (log_in document.bytes) is_no text
+IsCheckedIf true document is_no text = IsCheckedScript document (script_in document.bytes) is_no text
+IsCheckedIf false document is_no text = IsCheckedLog document (log_in document.bytes) is_no text
 
 abbrev pub IsChecked : DocumentValue → Bool → List ℕ → Type 0
 IsChecked document is_no text = IsCheckedIf (is_for_script document.bytes) document is_no text

@@ -1,5 +1,5 @@
 -- What reading a document gives.
-use Rattle.std.specs.Prelude.{◌≡◌, ℕ, List, Option, Some, None, Result, Ok, Err, vec_len}
+use Rattle.std.specs.Prelude.{◌≡◌, ℕ, List, Option, Some, None, Result, Ok, Err}
 use Rattle.casebook_cli.specs.declared.documents.ReadFault.{ReadFault}
 use Rattle.casebook_cli.specs.declared.documents.ReadFault.TheVariants.{NoMem, Unreadable}
 

@@ -1,9 +1,10 @@
 -- The names and times that an about document has.
-use Rattle.std.specs.Prelude.{◌≡◌, ℕ, ℤ, List, [], ◌∷◌, Option, Some, None, Ok}
+use Rattle.std.specs.Prelude.{◌≡◌, ℕ, ℤ, List, [], ◌∷◌, Option, Some, None, Result, Ok, Err}
 use Rattle.std.specs.List.{fold}
 use Rattle.std.specs.Str.{IsUtf8}
 use Rattle.casebook_about.specs.About.{AboutView, about_in}
 use Rattle.casebook_about.specs.Time.{IsTimeText}
+use Rattle.casebook_about.specs.declared.fault.AboutFault.{AboutFault}
 use Rattle.casebook_words.specs.Labels.{named, no_labels, timed}
 use Rattle.casebook_words.specs.declared.labels.Labels.{Labels}
 use Rattle.casebook_cli.specs.Inputs.{DocumentValue}
@@ -42,3 +43,13 @@ pub record AreLabelsIn (document : DocumentValue) (labels : Labels) : Type 0 whe
 abbrev pub AreLabels : Option DocumentValue → Labels → Type 0
 AreLabels None labels = labels ≡ no_labels
 AreLabels (Some document) labels = AreLabelsIn document labels
+
+-- the times of lines that an about document says; none, if it is refused
+abbrev pub times_of : Result AboutView AboutFault → List (ℕ × ℤ)
+times_of (Ok about) = about.times
+times_of (Err fault) = []
+
+-- none, if there is no such document
+abbrev pub times_in : Option DocumentValue → List (ℕ × ℤ)
+times_in None = []
+times_in (Some document) = times_of (about_in document.bytes)

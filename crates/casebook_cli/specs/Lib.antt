@@ -1,11 +1,14 @@
 pub mod Answers
+pub mod Bounds
 pub mod Checks
+pub mod Colours
 pub mod Documents
 pub mod Exit
 pub mod Inputs
 pub mod Labels
 pub mod Lines
 pub mod Messages
+pub mod Numbers
 pub mod Output
 pub mod Pages
 pub mod Program

@@ -1,8 +1,8 @@
 -- What text answers a request for rows of lines.
 use Rattle.std.specs.Cmp.Lexicographic.{pointwise}
-use Rattle.std.specs.Prelude.{◌≡◌, ℕ, Bool, false, List, [], ◌∷◌, ◌++◌, nat_eq, Option, Some, None, Result, Ok, Err, chars, codes, decimal, flat_map}
+use Rattle.std.specs.Prelude.{◌≡◌, ℕ, ◌==◌, ℤ, if◌then◌else◌, Bool, false, List, [], ◌∷◌, ◌++◌, nat_eq, Option, Some, None, Ok, chars, codes, decimal, flat_map}
 use Rattle.std.specs.Prelude.{fold, length, map, max, option_map}
-use Rattle.std.specs.List.{filter, join_with_byte}
+use Rattle.std.specs.List.{filter, join_with_byte, list_any}
 use Rattle.regex.specs.Bytes.{IsReadFromSource, regex_config, regex_pattern, regex_source}
 use Rattle.regex.specs.Patterns.{Re}
 use Rattle.regex.specs.declared.bytes.regex.Regex.{Regex}
@@ -20,7 +20,8 @@ use Rattle.casebook_words.specs.declared.labels.Labels.{Labels}
 use Rattle.casebook_screen.specs.Fields.{fields_of}
 use Rattle.casebook_screen.specs.RowTexts.{lines_of_row}
 use Rattle.casebook_cli.specs.Inputs.{InputsValue}
-use Rattle.casebook_cli.specs.Labels.{AreLabels}
+use Rattle.casebook_cli.specs.Bounds.{typed}
+use Rattle.casebook_cli.specs.Labels.{AreLabels, times_in}
 use Rattle.casebook_cli.specs.Request.{LinesRequest, Test, of_sessions, test_view}
 use Rattle.casebook_cli.specs.declared.format.Format.{Format}
 use Rattle.casebook_cli.specs.declared.format.Format.TheVariants as formats
@@ -50,8 +51,13 @@ is_named labels name session = pointwise nat_eq (name_words session labels) name
 abbrev pub session_of_line : ℕ × Noted → ℕ
 session_of_line line = line.1.sid
 
+-- a list with a number that it doesn't have at its end, and otherwise as it is
+abbrev pub with_number : List ℕ → ℕ → List ℕ
+with_number numbers n = if list_any (λ m. m == n) numbers then numbers else numbers ++ n ∷ []
+
+-- each once
 abbrev pub sessions_named : Labels → List (ℕ × Noted) → List ℕ → List ℕ
-sessions_named labels lines name = filter (is_named labels name) (map session_of_line lines)
+sessions_named labels lines name = fold with_number [] (filter (is_named labels name) (map session_of_line lines))
 
 -- the test that a session is shown with a name, if one is given
 abbrev pub user_tests : Labels → List (ℕ × Noted) → Option (List ℕ) → List Test
@@ -101,17 +107,17 @@ rows_text formats.Text labels width rows = shown_text labels width rows
 rows_text formats.Tsv labels width rows = table_text labels rows
 rows_text formats.Numbers labels width rows = numbers_text rows
 
--- The text shows the lines of a recording that pass the tests of a request, and in which patterns are found.
-pub record IsAskedText (request : LinesRequest) (labels : Labels) (r : RecordingValue) (patterns : Patterns)
-    (text : List ℕ) : Type 0 where
+-- The rows are those of the lines of a recording that pass the tests of a request, in which patterns are found, and
+-- that were typed between its bounds.
+pub record AreAskedRows (request : LinesRequest) (labels : Labels) (times : List (ℕ × ℤ)) (r : RecordingValue)
+    (patterns : Patterns) (rows : List RowValue) : Type 0 where
   pub tests : List LineTest
   pub are_tests : map test_view tests ≡ request.tests ++ user_tests labels r.lines request.user
-  pub shown : text ≡ rows_text request.format labels (widest_name labels r.lines)
-      (map row_of (filter (passes (filters_by tests patterns)) r.lines))
+  pub are_rows : rows ≡ typed request.bounds times (map row_of (filter (passes (filters_by tests patterns)) r.lines))
 
 -- ---- the answer
 
--- The text shows exactly the lines of the log that pass the filters, in order.
+-- The text shows exactly the lines of the log that pass the filters and were typed between the bounds, in order.
 pub record AreLines (inputs : InputsValue) (request : LinesRequest) (text : List ℕ) : Type 0 where
   pub recording : RecordingValue
   pub log : log_in inputs.log.bytes ≡ Ok recording
@@ -120,4 +126,4 @@ pub record AreLines (inputs : InputsValue) (request : LinesRequest) (text : List
   pub filters : FiltersValue
   pub are_filters : AreFilters request labels recording.lines filters
   pub shown : text ≡ rows_text request.format labels (widest_name labels recording.lines)
-      (map row_of (filter (passes filters) recording.lines))
+      (typed request.bounds (times_in inputs.about) (map row_of (filter (passes filters) recording.lines)))

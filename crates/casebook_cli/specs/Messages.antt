@@ -1,5 +1,5 @@
 -- Lines for standard error.
-use Rattle.std.specs.Prelude.{ℕ, List, [], ◌++◌, codes, decimal}
+use Rattle.std.specs.Prelude.{ℕ, ◌==◌, List, [], ◌++◌, codes, decimal, if◌then◌else◌}
 use Rattle.retro_json.specs.Numbers.{refusal_number}
 use Rattle.retro_json.specs.declared.fault.Part.{Part}
 use Rattle.retro_json.specs.declared.fault.Part.TheVariants as parts
@@ -30,14 +30,20 @@ problem_words problems.Words = codes "these words are no command with its option
 problem_words problems.Topic = codes "there is no help on this; see casebook help"
 problem_words problems.NoLog = codes "no LOG is given; see casebook help"
 problem_words problems.NoList = codes "no --cancel LIST is given; see casebook help show"
+problem_words problems.Replace = codes "--replace: not a list like [[4,\"cat f\"]]"
+problem_words problems.Workers = codes "--workers: not a number"
+problem_words problems.Cuts = codes "--cuts: not numbers with commas between them"
 problem_words problems.Session = codes "--session: not a number"
-problem_words problems.From = codes "--from: not a number of a line"
-problem_words problems.To = codes "--to: not a number of a line"
+problem_words problems.From = codes "--from: not a number of a line, nor a time such as 2025-05-06 10:30"
+problem_words problems.To = codes "--to: not a number of a line, nor a time such as 2025-05-06 10:30"
+problem_words problems.NoTimes = codes "--from and --to need --about FILE for times"
 problem_words problems.Reads = codes "--reads: not a path from the root"
 problem_words problems.Writes = codes "--writes: not a path from the root"
 problem_words problems.Touches = codes "--touches: not a path from the root"
 problem_words problems.Line = codes "--line: not a number of a line"
 problem_words problems.Format = codes "--format: not text, tsv or numbers"
+problem_words problems.RepairFormat = codes "--format: not text or json"
+problem_words problems.MixedFormat = codes "--format json has no --why, --diff or --line"
 
 unfoldable pub searched_words : Searched → List ℕ
 searched_words Text = codes "--text: not a regular expression, or too large a one"
@@ -99,8 +105,18 @@ numbered_words refusal = refusal_words refusal ++ number_words (refusal_number r
 unfoldable pub log_message : List ℕ → Refusal → List ℕ
 log_message name refusal = said_of name (codes "not a log: ") ++ numbered_words refusal
 
+-- why a repair is refused, by the number of the refusal
+unfoldable pub repair_words : ℕ → List ℕ
+repair_words number =
+    if number == 21 then codes "no line has the number of a line to replace"
+    else if number == 22 then codes "--cuts: no number, or a 0"
+    else if number == 23 then codes "--workers: too many"
+    else if number == 25 then codes "the log begins after a line to replace"
+    else if number == 26 then codes "a line is to be cancelled or replaced twice"
+    else codes "the repair is refused"
+
 unfoldable pub repair_message : ℕ → List ℕ
-repair_message number = said (codes "the repair is refused") ++ number_words number
+repair_message number = said (repair_words number) ++ number_words number
 
 unfoldable pub list_message : ListFault → List ℕ
 list_message lists.NoMem = said (codes "out of memory")

@@ -13,10 +13,10 @@ abbrev pub Text : Type 0
 Text = List ℕ
 
 -- The answer to words.
-pub record AnswersWords (words : List Text) (at : AllDocuments) (answer : AnswerValue) : Type 0 where
+pub record AnswersWords (words : List Text) (at : AllDocuments) (colours : Bool) (answer : AnswerValue) : Type 0 where
   pub request : Request
   pub words_ask : request_in words ≡ Ok request
-  pub answers : Answers at request answer
+  pub answers : Answers colours at request answer
 
 -- An answer was written whole, and the exit says whether it says no.
 pub record Wrote (answer : AnswerValue) (is_no : Bool) (old new : Option Text) : Type 0 where
@@ -31,12 +31,13 @@ Ends answer old new exits.WriteFailed = AppendsPart old new answer.text
 Ends answer old new (exits.Stopped stop) = ⊥
 
 -- There is an answer, and the program ends so.
-pub record Answered (words : List Text) (at : AllDocuments) (old new : Option Text) (exit : Exit) : Type 0 where
+pub record Answered (words : List Text) (at : AllDocuments) (colours : Bool) (old new : Option Text) (exit : Exit)
+    : Type 0 where
   pub answer : AnswerValue
-  pub answers : AnswersWords words at answer
+  pub answers : AnswersWords words at colours answer
   pub ends : Ends answer old new exit
 
--- what a run on words and documents leaves
-abbrev pub Runs : List Text → AllDocuments → Option Text → Option Text → Exit → Type 0
-Runs words at old new (exits.Stopped stop) = StopsWords words at stop
-Runs words at old new exit = Answered words at old new exit
+-- what a run on words and documents leaves, with colours if they are wanted
+abbrev pub Runs : List Text → AllDocuments → Bool → Option Text → Option Text → Exit → Type 0
+Runs words at colours old new (exits.Stopped stop) = StopsWords words at stop
+Runs words at colours old new exit = Answered words at colours old new exit

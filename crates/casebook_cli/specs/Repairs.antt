@@ -1,5 +1,5 @@
 -- The repairs that are asked for.
-use Rattle.std.specs.Prelude.{◌≡◌, ℕ, ◌==◌, List, [], ◌∷◌, Option, Some, None, Ok}
+use Rattle.std.specs.Prelude.{◌≡◌, ℕ, ◌==◌, List, [], ◌∷◌, ◌++◌, Option, Some, None, Ok}
 use Rattle.std.specs.Prelude.{if◌then◌else◌, map}
 use Rattle.std.specs.Str.{IsUtf8}
 use Rattle.retro_keep.specs.Edit.{edit_of}
@@ -17,7 +17,7 @@ use Rattle.casebook_text.specs.Item.{Line}
 use Rattle.casebook_text.specs.Lists.{lines_of_list}
 use Rattle.casebook_cli.specs.Inputs.{DocumentValue, InputsValue, SourcesValue}
 use Rattle.casebook_cli.specs.Labels.{AreLabels}
-use Rattle.casebook_cli.specs.Request.{LinesRequest, PageRequest, Query, RepairRequest, ShowRequest}
+use Rattle.casebook_cli.specs.Request.{Query, RepairRequest}
 use Rattle.casebook_cli.specs.Request.{check, lines, page, show}
 use Rattle.casebook_cli.specs.declared.repairs.Asked.{Asked}
 
@@ -76,16 +76,18 @@ pub record IsRepairBy (edits : List Edit) (r : RecordingValue) (repair : Repair)
 abbrev pub cancelled : List ℕ → List Edit
 cancelled numbers = map Cancel numbers
 
--- The repair of a recording without the lines that a list names.
-pub record IsRepairWithout (list : List ℕ) (r : RecordingValue) (repair : Repair) : Type 0 where
+-- The edits of a recording: the lines that a list names are left out, and then some are replaced.
+pub record AreEdits (list : List ℕ) (replacements : List Edit) (r : RecordingValue) (edits : List Edit) : Type 0 where
   pub numbers : List ℕ
   pub are_numbers : lines_of_list (lines_in r) list ≡ Ok numbers
-  pub is_repair : IsRepairBy (cancelled numbers) r repair
+  pub are_edits : edits ≡ cancelled numbers ++ replacements
 
--- The repair of the log without the lines of a list, with names and times.
-pub record IsAsked (inputs : InputsValue) (cancel : List ℕ) (asked : Asked) : Type 0 where
+-- The repair of the log that is asked for, with names and times.
+pub record IsAsked (inputs : InputsValue) (request : RepairRequest) (asked : Asked) : Type 0 where
   pub log : log_in inputs.log.bytes ≡ Ok asked.recording
   pub list : List ℕ
-  pub is_list : IsListGiven cancel inputs.list list
-  pub is_repair : IsRepairWithout list asked.recording asked.repair
+  pub is_list : IsListGiven request.cancel inputs.list list
+  pub edits : List Edit
+  pub are_edits : AreEdits list request.replacements asked.recording edits
+  pub is_repair : IsRepairBy edits asked.recording asked.repair
   pub labels : AreLabels inputs.about asked.labels

@@ -1,6 +1,6 @@
 -- What the words of the command line ask for.
-use Rattle.std.specs.Prelude.{ℕ, ◌-◌, ◌==◌, Bool, false, List, [], ◌∷◌, ◌++◌, Option, Some, None, Result, Ok, Err, codes}
-use Rattle.std.specs.Prelude.{if◌then◌else◌, length, map, nat_eq, ok_or, option_map}
+use Rattle.std.specs.Prelude.{ℕ, ◌-◌, ◌==◌, Bool, true, false, ◌&&◌, ◌||◌, List, [], ◌∷◌, ◌++◌, Option, Some, None, Result, Ok, Err, codes}
+use Rattle.std.specs.Prelude.{if◌then◌else◌, is_none, is_some, length, map, nat_eq, ok_or, option_and_then, option_map}
 use Rattle.std.specs.List.{slice_get}
 use Rattle.std.specs.Cmp.Lexicographic.{pointwise}
 use Rattle.clap.specs.Words.{Text, first_of}
@@ -9,11 +9,17 @@ use Rattle.retro_path.specs.Resolving.{resolve}
 use Rattle.retro_path.specs.declared.resolving.Resolved.{Resolved}
 use Rattle.retro_path.specs.declared.resolving.Resolved.TheVariants.{Is, Empty, LongName}
 use Rattle.retro_tree.specs.OutOfMemory.{UnlessOutOfMemory}
+use Rattle.retro_json.specs.Replacements.{replacements_in}
+use Rattle.retro_keep.specs.declared.edit.Edit.{Edit}
 use Rattle.casebook_text.specs.Numbers.{number_in}
 use Rattle.casebook_view.specs.declared.line_test.LineTest.{LineTest}
 use Rattle.casebook_view.specs.declared.line_test.LineTest.TheVariants.{Sessions, From, To, Reads, Writes, Touches}
 use Rattle.casebook_view.specs.declared.path_test.PathTest.{PathTest}
+use Rattle.casebook_cli.specs.Bounds.{bound_in, has_times, line_of}
+use Rattle.casebook_cli.specs.Numbers.{numbers_in}
 use Rattle.casebook_cli.specs.Words.{Call, Named, bad, called, named_in, nothing}
+use Rattle.casebook_cli.specs.declared.bound.Bound.{Bound}
+use Rattle.casebook_cli.specs.declared.bounds.Bounds.{Bounds}
 use Rattle.casebook_cli.specs.declared.format.Format.{Format}
 use Rattle.casebook_cli.specs.declared.format.Format.TheVariants as formats
 use Rattle.casebook_cli.specs.declared.help.TheConstants.{PROGRAM, LINES, SHOW, PAGE, CHECK, LISTS, DOCUMENTS, REFUSALS, PROFILE}
@@ -27,6 +33,7 @@ use Rattle.casebook_cli.specs.declared.repair_request.RepairRequest.{RepairReque
 use Rattle.casebook_cli.specs.declared.repair_request.ShowRequest.{ShowRequest as ShowCode}
 use Rattle.casebook_cli.specs.declared.request.Request.{Request as RequestCode}
 use Rattle.casebook_cli.specs.declared.request.Request.TheVariants as requests
+use Rattle.casebook_cli.specs.declared.rounds.Rounds.{Rounds as RoundsCode}
 use Rattle.casebook_cli.specs.declared.shown.Extras.{Extras}
 use Rattle.casebook_cli.specs.declared.shown.Shown.{Shown}
 use Rattle.casebook_cli.specs.declared.shown.Shown.TheVariants as parts
@@ -47,23 +54,32 @@ pub data Test : Type 0 where
   wrote_path : PathTest → Test
   touched_path : PathTest → Test
 
--- which lines of which log are shown, and how: those of a user, if one is given, that pass tests
+-- which lines of which log are shown, and how: those of a user, if one is given, that pass tests and were typed
+-- between bounds
 pub record LinesRequest : Type 0 where
   pub log : Text
   pub about : Option Text
   pub user : Option Text
   pub tests : List Test
+  pub bounds : Bounds
   pub text : Option Text
   pub shown : Option Text
   pub format : Format
 
--- the repair of which log, without which lines, and which names and times
+-- how lines are run ahead in parallel: by so many threads beside the first one, and in pieces of so many lines
+pub record RoundsValue : Type 0 where
+  pub workers : ℕ
+  pub cuts : List ℕ
+
+-- the repair of which log, without which lines, with which lines replaced, run how, and which names and times
 pub record RepairRequest : Type 0 where
   pub log : Text
   pub cancel : Text
+  pub replacements : List Edit
+  pub rounds : Option RoundsValue
   pub about : Option Text
 
--- which repair a terminal shows, and what of it
+-- which repair is shown, and what of it
 pub record ShowRequest : Type 0 where
   pub repair : RepairRequest
   pub shown : Shown
@@ -180,22 +196,31 @@ listed (Some x) = x ∷ []
 abbrev pub of_session : ℕ → Test
 of_session session = of_sessions (session ∷ [])
 
-abbrev pub of_numbers : Option ℕ → Option ℕ → Option ℕ → List Test
-of_numbers session from to =
-    listed (option_map of_session session) ++ listed (option_map at_least from) ++ listed (option_map at_most to)
+abbrev pub of_numbers : Option ℕ → Bounds → List Test
+of_numbers session bounds =
+    listed (option_map of_session session)
+    ++ listed (option_map at_least (option_and_then line_of bounds.from))
+    ++ listed (option_map at_most (option_and_then line_of bounds.to))
 
 abbrev pub of_paths : Option PathTest → Option PathTest → Option PathTest → List Test
 of_paths reads writes touches =
     listed (option_map read_path reads) ++ listed (option_map wrote_path writes)
     ++ listed (option_map touched_path touches)
 
--- the tests of the session and of the numbers
-abbrev pub number_tests : Call → Result (List Test) Problem
-number_tests call = do
-  session ← read_option problems.Session number_in (given (codes "session") call)
-  from ← read_option problems.From number_in (given (codes "from") call)
-  to ← read_option problems.To number_in (given (codes "to") call)
-  Ok (of_numbers session from to)
+-- ---- bounds
+
+abbrev pub bounds_with : Option Bound → Option Bound → Bounds
+bounds_with from to = record { from = from; to = to }
+
+-- times need the times of lines
+abbrev pub with_times : Bounds → Option Text → Result Bounds Problem
+with_times bounds about = if has_times bounds && is_none about then Err problems.NoTimes else Ok bounds
+
+abbrev pub bounds_given : Call → Result Bounds Problem
+bounds_given call = do
+  from ← read_option problems.From bound_in (given (codes "from") call)
+  to ← read_option problems.To bound_in (given (codes "to") call)
+  with_times (bounds_with from to) (given (codes "about") call)
 
 -- the tests of paths
 abbrev pub path_tests : Call → Result (List Test) Problem
@@ -220,12 +245,13 @@ format_given (Some text) = ok_or (format_named text) problems.Format
 
 -- ---- requests
 
-abbrev pub lines_with : Text → List Test → Call → Format → LinesRequest
-lines_with log tests call format = record {
+abbrev pub lines_with : Text → Bounds → List Test → Call → Format → LinesRequest
+lines_with log bounds tests call format = record {
   log = log;
   about = given (codes "about") call;
   user = given (codes "user") call;
   tests = tests;
+  bounds = bounds;
   text = given (codes "text") call;
   shown = given (codes "shown") call;
   format = format;
@@ -234,16 +260,64 @@ lines_with log tests call format = record {
 abbrev pub lines_request : Call → Result LinesRequest Problem
 lines_request call = do
   log ← log_given call
-  numbers ← number_tests call
+  session ← read_option problems.Session number_in (given (codes "session") call)
+  bounds ← bounds_given call
   paths ← path_tests call
   format ← format_given (given (codes "format") call)
-  Ok (lines_with log (numbers ++ paths) call format)
+  Ok (lines_with log bounds (of_numbers session bounds ++ paths) call format)
+
+-- ---- repairs
+
+-- the list of lines to cancel, which may be left out if lines are replaced
+abbrev pub cancel_or_none : Option Text → Option Text → Result Text Problem
+cancel_or_none (Some list) replace = Ok list
+cancel_or_none None (Some replacements) = Ok []
+cancel_or_none None None = Err problems.NoList
+
+abbrev pub cancel_given : Call → Result Text Problem
+cancel_given call = cancel_or_none (given (codes "cancel") call) (given (codes "replace") call)
+
+-- the edits of the lines whose text is replaced: none, if no option lists them
+abbrev pub replacements_given : Option Text → Result (List Edit) Problem
+replacements_given None = Ok []
+replacements_given (Some text) = ok_or (replacements_in text) problems.Replace
+
+-- one thread alone, and rounds of at most 64 lines, unless something else is given
+abbrev pub workers_or_none : Option ℕ → ℕ
+workers_or_none None = 0
+workers_or_none (Some workers) = workers
+
+abbrev pub cuts_or_usual : Option (List ℕ) → List ℕ
+cuts_or_usual None = 64 ∷ []
+cuts_or_usual (Some cuts) = cuts
+
+-- how lines are run ahead in parallel: they aren't, if nothing is given
+abbrev pub rounds_with : Option ℕ → Option (List ℕ) → Option RoundsValue
+rounds_with None None = None
+rounds_with workers cuts = Some (record { workers = workers_or_none workers; cuts = cuts_or_usual cuts })
+
+abbrev pub rounds_given : Call → Result (Option RoundsValue) Problem
+rounds_given call = do
+  workers ← read_option problems.Workers number_in (given (codes "workers") call)
+  cuts ← read_option problems.Cuts numbers_in (given (codes "cuts") call)
+  Ok (rounds_with workers cuts)
+
+abbrev pub repair_with : Text → Text → List Edit → Option RoundsValue → Call → RepairRequest
+repair_with log cancel replacements rounds call = record {
+  log = log;
+  cancel = cancel;
+  replacements = replacements;
+  rounds = rounds;
+  about = given (codes "about") call;
+}
 
 abbrev pub repair_request : Call → Result RepairRequest Problem
 repair_request call = do
   log ← log_given call
-  cancel ← ok_or (given (codes "cancel") call) problems.NoList
-  Ok (record { log = log; cancel = cancel; about = given (codes "about") call })
+  cancel ← cancel_given call
+  replacements ← replacements_given (given (codes "replace") call)
+  rounds ← rounds_given call
+  Ok (repair_with log cancel replacements rounds call)
 
 -- whether an option without a value is given
 abbrev pub is_set : Option Text → Bool
@@ -253,10 +327,20 @@ is_set (Some text) = is_text (codes "true") text
 abbrev pub is_given : Text → Call → Bool
 is_given name call = is_set (given name call)
 
--- one line, if its number is given, and otherwise the summary with what else is asked for
-abbrev pub shown_with : Extras → Option ℕ → Shown
-shown_with extras None = parts.Summary extras
-shown_with extras (Some number) = parts.Line number
+-- whether a repair is shown for programs
+unfoldable pub show_format : Option Text → Result Bool Problem
+show_format None = Ok false
+show_format (Some text) =
+    if is_text (codes "text") text then Ok false
+    else if is_text (codes "json") text then Ok true else Err problems.RepairFormat
+
+-- one line, if its number is given, and otherwise the summary with what else is asked for; for programs the
+-- summary is all
+abbrev pub shown_as : Bool → Extras → Option ℕ → Result Shown Problem
+shown_as false extras None = Ok (parts.Summary extras)
+shown_as false extras (Some number) = Ok (parts.Line number)
+shown_as true extras line =
+    if extras.why || (extras.diff || is_some line) then Err problems.MixedFormat else Ok parts.Json
 
 abbrev pub extras_of : Call → Extras
 extras_of call = record { why = is_given (codes "why") call; diff = is_given (codes "diff") call }
@@ -264,7 +348,8 @@ extras_of call = record { why = is_given (codes "why") call; diff = is_given (co
 abbrev pub shown_of : Call → Result Shown Problem
 shown_of call = do
   line ← read_option problems.Line number_in (given (codes "line") call)
-  Ok (shown_with (extras_of call) line)
+  is_json ← show_format (given (codes "format") call)
+  shown_as is_json (extras_of call) line
 
 abbrev pub show_request : Call → Result ShowRequest Problem
 show_request call = do
@@ -322,15 +407,21 @@ lines_view request = record {
   about = option_map (λ s. s.now) request.about;
   user = option_map (λ s. s.now) request.user;
   tests = map test_view request.tests.items;
+  bounds = request.bounds;
   text = option_map (λ s. s.now) request.text;
   shown = option_map (λ s. s.now) request.shown;
   format = request.format;
 }
 
+abbrev pub rounds_view : RoundsCode → RoundsValue
+rounds_view rounds = record { workers = rounds.workers; cuts = rounds.cuts.items }
+
 abbrev pub repair_view : RepairCode → RepairRequest
 repair_view request = record {
   log = request.log.now;
   cancel = request.cancel.now;
+  replacements = request.replacements.items;
+  rounds = option_map rounds_view request.rounds;
   about = option_map (λ s. s.now) request.about;
 }
 

@@ -20,14 +20,16 @@ use Rattle.casebook_screen.specs.Restorations.{AreRestorations}
 use Rattle.casebook_screen.specs.Summary.{summary_lines}
 use Rattle.casebook_screen.specs.Why.{why_lines}
 use Rattle.casebook_screen.specs.declared.restoration.Restoration.{Restoration}
-use Rattle.casebook_text.specs.SafeLine.{text_of_lines}
 use Rattle.casebook_words.specs.declared.labels.Labels.{Labels}
 use Rattle.casebook_cli.specs.Inputs.{InputsValue}
 use Rattle.casebook_cli.specs.Lines.{widest_name}
 use Rattle.casebook_cli.specs.Repairs.{IsAsked}
 use Rattle.casebook_cli.specs.Request.{ShowRequest}
 use Rattle.casebook_cli.specs.declared.repairs.Asked.{Asked}
+use Rattle.casebook_cli.specs.Colours.{shown_lines}
+use Rattle.casebook_cli.specs.declared.screens.Parts.{Parts}
 use Rattle.casebook_cli.specs.declared.screens.Screen.{Screen}
+use Rattle.casebook_json.specs.Summary.{summary_text}
 use Rattle.casebook_cli.specs.declared.shown.Extras.{Extras}
 use Rattle.casebook_cli.specs.declared.shown.Shown.{Shown}
 use Rattle.casebook_cli.specs.declared.shown.Shown.TheVariants as parts
@@ -46,25 +48,41 @@ pub record IsSummary (r : RecordingValue) (repair : Repair) (summary : Summary) 
   pub effects : IsTrue (rises_from 0 (map number_in summary.reasons.items))
       → map effect_value summary.effects.items ≡ effects_of r summary.reasons.items summary.fates.items
 
--- what is shown of a repair, and how: the recording, its repair, what that would do, names and times, and the width of
--- the column of names
+-- what is shown of a repair, and how: the recording, its repair, what that would do, names and times, the width of the
+-- column of names, and whether the terminal has colours
 pub record ScreenValue : Type 0 where
   pub recording : RecordingValue
   pub repair : Repair
   pub summary : Summary
   pub labels : Labels
   pub width : ℕ
+  pub colours : Bool
 
--- The lines show a summary. They say that the log is a recording only if it is one.
-pub record AreSummaryLines (s : ScreenValue) (lines : List (List ℕ)) : Type 0 where
-  pub restorations : List Restoration
+-- What a summary shows beside what the repair would do. It says that the log is a recording only if it is one.
+pub record IsSheet (s : ScreenValue) (restorations : List Restoration) (groups : List Group) (is_recording : Bool)
+    : Type 0 where
   pub are_restorations : AreRestorations (last_state s.recording.lines s.recording.first).tree
       (repaired_state s.repair).tree s.summary.restorations.items restorations
-  pub groups : List Group
   pub are_groups : map group_value groups ≡ grouped s.summary.notices.items
-  pub is_recording : Bool
   pub checked : is_recording ≡ true → IsRecordingOf (recordings.script_in s.recording) s.recording
-  pub are_lines : lines ≡ summary_lines s.recording s.summary restorations groups is_recording s.labels s.width
+
+abbrev pub AreParts : ScreenValue → Parts → Type 0
+AreParts s parts = IsSheet s parts.restorations.items parts.groups.items parts.is_recording
+
+-- The lines show a summary.
+pub record AreSummaryLines (s : ScreenValue) (lines : List (List ℕ)) : Type 0 where
+  pub parts : Parts
+  pub are_parts : AreParts s parts
+  pub are_lines : lines ≡ summary_lines s.recording s.summary parts.restorations.items parts.groups.items
+      parts.is_recording s.labels s.width
+
+-- The text is the same for programs.
+pub record IsJson (s : ScreenValue) (text : List ℕ) : Type 0 where
+  pub parts : Parts
+  pub are_parts : AreParts s parts
+  pub is_text : IsTrue (rises_from 0 (map number_in s.summary.reasons.items))
+      → text ≡ summary_text s.recording s.summary parts.restorations.items parts.groups.items parts.is_recording
+      s.labels
 
 -- ---- reasons and differences
 
@@ -95,39 +113,38 @@ pub record IsScreenText (extras : Extras) (s : ScreenValue) (text : List ℕ) : 
   pub are_summary : AreSummaryLines s summary
   pub are_whys : AreWhyLines extras.why s whys
   pub are_diffs : AreDiffLines extras.diff s diffs
-  pub is_text : text ≡ text_of_lines ((summary ++ whys) ++ diffs)
+  pub is_text : text ≡ shown_lines s.colours ((summary ++ whys) ++ diffs)
 
 -- The text is one line in full, which there is.
 pub record IsLineText (number : ℕ) (s : ScreenValue) (text : List ℕ) : Type 0 where
   pub exists : noted_at number s.recording.lines ≢ None
   pub is_text : IsTrue (rises_from 0 (map number_in s.summary.reasons.items))
-      → text ≡ text_of_lines (detail_lines s.recording s.repair s.summary s.labels s.width number)
+      → text ≡ shown_lines s.colours (detail_lines s.recording s.repair s.summary s.labels s.width number)
 
 abbrev pub IsTextOf : Shown → ScreenValue → List ℕ → Type 0
 IsTextOf (parts.Summary extras) s text = IsScreenText extras s text
 IsTextOf (parts.Line number) s text = IsLineText number s text
+IsTextOf parts.Json s text = IsJson s text
 
--- all of a repair that a text shows
-abbrev pub screen_of : Asked → Summary → ScreenValue
-screen_of asked summary = record {
-  recording = asked.recording;
-  repair = asked.repair;
-  summary = summary;
-  labels = asked.labels;
-  width = widest_name asked.labels asked.recording.lines;
-}
-
--- The text shows a repair.
-pub record IsShownOf (asked : Asked) (shown : Shown) (text : List ℕ) : Type 0 where
+-- The text shows a recording and its repair.
+pub record IsShownOf (r : RecordingValue) (repair : Repair) (labels : Labels) (shown : Shown) (colours : Bool)
+    (text : List ℕ) : Type 0 where
   pub summary : Summary
-  pub is_summary : IsSummary asked.recording asked.repair summary
-  pub is_text : IsTextOf shown (screen_of asked summary) text
+  pub is_summary : IsSummary r repair summary
+  pub is_text : IsTextOf shown (record {
+    recording = r;
+    repair = repair;
+    summary = summary;
+    labels = labels;
+    width = widest_name labels r.lines;
+    colours = colours;
+  }) text
 
--- The text shows the repair of the log without the lines of the list.
-pub record IsShown (inputs : InputsValue) (request : ShowRequest) (text : List ℕ) : Type 0 where
+-- The text shows the repair of the log that is asked for.
+pub record IsShown (colours : Bool) (inputs : InputsValue) (request : ShowRequest) (text : List ℕ) : Type 0 where
   pub asked : Asked
-  pub is_asked : IsAsked inputs request.repair.cancel asked
-  pub is_shown : IsShownOf asked request.shown text
+  pub is_asked : IsAsked inputs request.repair asked
+  pub is_shown : IsShownOf asked.recording asked.repair asked.labels request.shown colours text
 
 -- ---- values of the code
 
@@ -138,4 +155,5 @@ screen_view screen = record {
   summary = screen.summary.now;
   labels = screen.names.labels.now;
   width = screen.names.width;
+  colours = screen.colours;
 }

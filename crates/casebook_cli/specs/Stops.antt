@@ -1,5 +1,5 @@
 -- Why there is no answer.
-use Rattle.std.specs.Prelude.{◌≡◌, ◌≢◌, ℕ, ℤ, false, List, [], ◌∷◌, Option, Some, None, Ok, Err}
+use Rattle.std.specs.Prelude.{◌≡◌, ◌≢◌, ℕ, ℤ, false, List, Option, Some, None, Ok, Err}
 use Rattle.std.specs.List.{slice_get}
 use Rattle.std.specs.Str.{IsUtf8}
 use Rattle.regex.specs.Sources.{IsRefusal as IsRefusedAs}
@@ -12,14 +12,16 @@ use Rattle.retro_log.specs.Document.{log_in}
 use Rattle.retro_redo.specs.Editing.{Refuses}
 use Rattle.retro_redo.specs.RepairFault.{fault_number}
 use Rattle.retro_redo.specs.declared.repair_fault.RepairFault.{RepairFault}
+use Rattle.retro_redo.specs.declared.repair_fault.RepairFault.TheVariants as repair_faults
+use Rattle.retro_rounds.specs.Refusals.{IsRefusal}
 use Rattle.casebook_about.specs.About.{AboutView, about_in}
 use Rattle.casebook_text.specs.Item.{Line}
 use Rattle.casebook_text.specs.Lists.{lines_of_list}
 use Rattle.casebook_cli.specs.Documents.{AllDocuments}
 use Rattle.casebook_cli.specs.Inputs.{AreInputs, DocumentValue, InputsValue, SourcesValue}
 use Rattle.casebook_cli.specs.Labels.{IsAbout}
-use Rattle.casebook_cli.specs.Repairs.{IsAsked, IsListGiven, cancelled, lines_in, sources_of}
-use Rattle.casebook_cli.specs.Request.{LinesRequest, Query, Request, ShowRequest, ask, check, help, lines, page, request_in, show}
+use Rattle.casebook_cli.specs.Repairs.{AreEdits, IsAsked, IsListGiven, lines_in, sources_of}
+use Rattle.casebook_cli.specs.Request.{LinesRequest, Query, RepairRequest, Request, RoundsValue, ShowRequest, ask, check, help, lines, page, request_in, show}
 use Rattle.casebook_cli.specs.declared.repairs.Asked.{Asked}
 use Rattle.casebook_cli.specs.declared.searched.Searched.{Searched}
 use Rattle.casebook_cli.specs.declared.searched.Searched.TheVariants as searched_in
@@ -127,30 +129,39 @@ StopsNumbers known list (stops.BadList fault) = lines_of_list known list ≡ Err
 StopsNumbers known list stops.OutOfMemory = Unit {0}
 StopsNumbers known list other = ⊥
 
--- edits are refused, with a number
-pub record AreRefused (edits : List Edit) (r : RecordingValue) (number : ℕ) : Type 0 where
+-- edits are refused, or how they are made in parallel
+abbrev pub RefusesBy : Option RoundsValue → List Edit → RecordingValue → RepairFault → Type 0
+RefusesBy None edits r fault = Refuses edits r fault
+RefusesBy (Some rounds) edits r fault = IsRefusal rounds.workers rounds.cuts edits r fault
+
+-- A repair is refused, with a number.
+pub record IsRefusedBy (rounds : Option RoundsValue) (edits : List Edit) (r : RecordingValue) (number : ℕ)
+    : Type 0 where
   pub fault : RepairFault
   pub is : number ≡ fault_number fault
-  pub refused : Refuses edits r fault
+  pub refused : RefusesBy rounds edits r fault
 
-abbrev pub StopsRepair : List Edit → RecordingValue → Stop → Type 0
-StopsRepair edits r (stops.BadRepair number) = AreRefused edits r number
-StopsRepair edits r stops.OutOfMemory = Unit {0}
-StopsRepair edits r other = ⊥
+abbrev pub StopsRepair : Option RoundsValue → List Edit → RecordingValue → Stop → Type 0
+StopsRepair rounds edits r (stops.BadRepair number) = IsRefusedBy rounds edits r number
+StopsRepair rounds edits r stops.OutOfMemory = Unit {0}
+StopsRepair rounds edits r other = ⊥
 
-pub data StopsWithout (list : List ℕ) (r : RecordingValue) (stop : Stop) : Type 0 where
-  no_numbers : StopsNumbers (lines_in r) list stop → StopsWithout list r stop
-  no_repair : (numbers : List ℕ) → lines_of_list (lines_in r) list ≡ Ok numbers
-      → StopsRepair (cancelled numbers) r stop → StopsWithout list r stop
-  no_memory : stop ≡ stops.OutOfMemory → StopsWithout list r stop
+-- why there is no answer after the fault of a repair
+abbrev pub IsRefused : RepairFault → Stop → Type 0
+IsRefused repair_faults.OutOfMemory stop = stop ≡ stops.OutOfMemory
+IsRefused fault stop = stop ≡ stops.BadRepair (fault_number fault)
 
-pub data StopsAsked (inputs : InputsValue) (cancel : List ℕ) (stop : Stop) : Type 0 where
-  no_labels : StopsLabels inputs.about stop → StopsAsked inputs cancel stop
-  no_log : StopsLog inputs.log stop → StopsAsked inputs cancel stop
-  no_list : IsNoText inputs.list stop → StopsAsked inputs cancel stop
-  no_repair : (r : RecordingValue) (list : List ℕ) → log_in inputs.log.bytes ≡ Ok r
-      → IsListGiven cancel inputs.list list → StopsWithout list r stop → StopsAsked inputs cancel stop
-  no_memory : stop ≡ stops.OutOfMemory → StopsAsked inputs cancel stop
+pub data StopsAsked (inputs : InputsValue) (request : RepairRequest) (stop : Stop) : Type 0 where
+  no_labels : StopsLabels inputs.about stop → StopsAsked inputs request stop
+  no_log : StopsLog inputs.log stop → StopsAsked inputs request stop
+  no_list : IsNoText inputs.list stop → StopsAsked inputs request stop
+  no_numbers : (r : RecordingValue) (list : List ℕ) → log_in inputs.log.bytes ≡ Ok r
+      → IsListGiven request.cancel inputs.list list → StopsNumbers (lines_in r) list stop
+      → StopsAsked inputs request stop
+  no_repair : (r : RecordingValue) (list : List ℕ) (edits : List Edit) → log_in inputs.log.bytes ≡ Ok r
+      → IsListGiven request.cancel inputs.list list → AreEdits list request.replacements r edits
+      → StopsRepair request.rounds edits r stop → StopsAsked inputs request stop
+  no_memory : stop ≡ stops.OutOfMemory → StopsAsked inputs request stop
 
 -- no line has the number that is asked about
 abbrev pub IsNoLine : ℕ → RecordingValue → Stop → Type 0
@@ -160,11 +171,11 @@ IsNoLine number r other = ⊥
 
 abbrev pub StopsShown : Shown → RecordingValue → Stop → Type 0
 StopsShown (parts.Line number) r stop = IsNoLine number r stop
-StopsShown (parts.Summary extras) r stop = stop ≡ stops.OutOfMemory
+StopsShown other r stop = stop ≡ stops.OutOfMemory
 
 pub data StopsShow (inputs : InputsValue) (request : ShowRequest) (stop : Stop) : Type 0 where
-  not_asked : StopsAsked inputs request.repair.cancel stop → StopsShow inputs request stop
-  not_shown : (asked : Asked) → IsAsked inputs request.repair.cancel asked
+  not_asked : StopsAsked inputs request.repair stop → StopsShow inputs request stop
+  not_shown : (asked : Asked) → IsAsked inputs request.repair asked
       → StopsShown request.shown asked.recording stop → StopsShow inputs request stop
 
 -- ---- requests
@@ -173,7 +184,7 @@ pub data StopsShow (inputs : InputsValue) (request : ShowRequest) (stop : Stop) 
 abbrev pub StopsBy : InputsValue → Query → Stop → Type 0
 StopsBy inputs (lines request) stop = StopsLines inputs request stop
 StopsBy inputs (show request) stop = StopsShow inputs request stop
-StopsBy inputs (page request) stop = StopsAsked inputs request.repair.cancel stop
+StopsBy inputs (page request) stop = StopsAsked inputs request.repair stop
 StopsBy inputs (check log) stop = stop ≡ stops.OutOfMemory
 
 pub data StopsQuery (at : AllDocuments) (query : Query) (stop : Stop) : Type 0 where

@@ -51,12 +51,18 @@ lines_rules =
     path_rules
     ++ (option (codes "text") ∷ option (codes "shown") ∷ option (codes "about") ∷ option (codes "format") ∷ [])
 
--- of a command about a repair: what all of them have, and all
+-- of a command about a repair: what is repaired how, what all of them have, and all
+abbrev pub edit_rules : List Rule
+edit_rules =
+    help_flag ∷ word (codes "log") ∷ option (codes "cancel") ∷ option (codes "replace") ∷ option (codes "about") ∷ []
+
 abbrev pub repair_rules : List Rule
-repair_rules = help_flag ∷ word (codes "log") ∷ option (codes "cancel") ∷ option (codes "about") ∷ []
+repair_rules = edit_rules ++ (option (codes "workers") ∷ option (codes "cuts") ∷ [])
 
 abbrev pub show_rules : List Rule
-show_rules = repair_rules ++ (flag (codes "why") ∷ flag (codes "diff") ∷ option (codes "line") ∷ [])
+show_rules =
+    repair_rules
+    ++ (flag (codes "why") ∷ flag (codes "diff") ∷ option (codes "line") ∷ option (codes "format") ∷ [])
 
 abbrev pub page_rules : List Rule
 page_rules = repair_rules ++ (option (codes "title") ∷ flag (codes "all") ∷ [])

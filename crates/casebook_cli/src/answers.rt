@@ -3,8 +3,8 @@ ghost use Rattle.std.specs.Prelude.{◌≡◌, IfOk, IfErr, IfSome, string_bytes
 ghost use Rattle.casebook_cli.specs.Answers.{Answers, AnswersBy, AnswersQuery, answer_view, saying};
 ghost use Rattle.casebook_cli.specs.Inputs.{inputs_view};
 ghost use Rattle.casebook_cli.specs.Pages.{IsPage};
-ghost use Rattle.casebook_cli.specs.Request.{help_text, page_view, query_view, request_view};
-ghost use Rattle.casebook_cli.specs.Request.{show_view};
+ghost use Rattle.casebook_cli.specs.Request.{help_text, page_view, query_view, repair_view};
+ghost use Rattle.casebook_cli.specs.Request.{request_view, show_view};
 ghost use Rattle.casebook_cli.specs.Screens.{IsShown};
 ghost use Rattle.casebook_cli.specs.Stops.{Stops, StopsAsked, StopsBy, StopsQuery, StopsShow};
 
@@ -15,6 +15,7 @@ use crate::documents::Documents;
 use crate::help::help_text;
 use crate::lines_answer::lines_text;
 use crate::pages::page_text;
+use crate::progress::Progress;
 use crate::query::Query;
 use crate::reading::read_inputs;
 use crate::repair_request::{PageRequest, ShowRequest};
@@ -24,65 +25,77 @@ use crate::screens::shown_text;
 use crate::sources::Inputs;
 use crate::stop::Stop;
 use crate::topic::Topic;
-use std::alloc::Global;
+use std::alloc::{AllocGlobal, Global};
+use std::thread::Threads;
 
-/// Returns what a terminal shows of the repair that is asked for.
-fn show_text<'a>(
-    alloc: Global,
+/// Returns what is shown of the repair that is asked for.
+fn show_text<'a, R: Threads + Sync + AllocGlobal, P: Progress>(
+    rt: &R,
+    progress: &P,
     inputs: &Inputs<'a>,
     request: ShowRequest<'a>,
+    colours: bool,
 ) -> Result<String, Stop<'a>>
     ensures ok { IfOk result (λ text.
-        IsShown (inputs_view inputs.now) (show_view request.entry) (string_bytes text)) }
+        IsShown colours (inputs_view inputs.now) (show_view request.entry) (string_bytes text)) }
     ensures err { IfErr result (StopsShow (inputs_view inputs.now) (show_view request.entry)) }
 {
-    let asked = asked_repair(alloc, inputs, request.repair.cancel)?;
-    shown_text(alloc, &asked, request.shown)
+    let asked = asked_repair(rt, progress, inputs, request.repair)?;
+    shown_text(rt.alloc(), &asked, request.shown, colours)
 }
 
 /// Returns the page of the repair that is asked for.
-fn repair_page<'a>(
-    alloc: Global,
+fn repair_page<'a, R: Threads + Sync + AllocGlobal, P: Progress>(
+    rt: &R,
+    progress: &P,
     inputs: &Inputs<'a>,
     request: PageRequest<'a>,
 ) -> Result<String, Stop<'a>>
     ensures ok { IfOk result (λ text.
         IsPage (inputs_view inputs.now) (page_view request.entry) (string_bytes text)) }
     ensures err { IfErr result
-        (StopsAsked (inputs_view inputs.now) request.entry.repair.cancel.now) }
+        (StopsAsked (inputs_view inputs.now) (repair_view request.entry.repair)) }
 {
-    let asked = asked_repair(alloc, inputs, request.repair.cancel)?;
     let title = request.title.unwrap_or(request.repair.log);
-    Ok(page_text(alloc, &asked, title, request.all)?)
+    let asked = asked_repair(rt, progress, inputs, request.repair)?;
+    Ok(page_text(rt.alloc(), &asked, title, request.all)?)
 }
 
 /// Returns the answer to a question about documents.
-fn answer_by<'a>(alloc: Global, inputs: &Inputs<'a>, query: Query<'a>) -> Result<Answer, Stop<'a>>
-    ensures ok { IfOk result (λ answer.
-        AnswersBy (inputs_view inputs.now) (query_view query.entry) (answer_view answer)) }
+fn answer_by<'a, R: Threads + Sync + AllocGlobal, P: Progress>(
+    rt: &R,
+    progress: &P,
+    inputs: &Inputs<'a>,
+    query: Query<'a>,
+    colours: bool,
+) -> Result<Answer, Stop<'a>>
+    ensures ok { IfOk result (λ answer. AnswersBy colours (inputs_view inputs.now)
+        (query_view query.entry) (answer_view answer)) }
     ensures err { IfErr result (StopsBy (inputs_view inputs.now) (query_view query.entry)) }
 {
-    match query {
-        Query::Lines(request) => Ok(Answer::of(lines_text(alloc, inputs, request)?)),
-        Query::Show(request) => Ok(Answer::of(show_text(alloc, inputs, request)?)),
-        Query::Page(request) => Ok(Answer::of(repair_page(alloc, inputs, request)?)),
-        Query::Check(_) => Ok(check_answer(alloc, &inputs.log)?),
-    }
+    let text = match query {
+        Query::Lines(request) => lines_text(rt.alloc(), inputs, request)?,
+        Query::Show(request) => show_text(rt, progress, inputs, request, colours)?,
+        Query::Page(request) => repair_page(rt, progress, inputs, request)?,
+        Query::Check(_) => return Ok(check_answer(rt.alloc(), &inputs.log)?),
+    };
+    Ok(Answer::of(text))
 }
 
 /// Reads the documents that a question is about, and returns its answer.
-fn asked_answer<'a, D: Documents>(
-    alloc: Global,
+fn asked_answer<'a, R: Threads + Sync + AllocGlobal, D: Documents + Progress>(
+    rt: &R,
     documents: &D,
     query: Query<'a>,
+    colours: bool,
 ) -> Result<Answer, Stop<'a>>
     ensures ok { IfOk result (λ answer. IfSome (D.bytes_of documents.now) (λ at.
-        AnswersQuery at (query_view query.entry) (answer_view answer))) }
+        AnswersQuery colours at (query_view query.entry) (answer_view answer))) }
     ensures err { IfErr result (λ stop. IfSome (D.bytes_of documents.now) (λ at.
         StopsQuery at (query_view query.entry) stop)) }
 {
-    let inputs = read_inputs(alloc, documents, query.sources())?;
-    answer_by(alloc, &inputs, query)
+    let inputs = read_inputs(rt.alloc(), documents, query.sources())?;
+    answer_by(rt, documents, &inputs, query, colours)
 }
 
 /// Returns the help on a topic.
@@ -92,19 +105,20 @@ fn help_answer(alloc: Global, topic: Topic) -> Result<Answer, NoMem>
     Ok(Answer::of(String::from_str(alloc, help_text(topic))?))
 }
 
-/// Returns the answer to a request.
-pub(crate) fn answer<'a, D: Documents>(
-    alloc: Global,
+/// Returns the answer to a request, with colours if they are wanted.
+pub(crate) fn answer<'a, R: Threads + Sync + AllocGlobal, D: Documents + Progress>(
+    rt: &R,
     documents: &D,
     request: Request<'a>,
+    colours: bool,
 ) -> Result<Answer, Stop<'a>>
     ensures ok { IfOk result (λ answer. IfSome (D.bytes_of documents.now) (λ at.
-        Answers at (request_view request.entry) (answer_view answer))) }
+        Answers colours at (request_view request.entry) (answer_view answer))) }
     ensures err { IfErr result (λ stop. IfSome (D.bytes_of documents.now) (λ at.
         Stops at (request_view request.entry) stop)) }
 {
     match request {
-        Request::Help(topic) => Ok(help_answer(alloc, topic)?),
-        Request::Ask(query) => asked_answer(alloc, documents, query),
+        Request::Help(topic) => Ok(help_answer(rt.alloc(), topic)?),
+        Request::Ask(query) => asked_answer(rt, documents, query, colours),
     }
 }

@@ -1,5 +1,5 @@
 //! Whether documents are recordings or scripts.
-ghost use Rattle.std.specs.Prelude.{◌≡◌, ◌∷◌, [], true, IfOk, IsTrue, string_bytes};
+ghost use Rattle.std.specs.Prelude.{◌≡◌, ◌∷◌, [], true, IfOk, IsTrue, codes, string_bytes};
 ghost use Rattle.std.specs.List.{list_all};
 ghost use Rattle.casebook_text.specs.SafeLine.{text_of_lines};
 ghost use Rattle.casebook_text.specs.SafeText.{is_printable};
@@ -7,7 +7,8 @@ ghost use Rattle.retro_keep.specs.Recording.{noted_at};
 ghost use Rattle.retro_log.specs.Document.{log_in, script_in};
 ghost use Rattle.casebook_cli.specs.Checks.{AreUnlike, IsChecked, IsCheckedAs, IsCheckedLog};
 ghost use Rattle.casebook_cli.specs.Checks.{IsCheckedScript, IsUnlikeText, counted_text};
-ghost use Rattle.casebook_cli.specs.Checks.{is_for_script, refused_text};
+ghost use Rattle.casebook_cli.specs.Checks.{SaysWhere, is_for_script, refused_line};
+ghost use Rattle.casebook_place.specs.Place.{IsPlaceInLog, IsPlaceInScript};
 ghost use Rattle.casebook_cli.specs.Inputs.{document_view};
 
 use crate::NoMem;
@@ -15,6 +16,7 @@ use crate::answer::Answer;
 use crate::document::Document;
 use crate::messages::{about, push_refusal};
 use casebook_check::{Unlike, first_unlike, unlike_lines};
+use casebook_place::{Place, place_in_log, place_in_script, push_place};
 use casebook_text::{SafeLine, text_of_lines};
 use casebook_words::Labels;
 use retro_keep::Recording;
@@ -31,15 +33,24 @@ fn text_of_line(alloc: Global, line: SafeLine) -> Result<String, NoMem>
     text_of_lines(alloc, lines.as_slice())
 }
 
-/// Returns that a document is refused, after words of what it isn't.
-fn refused(alloc: Global, name: &str, words: &str, refusal: Refusal) -> Result<Answer, NoMem>
+/// Returns that a document is refused, after words of what it isn't, and where.
+#[tactic(auto, unfolding(crate::specs::Checks::refused_line))]
+fn refused(
+    alloc: Global,
+    name: &str,
+    words: &str,
+    refusal: Refusal,
+    place: &Place,
+) -> Result<Answer, NoMem>
     requires { IsTrue (list_all is_printable words.now) }
-    ensures text { IfOk result (λ answer.
-        string_bytes answer.text ≡ refused_text name.now words.now refusal) }
+    ensures text { IfOk result (λ answer. string_bytes answer.text
+        ≡ text_of_lines (refused_line name.now words.now refusal place.now ∷ [])) }
     ensures no { IfOk result (λ answer. answer.is_no ≡ true) }
 {
     let mut line = about(alloc, name, words)?;
     push_refusal(alloc, &mut line, refusal)?;
+    line.push_ascii(": ")?;
+    push_place(alloc, &mut line, place)?;
     Ok(Answer {
         text: text_of_line(alloc, line)?,
         is_no: true,
@@ -108,21 +119,43 @@ fn checked_log(alloc: Global, name: &str, recording: &Recording) -> Result<Answe
     }
 }
 
+/// Returns that a document isn't a log, and where.
+fn refused_log(alloc: Global, document: &Document<'_>, refusal: Refusal) -> Result<Answer, NoMem>
+    ensures { IfOk result (λ answer.
+        SaysWhere (IsPlaceInLog (document_view document.now).bytes refusal)
+        (document_view document.now).name (codes "not a log: ") refusal answer.is_no
+        (string_bytes answer.text)) }
+{
+    let place = place_in_log(alloc, document.bytes.as_slice(), refusal)?;
+    refused(alloc, document.name, "not a log: ", refusal, &place)
+}
+
+/// Returns that a document isn't a script, and where.
+fn refused_script(alloc: Global, document: &Document<'_>, refusal: Refusal) -> Result<Answer, NoMem>
+    ensures { IfOk result (λ answer.
+        SaysWhere (IsPlaceInScript (document_view document.now).bytes refusal)
+        (document_view document.now).name (codes "not a script: ") refusal answer.is_no
+        (string_bytes answer.text)) }
+{
+    let place = place_in_script(alloc, document.bytes.as_slice(), refusal)?;
+    refused(alloc, document.name, "not a script: ", refusal, &place)
+}
+
 /// Returns whether a document is a log and a recording of its lines.
 fn log_answer(alloc: Global, document: &Document<'_>) -> Result<Answer, NoMem>
-    ensures { IfOk result (λ answer. IsCheckedLog (document_view document.now).name
+    ensures { IfOk result (λ answer. IsCheckedLog (document_view document.now)
         (log_in (document_view document.now).bytes) answer.is_no (string_bytes answer.text)) }
 {
     match read_log(alloc, document.bytes.as_slice()) {
         Ok(recording) => checked_log(alloc, document.name, &recording),
         Err(LogFault::NoMem) => Err(NoMem),
-        Err(LogFault::Refused(refusal)) => { refused(alloc, document.name, "not a log: ", refusal) }
+        Err(LogFault::Refused(refusal)) => refused_log(alloc, document, refusal),
     }
 }
 
 /// Returns whether a document is a script.
 fn script_answer(alloc: Global, document: &Document<'_>) -> Result<Answer, NoMem>
-    ensures { IfOk result (λ answer. IsCheckedScript (document_view document.now).name
+    ensures { IfOk result (λ answer. IsCheckedScript (document_view document.now)
         (script_in (document_view document.now).bytes) answer.is_no (string_bytes answer.text)) }
 {
     match read_script(alloc, document.bytes.as_slice()) {
@@ -131,9 +164,7 @@ fn script_answer(alloc: Global, document: &Document<'_>) -> Result<Answer, NoMem
             Ok(Answer::of(counted_text(alloc, document.name, "a script of ", count)?))
         }
         Err(LogFault::NoMem) => Err(NoMem),
-        Err(LogFault::Refused(refusal)) => {
-            refused(alloc, document.name, "not a script: ", refusal)
-        }
+        Err(LogFault::Refused(refusal)) => refused_script(alloc, document, refusal),
     }
 }
 

@@ -16,7 +16,7 @@ nothing.
 
     casebook lines LOG [FILTER..] [--format text|tsv|numbers]
         Which lines are in the log, who ran them, what they read and wrote.
-    casebook show LOG --cancel LIST [--why] [--diff] [--line N]
+    casebook show LOG --cancel LIST [--why] [--diff] [--line N] [--format text|json]
         What would be without the lines of LIST.
     casebook page LOG --cancel LIST [--title TEXT] [--all]
         The same as a page for a browser: one HTML file, on standard output.
@@ -94,6 +94,8 @@ of them hold. LOG is the name of a file, or - for standard input.
     --user NAME       a session ran the line that is shown as NAME (see --about)
     --from N          the line's number is at least N
     --to N            the line's number is at most N
+    --from TIME       the line was typed at TIME or later (see --about)
+    --to TIME         the line was typed at TIME or before
     --reads PATH      the line asked about PATH: read it, listed it, or tested
                       whether it is there
     --writes PATH     the line wrote to PATH, made it or removed it
@@ -104,7 +106,9 @@ of them hold. LOG is the name of a file, or - for standard input.
     --about FILE      shows the names of users and the times of lines
 
 PATH begins with a slash. With a slash at the end, as /srv/shop/, it also means
-all paths below it. REGEX is a regular expression, as in `grep -E`.
+all paths below it. REGEX is a regular expression, as in `grep -E`. TIME is a date
+and a time of day, as '2025-05-06 10:30', or a date alone, which stands for its
+first second. Times are in UTC. A line of which no time is known passes no TIME.
 
     --format text     one to four rows a line: number, session and line; what it
                       read; what it wrote (+ put, > appended, - removed); how much
@@ -123,6 +127,7 @@ Examples:
 
     casebook lines log.json --session 5
     casebook lines log.json --writes /etc/ --from 90 --to 400
+    casebook lines log.json --about about.json --from '2025-05-06 10:30'
     casebook lines log.json --text '^rm ' --format numbers
     retro record < script.json | casebook lines -
 ";
@@ -130,6 +135,7 @@ Examples:
 /// Help on the command `show`.
 const SHOW: &str = "\
 casebook show LOG --cancel LIST [--why] [--diff] [--line N] [--about FILE]
+casebook show LOG --cancel LIST --format json [--about FILE]
 
 Shows what would be if the lines of LIST hadn't run. LOG is the name of a file, or
 - for standard input. `casebook help lists` says what a LIST is.
@@ -143,6 +149,19 @@ Shows what would be if the lines of LIST hadn't run. LOG is the name of a file, 
     --line N      shows line N in full instead: what it asked and changed, and what
                   it printed, as recorded and without the lines of LIST
     --about FILE  shows the names of users and the times of lines
+    --format json the summary for programs, with what becomes of each line and why;
+                  docs/FORMATS.md describes it
+    --replace EDITS
+                  lines that run another text, as a JSON list of numbers and texts:
+                  '[[4,\"cat /srv/prices\"]]'. With it --cancel may be left out.
+    --workers N   N more threads run lines ahead
+    --cuts NUMBERS
+                  how many lines are run ahead at once, with commas; the last number
+                  holds from there on. With neither option none is run ahead. The
+                  answer is the same.
+
+On a terminal that has colours, unless NO_COLOR is set, heads are bold, lines of
+differences that come are green and those that go are red.
 
 The screen has these parts:
 
@@ -185,6 +204,8 @@ opens what is under the cursor, and e opens or closes all.
     --all         all lines. Without it, if the log has over 5,000 lines, those that
                   nothing reached are counted, and aren't shown.
     --about FILE  shows the names of users and the times of lines
+    --replace EDITS, --workers N, --cuts NUMBERS
+                  as in casebook help show
 
 Nothing of the log gets into the page but as text.
 
@@ -272,8 +293,11 @@ Why documents are refused
     14  a key isn't one of such a document
     15  a text isn't pairs of hexadecimal digits
     16  a version that isn't known
-    21  a line is to be cancelled that isn't in the log
-    25  a line is to be cancelled from before the log begins
+    21  a line is to be cancelled or replaced that isn't in the log
+    22  --cuts has no number, or a 0
+    23  --workers is over 16
+    25  a line is to be cancelled or replaced from before the log begins
+    26  a line is to be cancelled or replaced twice
     31  the words of the command line
 
 `casebook check DOCUMENT` says which of them holds of a log or a script.

@@ -1,15 +1,16 @@
 //! Names and times of about documents.
 ghost use Rattle.std.specs.Prelude.{◌≡◌, IfOk, IfErr, OnOk, map, option_map};
-ghost use Rattle.casebook_about.specs.About.{about_view};
+ghost use Rattle.casebook_about.specs.About.{about_in, about_view};
 ghost use Rattle.casebook_about.specs.Rows.{time_view, user_view};
 ghost use Rattle.casebook_cli.specs.Inputs.{document_view};
 ghost use Rattle.casebook_cli.specs.Labels.{AreLabels, AreLabelsIn, AreTimesAdded, IsAbout};
-ghost use Rattle.casebook_cli.specs.Labels.{IsTimeAdded, with_users};
+ghost use Rattle.casebook_cli.specs.Labels.{IsTimeAdded, times_in, times_of, with_users};
 ghost use Rattle.casebook_cli.specs.Stops.{AreBadTimes, IsBadTime, IsNoAbout, StopsAbout};
 ghost use Rattle.casebook_cli.specs.Stops.{StopsLabels};
 
 use crate::NoMem;
 use crate::document::Document;
+use crate::knowledge::Knowledge;
 use crate::stop::Stop;
 use casebook_about::{About, AboutFault, LineTime, SessionUser, read_about, time_text};
 use casebook_words::Labels;
@@ -64,16 +65,42 @@ fn add_times<'a>(alloc: Global, labels: &mut Labels, times: &[LineTime]) -> Resu
     Ok(())
 }
 
-/// Returns the names and times that an about document has.
-fn labels_in<'a>(alloc: Global, document: &Document<'a>) -> Result<Labels, Stop<'a>>
-    ensures ok { IfOk result (AreLabelsIn (document_view document.now)) }
+/// Returns what an about document says of a log.
+fn known_in<'a>(alloc: Global, document: &Document<'a>) -> Result<Knowledge, Stop<'a>>
+    ensures labels { IfOk result (λ known.
+        AreLabelsIn (document_view document.now) known.labels) }
+    ensures times { IfOk result (λ known. map time_view known.times.items
+        ≡ times_of (about_in (document_view document.now).bytes)) }
     ensures err { IfErr result (StopsAbout (document_view document.now)) }
 {
     let about = about_of(alloc, document)?;
     let mut labels = Labels::none(alloc);
     add_users(&mut labels, about.users)?;
     add_times(alloc, &mut labels, about.times.as_slice())?;
-    Ok(labels)
+    Ok(Knowledge {
+        labels,
+        times: about.times,
+    })
+}
+
+/// Returns what an about document says of a log: nothing, if none is given.
+pub(crate) fn known_of<'a>(
+    alloc: Global,
+    about: &Option<Document<'a>>,
+) -> Result<Knowledge, Stop<'a>>
+    ensures labels { IfOk result (λ known.
+        AreLabels (option_map document_view about.now) known.labels) }
+    ensures times { IfOk result (λ known. map time_view known.times.items
+        ≡ times_in (option_map document_view about.now)) }
+    ensures err { IfErr result (StopsLabels (option_map document_view about.now)) }
+{
+    match about {
+        Some(document) => known_in(alloc, document),
+        None => Ok(Knowledge {
+            labels: Labels::none(alloc),
+            times: Vec::new(alloc),
+        }),
+    }
 }
 
 /// Returns the names and times of an about document, or none if none is given.
@@ -81,8 +108,5 @@ pub(crate) fn labels_of<'a>(alloc: Global, about: &Option<Document<'a>>) -> Resu
     ensures ok { IfOk result (AreLabels (option_map document_view about.now)) }
     ensures err { IfErr result (StopsLabels (option_map document_view about.now)) }
 {
-    match about {
-        Some(document) => labels_in(alloc, document),
-        None => Ok(Labels::none(alloc)),
-    }
+    Ok(known_of(alloc, about)?.labels)
 }

@@ -1,29 +1,39 @@
 //! Answers to requests for rows of lines.
 ghost use Rattle.std.specs.Prelude.{◌≡◌, ◌++◌, IfOk, IfErr, OnOk, map, option_map, string_bytes};
-ghost use Rattle.std.specs.List.{filter};
-ghost use Rattle.casebook_view.specs.Filters.{filters_of, passes};
-ghost use Rattle.casebook_view.specs.Rows.{row_of};
+ghost use Rattle.casebook_about.specs.Rows.{time_view};
+ghost use Rattle.casebook_view.specs.Rows.{row_value};
 ghost use Rattle.casebook_cli.specs.Inputs.{inputs_view};
-ghost use Rattle.casebook_cli.specs.Lines.{AreLines, IsAskedText, rows_text, sessions_named};
-ghost use Rattle.casebook_cli.specs.Lines.{user_tests, widest_name};
+ghost use Rattle.casebook_cli.specs.Lines.{AreAskedRows, AreLines, sessions_named, user_tests};
+ghost use Rattle.casebook_cli.specs.Lines.{with_number};
 ghost use Rattle.casebook_cli.specs.Request.{lines_view, test_view};
 ghost use Rattle.casebook_cli.specs.Stops.{StopsLines};
 
 use crate::NoMem;
-use crate::format::Format;
-use crate::labels::labels_of;
+use crate::knowledge::Knowledge;
+use crate::labels::known_of;
 use crate::lines_request::LinesRequest;
 use crate::patterns::Patterns;
 use crate::recordings::recording_of;
 use crate::rows_text::{rows_text, widest_name};
 use crate::sources::Inputs;
 use crate::stop::Stop;
-use casebook_view::{Filters, LineTest, rows};
+use crate::typed::typed_rows;
+use casebook_view::{LineRow, LineTest, rows};
 use casebook_words::Labels;
 use retro_keep::{Noted, Recording};
 use std::alloc::Global;
 
-/// Returns the sessions of lines that are shown with a name.
+/// Appends a session, if the list doesn't have it.
+fn push_session(found: &mut Vec<u32>, session: u32) -> Result<(), NoMem>
+    ensures { OnOk result (found.new.items ≡ with_number found.old.items session) }
+{
+    if !found.contains(&session) {
+        found.push(session)?;
+    }
+    Ok(())
+}
+
+/// Returns the sessions of lines that are shown with a name, each once.
 fn sessions_named(
     alloc: Global,
     labels: &Labels,
@@ -35,7 +45,7 @@ fn sessions_named(
     let mut found = Vec::new(alloc);
     for line in lines {
         if labels.name_of(alloc, line.1.sid)?.as_str() == name {
-            found.push(line.1.sid)?;
+            push_session(&mut found, line.1.sid)?;
         }
     }
     Ok(found)
@@ -58,41 +68,32 @@ fn push_user(
     Ok(())
 }
 
-/// Returns the rows of the lines that pass filters, as text.
-fn filtered_text(
+/// Returns the rows of the lines of a recording that are asked for.
+fn asked_rows<'r>(
     alloc: Global,
-    recording: &Recording,
-    filters: &mut Filters<'_>,
-    labels: &Labels,
-    format: Format,
-) -> Result<String, NoMem>
-    ensures { IfOk result (λ text. string_bytes text
-        ≡ rows_text format labels.now (widest_name labels.now recording.now.lines)
-        (map row_of (filter (passes (filters_of filters.old)) recording.now.lines))) }
-{
-    let width = widest_name(alloc, labels, recording.lines())?;
-    let found = rows(alloc, recording, filters)?;
-    rows_text(alloc, found.as_slice(), labels, width, format)
-}
-
-/// Returns the rows of the lines of a recording that are asked for, as text.
-fn asked_text(
-    alloc: Global,
-    recording: &Recording,
-    labels: &Labels,
+    recording: &'r Recording,
+    known: &Knowledge,
     patterns: &Patterns,
     request: LinesRequest<'_>,
-) -> Result<String, NoMem>
-    ensures { IfOk result (λ text. IsAskedText (lines_view request.entry) labels.now recording.now
-        patterns.now (string_bytes text)) }
+) -> Result<Vec<LineRow<'r>>, NoMem>
+    ensures { IfOk result (λ rows. AreAskedRows (lines_view request.entry) known.now.labels
+        (map time_view known.now.times.items) recording.entry.now patterns.now
+        (map row_value rows.items)) }
 {
     let mut tests = request.tests;
-    push_user(alloc, &mut tests, labels, recording.lines(), request.user)?;
+    push_user(
+        alloc,
+        &mut tests,
+        &known.labels,
+        recording.lines(),
+        request.user,
+    )?;
     let mut filters = patterns.filters(alloc, tests)?;
-    filtered_text(alloc, recording, &mut filters, labels, request.format)
+    let found = rows(alloc, recording, &mut filters)?;
+    typed_rows(alloc, found, known.times.as_slice(), request.bounds)
 }
 
-/// Returns the rows of lines that are asked for.
+/// Returns the rows of lines that are asked for, as text.
 pub(crate) fn lines_text<'a>(
     alloc: Global,
     inputs: &Inputs<'a>,
@@ -103,7 +104,10 @@ pub(crate) fn lines_text<'a>(
     ensures err { IfErr result (StopsLines (inputs_view inputs.now) (lines_view request.entry)) }
 {
     let patterns = Patterns::of(alloc, &request)?;
-    let labels = labels_of(alloc, &inputs.about)?;
+    let known = known_of(alloc, &inputs.about)?;
     let recording = recording_of(alloc, &inputs.log)?;
-    Ok(asked_text(alloc, &recording, &labels, &patterns, request)?)
+    let format = request.format;
+    let found = asked_rows(alloc, &recording, &known, &patterns, request)?;
+    let width = widest_name(alloc, &known.labels, recording.lines())?;
+    Ok(rows_text(alloc, found.as_slice(), &known.labels, width, format)?)
 }

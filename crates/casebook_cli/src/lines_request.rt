@@ -1,4 +1,5 @@
 //! Requests for rows of lines.
+use crate::bounds::Bounds;
 use crate::format::Format;
 use casebook_view::LineTest;
 
@@ -11,8 +12,10 @@ pub(crate) struct LinesRequest<'a> {
     pub(crate) about: Option<&'a str>,
     /// The name of who ran each line, if one is given.
     pub(crate) user: Option<&'a str>,
-    /// The other tests that each line passes.
+    /// The other tests that each line passes, also that its number is between the bounds.
     pub(crate) tests: Vec<LineTest>,
+    /// Between which numbers and times the lines are.
+    pub(crate) bounds: Bounds,
     /// A pattern that is found in each line's text.
     pub(crate) text: Option<&'a str>,
     /// A pattern that is found in what each line printed.

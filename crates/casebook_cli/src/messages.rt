@@ -5,7 +5,7 @@ ghost use Rattle.casebook_text.specs.SafeText.{is_printable};
 ghost use Rattle.casebook_cli.specs.Messages.{about, about_message, about_words, counted};
 ghost use Rattle.casebook_cli.specs.Messages.{item_words, list_message, log_message, message_of};
 ghost use Rattle.casebook_cli.specs.Messages.{number_words, numbered_words, part_words, problem_words};
-ghost use Rattle.casebook_cli.specs.Messages.{range_words, refusal_words, repair_message, said};
+ghost use Rattle.casebook_cli.specs.Messages.{range_words, refusal_words, repair_message, repair_words, said};
 ghost use Rattle.casebook_cli.specs.Messages.{said_of, searched_words, stop_message};
 
 use crate::NoMem;
@@ -30,14 +30,20 @@ fn problem_words(problem: Problem) -> &'static str
         Problem::Topic => "there is no help on this; see casebook help",
         Problem::NoLog => "no LOG is given; see casebook help",
         Problem::NoList => "no --cancel LIST is given; see casebook help show",
+        Problem::Replace => "--replace: not a list like [[4,\"cat f\"]]",
+        Problem::Workers => "--workers: not a number",
+        Problem::Cuts => "--cuts: not numbers with commas between them",
         Problem::Session => "--session: not a number",
-        Problem::From => "--from: not a number of a line",
-        Problem::To => "--to: not a number of a line",
+        Problem::From => "--from: not a number of a line, nor a time such as 2025-05-06 10:30",
+        Problem::To => "--to: not a number of a line, nor a time such as 2025-05-06 10:30",
+        Problem::NoTimes => "--from and --to need --about FILE for times",
         Problem::Reads => "--reads: not a path from the root",
         Problem::Writes => "--writes: not a path from the root",
         Problem::Touches => "--touches: not a path from the root",
         Problem::Line => "--line: not a number of a line",
         Problem::Format => "--format: not text, tsv or numbers",
+        Problem::RepairFormat => "--format: not text or json",
+        Problem::MixedFormat => "--format json has no --why, --diff or --line",
     }
 }
 
@@ -167,12 +173,28 @@ fn log_message(alloc: Global, name: &str, refusal: Refusal) -> Result<SafeLine, 
     Ok(line)
 }
 
-/// Returns that a repair is refused.
+/// Returns why a repair is refused, by the number of the refusal.
+#[tactic(auto, unfolding(crate::specs::Messages::repair_words))]
+fn repair_words(number: u8) -> &'static str
+    ensures value { result.now ≡ repair_words number }
+    ensures printable { IsTrue (list_all is_printable result.now) }
+{
+    match number {
+        21 => "no line has the number of a line to replace",
+        22 => "--cuts: no number, or a 0",
+        23 => "--workers: too many",
+        25 => "the log begins after a line to replace",
+        26 => "a line is to be cancelled or replaced twice",
+        _ => "the repair is refused",
+    }
+}
+
+/// Returns why a repair is refused, with the number of the refusal.
 #[tactic(auto, unfolding(crate::specs::Messages::repair_message))]
 fn repair_message(alloc: Global, number: u8) -> Result<SafeLine, NoMem>
     ensures { IfOk result (λ line. line ≡ repair_message number) }
 {
-    let mut line = told(alloc, "the repair is refused")?;
+    let mut line = told(alloc, repair_words(number))?;
     push_refusal_number(alloc, &mut line, number)?;
     Ok(line)
 }

@@ -5,7 +5,8 @@ ghost use Rattle.casebook_cli.specs.Pages.{IsPageOf};
 use crate::NoMem;
 use crate::repairs::{Asked, summary_of};
 use casebook_page::{Contents, page};
-use casebook_view::{Filters, rows};
+use casebook_view::{Case, Filters, rows};
+use casebook_words::Labels;
 use retro_log::check;
 use std::alloc::Global;
 
@@ -18,6 +19,32 @@ fn no_filters(alloc: Global) -> Filters<'static> {
     }
 }
 
+/// Returns the page of a recording and its repair.
+fn page_of_case<'x>(
+    alloc: Global,
+    case: &'x Case<'_>,
+    labels: &'x Labels,
+    title: &'x str,
+    all: bool,
+) -> Result<String, NoMem>
+    ensures { IfOk result (λ text.
+        IsPageOf case.entry.now.recording case.entry.now.repair all (string_bytes text)) }
+{
+    let summary = summary_of(alloc, case)?;
+    let mut filters = no_filters(alloc);
+    let lines = rows(alloc, case.recording(), &mut filters)?;
+    let contents = Contents {
+        case,
+        summary: &summary,
+        lines: lines.as_slice(),
+        labels,
+        title,
+        is_recording: check(alloc, case.recording())?,
+        shows_all: all,
+    };
+    page(alloc, contents)
+}
+
 /// Returns the page of a repair. `all` is whether untouched lines have rows also if there are many
 /// lines.
 pub(crate) fn page_text(
@@ -26,20 +53,9 @@ pub(crate) fn page_text(
     title: &str,
     all: bool,
 ) -> Result<String, NoMem>
-    ensures { IfOk result (λ text. IsPageOf asked.now all (string_bytes text)) }
+    ensures { IfOk result (λ text.
+        IsPageOf asked.now.recording asked.now.repair all (string_bytes text)) }
 {
     let case = asked.case(alloc)?;
-    let summary = summary_of(alloc, &case)?;
-    let mut filters = no_filters(alloc);
-    let lines = rows(alloc, &asked.recording, &mut filters)?;
-    let contents = Contents {
-        case: &case,
-        summary: &summary,
-        lines: lines.as_slice(),
-        labels: &asked.labels,
-        title,
-        is_recording: check(alloc, &asked.recording)?,
-        shows_all: all,
-    };
-    page(alloc, contents)
+    page_of_case(alloc, &case, &asked.labels, title, all)
 }

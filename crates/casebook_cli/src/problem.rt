@@ -12,14 +12,22 @@ pub enum Problem {
     Topic,
     /// No log is named.
     NoLog,
-    /// No list of lines is given.
+    /// No list of lines to cancel is given, and no lines to replace.
     NoList,
+    /// The value of `--replace` isn't a list of numbers and texts.
+    Replace,
+    /// The value of `--workers` isn't a number.
+    Workers,
+    /// The value of `--cuts` isn't a list of numbers.
+    Cuts,
     /// The value of `--session` isn't a number.
     Session,
-    /// The value of `--from` isn't a number.
+    /// The value of `--from` isn't a number or a time.
     From,
-    /// The value of `--to` isn't a number.
+    /// The value of `--to` isn't a number or a time.
     To,
+    /// A time is given, but no document with the times of lines.
+    NoTimes,
     /// The value of `--reads` isn't a path from the root.
     Reads,
     /// The value of `--writes` isn't a path from the root.
@@ -30,4 +38,8 @@ pub enum Problem {
     Line,
     /// The value of `--format` isn't a format.
     Format,
+    /// The value of `--format` isn't a format in which a repair is shown.
+    RepairFormat,
+    /// A repair is to be shown for programs, and a part of it to people.
+    MixedFormat,
 }

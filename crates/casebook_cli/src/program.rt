@@ -10,15 +10,17 @@ ghost use Rattle.casebook_cli.specs.declared.exit.Exit.TheVariants as exits;
 
 use crate::answer::Answer;
 use crate::answers::answer;
+use crate::command_line::read_words;
 use crate::documents::Documents;
 use crate::exit::Exit;
-use crate::options::read_words;
 use crate::output::Output;
+use crate::progress::{Progress, Step};
 use crate::request::Request;
 use crate::stop::Stop;
 use crate::words::WordsFault;
-use std::alloc::Global;
+use std::alloc::{AllocGlobal, Global};
 use std::io::Write;
+use std::thread::Threads;
 
 /// Returns the request that words make.
 fn request_of<'a>(alloc: Global, words: &'a [String]) -> Result<Request<'a>, Stop<'a>>
@@ -34,18 +36,19 @@ fn request_of<'a>(alloc: Global, words: &'a [String]) -> Result<Request<'a>, Sto
 }
 
 /// Returns the answer to the request that words make.
-fn answer_to<'a, D: Documents>(
-    alloc: Global,
+fn answer_to<'a, R: Threads + Sync + AllocGlobal, D: Documents + Progress>(
+    rt: &R,
     words: &'a [String],
     documents: &D,
+    colours: bool,
 ) -> Result<Answer, Stop<'a>>
     ensures ok { IfOk result (λ answer. IfSome (D.bytes_of documents.now) (λ at.
-        AnswersWords (map string_bytes words.entry.now) at (answer_view answer))) }
+        AnswersWords (map string_bytes words.entry.now) at colours (answer_view answer))) }
     ensures err { IfErr result (λ stop. IfSome (D.bytes_of documents.now) (λ at.
         StopsWords (map string_bytes words.entry.now) at stop)) }
 {
-    let request = request_of(alloc, words)?;
-    answer(alloc, documents, request)
+    let request = request_of(rt.alloc(), words)?;
+    answer(rt, documents, request, colours)
 }
 
 /// Writes an answer, and returns how the program ends then.
@@ -62,21 +65,25 @@ fn written<'a, W: Write>(answer: &Answer, output: &mut Output<W>) -> Exit<'a>
 }
 
 /// Runs the program: reads the command line, whose first word is the program's name, reads the
-/// documents that it names, and writes the answer. Returns how the program ends.
-pub fn run_with<'a, D: Documents, W: Write>(
-    alloc: Global,
+/// documents that it names, and writes the answer, with the codes of `specs/Colours.antt` if
+/// `colours` are wanted. Returns how the program ends.
+pub fn run_with<'a, R: Threads + Sync + AllocGlobal, D: Documents + Progress, W: Write>(
+    rt: &R,
     words: &'a [String],
     documents: &D,
+    colours: bool,
     output: &mut Output<W>,
 ) -> Exit<'a>
     ensures runs { IfSome (D.bytes_of documents.now) (λ at.
-        Runs (map string_bytes words.entry.now) at
+        Runs (map string_bytes words.entry.now) at colours
         (W.contents output.old.writer) (W.contents output.new.writer) result) }
     ensures unwritten { writes_nothing result ≡ true → output.new ≡ output.old }
     ensures write_failure { output.old.has_failed ≡ false →
         (output.new.has_failed ≡ true) ↔ (result ≡ exits.WriteFailed) }
 {
-    match answer_to(alloc, words, documents) {
+    let answer = answer_to(rt, words, documents, colours);
+    documents.begin(Step::Writing);
+    match answer {
         Ok(answer) => written(&answer, output),
         Err(stop) => Exit::Stopped(stop),
     }

@@ -29,8 +29,8 @@ fn document_named(given: &str) -> Option<&str>
 }
 
 /// Returns the documents that a repair needs.
-fn repair_sources<'a>(request: RepairRequest<'a>) -> Sources<'a>
-    ensures { sources_view result ≡ repair_sources (repair_view request.entry) }
+fn repair_sources<'a>(request: &RepairRequest<'a>) -> Sources<'a>
+    ensures { sources_view result ≡ repair_sources (repair_view request.now) }
 {
     Sources {
         log: request.log,
@@ -50,8 +50,8 @@ impl<'a> Query<'a> {
                 list: None,
                 about: request.about,
             },
-            Query::Show(request) => repair_sources(request.repair),
-            Query::Page(request) => repair_sources(request.repair),
+            Query::Show(request) => repair_sources(&request.repair),
+            Query::Page(request) => repair_sources(&request.repair),
             Query::Check(log) => Sources {
                 log,
                 list: None,

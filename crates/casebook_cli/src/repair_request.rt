@@ -1,19 +1,25 @@
 //! Requests for repairs.
+use crate::rounds::Rounds;
 use crate::shown::Shown;
+use retro_keep::Edit;
 
 /// Which repair is asked for.
-#[derive(Clone, Copy, Debug, Drop)]
+#[derive(Drop)]
 pub(crate) struct RepairRequest<'a> {
     /// The name of the log.
     pub(crate) log: &'a str,
     /// The list of the lines that are cancelled. After `@` it is the name of a document with a list.
     pub(crate) cancel: &'a str,
+    /// The edits of the lines whose text is replaced.
+    pub(crate) replacements: Vec<Edit>,
+    /// How lines are run ahead in parallel, if they are.
+    pub(crate) rounds: Option<Rounds>,
     /// The name of the document with names and times, if one is given.
     pub(crate) about: Option<&'a str>,
 }
 
 /// What a terminal is to show of a repair.
-#[derive(Clone, Copy, Debug, Drop)]
+#[derive(Drop)]
 pub(crate) struct ShowRequest<'a> {
     /// The repair.
     pub(crate) repair: RepairRequest<'a>,
@@ -22,7 +28,7 @@ pub(crate) struct ShowRequest<'a> {
 }
 
 /// The page of which repair is asked for.
-#[derive(Clone, Copy, Debug, Drop)]
+#[derive(Drop)]
 pub(crate) struct PageRequest<'a> {
     /// The repair.
     pub(crate) repair: RepairRequest<'a>,

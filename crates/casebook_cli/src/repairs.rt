@@ -1,21 +1,27 @@
 //! Repairs that are asked for.
-ghost use Rattle.std.specs.Prelude.{◌≡◌, IfOk, IfErr};
+ghost use Rattle.std.specs.Prelude.{◌≡◌, IfOk, IfErr, option_map};
 ghost use Rattle.casebook_cli.specs.Inputs.{inputs_view};
-ghost use Rattle.casebook_cli.specs.Repairs.{IsAsked, IsRepairBy, IsRepairWithout};
+ghost use Rattle.casebook_cli.specs.Repairs.{AreEdits, IsAsked, IsRepairBy, lines_in};
+ghost use Rattle.casebook_cli.specs.Request.{repair_view, rounds_view};
 ghost use Rattle.casebook_cli.specs.Screens.{IsSummary};
-ghost use Rattle.casebook_cli.specs.Stops.{StopsAsked, StopsRepair, StopsWithout};
+ghost use Rattle.casebook_cli.specs.Stops.{IsRefused, StopsAsked, StopsNumbers, StopsRepair};
 
 use crate::NoMem;
 use crate::labels::labels_of;
 use crate::line_lists::{cancellations, list_given, numbers_of};
+use crate::progress::{Progress, Step};
 use crate::recordings::recording_of;
+use crate::repair_request::RepairRequest;
+use crate::rounds::Rounds;
 use crate::sources::Inputs;
 use crate::stop::Stop;
 use casebook_view::{Case, Summary};
 use casebook_words::Labels;
 use retro_keep::{Edit, Recording};
-use retro_redo::{Repair, RepairFault, repair_alone};
-use std::alloc::Global;
+use retro_redo::{Quiet, Repair, RepairFault, repair_alone};
+use retro_rounds::repair;
+use std::alloc::{AllocGlobal, Global};
+use std::thread::Threads;
 
 /// A repair that is asked for, with what it is a repair of.
 #[derive(Drop)]
@@ -45,42 +51,87 @@ pub(crate) fn summary_of(alloc: Global, case: &Case<'_>) -> Result<Summary, NoMe
     Summary::of(alloc, case)
 }
 
-/// Returns the repair of a recording with its lines edited.
-fn repair_by<'a>(alloc: Global, recording: &Recording, edits: &[Edit]) -> Result<Repair, Stop<'a>>
-    ensures ok { IfOk result (IsRepairBy edits.now recording.now) }
-    ensures err { IfErr result (StopsRepair edits.now recording.now) }
+/// Returns why a repair is refused.
+fn refused<'a>(fault: RepairFault) -> Stop<'a>
+    ensures { IsRefused fault result }
 {
-    match repair_alone(alloc, recording, edits) {
-        Ok(repair) => Ok(repair),
-        Err(RepairFault::OutOfMemory) => Err(Stop::OutOfMemory),
-        Err(fault) => Err(Stop::BadRepair(fault.number())),
+    match fault {
+        RepairFault::OutOfMemory => Stop::OutOfMemory,
+        fault => Stop::BadRepair(fault.number()),
     }
 }
 
-/// Returns the repair of a recording without the lines that a list names.
-fn repair_without<'a>(alloc: Global, recording: &Recording, list: &str) -> Result<Repair, Stop<'a>>
-    ensures ok { IfOk result (IsRepairWithout list.now recording.now) }
-    ensures err { IfErr result (StopsWithout list.now recording.now) }
+/// Returns the repair of a recording with its lines edited, and with lines run ahead in parallel if
+/// that is asked for.
+fn repair_by<'a, R: Threads + Sync + AllocGlobal>(
+    rt: &R,
+    recording: &Recording,
+    edits: &[Edit],
+    rounds: &Option<Rounds>,
+) -> Result<Repair, Stop<'a>>
+    ensures ok { IfOk result (IsRepairBy edits.now recording.now) }
+    ensures err { IfErr result
+        (StopsRepair (option_map rounds_view rounds.now) edits.now recording.now) }
 {
-    let numbers = numbers_of(alloc, recording.lines(), list)?;
-    let edits = cancellations(alloc, numbers.as_slice())?;
-    repair_by(alloc, recording, edits.as_slice())
+    let alloc = rt.alloc();
+    let repaired = match rounds {
+        None => repair_alone(alloc, recording, edits),
+        Some(Rounds { workers, cuts }) => {
+            repair(
+                rt,
+                alloc,
+                recording,
+                edits,
+                *workers,
+                cuts.as_slice(),
+                &Quiet,
+            )
+        }
+    };
+    match repaired {
+        Ok(repair) => Ok(repair),
+        Err(fault) => Err(refused(fault)),
+    }
 }
 
-/// Returns the repair of the log of some documents without the lines of a list, which may be in one
-/// of them.
-pub(crate) fn asked_repair<'a>(
+/// Returns the edits of lines: those that a list names are left out, and then some are replaced.
+fn edits_of<'a>(
     alloc: Global,
-    inputs: &Inputs<'a>,
-    cancel: &str,
-) -> Result<Asked, Stop<'a>>
-    ensures ok { IfOk result (IsAsked (inputs_view inputs.now) cancel.now) }
-    ensures err { IfErr result (StopsAsked (inputs_view inputs.now) cancel.now) }
+    recording: &Recording,
+    list: &str,
+    replacements: &mut Vec<Edit>,
+) -> Result<Vec<Edit>, Stop<'a>>
+    ensures ok { IfOk result (λ edits.
+        AreEdits list.now replacements.old.items recording.now edits.items) }
+    ensures err { IfErr result (StopsNumbers (lines_in recording.now) list.now) }
 {
+    let numbers = numbers_of(alloc, recording.lines(), list)?;
+    let mut edits = cancellations(alloc, numbers.as_slice())?;
+    edits.append(replacements)?;
+    Ok(edits)
+}
+
+/// Returns the repair of the log of some documents that is asked for. The list of the lines that it
+/// is without may be in one of the documents.
+pub(crate) fn asked_repair<'a, R: Threads + Sync + AllocGlobal, P: Progress>(
+    rt: &R,
+    progress: &P,
+    inputs: &Inputs<'a>,
+    request: RepairRequest<'a>,
+) -> Result<Asked, Stop<'a>>
+    ensures ok { IfOk result (IsAsked (inputs_view inputs.now) (repair_view request.entry)) }
+    ensures err { IfErr result (StopsAsked (inputs_view inputs.now) (repair_view request.entry)) }
+{
+    let alloc = rt.alloc();
     let labels = labels_of(alloc, &inputs.about)?;
+    progress.begin(Step::Reading(inputs.log.bytes.len()));
     let recording = recording_of(alloc, &inputs.log)?;
-    let list = list_given(alloc, cancel, &inputs.list)?;
-    let repair = repair_without(alloc, &recording, list.as_str())?;
+    let list = list_given(alloc, request.cancel, &inputs.list)?;
+    let mut replacements = request.replacements;
+    let edits = edits_of(alloc, &recording, list.as_str(), &mut replacements)?;
+    progress.begin(Step::Repairing(recording.lines().len()));
+    let repair = repair_by(rt, &recording, edits.as_slice(), &request.rounds)?;
+    progress.begin(Step::Showing(recording.lines().len()));
     Ok(Asked {
         recording,
         repair,

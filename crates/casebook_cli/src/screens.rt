@@ -1,49 +1,91 @@
-//! What a terminal shows of repairs.
+//! What is shown of repairs.
 ghost use Rattle.std.specs.Prelude.{◌≡◌, IfOk, IfErr, string_bytes};
-ghost use Rattle.casebook_cli.specs.Screens.{AreDiffLines, AreSummaryLines, AreWhyLines, IsLineText};
-ghost use Rattle.casebook_cli.specs.Screens.{IsScreenText, IsShownOf, IsTextOf, screen_view};
+ghost use Rattle.casebook_cli.specs.Screens.{AreDiffLines, AreParts, AreSummaryLines, AreWhyLines};
+ghost use Rattle.casebook_cli.specs.Screens.{IsJson, IsLineText, IsScreenText, IsShownOf, IsTextOf};
+ghost use Rattle.casebook_cli.specs.Screens.{screen_view};
 ghost use Rattle.casebook_cli.specs.Stops.{IsNoLine, StopsShown};
 
 use crate::NoMem;
+use crate::colours::shown_lines;
 use crate::repairs::{Asked, summary_of};
 use crate::rows_text::widest_name;
 use crate::shown::{Extras, Shown};
 use crate::stop::Stop;
+use casebook_json::summary_json;
 use casebook_screen::{
-    Names, Sheet, detail_lines, diff_lines, summary_lines, to_restore, why_lines,
+    Names, Restoration, Sheet, detail_lines, diff_lines, summary_lines, to_restore, why_lines,
 };
-use casebook_text::{SafeLine, text_of_lines};
-use casebook_view::{Case, Summary, grouped};
+use casebook_text::SafeLine;
+use casebook_view::{Case, Group, Summary, grouped};
+use casebook_words::Labels;
 use retro_log::check;
 use std::alloc::Global;
 
 /// What is shown of a repair, and how.
 #[derive(Clone, Copy, Drop)]
-struct Screen<'a, 'r> {
+struct Screen<'s, 'c> {
     /// The recording and its repair.
-    case: &'a Case<'r>,
+    case: &'s Case<'c>,
     /// What it would do.
-    summary: &'a Summary,
+    summary: &'s Summary,
     /// What sessions and lines are called.
-    names: Names<'a>,
+    names: Names<'s>,
+    /// Whether the terminal has colours.
+    colours: bool,
+}
+
+/// What a sheet has beside a recording and a summary.
+#[derive(Drop)]
+struct Parts {
+    /// The paths to restore.
+    restorations: Vec<Restoration>,
+    /// Whom to tell about what.
+    groups: Vec<Group>,
+    /// Whether the log is a recording of its lines.
+    is_recording: bool,
 }
 
 impl Screen<'_, '_> {
+    /// Returns the parts of the sheet.
+    fn parts(self, alloc: Global) -> Result<Parts, NoMem>
+        ensures { IfOk result (AreParts (screen_view self.entry)) }
+    {
+        let summary = self.summary;
+        Ok(Parts {
+            restorations: to_restore(alloc, self.case, summary.restorations.as_slice())?,
+            groups: grouped(alloc, summary.notices.as_slice())?,
+            is_recording: check(alloc, self.case.recording())?,
+        })
+    }
+
     /// Returns what the repair would do.
     fn summary_lines(self, alloc: Global) -> Result<Vec<SafeLine>, NoMem>
         ensures { IfOk result (λ lines. AreSummaryLines (screen_view self.entry) lines.items) }
     {
-        let (case, summary) = (self.case, self.summary);
-        let restorations = to_restore(alloc, case, summary.restorations.as_slice())?;
-        let groups = grouped(alloc, summary.notices.as_slice())?;
+        let parts = self.parts(alloc)?;
         let sheet = Sheet {
-            recording: case.recording(),
-            summary,
-            restorations: restorations.as_slice(),
-            groups: groups.as_slice(),
-            is_recording: check(alloc, case.recording())?,
+            recording: self.case.recording(),
+            summary: self.summary,
+            restorations: parts.restorations.as_slice(),
+            groups: parts.groups.as_slice(),
+            is_recording: parts.is_recording,
         };
         summary_lines(alloc, sheet, self.names)
+    }
+
+    /// Returns what the repair would do, for programs.
+    fn json(self, alloc: Global) -> Result<String, NoMem>
+        ensures { IfOk result (λ text. IsJson (screen_view self.entry) (string_bytes text)) }
+    {
+        let parts = self.parts(alloc)?;
+        let sheet = Sheet {
+            recording: self.case.recording(),
+            summary: self.summary,
+            restorations: parts.restorations.as_slice(),
+            groups: parts.groups.as_slice(),
+            is_recording: parts.is_recording,
+        };
+        summary_json(alloc, sheet, self.names.labels)
     }
 
     /// Returns why lines are run again, if that is asked for.
@@ -76,7 +118,7 @@ impl Screen<'_, '_> {
         let mut lines = self.summary_lines(alloc)?;
         lines.append(&mut self.why_lines(alloc, extras.why)?)?;
         lines.append(&mut self.diff_lines(alloc, extras.diff)?)?;
-        text_of_lines(alloc, lines.as_slice())
+        shown_lines(alloc, lines.as_slice(), self.colours)
     }
 
     /// Returns one line in full.
@@ -89,7 +131,7 @@ impl Screen<'_, '_> {
             return Err(Stop::NoLine(number));
         }
         let lines = detail_lines(alloc, self.case, self.summary, self.names, number)?;
-        Ok(text_of_lines(alloc, lines.as_slice())?)
+        Ok(shown_lines(alloc, lines.as_slice(), self.colours)?)
     }
 
     /// Returns what is to be shown.
@@ -101,25 +143,45 @@ impl Screen<'_, '_> {
         match shown {
             Shown::Summary(extras) => Ok(self.text(alloc, extras)?),
             Shown::Line(number) => self.line(alloc, number),
+            Shown::Json => Ok(self.json(alloc)?),
         }
     }
 }
 
-/// Returns what is to be shown of a repair.
-pub(crate) fn shown_text<'a>(alloc: Global, asked: &Asked, shown: Shown) -> Result<String, Stop<'a>>
-    ensures ok { IfOk result (λ text. IsShownOf asked.now shown (string_bytes text)) }
+/// Returns what is to be shown of a recording and its repair.
+fn text_of_case<'a>(
+    alloc: Global,
+    case: &Case<'_>,
+    labels: &Labels,
+    shown: Shown,
+    colours: bool,
+) -> Result<String, Stop<'a>>
+    ensures ok { IfOk result (λ text. IsShownOf case.now.recording case.now.repair labels.now
+        shown colours (string_bytes text)) }
+    ensures err { IfErr result (StopsShown shown case.now.recording) }
+{
+    let summary = summary_of(alloc, case)?;
+    let width = widest_name(alloc, labels, case.recording().lines())?;
+    let screen = Screen {
+        case,
+        summary: &summary,
+        names: Names { labels, width },
+        colours,
+    };
+    screen.shown(alloc, shown)
+}
+
+/// Returns what is to be shown of a repair, with colours if they are wanted.
+pub(crate) fn shown_text<'a>(
+    alloc: Global,
+    asked: &Asked,
+    shown: Shown,
+    colours: bool,
+) -> Result<String, Stop<'a>>
+    ensures ok { IfOk result (λ text. IsShownOf asked.now.recording asked.now.repair
+        asked.now.labels shown colours (string_bytes text)) }
     ensures err { IfErr result (StopsShown shown asked.now.recording) }
 {
     let case = asked.case(alloc)?;
-    let summary = summary_of(alloc, &case)?;
-    let width = widest_name(alloc, &asked.labels, asked.recording.lines())?;
-    let screen = Screen {
-        case: &case,
-        summary: &summary,
-        names: Names {
-            labels: &asked.labels,
-            width,
-        },
-    };
-    screen.shown(alloc, shown)
+    text_of_case(alloc, &case, &asked.labels, shown, colours)
 }

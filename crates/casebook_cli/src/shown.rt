@@ -1,12 +1,14 @@
-//! What a terminal shows of a repair.
+//! What is shown of a repair.
 
-/// What a terminal shows of a repair.
+/// What is shown of a repair.
 #[derive(Clone, Copy, Debug, Drop, PartialEq, Eq)]
 pub(crate) enum Shown {
     /// The summary, and more if it is asked for.
     Summary(Extras),
     /// One line in full.
     Line(u32),
+    /// The summary as JSON, for programs.
+    Json,
 }
 
 /// What is shown after the summary of a repair.

@@ -3,8 +3,8 @@ ghost use Rattle.std.specs.Prelude.{◌≡◌, ◌∷◌, [], false, codes, map,
 ghost use Rattle.std.specs.Prelude.{string_bytes};
 ghost use Rattle.clap.specs.Words.{app_of, first_of, rule_of};
 ghost use Rattle.clap.specs.declared.builder.command.Command.TheViews.{out-Command as fields_of};
-ghost use Rattle.casebook_cli.specs.Words.{Names, bare, call_view, check_rules, command, flag};
-ghost use Rattle.casebook_cli.specs.Words.{help_flag, help_rules, lines_rules, named_in};
+ghost use Rattle.casebook_cli.specs.Words.{Names, bare, call_view, check_rules, command, edit_rules};
+ghost use Rattle.casebook_cli.specs.Words.{flag, help_flag, help_rules, lines_rules, named_in};
 ghost use Rattle.casebook_cli.specs.Words.{number_rules, option, page_rules, path_rules, program};
 ghost use Rattle.casebook_cli.specs.Words.{repair_rules, show_rules, without_repairs, word};
 ghost use Rattle.casebook_cli.specs.declared.words.WordsFault.TheVariants as faults;
@@ -152,16 +152,28 @@ fn lines_command<'a>(alloc: Global) -> Result<Command<'a>, NoMem>
         .arg(option(alloc, "format"))
 }
 
+/// Returns a command about a repair, as far as what is repaired how.
+fn edit_command<'a>(alloc: Global, name: &'a str) -> Result<Command<'a>, NoMem>
+    ensures shape { IfOk result (λ c.
+        app_of c ≡ record { top = command name.entry.now edit_rules; subs = [] }) }
+    ensures local { IfOk result (λ c. (fields_of c).has_globals ≡ false) }
+{
+    bare_command(alloc, name)?
+        .arg(word(alloc, "log"))?
+        .arg(option(alloc, "cancel"))?
+        .arg(option(alloc, "replace"))?
+        .arg(option(alloc, "about"))
+}
+
 /// Returns a command about a repair, as far as the options that all of them have.
 fn repair_command<'a>(alloc: Global, name: &'a str) -> Result<Command<'a>, NoMem>
     ensures shape { IfOk result (λ c.
         app_of c ≡ record { top = command name.entry.now repair_rules; subs = [] }) }
     ensures local { IfOk result (λ c. (fields_of c).has_globals ≡ false) }
 {
-    bare_command(alloc, name)?
-        .arg(word(alloc, "log"))?
-        .arg(option(alloc, "cancel"))?
-        .arg(option(alloc, "about"))
+    edit_command(alloc, name)?
+        .arg(option(alloc, "workers"))?
+        .arg(option(alloc, "cuts"))
 }
 
 /// Returns the command that shows what a repair would do.
@@ -173,7 +185,8 @@ fn show_command<'a>(alloc: Global) -> Result<Command<'a>, NoMem>
     repair_command(alloc, "show")?
         .arg(flag(alloc, "why"))?
         .arg(flag(alloc, "diff"))?
-        .arg(option(alloc, "line"))
+        .arg(option(alloc, "line"))?
+        .arg(option(alloc, "format"))
 }
 
 /// Returns the command that writes the page of a repair.

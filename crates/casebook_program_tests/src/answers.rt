@@ -1,7 +1,8 @@
 //! Tests of answers.
 use crate::memory::written;
-use std::alloc::Global;
+use std::alloc::AllocGlobal;
 use std::test::Fail;
+use std::thread::Threads;
 
 /// Both lines, as text.
 const BOTH: &str =
@@ -37,20 +38,24 @@ CAUSES  what each cancelled line led to: lines with another result, run again al
 ";
 
 /// Fails unless the program writes a text.
-fn hold(alloc: Global, given: &str, wanted: &str) -> Result<(), Fail> {
-    let text = written(alloc, given)?;
+fn hold<T: Threads + Sync + AllocGlobal>(rt: &T, given: &str, wanted: &str) -> Result<(), Fail> {
+    let text = written(rt, given)?;
     if text.as_str() != wanted {
-        let told = format!(in alloc; "{given}: {}\nwanted: {wanted}", text.as_str())?;
+        let told = format!(in rt.alloc(); "{given}: {}\nwanted: {wanted}", text.as_str())?;
         Err(told)?
     }
     Ok(())
 }
 
 /// Fails unless the help that words ask for begins so.
-fn hold_help(alloc: Global, given: &str, begin: &str) -> Result<(), Fail> {
-    let text = written(alloc, given)?;
+fn hold_help<T: Threads + Sync + AllocGlobal>(
+    rt: &T,
+    given: &str,
+    begin: &str,
+) -> Result<(), Fail> {
+    let text = written(rt, given)?;
     if !text.as_str().starts_with(begin) {
-        let told = format!(in alloc; "{given}: {}", text.as_str())?;
+        let told = format!(in rt.alloc(); "{given}: {}", text.as_str())?;
         Err(told)?
     }
     Ok(())
@@ -58,43 +63,39 @@ fn hold_help(alloc: Global, given: &str, begin: &str) -> Result<(), Fail> {
 
 #[test]
 fn lines_are_shown(rt: HostRuntime) -> Result<(), Fail> {
-    let alloc = rt.alloc();
-    hold(alloc, "lines log", BOTH)?;
-    hold(alloc, "lines -", BOTH)?;
-    hold(alloc, "lines ~[2J --format text", BOTH)?;
-    hold(alloc, "lines log --session 1", SECOND)?;
-    hold(alloc, "lines log --user 1", SECOND)?;
-    hold(alloc, "lines log --user ann", "")?;
-    hold(alloc, "lines log --reads /f", SECOND)?;
-    hold(alloc, "lines log --from 2 --to 2", SECOND)?;
-    hold(alloc, "lines log --text ^c.t --shown ^fig$", "")?;
-    hold(alloc, "lines log --text ^c.t --shown ^fig", SECOND)
+    hold(&rt, "lines log", BOTH)?;
+    hold(&rt, "lines -", BOTH)?;
+    hold(&rt, "lines ~[2J --format text", BOTH)?;
+    hold(&rt, "lines log --session 1", SECOND)?;
+    hold(&rt, "lines log --user 1", SECOND)?;
+    hold(&rt, "lines log --user ann", "")?;
+    hold(&rt, "lines log --reads /f", SECOND)?;
+    hold(&rt, "lines log --from 2 --to 2", SECOND)?;
+    hold(&rt, "lines log --text ^c.t --shown ^fig$", "")?;
+    hold(&rt, "lines log --text ^c.t --shown ^fig", SECOND)
 }
 
 #[test]
 fn lines_are_tabulated(rt: HostRuntime) -> Result<(), Fail> {
-    let alloc = rt.alloc();
-    hold(alloc, "lines log --writes / --format tsv", TABLE)?;
-    hold(alloc, "lines log --touches /f --format numbers", "1,2\n")?;
-    hold(alloc, "lines log --touches /g/ --format numbers", "\n")
+    hold(&rt, "lines log --writes / --format tsv", TABLE)?;
+    hold(&rt, "lines log --touches /f --format numbers", "1,2\n")?;
+    hold(&rt, "lines log --touches /g/ --format numbers", "\n")
 }
 
 #[test]
 fn repairs_are_shown(rt: HostRuntime) -> Result<(), Fail> {
-    let alloc = rt.alloc();
-    hold(alloc, "show log --cancel 1", SHOWN)?;
-    hold(alloc, "show - --cancel @list", SHOWN)?;
-    hold(alloc, "show log --cancel 1-2,-2", SHOWN)
+    hold(&rt, "show log --cancel 1", SHOWN)?;
+    hold(&rt, "show - --cancel @list", SHOWN)?;
+    hold(&rt, "show log --cancel 1-2,-2", SHOWN)
 }
 
 #[test]
 fn help_is_given(rt: HostRuntime) -> Result<(), Fail> {
-    let alloc = rt.alloc();
-    hold_help(alloc, "", "casebook - ")?;
-    hold_help(alloc, "--help", "casebook - ")?;
-    hold_help(alloc, "help", "casebook - ")?;
-    hold_help(alloc, "help lines", "casebook lines LOG")?;
-    hold_help(alloc, "lines -h", "casebook lines LOG")?;
-    hold_help(alloc, "show --help", "casebook show LOG")?;
-    hold_help(alloc, "help lists", "Lists of lines")
+    hold_help(&rt, "", "casebook - ")?;
+    hold_help(&rt, "--help", "casebook - ")?;
+    hold_help(&rt, "help", "casebook - ")?;
+    hold_help(&rt, "help lines", "casebook lines LOG")?;
+    hold_help(&rt, "lines -h", "casebook lines LOG")?;
+    hold_help(&rt, "show --help", "casebook show LOG")?;
+    hold_help(&rt, "help lists", "Lists of lines")
 }

@@ -9,6 +9,8 @@ mod memory;
 #[cfg(test)]
 mod more;
 #[cfg(test)]
+mod options;
+#[cfg(test)]
 mod refusals;
 #[cfg(test)]
 mod writers;

@@ -1,10 +1,11 @@
 //! Documents in memory, and runs of the program on them.
 ghost use Rattle.std.specs.Prelude.{None};
 
-use casebook_cli::{Documents, Exit, NoMem, Output, ReadFault, run_with};
+use casebook_cli::{Documents, Exit, NoMem, Output, Progress, ReadFault, Step, run_with};
 use retro_rows::{fail, text, utf8};
-use std::alloc::Global;
+use std::alloc::{AllocGlobal, Global};
 use std::test::Fail;
+use std::thread::Threads;
 
 /// A log of two lines: session 2 makes a file, and session 1 shows it.
 const LOG: &str = r#"{"from":1,"lines":[
@@ -32,6 +33,7 @@ fn bytes_of(name: &str) -> Option<&'static [u8]> {
         "about" => Some(
             br#"{"about":1,"sessions":[[1,"ann"],[2,"guest"]],"lines":[[1,1746528600],[2,1746528720]]}"#,
         ),
+        "half" => Some(br#"{"about":1,"lines":[[2,1746528720]]}"#),
         "late" => Some(br#"{"about":1,"lines":[[2,999999999999999]]}"#),
         "rows" => Some(br#"{"about":1,"sessions":[[1,"ann"],["guest"]]}"#),
         "list" => Some(b"# the guest\n 2:all \n"),
@@ -55,6 +57,10 @@ impl Documents for Memory {
     }
 }
 
+impl Progress for Memory {
+    fn begin(&self, _step: Step) {}
+}
+
 /// Returns the words of a command line. The program's name isn't among those that are given. `~`
 /// stands for an escape, and `_` for a space in a word.
 pub(crate) fn words(alloc: Global, given: &str) -> Result<Vec<String>, NoMem> {
@@ -71,36 +77,60 @@ pub(crate) fn words(alloc: Global, given: &str) -> Result<Vec<String>, NoMem> {
 }
 
 /// Runs the program on words.
-pub(crate) fn run<'a>(alloc: Global, words: &'a [String], out: &mut Vec<u8>) -> Exit<'a> {
-    run_with(alloc, words, &Memory, &mut Output::new(out))
+pub(crate) fn run<'a, T: Threads + Sync + AllocGlobal>(
+    rt: &T,
+    words: &'a [String],
+    out: &mut Vec<u8>,
+) -> Exit<'a> {
+    run_with(rt, words, &Memory, false, &mut Output::new(out))
 }
 
 /// Returns what the program writes if it is done.
-pub(crate) fn written(alloc: Global, given: &str) -> Result<String, Fail> {
-    let words = words(alloc, given)?;
-    let mut out = Vec::new(alloc);
-    match run(alloc, words.as_slice(), &mut out) {
-        Exit::Done => Ok(text(alloc, utf8(out.as_slice())?)?),
+pub(crate) fn written<T: Threads + Sync + AllocGlobal>(
+    rt: &T,
+    given: &str,
+) -> Result<String, Fail> {
+    let words = words(rt.alloc(), given)?;
+    let mut out = Vec::new(rt.alloc());
+    match run(rt, words.as_slice(), &mut out) {
+        Exit::Done => Ok(text(rt.alloc(), utf8(out.as_slice())?)?),
+        _ => fail("the program isn't done"),
+    }
+}
+
+/// Returns what the program writes to a terminal that has colours, if it is done.
+pub(crate) fn coloured<T: Threads + Sync + AllocGlobal>(
+    rt: &T,
+    given: &str,
+) -> Result<String, Fail> {
+    let words = words(rt.alloc(), given)?;
+    let mut out = Vec::new(rt.alloc());
+    let mut output = Output::new(&mut out);
+    match run_with(rt, words.as_slice(), &Memory, true, &mut output) {
+        Exit::Done => Ok(text(rt.alloc(), utf8(out.as_slice())?)?),
         _ => fail("the program isn't done"),
     }
 }
 
 /// Returns the status with which the program ends, and what it writes.
-pub(crate) fn ended(alloc: Global, given: &str) -> Result<String, Fail> {
-    let words = words(alloc, given)?;
-    let mut out = Vec::new(alloc);
-    let status = run(alloc, words.as_slice(), &mut out).status();
-    Ok(format!(in alloc; "{status} {}", utf8(out.as_slice())?)?)
+pub(crate) fn ended<T: Threads + Sync + AllocGlobal>(rt: &T, given: &str) -> Result<String, Fail> {
+    let words = words(rt.alloc(), given)?;
+    let mut out = Vec::new(rt.alloc());
+    let status = run(rt, words.as_slice(), &mut out).status();
+    Ok(format!(in rt.alloc(); "{status} {}", utf8(out.as_slice())?)?)
 }
 
 /// Returns the status with which the program ends, and its message. Nothing must be written.
-pub(crate) fn refused(alloc: Global, given: &str) -> Result<String, Fail> {
-    let words = words(alloc, given)?;
-    let mut out = Vec::new(alloc);
-    let exit = run(alloc, words.as_slice(), &mut out);
+pub(crate) fn refused<T: Threads + Sync + AllocGlobal>(
+    rt: &T,
+    given: &str,
+) -> Result<String, Fail> {
+    let words = words(rt.alloc(), given)?;
+    let mut out = Vec::new(rt.alloc());
+    let exit = run(rt, words.as_slice(), &mut out);
     if !out.is_empty() {
         return fail("something is written");
     }
-    let line = exit.message(alloc)?;
-    Ok(format!(in alloc; "{} {}", exit.status(), line.as_str())?)
+    let line = exit.message(rt.alloc())?;
+    Ok(format!(in rt.alloc(); "{} {}", exit.status(), line.as_str())?)
 }

@@ -1,8 +1,9 @@
 //! Tests of reasons, differences, single lines, pages and checks.
 use crate::memory::{ended, written};
 use retro_rows::fail;
-use std::alloc::Global;
+use std::alloc::AllocGlobal;
 use std::test::Fail;
+use std::thread::Threads;
 
 /// What is added to a summary by `--why` and `--diff`.
 const MORE: &str = "
@@ -55,75 +56,78 @@ line 2 of 1 isn't as noted: cat /f
     ("check script", "0 script: a script of 0 lines\n"),
     (
         "check torn",
-        "4 torn: not a script: a line has a session that isn't listed (refusal 9)\n",
+        "4 torn: not a script: a line has a session that isn't listed (refusal 9): lines, item 1 (line 1)\n",
     ),
     (
         "check about",
-        "4 about: not a log: a key isn't one of such a document (refusal 14)\n",
+        "4 about: not a log: a key isn't one of such a document (refusal 14): the key \"about\"\n",
     ),
     (
         "check no~json",
-        "4 no⟨U+001B⟩json: not a log: no JSON text (refusal 12)\n",
+        "4 no⟨U+001B⟩json: not a log: no JSON text (refusal 12): byte 2\n",
     ),
 ];
 
 /// Fails unless a text is as wanted.
-fn hold(alloc: Global, given: &str, text: &str, wanted: &str) -> Result<(), Fail> {
+fn hold<T: Threads + Sync + AllocGlobal>(
+    rt: &T,
+    given: &str,
+    text: &str,
+    wanted: &str,
+) -> Result<(), Fail> {
     if text != wanted {
-        let told = format!(in alloc; "{given}: {text}\nwanted: {wanted}")?;
+        let told = format!(in rt.alloc(); "{given}: {text}\nwanted: {wanted}")?;
         Err(told)?
     }
     Ok(())
 }
 
 /// Fails unless what the program writes is as wanted.
-fn hold_written(alloc: Global, given: &str, wanted: &str) -> Result<(), Fail> {
-    let text = written(alloc, given)?;
-    hold(alloc, given, text.as_str(), wanted)
+fn hold_written<T: Threads + Sync + AllocGlobal>(
+    rt: &T,
+    given: &str,
+    wanted: &str,
+) -> Result<(), Fail> {
+    let text = written(rt, given)?;
+    hold(rt, given, text.as_str(), wanted)
 }
 
 #[test]
 fn reasons_and_differences_follow_a_summary(rt: HostRuntime) -> Result<(), Fail> {
-    let alloc = rt.alloc();
-    let text = written(alloc, "show log --cancel 1 --why --diff")?;
+    let text = written(&rt, "show log --cancel 1 --why --diff")?;
     if !text.as_str().ends_with(MORE) {
         return fail("reasons and differences aren't shown");
     }
-    let short = written(alloc, "show log --cancel 1")?;
-    let both = format!(in alloc; "{}{MORE}", short.as_str())?;
-    hold(alloc, "both", text.as_str(), both.as_str())
+    let short = written(&rt, "show log --cancel 1")?;
+    let both = format!(in rt.alloc(); "{}{MORE}", short.as_str())?;
+    hold(&rt, "both", text.as_str(), both.as_str())
 }
 
 #[test]
 fn single_lines_are_shown(rt: HostRuntime) -> Result<(), Fail> {
-    hold_written(
-        rt.alloc(),
-        "show log --cancel 1 --line 2 --about about",
-        LINE,
-    )
+    hold_written(&rt, "show log --cancel 1 --line 2 --about about", LINE)
 }
 
 #[test]
 fn names_and_times_are_shown(rt: HostRuntime) -> Result<(), Fail> {
-    let alloc = rt.alloc();
-    hold_written(alloc, "lines log --about about", NAMED)?;
+    hold_written(&rt, "lines log --about about", NAMED)?;
     hold_written(
-        alloc,
+        &rt,
         "lines log --about about --user ann --format numbers",
         "2\n",
     )?;
     hold_written(
-        alloc,
+        &rt,
         "lines log --about about --user 1 --format numbers",
         "\n",
     )
 }
 
 /// Fails unless a page begins as pages do, and has a text.
-fn hold_page(alloc: Global, given: &str, part: &str) -> Result<(), Fail> {
-    let text = written(alloc, given)?;
+fn hold_page<T: Threads + Sync + AllocGlobal>(rt: &T, given: &str, part: &str) -> Result<(), Fail> {
+    let text = written(&rt, given)?;
     if !text.as_str().starts_with("<!doctype html>") || !text.as_str().contains(part) {
-        let told = format!(in alloc; "{given}: not a page with {part}")?;
+        let told = format!(in rt.alloc(); "{given}: not a page with {part}")?;
         Err(told)?
     }
     Ok(())
@@ -131,22 +135,20 @@ fn hold_page(alloc: Global, given: &str, part: &str) -> Result<(), Fail> {
 
 #[test]
 fn pages_are_written(rt: HostRuntime) -> Result<(), Fail> {
-    let alloc = rt.alloc();
-    hold_page(alloc, "page log --cancel 1", "<h1>log</h1>")?;
+    hold_page(&rt, "page log --cancel 1", "<h1>log</h1>")?;
     hold_page(
-        alloc,
+        &rt,
         "page log --cancel 1 --title A<b> --all",
         "<h1>A&lt;b&gt;</h1>",
     )?;
-    hold_page(alloc, "page log --cancel @list --about about", "guest")
+    hold_page(&rt, "page log --cancel @list --about about", "guest")
 }
 
 #[test]
 fn recordings_are_checked(rt: HostRuntime) -> Result<(), Fail> {
-    let alloc = rt.alloc();
     for (given, wanted) in CHECKED {
-        let text = ended(alloc, given)?;
-        hold(alloc, given, text.as_str(), wanted)?;
+        let text = ended(&rt, given)?;
+        hold(&rt, given, text.as_str(), wanted)?;
     }
     Ok(())
 }

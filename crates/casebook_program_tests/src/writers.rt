@@ -2,10 +2,11 @@
 use crate::memory::{Memory, words};
 use casebook_cli::{Exit, Output, run_with};
 use retro_rows::fail;
-use std::alloc::Global;
+use std::alloc::AllocGlobal;
 use std::io;
 use std::io::{ErrorKind, Write};
 use std::test::Fail;
+use std::thread::Threads;
 
 /// Takes one byte a call, up to a call that fails.
 #[derive(Drop)]
@@ -36,17 +37,22 @@ impl Write for Sip {
 }
 
 /// Returns how many bytes a writer takes that fails at a call, if the program says that it failed.
-fn taken(alloc: Global, given: &str, fails: usize) -> Result<usize, Fail> {
-    let words = words(alloc, given)?;
+fn taken<T: Threads + Sync + AllocGlobal>(
+    rt: &T,
+    given: &str,
+    fails: usize,
+) -> Result<usize, Fail> {
+    let words = words(rt.alloc(), given)?;
     let mut writer = Sip {
-        held: Vec::new(alloc),
+        held: Vec::new(rt.alloc()),
         calls: 0,
         fails,
     };
     match run_with(
-        alloc,
+        rt,
         words.as_slice(),
         &Memory,
+        false,
         &mut Output::new(&mut writer),
     ) {
         Exit::WriteFailed => Ok(writer.held.len()),
@@ -56,9 +62,8 @@ fn taken(alloc: Global, given: &str, fails: usize) -> Result<usize, Fail> {
 
 #[test]
 fn failed_writes_are_told(rt: HostRuntime) -> Result<(), Fail> {
-    let alloc = rt.alloc();
     for fails in 0..6_usize {
-        if taken(alloc, "lines log", fails)? != fails {
+        if taken(&rt, "lines log", fails)? != fails {
             return fail("another number of bytes");
         }
     }

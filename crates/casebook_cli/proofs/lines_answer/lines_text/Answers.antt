@@ -1,24 +1,52 @@
+use Rattle.std.proofs.Common.{ap, map, ◌∙◌}
+use Rattle.std.specs.List.{filter}
 use Rattle.std.proofs.lemmas.Result.{err_from_is_err_and}
-use Rattle.casebook_cli.specs.Lines.{filters_by}
+use Rattle.casebook_view.specs.Filters.{passes}
+use Rattle.casebook_view.specs.Rows.{row_of, row_value}
+use Rattle.casebook_cli.specs.Bounds.{typed}
+use Rattle.casebook_cli.specs.Lines.{filters_by, rows_text, widest_name}
 use Rattle.casebook_cli.specs.Stops.{no_memory}
 use Rattle.casebook_cli.proofs.lines_answer.lines_text.Goals as goal
 
-pub returns-in_err-asked_text-clause-err : goal.returns-in_err-asked_text-clause-err
-returns-in_err-asked_text-clause-err c =
-    let p = err_from_is_err_and c.from_residual-in_err-asked_text.result c.from_residual-in_err-asked_text.ensures.1 in
+pub returns-in_err-found-clause-err : goal.returns-in_err-found-clause-err
+returns-in_err-found-clause-err c =
+    let p = err_from_is_err_and c.from_residual-in_err-found.result c.from_residual-in_err-found.ensures.1 in
+    rw (p.1) (no_memory p.2)
+
+pub returns-in_err-width-clause-err : goal.returns-in_err-width-clause-err
+returns-in_err-width-clause-err c =
+    let p = err_from_is_err_and c.from_residual-in_err-width.result c.from_residual-in_err-width.ensures.1 in
+    rw (p.1) (no_memory p.2)
+
+pub returns-in_err-rows_text-clause-err : goal.returns-in_err-rows_text-clause-err
+returns-in_err-rows_text-clause-err c =
+    let p = err_from_is_err_and c.from_residual-in_err-rows_text.result c.from_residual-in_err-rows_text.ensures.1 in
     rw (p.1) (no_memory p.2)
 
 pub returns-clause-ok : goal.returns-clause-ok
-returns-clause-ok c = record {
-  recording = c.in_ok-recording.recording;
-  log = c.in_ok-recording.ensures.ok;
-  labels = c.in_ok-labels.labels;
-  are_labels = c.in_ok-labels.ensures.ok;
-  filters = filters_by c.in_ok-asked_text.ensures.tests c.in_ok-patterns.patterns;
-  are_filters = record {
-    tests = c.in_ok-asked_text.ensures.are_tests;
-    text = c.in_ok-patterns.ensures.text;
-    shown = c.in_ok-patterns.ensures.shown;
-  };
-  shown = c.in_ok-asked_text.ensures.shown;
-}
+returns-clause-ok c =
+    let request = c.args.request in
+    let labels = c.in_ok-known.known.labels in
+    let lines = c.in_ok-recording.recording.lines in
+    let filters = filters_by c.in_ok-found.ensures.tests c.in_ok-patterns.patterns in
+    let found = c.in_ok-found.found.items in
+    record {
+      recording = c.in_ok-recording.recording;
+      log = c.in_ok-recording.ensures.ok;
+      labels = labels;
+      are_labels = c.in_ok-known.ensures.labels;
+      filters = filters;
+      are_filters = record {
+        tests = c.in_ok-found.ensures.are_tests;
+        text = c.in_ok-patterns.ensures.text;
+        shown = c.in_ok-patterns.ensures.shown;
+      };
+      shown = c.in_ok-rows_text.ensures
+          ∙ ap (λ rs. rows_text request.format labels c.in_ok-width.width (map row_value rs)) c.as_slice.ensures.value
+          ∙ ap (λ w. rows_text request.format labels w (map row_value found))
+          (c.in_ok-width.ensures ∙ ap (widest_name labels) c.lines.ensures.value)
+          ∙ ap (rows_text request.format labels (widest_name labels lines))
+          (c.in_ok-found.ensures.are_rows
+          ∙ ap (λ times. typed request.bounds times (map row_of (filter (passes filters) lines)))
+          c.in_ok-known.ensures.times);
+    }

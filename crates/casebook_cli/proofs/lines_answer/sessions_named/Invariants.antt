@@ -1,9 +1,9 @@
-use Rattle.std.proofs.Common.{◌≡◌, ◌++◌, drop, map}
+use Rattle.std.proofs.Common.{◌≡◌, drop, fold, map}
 use Rattle.std.specs.List.{filter}
-use Rattle.casebook_cli.specs.Lines.{is_named, session_of_line, sessions_named}
+use Rattle.casebook_cli.specs.Lines.{is_named, session_of_line, sessions_named, with_number}
 use Rattle.casebook_cli.proofs.lines_answer.sessions_named.Given as goal
 
 abbrev pub invariant-loop-line : goal.invariant-loop-line
 invariant-loop-line l =
-    l.found.items ++ filter (is_named l.labels l.name) (map session_of_line (drop l.line-index l.lines))
+    fold with_number l.found.items (filter (is_named l.labels l.name) (map session_of_line (drop l.line-index l.lines)))
     ≡ sessions_named l.labels l.lines l.name

@@ -1,0 +1,94 @@
+//! The request that the words of the command line make.
+ghost use Rattle.std.specs.Prelude.{◌≡◌, map, option_map, string_bytes};
+ghost use Rattle.casebook_cli.specs.Request.{Means, command_request, query_in, query_view};
+ghost use Rattle.casebook_cli.specs.Request.{request_in, request_view, topic_asked, topic_in};
+ghost use Rattle.casebook_cli.specs.Request.{topic_or_program};
+ghost use Rattle.casebook_cli.specs.Words.{call_view};
+
+use crate::line_options::lines_request;
+use crate::options::{is_given, log_of};
+use crate::problem::Problem;
+use crate::query::Query;
+use crate::repair_options::{page_request, show_request};
+use crate::request::Request;
+use crate::topic::Topic;
+use crate::words::{CommandCall, WordsFault, read_call};
+use std::alloc::Global;
+
+/// Returns what a text says that help is about.
+#[tactic(auto, unfolding(crate::specs::Request::topic_in))]
+fn topic_of(text: &str) -> Option<Topic>
+    ensures { result ≡ topic_in text.now }
+{
+    match text {
+        "lines" => Some(Topic::Lines),
+        "show" => Some(Topic::Show),
+        "page" => Some(Topic::Page),
+        "check" => Some(Topic::Check),
+        "lists" => Some(Topic::Lists),
+        "documents" => Some(Topic::Documents),
+        "refusals" => Some(Topic::Refusals),
+        "profile" => Some(Topic::Profile),
+        _ => None,
+    }
+}
+
+/// Returns what help is about, if it is asked for by the command `help`.
+fn topic_asked(text: Option<&str>) -> Result<Topic, WordsFault>
+    ensures { Means (λ t. t) result (topic_asked (option_map (λ s. s.now) text.entry)) }
+{
+    match text {
+        None => Ok(Topic::Program),
+        Some(text) => topic_of(text).ok_or(WordsFault::Bad(Problem::Topic)),
+    }
+}
+
+/// Returns what the help on a command is about.
+fn topic_of_command(name: &str) -> Topic
+    ensures { result ≡ topic_or_program (topic_in name.now) }
+{
+    match topic_of(name) {
+        Some(topic) => topic,
+        None => Topic::Program,
+    }
+}
+
+/// Returns the question of a command, which isn't asked for help.
+#[tactic(auto, unfolding(crate::specs::Request::query_in))]
+fn query_of<'a>(alloc: Global, call: &CommandCall<'a>) -> Result<Query<'a>, WordsFault>
+    ensures { Means query_view result (query_in (call_view call.now)) }
+{
+    match call.name {
+        "lines" => Ok(Query::Lines(lines_request(alloc, call)?)),
+        "show" => Ok(Query::Show(show_request(alloc, call)?)),
+        "page" => Ok(Query::Page(page_request(alloc, call)?)),
+        "check" => Ok(Query::Check(log_of(call)?)),
+        _ => Err(WordsFault::Bad(Problem::Words)),
+    }
+}
+
+/// Returns the request of a command.
+#[tactic(auto, unfolding(crate::specs::Request::command_request))]
+fn command_request<'a>(alloc: Global, call: &CommandCall<'a>) -> Result<Request<'a>, WordsFault>
+    ensures { Means request_view result (command_request (call_view call.now)) }
+{
+    if is_given(call, "help") {
+        return Ok(Request::Help(topic_of_command(call.name)));
+    }
+    if call.name == "help" {
+        return Ok(Request::Help(topic_asked(call.text_of("command"))?));
+    }
+    Ok(Request::Ask(query_of(alloc, call)?))
+}
+
+/// Returns the request that words make. The first word is the program's name. Fails with `Bad` if
+/// the words make none.
+#[tactic(auto, unfolding(crate::specs::Request::request_in))]
+pub(crate) fn read_words<'a>(alloc: Global, words: &'a [String]) -> Result<Request<'a>, WordsFault>
+    ensures { Means request_view result (request_in (map string_bytes words.entry.now)) }
+{
+    match read_call(alloc, words)? {
+        None => Ok(Request::Help(Topic::Program)),
+        Some(call) => command_request(alloc, &call),
+    }
+}

@@ -1,0 +1,144 @@
+//! The request of the command `lines`.
+ghost use Rattle.std.specs.Prelude.{◌≡◌, ◌++◌, IfOk, OnOk, map, option_map};
+ghost use Rattle.casebook_text.specs.Numbers.{number_in};
+ghost use Rattle.casebook_cli.specs.Bounds.{bound_in};
+ghost use Rattle.casebook_cli.specs.Request.{Means, bounds_given, format_given};
+ghost use Rattle.casebook_cli.specs.Request.{format_named, lines_request, lines_view, listed};
+ghost use Rattle.casebook_cli.specs.Request.{of_numbers, of_session, read_option, test_view};
+ghost use Rattle.casebook_cli.specs.Words.{call_view};
+
+use crate::NoMem;
+use crate::bound::Bound;
+use crate::bounds::{Bounds, line_of, second_of};
+use crate::format::Format;
+use crate::lines_request::LinesRequest;
+use crate::numbers::number_of;
+use crate::options::{log_of, number_option};
+use crate::path_options::path_tests;
+use crate::problem::Problem;
+use crate::words::{CommandCall, WordsFault};
+use casebook_view::LineTest;
+use std::alloc::Global;
+
+/// Returns the test of a session, if one is given.
+fn session_test(alloc: Global, session: Option<u32>) -> Result<Option<LineTest>, NoMem>
+    ensures { IfOk result (λ test. option_map test_view test ≡ option_map of_session session) }
+{
+    match session {
+        Some(session) => Ok(Some(LineTest::Sessions(Vec::from_slice(alloc, &[session])?))),
+        None => Ok(None),
+    }
+}
+
+/// Appends a test, if there is one.
+pub(crate) fn push_test(tests: &mut Vec<LineTest>, test: Option<LineTest>) -> Result<(), NoMem>
+    ensures { OnOk result (map test_view tests.new.items
+        ≡ map test_view tests.old.items ++ listed (option_map test_view test)) }
+{
+    if let Some(test) = test {
+        tests.push(test)?;
+    }
+    Ok(())
+}
+
+/// Returns the tests of a session and of the numbers among bounds.
+fn number_tests(alloc: Global, session: Option<u32>, bounds: Bounds) -> Result<Vec<LineTest>, NoMem>
+    ensures { IfOk result (λ tests. map test_view tests.items ≡ of_numbers session bounds) }
+{
+    let mut tests = Vec::new(alloc);
+    push_test(&mut tests, session_test(alloc, session)?)?;
+    push_test(&mut tests, line_of(bounds.from).map(LineTest::From))?;
+    push_test(&mut tests, line_of(bounds.to).map(LineTest::To))?;
+    Ok(tests)
+}
+
+/// Returns the bound that a text is: the number of a line, or a time.
+#[tactic(auto, unfolding(crate::specs::Bounds::bound_in))]
+fn bound_of(alloc: Global, text: &str) -> Result<Option<Bound>, NoMem>
+    ensures { IfOk result (λ bound. bound ≡ bound_in text.now) }
+{
+    if let Some(number) = number_of(text) {
+        return Ok(Some(Bound::Line(number)));
+    }
+    Ok(casebook_about::second_of(alloc, text)?.map(Bound::Second))
+}
+
+/// Returns the bound of an option, if the option is given.
+fn bound_option(
+    alloc: Global,
+    text: Option<&str>,
+    problem: Problem,
+) -> Result<Option<Bound>, WordsFault>
+    ensures { Means (λ bound. bound) result
+        (read_option problem bound_in (option_map (λ s. s.now) text.entry)) }
+{
+    match text {
+        None => Ok(None),
+        Some(text) => match bound_of(alloc, text)? {
+            Some(bound) => Ok(Some(bound)),
+            None => Err(WordsFault::Bad(problem)),
+        },
+    }
+}
+
+/// Returns the bounds that a command is given, of which times need the times of lines.
+fn bounds_given(alloc: Global, call: &CommandCall<'_>) -> Result<Bounds, WordsFault>
+    ensures { Means (λ bounds. bounds) result (bounds_given (call_view call.now)) }
+{
+    let from = bound_option(alloc, call.text_of("from"), Problem::From)?;
+    let to = bound_option(alloc, call.text_of("to"), Problem::To)?;
+    let bounds = Bounds { from, to };
+    if bounds.has_times() && call.text_of("about").is_none() {
+        return Err(WordsFault::Bad(Problem::NoTimes));
+    }
+    Ok(bounds)
+}
+
+/// Returns the format that a text names.
+#[tactic(auto, unfolding(crate::specs::Request::format_named))]
+fn format_named(text: &str) -> Option<Format>
+    ensures { result ≡ format_named text.now }
+{
+    match text {
+        "text" => Some(Format::Text),
+        "tsv" => Some(Format::Tsv),
+        "numbers" => Some(Format::Numbers),
+        _ => None,
+    }
+}
+
+/// Returns the format of an option, text if it isn't given.
+fn format_of(text: Option<&str>) -> Result<Format, WordsFault>
+    ensures { Means (λ f. f) result (format_given (option_map (λ s. s.now) text.entry)) }
+{
+    match text {
+        None => Ok(Format::Text),
+        Some(text) => format_named(text).ok_or(WordsFault::Bad(Problem::Format)),
+    }
+}
+
+/// Returns the request for rows of lines.
+pub(crate) fn lines_request<'a>(
+    alloc: Global,
+    call: &CommandCall<'a>,
+) -> Result<LinesRequest<'a>, WordsFault>
+    ensures { Means lines_view result (lines_request (call_view call.now)) }
+{
+    let log = log_of(call)?;
+    let session = number_option(call.text_of("session"), Problem::Session)?;
+    let bounds = bounds_given(alloc, call)?;
+    let mut tests = number_tests(alloc, session, bounds)?;
+    let mut paths = path_tests(alloc, call)?;
+    let format = format_of(call.text_of("format"))?;
+    tests.append(&mut paths)?;
+    Ok(LinesRequest {
+        log,
+        about: call.text_of("about"),
+        user: call.text_of("user"),
+        tests,
+        bounds,
+        text: call.text_of("text"),
+        shown: call.text_of("shown"),
+        format,
+    })
+}
