@@ -6,7 +6,8 @@ pub mod Parts
 pub mod Causes
 pub mod Picking
 pub mod Latest
-pub mod Writers
+pub mod PlaceEntries
+pub mod Places
 pub mod NotKept
 pub mod Redone
 pub mod CauseVerdicts

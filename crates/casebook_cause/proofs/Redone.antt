@@ -1,5 +1,5 @@
 -- The notes of a line that a repair runs again don't hold before it in the repaired recording.
-use Rattle.std.proofs.Common.{◌≡◌, ◌≢◌, ◌∙◌, ℕ, ◌<◌, ◌≤◌, ◌==◌, Bool, true, false, List, [], ◌∷◌, ◌++◌, map, refl, sym, ap}
+use Rattle.std.proofs.Common.{◌≡◌, ◌∙◌, ℕ, ◌<◌, ◌≤◌, ◌==◌, Bool, true, false, List, [], ◌∷◌, ◌++◌, map, refl, sym, ap}
 use Rattle.std.proofs.Common.{Option, Some, None, nat_lt, suc, subst, arith}
 use Rattle.std.specs.Bool.{if◌then◌else◌}
 use Rattle.std.proofs.lemmas.Bool.{eqb-true, lt-ltb, true≢false}
@@ -9,15 +9,14 @@ use Rattle.retro_tree.proofs.Small.{none_some}
 use Rattle.retro_shell.specs.Line.{line}
 use Rattle.retro_keep.specs.Edit.{edited, line_run, text_run}
 use Rattle.retro_keep.specs.Recorded.{lines_below, recorded_before}
-use Rattle.retro_keep.specs.Recording.{AllRecorded, IsRecorded, IsRecordingOf, IsWellFormed, RecordingValue, last_state}
+use Rattle.retro_keep.specs.Recording.{AllRecorded, IsWellFormed, RecordingValue, last_state}
 use Rattle.retro_keep.specs.Recording.{noted_at, script_line}
-use Rattle.retro_keep.specs.Script.{ScriptValue}
 use Rattle.retro_keep.specs.declared.edit.Edit.{Edit}
 use Rattle.retro_keep.specs.declared.noted.Noted.{Noted}
 use Rattle.retro_keep.specs.declared.script.ScriptLine.{ScriptLine}
 use Rattle.retro_history.proofs.Chains.{Lines, Rise, above, later, not_below}
-use Rattle.retro_redo.specs.Moments.{AreVerdicts, IsStaleBy, IsVerdict, Moment, moments, next_repaired, state_of_run}
-use Rattle.retro_redo.specs.Repair.{IsRepair, moments_of, script_now}
+use Rattle.retro_redo.specs.Moments.{AreVerdicts, IsStaleBy, IsVerdict, Moment, moments, state_of_run}
+use Rattle.retro_redo.specs.Repair.{IsRepair}
 use Rattle.retro_redo.specs.declared.repair.Repair.{Repair}
 use Rattle.retro_redo.specs.declared.verdict.Verdict.{Verdict}
 use Rattle.retro_redo.specs.declared.verdict.Verdict.TheVariants.{Redone}

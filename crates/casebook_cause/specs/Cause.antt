@@ -11,6 +11,11 @@ use Rattle.retro_keep.specs.declared.noted.Noted.{Noted}
 use Rattle.retro_redo.specs.declared.verdict.Verdict.{Verdict}
 use Rattle.casebook_cause.specs.LineResult.{changes_in}
 
+-- two recordings to be compared: as it was recorded, and as it is repaired
+pub record TwoRecordings : Type 0 where
+  pub recorded : RecordingValue
+  pub repaired : RecordingValue
+
 -- the changes of notes to the cells on which the answer to a query can depend, in order
 abbrev pub changes_for : Ask → List Note → List Change
 changes_for q notes = filter (λ c. supports q (cell_of c)) (changes_in notes)

@@ -2,3 +2,5 @@
 pub mod Merge
 pub mod Numbers
 pub mod Latest
+pub mod PlaceOrder
+pub mod Places

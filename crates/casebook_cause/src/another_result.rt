@@ -21,7 +21,7 @@ fn has_same_result(old: &Noted, new: &Noted) -> bool
 }
 
 /// Returns whether two traces make the same changes, in the same order.
-fn makes_same_changes(old: &[Note], new: &[Note]) -> bool
+pub(crate) fn makes_same_changes(old: &[Note], new: &[Note]) -> bool
     ensures { IsTrue result ↔ (changes_in old.now ≡ changes_in new.now) }
 {
     let mut rest = new;

@@ -1,5 +1,5 @@
 //! A test of what a person asks of one repair.
-use casebook_cause::{cause_of, first_failing_note, has_another_result, leaks, tellings};
+use casebook_cause::{Differences, first_failing_note, has_another_result, leaks, tellings};
 use retro_history::History;
 use retro_keep::{Edit, Recording, Script, ScriptLine, keep_alone};
 use retro_redo::{Compensation, Repair, repair_alone};
@@ -73,7 +73,7 @@ fn is_told(alloc: Global, repair: &Repair) -> Result<bool, NoMem> {
 struct Sides<'h, 'r> {
     recording: &'r Recording,
     repair: &'r Repair,
-    recorded: &'h History<'r>,
+    differences: &'h Differences<'r>,
     repaired: &'h History<'r>,
     file: &'h Path,
 }
@@ -108,7 +108,7 @@ impl<'r> Sides<'_, 'r> {
     fn cause(self, alloc: Global, number: u32) -> Result<Option<u32>, NoMem> {
         let index = self.failing(alloc, number)?;
         match index.and_then(|index| self.query(number, index)) {
-            Some(ask) => cause_of(alloc, self.recorded, self.repaired, number, ask),
+            Some(ask) => self.differences.cause_of(alloc, number, ask),
             None => Ok(None),
         }
     }
@@ -128,19 +128,19 @@ impl<'r> Sides<'_, 'r> {
     }
 }
 
-/// Returns whether the lines are explained, by the history of a recording.
+/// Returns whether the lines are explained, by what they change otherwise.
 fn are_explained<'r>(
     alloc: Global,
     recording: &'r Recording,
     repair: &'r Repair,
-    recorded: &History<'r>,
+    differences: &Differences<'r>,
     file: &Path,
 ) -> Result<bool, NoMem> {
     let repaired = History::of(alloc, &repair.recording)?;
     let sides = Sides {
         recording,
         repair,
-        recorded,
+        differences,
         repaired: &repaired,
         file,
     };
@@ -154,8 +154,8 @@ fn is_explained(
     repair: &Repair,
     file: &Path,
 ) -> Result<bool, NoMem> {
-    let recorded = History::of(alloc, recording)?;
-    are_explained(alloc, recording, repair, &recorded, file)
+    let differences = Differences::of(alloc, recording, &repair.recording)?;
+    are_explained(alloc, recording, repair, &differences, file)
 }
 
 /// Returns whether the repair of a recording is explained, and says whom to tell.

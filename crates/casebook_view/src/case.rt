@@ -7,7 +7,7 @@ ghost use Rattle.casebook_view.specs.Fates.{session_in};
 ghost use Rattle.casebook_view.specs.Reasons.{IsCauseOf};
 
 use crate::NoMem;
-use casebook_cause::cause_of;
+use casebook_cause::Differences;
 use retro_history::{At, History};
 use retro_keep::{Noted, Recording};
 use retro_redo::Repair;
@@ -17,26 +17,27 @@ use std::marker::Model;
 
 /// A recording and a repair of it. Everything that is shown of a repair is read from these two.
 ///
-/// A case borrows both, and keeps the histories of the recording and of the repaired one. Making it
-/// takes one pass over the notes of each.
+/// A case borrows both, and keeps what their lines change otherwise and the history of the repaired
+/// recording. Making it takes one pass over the notes of each.
 #[derive(Drop)]
 pub struct Case<'a> {
-    recorded: History<'a>,
+    recording: &'a Recording,
+    differences: Differences<'a>,
     repaired: History<'a>,
     repair: &'a Repair,
 }
 
 impl<'a> Model for Case<'a> {
-    ghost use Rattle.std.specs.Prelude.{◌≡◌};
-    ghost use Rattle.casebook_view.specs.inner.Cases.{CaseValue, coded_case};
+    ghost use Rattle.casebook_view.specs.inner.Cases.{AreOfCase, CaseValue, coded_case};
 
     ghost Value = { CaseValue };
 
     ghost coded = { coded_case };
 
-    ghost view = { λ a. record { recording = a.recorded; repair = a.repair.now } };
+    ghost view = { λ a. record { recording = a.recording.now; repair = a.repair.now } };
 
-    ghost invariant = { λ a. a.repaired ≡ a.repair.now.recording };
+    ghost invariant = { λ a.
+        AreOfCase a.recording.now a.repair.now.recording a.differences a.repaired };
 }
 
 impl<'a> Case<'a> {
@@ -50,7 +51,8 @@ impl<'a> Case<'a> {
         ensures repair { IfOk result (λ case. case.repair ≡ repair.now) }
     {
         Ok(Case {
-            recorded: History::of(alloc, recording)?,
+            recording,
+            differences: Differences::of(alloc, recording, &repair.recording)?,
             repaired: History::of(alloc, &repair.recording)?,
             repair,
         })
@@ -60,7 +62,7 @@ impl<'a> Case<'a> {
     pub fn recording(&self) -> &'a Recording
         ensures { result.now ≡ self.now.recording }
     {
-        self.recorded.recording()
+        self.recording
     }
 
     /// Returns its repair.
@@ -77,7 +79,7 @@ impl<'a> Case<'a> {
         ensures { IfOk result
             (IsCauseOf self.now.recording self.now.repair number (Some ask.now)) }
     {
-        cause_of(alloc, &self.recorded, &self.repaired, number, ask)
+        self.differences.cause_of(alloc, number, ask)
     }
 
     /// Returns the repaired state before the line with a number, as a view. No line needs to have

@@ -1,10 +1,11 @@
 -- Recordings with their repairs, as the type of cases has them in contracts.
-use Rattle.std.specs.Prelude.{refl}
+use Rattle.std.specs.Prelude.{◌≡◌, refl}
 use Rattle.std.specs.Coded.{Coded, code_by, coded×}
 use Rattle.retro_keep.specs.Recording.{RecordingValue}
 use Rattle.retro_keep.specs.inner.RecordingCode.{coded_recording}
 use Rattle.retro_redo.specs.declared.repair.Repair.{Repair}
 use Rattle.retro_redo.specs.contracts.repair.Repair as repair_type
+use Rattle.casebook_cause.specs.Cause.{TwoRecordings}
 
 -- a recording and a repair of it
 pub record CaseValue : Type 0 where
@@ -19,3 +20,10 @@ abbrev pub coded_case : Coded CaseValue
 coded_case =
     code_by (RecordingValue × Repair) (coded× coded_recording coded_repair) (λ c. (c.recording, c.repair))
     (λ p. record { recording = p.0; repair = p.1 }) (λ _. refl)
+
+-- what a case keeps: the differences of its two recordings, and the history of the repaired one
+pub record AreOfCase (recorded repaired : RecordingValue) (differences : TwoRecordings) (history : RecordingValue)
+    : Type 0 where
+  pub recorded_is : differences.recorded ≡ recorded
+  pub repaired_is : differences.repaired ≡ repaired
+  pub history_is : history ≡ repaired

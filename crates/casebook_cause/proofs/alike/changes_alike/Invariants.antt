@@ -2,7 +2,7 @@
 use Rattle.std.proofs.Common.{◌≡◌, drop}
 use Rattle.casebook_cause.specs.Cause.{changes_for}
 use Rattle.casebook_cause.proofs.Results.{Decide}
-use Rattle.casebook_cause.proofs.compared.changes_alike.Given as goal
+use Rattle.casebook_cause.proofs.alike.changes_alike.Given as goal
 
 abbrev pub invariant-loop-note : goal.invariant-loop-note
 invariant-loop-note l =
