@@ -1,4 +1,5 @@
 -- Definitions that only private contracts, invariants and proofs name.
 pub mod Cases
+pub mod GroupLines
 pub mod Names
 pub mod Origins

@@ -1,63 +1,37 @@
 //! Lines to tell about, by session and subject.
-ghost use Rattle.std.specs.Prelude.{◌≡◌, ◌≤◌, ◌++◌, IfOk, OnOk, length, map};
-ghost use Rattle.std.specs.List.{filter, list_any};
-ghost use Rattle.casebook_view.specs.Summaries.{line_told};
+ghost use Rattle.std.specs.Prelude.{◌≡◌, ◌≤◌, List, IfOk, OnOk, length, map, nat_lt, not};
 ghost use Rattle.casebook_view.specs.Groups.{firsts, group_of, group_value, grouped, place_of};
-ghost use Rattle.casebook_view.specs.Groups.{placed, same_group, subject_eq, with_first};
+ghost use Rattle.casebook_view.specs.Groups.{placed};
+ghost use Rattle.casebook_view.specs.declared.notice.Notice.{Notice as NoticeValue};
+ghost use Rattle.casebook_view.specs.inner.GroupLines.{AddsOne, AreGathered, RiseFrom};
 
 use crate::NoMem;
 use crate::group::Group;
+use crate::group_lines::GroupLines;
 use crate::notice::Notice;
-use crate::subject::Subject;
 use std::alloc::Global;
 
-/// Returns whether two queries are about the same.
-fn is_same_subject(one: &Subject, two: &Subject) -> bool
-    ensures { result ≡ subject_eq one.now two.now }
-{
-    match (one, two) {
-        (Subject::At(path), Subject::At(other)) => path == other,
-        (Subject::Directory, Subject::Directory) => true,
-        (Subject::Variable(name), Subject::Variable(other)) => name == other,
-        (Subject::Status, Subject::Status) => true,
-        (Subject::Text, Subject::Text) => true,
-        _ => false,
-    }
+/// Lines to tell about, gathered by group.
+#[derive(Drop)]
+struct Gathered {
+    /// The lines of each group.
+    lines: GroupLines,
+    /// The first line of each group, in order of sessions.
+    firsts: Vec<Notice>,
 }
 
-/// Returns whether two lines are told to the same session about the same subject.
-fn is_same_group(one: &Notice, two: &Notice) -> bool
-    ensures { result ≡ same_group one.now two.now }
-{
-    one.session == two.session && is_same_subject(&one.subject, &two.subject)
-}
-
-/// Returns a copy of a subject.
-fn copy_of(subject: &Subject) -> Result<Subject, NoMem>
-    ensures { IfOk result (λ copy. copy ≡ subject.now) }
-{
-    match subject {
-        Subject::At(path) => Ok(Subject::At(path.copy()?)),
-        Subject::Directory => Ok(Subject::Directory),
-        Subject::Variable(name) => Ok(Subject::Variable(name.copy()?)),
-        Subject::Status => Ok(Subject::Status),
-        Subject::Text => Ok(Subject::Text),
-    }
-}
-
-/// Returns how many lines come before the first one of a later session.
+/// Returns how many lines come before the first one of a later session. The lines are in order of
+/// sessions.
 fn place_of(session: u32, notices: &[Notice]) -> usize
+    requires { RiseFrom 0 notices.now }
     ensures value { result ≡ place_of session notices.now }
     ensures within { result ≤ length notices.now }
 {
-    let mut place = 0_usize;
-    for notice in notices {
-        if session < notice.session {
-            return place;
-        }
-        place += 1;
-    }
-    place
+    notices.partition_point(
+        |notice: &Notice| -> bool
+            ensures { result ≡ not (nat_lt session notice.now.session) }
+        { !(session < notice.session) },
+    )
 }
 
 /// Returns a copy of a line to tell about.
@@ -67,12 +41,13 @@ fn copy_notice(notice: &Notice) -> Result<Notice, NoMem>
     Ok(Notice {
         number: notice.number,
         session: notice.session,
-        subject: copy_of(&notice.subject)?,
+        subject: notice.subject.copy()?,
     })
 }
 
 /// Adds a line before those of later sessions.
 fn place(notices: &mut Vec<Notice>, notice: &Notice) -> Result<(), NoMem>
+    requires { RiseFrom 0 notices.old.items }
     ensures { OnOk result (notices.new.items ≡ placed notice.now notices.old.items) }
 {
     let place = place_of(notice.session, notices.as_slice());
@@ -80,80 +55,69 @@ fn place(notices: &mut Vec<Notice>, notice: &Notice) -> Result<(), NoMem>
     Ok(())
 }
 
-/// Returns whether a line of the same group is among others.
-fn has_group(notices: &[Notice], notice: &Notice) -> bool
-    ensures { result ≡ list_any (λ x. same_group x notice.now) notices.now }
-{
-    notices.iter().any(|other| is_same_group(other, notice))
-}
-
-/// Adds a line before those of later sessions, if it is the first of its group.
-fn add_first(firsts: &mut Vec<Notice>, notice: &Notice) -> Result<(), NoMem>
-    ensures { OnOk result (firsts.new.items ≡ with_first firsts.old.items notice.now) }
-{
-    if has_group(firsts.as_slice(), notice) {
-        return Ok(());
+impl Gathered {
+    /// Adds a line.
+    fn add(&mut self, alloc: Global, notice: &Notice) -> Result<(), NoMem>
+        requires { RiseFrom 0 self.old.firsts.items }
+        ensures { OnOk result ((notices : List NoticeValue)
+            → AreGathered notices self.old.lines self.old.firsts.items
+            → AddsOne notices notice.now self.old.firsts.items self.new.lines
+            self.new.firsts.items) }
+    {
+        if self.lines.add(alloc, notice)? {
+            return place(&mut self.firsts, notice);
+        }
+        Ok(())
     }
-    place(firsts, notice)
 }
 
-/// Returns the first line of each group, in order of sessions.
-fn firsts(alloc: Global, notices: &[Notice]) -> Result<Vec<Notice>, NoMem>
-    ensures { IfOk result (λ found. found.items ≡ firsts notices.now) }
+/// Gathers lines by group.
+fn gather(alloc: Global, notices: &[Notice]) -> Result<Gathered, NoMem>
+    ensures firsts { IfOk result (λ found. found.firsts.items ≡ firsts notices.now) }
+    ensures lines { IfOk result (λ found.
+        AreGathered notices.now found.lines found.firsts.items) }
 {
-    let mut found = Vec::new(alloc);
+    let mut gathered = Gathered {
+        lines: GroupLines::new(alloc),
+        firsts: Vec::new(alloc),
+    };
     for notice in notices {
-        add_first(&mut found, notice)?;
+        gathered.add(alloc, notice)?;
     }
-    Ok(found)
-}
-
-/// Returns the numbers of the lines of a group.
-fn numbers_of(alloc: Global, notices: &[Notice], first: &Notice) -> Result<Vec<u32>, NoMem>
-    ensures { IfOk result (λ numbers. numbers.items
-        ≡ map line_told (filter (λ x. same_group x first.now) notices.now)) }
-{
-    notices
-        .iter()
-        .filter(|notice| is_same_group(notice, first))
-        .map(|notice| notice.number)
-        .collect(alloc)
+    Ok(gathered)
 }
 
 /// Returns the group of a line.
-fn group_of(alloc: Global, notices: &[Notice], first: &Notice) -> Result<Group, NoMem>
-    ensures { IfOk result (λ group. group_value group ≡ group_of notices.now first.now) }
+fn group_of(alloc: Global, lines: &GroupLines, first: &Notice) -> Result<Group, NoMem>
+    ensures { IfOk result (λ group. (notices firsts : List NoticeValue)
+        → AreGathered notices lines.now firsts → group_value group ≡ group_of notices first.now) }
 {
     Ok(Group {
         session: first.session,
-        subject: copy_of(&first.subject)?,
-        lines: numbers_of(alloc, notices, first)?,
+        subject: first.subject.copy()?,
+        lines: lines.numbers(alloc, first)?,
     })
 }
 
-/// Appends the group of each of some lines.
-fn push_groups(
-    alloc: Global,
-    groups: &mut Vec<Group>,
-    notices: &[Notice],
-    firsts: &[Notice],
-) -> Result<(), NoMem>
-    ensures { OnOk result (map group_value groups.new.items
-        ≡ map group_value groups.old.items ++ map (group_of notices.now) firsts.now) }
+/// Returns the groups of some lines.
+fn groups_of(alloc: Global, lines: &GroupLines, firsts: &[Notice]) -> Result<Vec<Group>, NoMem>
+    ensures { IfOk result (λ groups. (notices all : List NoticeValue)
+        → AreGathered notices lines.now all
+        → map group_value groups.items ≡ map (group_of notices) firsts.now) }
 {
+    let mut groups = Vec::new(alloc);
     for first in firsts {
-        groups.push(group_of(alloc, notices, first)?)?;
+        groups.push(group_of(alloc, lines, first)?)?;
     }
-    Ok(())
+    Ok(groups)
 }
 
 /// Returns lines to tell about by session, and of each session by subject, in the order in which
-/// the subjects first occur. Takes time in proportion to the number of lines times that of groups.
+/// the subjects first occur. Takes a look-up for each line. Groups of earlier sessions that come
+/// later are inserted before others.
 pub fn grouped(alloc: Global, notices: &[Notice]) -> Result<Vec<Group>, NoMem>
     ensures { IfOk result (λ groups. map group_value groups.items ≡ grouped notices.now) }
 {
-    let firsts = firsts(alloc, notices)?;
-    let mut groups = Vec::new(alloc);
-    push_groups(alloc, &mut groups, notices, firsts.as_slice())?;
-    Ok(groups)
+    let gathered = gather(alloc, notices)?;
+    groups_of(alloc, &gathered.lines, gathered.firsts.as_slice())
 }

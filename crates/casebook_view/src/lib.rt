@@ -19,6 +19,7 @@ mod effect;
 mod fate;
 mod filters;
 mod group;
+mod group_lines;
 mod grouping;
 mod leak;
 mod line_row;

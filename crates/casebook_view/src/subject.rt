@@ -36,4 +36,17 @@ impl Subject {
             Ask::StatusOf(_) => Ok(Subject::Status),
         }
     }
+
+    /// Returns a copy.
+    pub(crate) fn copy(&self) -> Result<Subject, NoMem>
+        ensures { IfOk result (λ copy. copy ≡ self.now) }
+    {
+        match self {
+            Subject::At(path) => Ok(Subject::At(path.copy()?)),
+            Subject::Directory => Ok(Subject::Directory),
+            Subject::Variable(name) => Ok(Subject::Variable(name.copy()?)),
+            Subject::Status => Ok(Subject::Status),
+            Subject::Text => Ok(Subject::Text),
+        }
+    }
 }
