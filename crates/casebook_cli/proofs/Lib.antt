@@ -4,6 +4,7 @@ pub mod KindLemmas
 pub mod Known
 pub mod NamedLemmas
 pub mod NumberLemmas
+pub mod RisingLemmas
 pub mod RowLemmas
 pub mod RunLemmas
 pub mod ScreenLemmas

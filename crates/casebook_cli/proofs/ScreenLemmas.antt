@@ -1,12 +1,10 @@
 -- What a screen and a page show of the case that is asked for.
-use Rattle.std.proofs.Common.{◌≡◌, ℕ, Bool, IsTrue, List, map, Result, Ok, Err, IfOk, ap, subst, ◌∙◌}
+use Rattle.std.proofs.Common.{◌≡◌, ℕ, Bool, List, Result, Ok, Err, IfOk, ap, subst, ◌∙◌}
 use Rattle.retro_keep.specs.Recording.{RecordingValue}
 use Rattle.retro_redo.specs.declared.repair.Repair.{Repair}
-use Rattle.retro_keep.specs.Script.{rises_from}
 use Rattle.casebook_json.specs.Summary.{summary_text}
 use Rattle.casebook_screen.specs.Summary.{summary_lines}
 use Rattle.casebook_screen.specs.declared.restoration.Restoration.{Restoration}
-use Rattle.casebook_view.specs.Reasons.{number_in}
 use Rattle.casebook_view.specs.declared.group.Group.{Group}
 use Rattle.casebook_view.specs.declared.summary.Summary.{Summary}
 use Rattle.casebook_words.specs.declared.labels.Labels.{Labels}
@@ -64,10 +62,9 @@ module _ (s : ScreenValue) (parts : Parts) {r : RecordingValue} {restorations : 
   lines_of_sheet lines h = record { parts = parts; are_parts = are_parts; are_lines = h ∙ same_lines }
 
   pub json_of_sheet : {A E : Type 0} (bytes : A → List ℕ) (result : Result A E)
-      → (IsTrue (rises_from 0 (map number_in s.summary.reasons.items))
-      → IfOk result (λ text. bytes text ≡ summary_text r s.summary restorations groups parts.is_recording s.labels))
+      → IfOk result (λ text. bytes text ≡ summary_text r s.summary restorations groups parts.is_recording s.labels)
       → IfOk result (λ text. IsJson s (bytes text))
-  json_of_sheet bytes (Ok text) h = record { parts = parts; are_parts = are_parts; is_text = λ rise. h rise ∙ same_text }
+  json_of_sheet bytes (Ok text) h = record { parts = parts; are_parts = are_parts; is_text = h ∙ same_text }
   json_of_sheet bytes (Err e) h = tt
 
 module _ {r s : RecordingValue} {repair other : Repair} (is_recording : r ≡ s) (is_repair : repair ≡ other) where

@@ -1,10 +1,11 @@
 -- The repairs that are asked for.
-use Rattle.std.specs.Prelude.{◌≡◌, ℕ, ◌==◌, List, [], ◌∷◌, ◌++◌, Option, Some, None, Ok}
+use Rattle.std.specs.Prelude.{◌≡◌, ℕ, ◌==◌, List, [], ◌∷◌, ◌++◌, Option, Some, None, Ok, IsTrue}
 use Rattle.std.specs.Prelude.{if◌then◌else◌, map}
 use Rattle.std.specs.Str.{IsUtf8}
 use Rattle.retro_keep.specs.Edit.{edit_of}
 use Rattle.retro_keep.specs.Recording.{RecordingValue, IsRecordingOf}
 use Rattle.retro_keep.specs.Recording as recordings
+use Rattle.retro_keep.specs.Script.{rises_from}
 use Rattle.retro_keep.specs.declared.noted.Noted.{Noted}
 use Rattle.retro_keep.specs.declared.edit.Edit.{Edit}
 use Rattle.retro_keep.specs.declared.edit.Edit.TheVariants.{Cancel}
@@ -71,6 +72,10 @@ lines_in r = map line_of r.lines
 pub record IsRepairBy (edits : List Edit) (r : RecordingValue) (repair : Repair) : Type 0 where
   pub is_repair : IsRecordingOf (recordings.script_in r) r → IsRepair (edit_of edits) r repair
   pub settled : AreSettled (edit_of edits) r repair
+
+-- the verdicts of a repair are in order of lines
+abbrev pub VerdictsRise : Repair → Type 0
+VerdictsRise repair = IsTrue (rises_from 0 (map (λ v. v.0) repair.verdicts.items))
 
 -- the edits that leave out the lines with these numbers
 abbrev pub cancelled : List ℕ → List Edit

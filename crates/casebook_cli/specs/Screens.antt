@@ -36,17 +36,22 @@ use Rattle.casebook_cli.specs.declared.shown.Shown.TheVariants as parts
 
 -- ---- summaries
 
+-- whether the numbers of the lines that the summary speaks of rise
+abbrev pub Rise : Summary → Type 0
+Rise summary =
+    IsTrue (rises_from 0 (map (λ f. f.0) summary.fates.items))
+    × IsTrue (rises_from 0 (map number_in summary.reasons.items))
+
 -- What a repair would do.
 pub record IsSummary (r : RecordingValue) (repair : Repair) (summary : Summary) : Type 0 where
   pub fates : AreFates r repair repair.verdicts.items summary.fates.items
   pub reasons : AreReasons r repair summary.reasons.items
   pub restorations : AreChangedPaths (last_state r.lines r.first).tree (repaired_state repair).tree
       summary.restorations.items
-  pub notices : IsTrue (rises_from 0 (map number_in summary.reasons.items))
-      → summary.notices.items ≡ map (notice_for r summary.reasons.items) (tellings repair)
+  pub notices : summary.notices.items ≡ map (notice_for r summary.reasons.items) (tellings repair)
   pub leaks : summary.leaks.items ≡ map (leak_for r) (leaks repair)
-  pub effects : IsTrue (rises_from 0 (map number_in summary.reasons.items))
-      → map effect_value summary.effects.items ≡ effects_of r summary.reasons.items summary.fates.items
+  pub effects : map effect_value summary.effects.items ≡ effects_of r summary.reasons.items summary.fates.items
+  pub rise : Rise summary
 
 -- what is shown of a repair, and how: the recording, its repair, what that would do, names and times, the width of the
 -- column of names, and whether the terminal has colours
@@ -80,23 +85,15 @@ pub record AreSummaryLines (s : ScreenValue) (lines : List (List ℕ)) : Type 0 
 pub record IsJson (s : ScreenValue) (text : List ℕ) : Type 0 where
   pub parts : Parts
   pub are_parts : AreParts s parts
-  pub is_text : IsTrue (rises_from 0 (map number_in s.summary.reasons.items))
-      → text ≡ summary_text s.recording s.summary parts.restorations.items parts.groups.items parts.is_recording
-      s.labels
+  pub is_text : text ≡ summary_text s.recording s.summary parts.restorations.items parts.groups.items
+      parts.is_recording s.labels
 
 -- ---- reasons and differences
-
--- whether the numbers of the lines that the summary speaks of rise, as they do if those of the recording do
-abbrev pub Rise : Summary → Type 0
-Rise summary =
-    IsTrue (rises_from 0 (map (λ f. f.0) summary.fates.items))
-    × IsTrue (rises_from 0 (map number_in summary.reasons.items))
 
 -- why lines are run again, if that is asked for
 abbrev pub AreWhyLines : Bool → ScreenValue → List (List ℕ) → Type 0
 AreWhyLines false s lines = lines ≡ []
-AreWhyLines true s lines =
-    Rise s.summary → lines ≡ why_lines s.recording s.repair s.summary s.labels s.width
+AreWhyLines true s lines = lines ≡ why_lines s.recording s.repair s.summary s.labels s.width
 
 -- how files and outputs differ, if that is asked for
 abbrev pub AreDiffLines : Bool → ScreenValue → List (List ℕ) → Type 0
@@ -118,8 +115,7 @@ pub record IsScreenText (extras : Extras) (s : ScreenValue) (text : List ℕ) : 
 -- The text is one line in full, which there is.
 pub record IsLineText (number : ℕ) (s : ScreenValue) (text : List ℕ) : Type 0 where
   pub exists : noted_at number s.recording.lines ≢ None
-  pub is_text : IsTrue (rises_from 0 (map number_in s.summary.reasons.items))
-      → text ≡ shown_lines s.colours (detail_lines s.recording s.repair s.summary s.labels s.width number)
+  pub is_text : text ≡ shown_lines s.colours (detail_lines s.recording s.repair s.summary s.labels s.width number)
 
 abbrev pub IsTextOf : Shown → ScreenValue → List ℕ → Type 0
 IsTextOf (parts.Summary extras) s text = IsScreenText extras s text

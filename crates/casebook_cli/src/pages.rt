@@ -1,6 +1,7 @@
 //! Pages of repairs.
 ghost use Rattle.std.specs.Prelude.{IfOk, string_bytes};
 ghost use Rattle.casebook_cli.specs.Pages.{IsPageOf};
+ghost use Rattle.casebook_cli.specs.Repairs.{VerdictsRise};
 
 use crate::NoMem;
 use crate::repairs::{Asked, summary_of};
@@ -27,6 +28,7 @@ fn page_of_case<'x>(
     title: &'x str,
     all: bool,
 ) -> Result<String, NoMem>
+    requires { VerdictsRise case.now.repair }
     ensures { IfOk result (λ text.
         IsPageOf case.entry.now.recording case.entry.now.repair all (string_bytes text)) }
 {
@@ -53,6 +55,7 @@ pub(crate) fn page_text(
     title: &str,
     all: bool,
 ) -> Result<String, NoMem>
+    requires { VerdictsRise asked.now.repair }
     ensures { IfOk result (λ text.
         IsPageOf asked.now.recording asked.now.repair all (string_bytes text)) }
 {

@@ -1,7 +1,8 @@
 //! Repairs that are asked for.
 ghost use Rattle.std.specs.Prelude.{◌≡◌, IfOk, IfErr, option_map};
 ghost use Rattle.casebook_cli.specs.Inputs.{inputs_view};
-ghost use Rattle.casebook_cli.specs.Repairs.{AreEdits, IsAsked, IsRepairBy, lines_in};
+ghost use Rattle.casebook_cli.specs.Repairs.{AreEdits, IsAsked, IsRepairBy, VerdictsRise};
+ghost use Rattle.casebook_cli.specs.Repairs.{lines_in};
 ghost use Rattle.casebook_cli.specs.Request.{repair_view, rounds_view};
 ghost use Rattle.casebook_cli.specs.Screens.{IsSummary};
 ghost use Rattle.casebook_cli.specs.Stops.{IsRefused, StopsAsked, StopsNumbers, StopsRepair};
@@ -46,6 +47,7 @@ impl Asked {
 
 /// Returns what a repair would do.
 pub(crate) fn summary_of(alloc: Global, case: &Case<'_>) -> Result<Summary, NoMem>
+    requires { VerdictsRise case.now.repair }
     ensures { IfOk result (IsSummary case.now.recording case.now.repair) }
 {
     Summary::of(alloc, case)
@@ -120,6 +122,7 @@ pub(crate) fn asked_repair<'a, R: Threads + Sync + AllocGlobal, P: Progress>(
     request: RepairRequest<'a>,
 ) -> Result<Asked, Stop<'a>>
     ensures ok { IfOk result (IsAsked (inputs_view inputs.now) (repair_view request.entry)) }
+    ensures rise { IfOk result (λ asked. VerdictsRise asked.repair) }
     ensures err { IfErr result (StopsAsked (inputs_view inputs.now) (repair_view request.entry)) }
 {
     let alloc = rt.alloc();

@@ -1,8 +1,9 @@
 //! What is shown of repairs.
 ghost use Rattle.std.specs.Prelude.{◌≡◌, IfOk, IfErr, string_bytes};
+ghost use Rattle.casebook_cli.specs.Repairs.{VerdictsRise};
 ghost use Rattle.casebook_cli.specs.Screens.{AreDiffLines, AreParts, AreSummaryLines, AreWhyLines};
 ghost use Rattle.casebook_cli.specs.Screens.{IsJson, IsLineText, IsScreenText, IsShownOf, IsTextOf};
-ghost use Rattle.casebook_cli.specs.Screens.{screen_view};
+ghost use Rattle.casebook_cli.specs.Screens.{Rise, screen_view};
 ghost use Rattle.casebook_cli.specs.Stops.{IsNoLine, StopsShown};
 
 use crate::NoMem;
@@ -75,6 +76,7 @@ impl Screen<'_, '_> {
 
     /// Returns what the repair would do, for programs.
     fn json(self, alloc: Global) -> Result<String, NoMem>
+        requires { Rise self.summary.now }
         ensures { IfOk result (λ text. IsJson (screen_view self.entry) (string_bytes text)) }
     {
         let parts = self.parts(alloc)?;
@@ -90,6 +92,7 @@ impl Screen<'_, '_> {
 
     /// Returns why lines are run again, if that is asked for.
     fn why_lines(self, alloc: Global, is_asked: bool) -> Result<Vec<SafeLine>, NoMem>
+        requires { Rise self.summary.now }
         ensures { IfOk result (λ lines.
             AreWhyLines is_asked (screen_view self.entry) lines.items) }
     {
@@ -112,6 +115,7 @@ impl Screen<'_, '_> {
 
     /// Returns the summary with what else is asked for.
     fn text(self, alloc: Global, extras: Extras) -> Result<String, NoMem>
+        requires { Rise self.summary.now }
         ensures { IfOk result (λ text.
             IsScreenText extras (screen_view self.entry) (string_bytes text)) }
     {
@@ -123,6 +127,7 @@ impl Screen<'_, '_> {
 
     /// Returns one line in full.
     fn line<'a>(self, alloc: Global, number: u32) -> Result<String, Stop<'a>>
+        requires { Rise self.summary.now }
         ensures ok { IfOk result (λ text.
             IsLineText number (screen_view self.entry) (string_bytes text)) }
         ensures err { IfErr result (IsNoLine number self.entry.case.now.recording) }
@@ -136,6 +141,7 @@ impl Screen<'_, '_> {
 
     /// Returns what is to be shown.
     fn shown<'a>(self, alloc: Global, shown: Shown) -> Result<String, Stop<'a>>
+        requires { Rise self.summary.now }
         ensures ok { IfOk result (λ text.
             IsTextOf shown (screen_view self.entry) (string_bytes text)) }
         ensures err { IfErr result (StopsShown shown self.entry.case.now.recording) }
@@ -156,6 +162,7 @@ fn text_of_case<'a>(
     shown: Shown,
     colours: bool,
 ) -> Result<String, Stop<'a>>
+    requires { VerdictsRise case.now.repair }
     ensures ok { IfOk result (λ text. IsShownOf case.now.recording case.now.repair labels.now
         shown colours (string_bytes text)) }
     ensures err { IfErr result (StopsShown shown case.now.recording) }
@@ -178,6 +185,7 @@ pub(crate) fn shown_text<'a>(
     shown: Shown,
     colours: bool,
 ) -> Result<String, Stop<'a>>
+    requires { VerdictsRise asked.now.repair }
     ensures ok { IfOk result (λ text. IsShownOf asked.now.recording asked.now.repair
         asked.now.labels shown colours (string_bytes text)) }
     ensures err { IfErr result (StopsShown shown asked.now.recording) }

@@ -1,8 +1,10 @@
 use Rattle.std.proofs.Common.{option_map, string_bytes, subst}
 use Rattle.std.proofs.lemmas.Result.{err_from_is_err_and}
+use Rattle.retro_keep.specs.Edit.{edit_of}
 use Rattle.casebook_cli.specs.Repairs.{AreEdits, IsRepairBy, lines_in}
 use Rattle.casebook_cli.specs.Request.{rounds_view}
 use Rattle.casebook_cli.specs.Stops.{StopsNumbers, StopsRepair, no_numbers, no_repair}
+use Rattle.casebook_cli.proofs.RisingLemmas.{verdicts_rise}
 use Rattle.casebook_cli.proofs.repairs.asked_repair.Goals as goal
 
 pub returns-in_err-edits-clause-err : goal.returns-in_err-edits-clause-err
@@ -40,3 +42,8 @@ returns-clause-ok g c =
       is_repair = subst (λ es. IsRepairBy es r c.in_ok-repair.repair) c.as_slice.ensures.value c.in_ok-repair.ensures.ok;
       labels = c.in_ok-labels.ensures.ok;
     }
+
+pub returns-clause-rise : goal.returns-clause-rise
+returns-clause-rise g c =
+    verdicts_rise (edit_of c.as_slice.result.now) c.in_ok-recording.recording c.in_ok-repair.repair
+    c.lines.ensures.well_formed c.in_ok-repair.ensures.ok.settled

@@ -7,4 +7,4 @@ pub returns : goal.returns
 returns c =
     json_of_sheet (screen_view c.args.self) c.in_ok-parts.parts c.recording.ensures c.as_slice.ensures.value
     c.as_slice-2.ensures.value c.in_ok-parts.ensures string_bytes c.summary_json.result
-    c.summary_json.ensures.text
+    (c.summary_json.ensures.text c.requires.1)
