@@ -1,0 +1,10 @@
+pub mod Lists
+pub mod Reading
+pub mod Alike
+pub mod Requests
+pub mod Conditions
+pub mod Fitting
+pub mod Sessions
+pub mod Statuses
+pub mod Grepping
+pub mod UsageFaults
