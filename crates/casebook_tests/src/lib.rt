@@ -15,6 +15,8 @@ mod lists;
 #[cfg(test)]
 mod places;
 #[cfg(test)]
+mod profile;
+#[cfg(test)]
 mod rows;
 #[cfg(test)]
 mod safe_lines;

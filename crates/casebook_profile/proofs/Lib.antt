@@ -1,0 +1,9 @@
+mod Sizes
+mod KnowledgeLemmas
+mod LineLemmas
+mod FindingLemmas
+mod LoopValues
+mod WordFields
+mod ClearWords
+mod ProperLines
+mod RecordedLines

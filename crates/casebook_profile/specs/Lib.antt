@@ -1,0 +1,9 @@
+pub mod Characters
+pub mod Variables
+pub mod Scope
+pub mod Words
+pub mod Commands
+pub mod Lines
+pub mod UnknownLines
+pub mod Proper
+pub mod inner
