@@ -1,5 +1,5 @@
 -- The verdicts of a repair are in order of lines, and so is what a summary says of them.
-use Rattle.std.proofs.Common.{◌≡◌, ◌∙◌, ◌≤◌, ◌<◌, ℕ, Bool, true, false, nat_lt, List, [], ◌∷◌, map, length}
+use Rattle.std.proofs.Common.{◌≡◌, ◌∙◌, ◌≤◌, ℕ, Bool, true, false, nat_lt, List, [], ◌∷◌, map, length}
 use Rattle.std.proofs.Common.{IsTrue, Option, Result, Ok, Err, IfOk, refl, sym, ap, arith}
 use Rattle.std.specs.Bool.{if◌then◌else◌}
 use Rattle.std.specs.List.{filter}
@@ -15,12 +15,13 @@ use Rattle.retro_redo.specs.Settled.{AreSettled, IsSettled, recording_chosen}
 use Rattle.retro_redo.specs.declared.repair.Repair.{Repair}
 use Rattle.retro_redo.specs.declared.step.Step.{Step}
 use Rattle.retro_redo.specs.declared.verdict.Verdict.{Verdict}
-use Rattle.casebook_cause.specs.ChangedPaths.{AreChangedPaths}
+use Rattle.casebook_cause.specs.ChangedPaths.{AreChangedPaths, path_in}
 use Rattle.casebook_cause.specs.Compensations.{leaks, tellings}
 use Rattle.casebook_view.specs.Effects.{effect_value, effects_of}
 use Rattle.casebook_view.specs.Fates.{AreFates}
 use Rattle.casebook_view.specs.Reasons.{AreReasons, is_redone, number_in as number_of, redone_lines}
 use Rattle.casebook_view.specs.Summaries.{leak_for, notice_for}
+use Rattle.casebook_view.specs.Unknown.{is_doubtful, is_understood, unknown_in}
 use Rattle.casebook_view.specs.declared.fate.Fate.{Fate}
 use Rattle.casebook_view.specs.declared.summary.Summary.{Summary}
 use Rattle.casebook_cli.specs.Repairs.{VerdictsRise}
@@ -100,24 +101,29 @@ rises r repair summary verdicts fates reasons = (
 )
 
 pub whole_summary : {E : Type 0} (r : RecordingValue) (repair : Repair) (found : Result Summary E) → VerdictsRise repair
+    → IfOk found (λ s. s.unknown.items ≡ unknown_in r repair.recording)
+    → IfOk found (λ s. s.doubtful.items
+    ≡ filter (is_doubtful r repair.recording s.unknown.items) (map path_in s.restorations.items))
     → IfOk found (λ s. AreFates r repair repair.verdicts.items s.fates.items)
     → IfOk found (λ s. AreReasons r repair s.reasons.items)
     → IfOk found (λ s. AreChangedPaths (last_state r.lines r.first).tree (repaired_state repair).tree s.restorations.items)
     → IfOk found (λ s. IsTrue (rises_from 0 (map number_of s.reasons.items))
-    → s.notices.items ≡ map (notice_for r s.reasons.items) (tellings repair))
-    → IfOk found (λ s. s.leaks.items ≡ map (leak_for r) (leaks repair))
+    → s.notices.items ≡ map (notice_for r s.reasons.items) (filter (is_understood s.unknown.items) (tellings repair)))
+    → IfOk found (λ s. s.leaks.items ≡ map (leak_for r) (filter (is_understood s.unknown.items) (leaks repair)))
     → IfOk found (λ s. IsTrue (rises_from 0 (map number_of s.reasons.items))
     → map effect_value s.effects.items ≡ effects_of r s.reasons.items s.fates.items)
     → IfOk found (IsSummary r repair)
-whole_summary r repair (Ok s) verdicts fates reasons restorations notices leaked effects =
+whole_summary r repair (Ok s) verdicts unknown doubtful fates reasons restorations notices leaked effects =
     let both : Rise s = rises r repair s verdicts fates reasons in
     record {
       fates = fates;
       reasons = reasons;
       restorations = restorations;
+      unknown = unknown;
+      doubtful = doubtful;
       notices = notices both.1;
       leaks = leaked;
       effects = effects both.1;
       rise = both;
     }
-whole_summary r repair (Err e) verdicts fates reasons restorations notices leaked effects = tt
+whole_summary r repair (Err e) verdicts unknown doubtful fates reasons restorations notices leaked effects = tt

@@ -1,6 +1,6 @@
 -- What text answers a request for rows of lines.
 use Rattle.std.specs.Cmp.Lexicographic.{pointwise}
-use Rattle.std.specs.Prelude.{◌≡◌, ℕ, ◌==◌, ℤ, if◌then◌else◌, Bool, false, List, [], ◌∷◌, ◌++◌, nat_eq, Option, Some, None, Ok, chars, codes, decimal, flat_map}
+use Rattle.std.specs.Prelude.{◌≡◌, ℕ, ◌==◌, ℤ, if◌then◌else◌, Bool, false, List, [], ◌∷◌, ◌++◌, nat_eq, Option, Some, None, Ok, chars, codes, decimal}
 use Rattle.std.specs.Prelude.{fold, length, map, max, option_map}
 use Rattle.std.specs.List.{filter, join_with_byte, list_any}
 use Rattle.regex.specs.Bytes.{IsReadFromSource, regex_config, regex_pattern, regex_source}
@@ -12,13 +12,13 @@ use Rattle.retro_keep.specs.declared.noted.Noted.{Noted}
 use Rattle.retro_log.specs.Document.{log_in}
 use Rattle.casebook_text.specs.Lists.{comma}
 use Rattle.casebook_text.specs.SafeLine.{text_of_lines, text_of_rows}
-use Rattle.casebook_view.specs.Filters.{FiltersValue, passes}
-use Rattle.casebook_view.specs.Rows.{RowValue, row_of}
+use Rattle.casebook_view.specs.Filters.{FiltersValue}
+use Rattle.casebook_view.specs.Rows.{RowValue, rows_of}
 use Rattle.casebook_view.specs.declared.line_test.LineTest.{LineTest}
 use Rattle.casebook_words.specs.Labels.{name_words}
 use Rattle.casebook_words.specs.declared.labels.Labels.{Labels}
 use Rattle.casebook_screen.specs.Fields.{fields_of}
-use Rattle.casebook_screen.specs.RowTexts.{lines_of_row}
+use Rattle.casebook_screen.specs.RowTexts.{lines_of_rows}
 use Rattle.casebook_cli.specs.Inputs.{InputsValue}
 use Rattle.casebook_cli.specs.Bounds.{typed}
 use Rattle.casebook_cli.specs.Labels.{AreLabels, times_in}
@@ -70,13 +70,15 @@ pub record AreFilters (request : LinesRequest) (labels : Labels) (lines : List (
   pub tests : map test_view filters.tests ≡ request.tests ++ user_tests labels lines request.user
   pub text : AreRead request.text filters.text
   pub shown : AreRead request.shown filters.shown
+  pub unknown : filters.is_unknown ≡ request.is_unknown
 
 -- the filters of tests and patterns of the code
-abbrev pub filters_by : List LineTest → Patterns → FiltersValue
-filters_by tests patterns = record {
+abbrev pub filters_by : List LineTest → Patterns → Bool → FiltersValue
+filters_by tests patterns is_unknown = record {
   tests = tests;
   text = option_map regex_pattern patterns.text;
   shown = option_map regex_pattern patterns.shown;
+  is_unknown = is_unknown;
 }
 
 -- ---- rows as text
@@ -90,7 +92,7 @@ widest_name labels lines = fold (wider labels) 0 lines
 
 -- rows as the lines that a terminal shows, as a table, and as a list of numbers in one line
 abbrev pub shown_text : Labels → ℕ → List RowValue → List ℕ
-shown_text labels width rows = text_of_lines (flat_map (lines_of_row labels width) rows)
+shown_text labels width rows = text_of_lines (lines_of_rows labels width rows)
 
 abbrev pub table_text : Labels → List RowValue → List ℕ
 table_text labels rows = text_of_rows (map (fields_of labels) rows)
@@ -107,13 +109,13 @@ rows_text formats.Text labels width rows = shown_text labels width rows
 rows_text formats.Tsv labels width rows = table_text labels rows
 rows_text formats.Numbers labels width rows = numbers_text rows
 
--- The rows are those of the lines of a recording that pass the tests of a request, in which patterns are found, and
--- that were typed between its bounds.
+-- The rows are those of the lines of a recording that pass the tests of a request, in which patterns are found, that
+-- aren't understood if only such lines are asked for, and that were typed between its bounds.
 pub record AreAskedRows (request : LinesRequest) (labels : Labels) (times : List (ℕ × ℤ)) (r : RecordingValue)
     (patterns : Patterns) (rows : List RowValue) : Type 0 where
   pub tests : List LineTest
   pub are_tests : map test_view tests ≡ request.tests ++ user_tests labels r.lines request.user
-  pub are_rows : rows ≡ typed request.bounds times (map row_of (filter (passes (filters_by tests patterns)) r.lines))
+  pub are_rows : rows ≡ typed request.bounds times (rows_of (filters_by tests patterns request.is_unknown) r)
 
 -- ---- the answer
 
@@ -126,4 +128,4 @@ pub record AreLines (inputs : InputsValue) (request : LinesRequest) (text : List
   pub filters : FiltersValue
   pub are_filters : AreFilters request labels recording.lines filters
   pub shown : text ≡ rows_text request.format labels (widest_name labels recording.lines)
-      (typed request.bounds (times_in inputs.about) (map row_of (filter (passes filters) recording.lines)))
+      (typed request.bounds (times_in inputs.about) (rows_of filters recording))

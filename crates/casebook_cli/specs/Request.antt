@@ -64,6 +64,7 @@ pub record LinesRequest : Type 0 where
   pub bounds : Bounds
   pub text : Option Text
   pub shown : Option Text
+  pub is_unknown : Bool
   pub format : Format
 
 -- how lines are run ahead in parallel: by so many threads beside the first one, and in pieces of so many lines
@@ -150,6 +151,14 @@ help_text topics.Profile = PROFILE.now
 
 abbrev pub given : Text → Call → Option Text
 given name call = first_of name call.rows
+
+-- whether an option without a value is given
+abbrev pub is_set : Option Text → Bool
+is_set None = false
+is_set (Some text) = is_text (codes "true") text
+
+abbrev pub is_given : Text → Call → Bool
+is_given name call = is_set (given name call)
 
 abbrev pub log_given : Call → Result Text Problem
 log_given call = ok_or (given (codes "log") call) problems.NoLog
@@ -254,6 +263,7 @@ lines_with log bounds tests call format = record {
   bounds = bounds;
   text = given (codes "text") call;
   shown = given (codes "shown") call;
+  is_unknown = is_given (codes "unknown") call;
   format = format;
 }
 
@@ -318,14 +328,6 @@ repair_request call = do
   replacements ← replacements_given (given (codes "replace") call)
   rounds ← rounds_given call
   Ok (repair_with log cancel replacements rounds call)
-
--- whether an option without a value is given
-abbrev pub is_set : Option Text → Bool
-is_set None = false
-is_set (Some text) = is_text (codes "true") text
-
-abbrev pub is_given : Text → Call → Bool
-is_given name call = is_set (given name call)
 
 -- whether a repair is shown for programs
 unfoldable pub show_format : Option Text → Result Bool Problem
@@ -410,6 +412,7 @@ lines_view request = record {
   bounds = request.bounds;
   text = option_map (λ s. s.now) request.text;
   shown = option_map (λ s. s.now) request.shown;
+  is_unknown = request.is_unknown;
   format = request.format;
 }
 

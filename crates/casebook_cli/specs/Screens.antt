@@ -1,17 +1,19 @@
 -- What a terminal shows of a repair.
 use Rattle.std.specs.Prelude.{◌≡◌, ◌≢◌, None, ℕ, Bool, true, false, IsTrue, List, [], ◌++◌, map}
+use Rattle.std.specs.List.{filter}
 use Rattle.retro_keep.specs.Recording.{RecordingValue, IsRecordingOf, last_state, noted_at}
 use Rattle.retro_keep.specs.Recording as recordings
 use Rattle.retro_keep.specs.Script.{rises_from}
 use Rattle.retro_redo.specs.Repair.{repaired_state}
 use Rattle.retro_redo.specs.declared.repair.Repair.{Repair}
-use Rattle.casebook_cause.specs.ChangedPaths.{AreChangedPaths}
+use Rattle.casebook_cause.specs.ChangedPaths.{AreChangedPaths, path_in}
 use Rattle.casebook_cause.specs.Compensations.{leaks, tellings}
 use Rattle.casebook_view.specs.Effects.{effect_value, effects_of}
 use Rattle.casebook_view.specs.Fates.{AreFates}
 use Rattle.casebook_view.specs.Groups.{group_value, grouped}
 use Rattle.casebook_view.specs.Reasons.{AreReasons, number_in}
 use Rattle.casebook_view.specs.Summaries.{leak_for, notice_for}
+use Rattle.casebook_view.specs.Unknown.{is_doubtful, is_understood, unknown_in}
 use Rattle.casebook_view.specs.declared.group.Group.{Group}
 use Rattle.casebook_view.specs.declared.summary.Summary.{Summary}
 use Rattle.casebook_screen.specs.Detail.{detail_lines}
@@ -48,8 +50,12 @@ pub record IsSummary (r : RecordingValue) (repair : Repair) (summary : Summary) 
   pub reasons : AreReasons r repair summary.reasons.items
   pub restorations : AreChangedPaths (last_state r.lines r.first).tree (repaired_state repair).tree
       summary.restorations.items
-  pub notices : summary.notices.items ≡ map (notice_for r summary.reasons.items) (tellings repair)
-  pub leaks : summary.leaks.items ≡ map (leak_for r) (leaks repair)
+  pub unknown : summary.unknown.items ≡ unknown_in r repair.recording
+  pub doubtful : summary.doubtful.items
+      ≡ filter (is_doubtful r repair.recording summary.unknown.items) (map path_in summary.restorations.items)
+  pub notices : summary.notices.items ≡ map (notice_for r summary.reasons.items)
+      (filter (is_understood summary.unknown.items) (tellings repair))
+  pub leaks : summary.leaks.items ≡ map (leak_for r) (filter (is_understood summary.unknown.items) (leaks repair))
   pub effects : map effect_value summary.effects.items ≡ effects_of r summary.reasons.items summary.fates.items
   pub rise : Rise summary
 

@@ -36,7 +36,7 @@ help_flag = record (new_rule (codes "help")) {
 abbrev pub help_rules : List Rule
 help_rules = help_flag ∷ word (codes "command") ∷ []
 
--- of `lines`: the log and the options of numbers, those of paths and of users, and all
+-- of `lines`: the log and the options of numbers, those of paths and of users, those of patterns, and all
 abbrev pub number_rules : List Rule
 number_rules =
     help_flag ∷ word (codes "log") ∷ option (codes "session") ∷ option (codes "from") ∷ option (codes "to") ∷ []
@@ -46,10 +46,12 @@ path_rules =
     number_rules
     ++ (option (codes "reads") ∷ option (codes "writes") ∷ option (codes "touches") ∷ option (codes "user") ∷ [])
 
+abbrev pub pattern_rules : List Rule
+pattern_rules = path_rules ++ (option (codes "text") ∷ option (codes "shown") ∷ [])
+
 abbrev pub lines_rules : List Rule
 lines_rules =
-    path_rules
-    ++ (option (codes "text") ∷ option (codes "shown") ∷ option (codes "about") ∷ option (codes "format") ∷ [])
+    pattern_rules ++ (option (codes "about") ∷ option (codes "format") ∷ flag (codes "unknown") ∷ [])
 
 -- of a command about a repair: what is repaired how, what all of them have, and all
 abbrev pub edit_rules : List Rule

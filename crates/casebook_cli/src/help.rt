@@ -8,11 +8,13 @@ use crate::topic::Topic;
 const PROGRAM: &str = "\
 casebook - what an intruder's commands led to, and what to do about it
 
-A log, as `retro record` writes it, holds the lines that people typed on a
-machine, what each line read and wrote, and what it printed. casebook reads a
-log. It shows which lines there are, and what would be if some of them had never
-run: which files to restore, whom to tell what, and what leaked. It changes
-nothing.
+A log holds lines of shell, what each line read and wrote, and what it printed.
+`retro record` makes it of a script that somebody wrote: it plays the lines in
+retro's own shell. There is no recorder yet: nothing here watches a real machine.
+
+casebook reads a log. It shows which lines there are, and what would be if some of
+them had never run: which files to restore, whom to tell what, and what leaked. It
+says which lines retro's shell didn't understand. It changes nothing.
 
     casebook lines LOG [FILTER..] [--format text|tsv|numbers]
         Which lines are in the log, who ran them, what they read and wrote.
@@ -39,7 +41,9 @@ From a log to an answer:
 
     The first column is the number of a line, and the second its session. Below a
     line is what it read, what it wrote (+ put, > appended, - removed) and the
-    start of what it printed.
+    start of what it printed. A line with ? wasn't understood:
+
+        casebook lines log.json --unknown
 
  2. Write down the lines that shouldn't have run. Session 5 but for lines 41 and
     44, which were honest, is the list 5:all,-41,-44 (see casebook help lists).
@@ -48,6 +52,8 @@ From a log to an answer:
 
         casebook show log.json --cancel 5:all,-41,-44
 
+    ?        how many lines weren't understood, and which: what they did isn't in
+             the answer
     RESTORE  the files that would be different now, and by how many lines:
              M changes, A comes back, D goes
     TELL     the sessions whose lines printed what would have been different, by
@@ -64,9 +70,9 @@ From a log to an answer:
  4. If somebody else's line is at fault too, or one of the lines was honest,
     change the list, and look again.
 
-The answer is that of the log: it is as right as the log is. The second row of
-`show` says whether the log is a recording of its lines. What the machine did and
-the log doesn't say isn't in the answer.
+The answer is that of retro's shell: whether the machine did the same isn't known.
+What a line did that wasn't understood isn't in it (see casebook help profile). If
+a log isn't what its lines do in retro's shell, the second row of `show` says so.
 
 With --about FILE the answers have the names of users and the times of lines (see
 casebook help documents).
@@ -102,6 +108,7 @@ of them hold. LOG is the name of a file, or - for standard input.
     --touches PATH    the line did one or the other
     --text REGEX      REGEX is found in the line
     --shown REGEX     REGEX is found in what the line printed
+    --unknown         the line wasn't understood (see casebook help profile)
 
     --about FILE      shows the names of users and the times of lines
 
@@ -110,9 +117,10 @@ all paths below it. REGEX is a regular expression, as in `grep -E`. TIME is a da
 and a time of day, as '2025-05-06 10:30', or a date alone, which stands for its
 first second. Times are in UTC. A line of which no time is known passes no TIME.
 
-    --format text     one to four rows a line: number, session and line; what it
-                      read; what it wrote (+ put, > appended, - removed); how much
-                      it printed, and the start of it. The default.
+    --format text     one to five rows a line: number, session and line, with ?
+                      before a line that wasn't understood, and why; what it read;
+                      what it wrote (+ put, > appended, - removed); how much it
+                      printed, and the start of it. The default.
     --format tsv      one row a line, with tabs between the fields: number, time,
                       session, its name, line, what it printed, and then =PATH for
                       each path that it read, and +PATH, >PATH or -PATH for each
@@ -166,15 +174,21 @@ differences that come are green and those that go are red.
 The screen has these parts:
 
     N lines of N sessions. N cancelled.
-    Whether the log is a recording: whether running its lines gives what it notes.
-    If it isn't, all below is only what its notes say.
+    That retro's shell does what the log notes. If it doesn't, all below is only
+    what its notes say.
+
+    ? How many lines weren't understood, how many of them are cancelled, and their
+    numbers by reason. What they did isn't in the answer, so below they leak
+    nothing, tell nobody and cause nothing that is known. `casebook help profile`
+    has the reasons. Or: Every line was understood.
 
     How many lines are cancelled; are run again, with another result or with the
     same; read or wrote what differs but are kept as recorded; or have nothing to
     do with it.
 
     RESTORE  each path that would be different at the end:
-             M changes, A comes back, D goes; lines that come (+) and go (-)
+             M changes, A comes back, D goes; lines that come (+) and go (-);
+             ? if a line wrote it that wasn't understood
     TELL     session, path, how often, which lines: what these lines printed would
              have been different, since the path would have been
     LEAKED   cancelled lines that printed something, and how many bytes
@@ -307,22 +321,33 @@ Why documents are refused
 const PROFILE: &str = "\
 What a line may be
 
-The lines of a log were run by retro's own shell, which knows a part of what a real
-one knows. What it doesn't know it doesn't do, and an answer is only as right as the
-log is. Look for lines that weren't understood:
+The lines of a log were played by retro's own shell, which knows a part of what a
+real one knows. A line is understood if it means there what it means in bash: each
+of its commands is one that the shell has, in a form that it has, and nothing in it
+depends on what only a real shell knows. What other lines did isn't in an answer:
 
-    casebook lines log.json --shown 'unsupported line|: not found|: usage'
+    casebook lines log.json --unknown
 
-    unsupported line   the whole line did nothing: it has a here-document, $(..), &,
-                       2>, a loop with while, or the like
-    NAME: not found    a command that the shell doesn't have, such as ls, vi or git,
-                       did nothing
-    NAME: usage        a command had options that it doesn't have, and did nothing
+    commands that Retro doesn't know
+                       all but echo, true, false, :, pwd, cd, id, test, [, cat, tee,
+                       cut, grep, mkdir, rm, cp and mv: such as ls, vi and git, and
+                       scripts
+    options or forms that it doesn't have
+                       grep without -F, cp -r, cd -, options after operands, echo -e;
+                       here-documents, $(..), &, 2>, while and functions; variables
+                       such as PATH that are set
+    patterns or values that a shell expands
+                       *, ?, [..] and {a,b} outside quotes; $x outside quotes, but for
+                       the variable of a `for` over plain words; \"$x\" if the log
+                       doesn't set x; ~+, and a ~ after = or :
+    commands that read the terminal
+                       cat, cut or grep without a file, and tee
 
-Others differ without a word. There are no permissions, so a line that the machine
-refused succeeds. * and {a,b} stand for themselves. The terminal's input is empty, so
-`cat > letter` empties the letter. So compare what the log says with the real files
-before you restore anything.
+Of a line that is understood the text is right, and the machine may still have done
+something else: it refuses what isn't permitted, and retro's shell knows no
+permissions; a command may be an alias or a function; a file may be a link or a
+device; a disk may be full. So compare what the log says with the real files before
+you restore anything.
 ";
 
 /// Returns the help on a topic.

@@ -13,7 +13,7 @@ use crate::bounds::{Bounds, line_of, second_of};
 use crate::format::Format;
 use crate::lines_request::LinesRequest;
 use crate::numbers::number_of;
-use crate::options::{log_of, number_option};
+use crate::options::{is_given, log_of, number_option};
 use crate::path_options::path_tests;
 use crate::problem::Problem;
 use crate::words::{CommandCall, WordsFault};
@@ -139,6 +139,7 @@ pub(crate) fn lines_request<'a>(
         bounds,
         text: call.text_of("text"),
         shown: call.text_of("shown"),
+        is_unknown: is_given(call, "unknown"),
         format,
     })
 }

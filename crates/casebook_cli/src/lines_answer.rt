@@ -88,7 +88,7 @@ fn asked_rows<'r>(
         recording.lines(),
         request.user,
     )?;
-    let mut filters = patterns.filters(alloc, tests)?;
+    let mut filters = patterns.filters(alloc, tests, request.is_unknown)?;
     let found = rows(alloc, recording, &mut filters)?;
     typed_rows(alloc, found, known.times.as_slice(), request.bounds)
 }

@@ -20,6 +20,8 @@ pub(crate) struct LinesRequest<'a> {
     pub(crate) text: Option<&'a str>,
     /// A pattern that is found in what each line printed.
     pub(crate) shown: Option<&'a str>,
+    /// Whether only lines are shown that aren't understood.
+    pub(crate) is_unknown: bool,
     /// How the rows are written.
     pub(crate) format: Format,
 }

@@ -17,6 +17,7 @@ fn no_filters(alloc: Global) -> Filters<'static> {
         tests: Vec::new(alloc),
         text: None,
         shown: None,
+        is_unknown: false,
     }
 }
 

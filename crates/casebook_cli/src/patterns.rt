@@ -77,15 +77,22 @@ impl Patterns {
         Ok(Patterns { text, shown })
     }
 
-    /// Returns the filters of these patterns and of tests.
-    pub(crate) fn filters(&self, alloc: Global, tests: Vec<LineTest>) -> Result<Filters<'_>, NoMem>
+    /// Returns the filters of these patterns and of tests. `is_unknown` says whether only lines pass
+    /// that aren't understood.
+    pub(crate) fn filters(
+        &self,
+        alloc: Global,
+        tests: Vec<LineTest>,
+        is_unknown: bool,
+    ) -> Result<Filters<'_>, NoMem>
         ensures { IfOk result (λ filters.
-            filters_of filters ≡ filters_by tests.items self.now) }
+            filters_of filters ≡ filters_by tests.items self.now is_unknown) }
     {
         Ok(Filters {
             tests,
             text: matcher_of(alloc, &self.text)?,
             shown: matcher_of(alloc, &self.shown)?,
+            is_unknown,
         })
     }
 }

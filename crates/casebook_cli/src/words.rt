@@ -5,7 +5,8 @@ ghost use Rattle.clap.specs.Words.{app_of, first_of, rule_of};
 ghost use Rattle.clap.specs.declared.builder.command.Command.TheViews.{out-Command as fields_of};
 ghost use Rattle.casebook_cli.specs.Words.{Names, bare, call_view, check_rules, command, edit_rules};
 ghost use Rattle.casebook_cli.specs.Words.{flag, help_flag, help_rules, lines_rules, named_in};
-ghost use Rattle.casebook_cli.specs.Words.{number_rules, option, page_rules, path_rules, program};
+ghost use Rattle.casebook_cli.specs.Words.{number_rules, option, page_rules, path_rules};
+ghost use Rattle.casebook_cli.specs.Words.{pattern_rules, program};
 ghost use Rattle.casebook_cli.specs.Words.{repair_rules, show_rules, without_repairs, word};
 ghost use Rattle.casebook_cli.specs.declared.words.WordsFault.TheVariants as faults;
 
@@ -139,17 +140,27 @@ fn lines_by_path<'a>(alloc: Global) -> Result<Command<'a>, NoMem>
         .arg(option(alloc, "user"))
 }
 
+/// Returns the command that shows rows of lines, as far as its patterns.
+fn lines_by_pattern<'a>(alloc: Global) -> Result<Command<'a>, NoMem>
+    ensures shape { IfOk result (λ c.
+        app_of c ≡ record { top = command (codes "lines") pattern_rules; subs = [] }) }
+    ensures local { IfOk result (λ c. (fields_of c).has_globals ≡ false) }
+{
+    lines_by_path(alloc)?
+        .arg(option(alloc, "text"))?
+        .arg(option(alloc, "shown"))
+}
+
 /// Returns the command that shows rows of lines.
 fn lines_command<'a>(alloc: Global) -> Result<Command<'a>, NoMem>
     ensures shape { IfOk result (λ c.
         app_of c ≡ record { top = command (codes "lines") lines_rules; subs = [] }) }
     ensures local { IfOk result (λ c. (fields_of c).has_globals ≡ false) }
 {
-    lines_by_path(alloc)?
-        .arg(option(alloc, "text"))?
-        .arg(option(alloc, "shown"))?
+    lines_by_pattern(alloc)?
         .arg(option(alloc, "about"))?
-        .arg(option(alloc, "format"))
+        .arg(option(alloc, "format"))?
+        .arg(flag(alloc, "unknown"))
 }
 
 /// Returns a command about a repair, as far as what is repaired how.

@@ -6,6 +6,7 @@ use Rattle.serde_json.specs.Read.{max_depth}
 use Rattle.serde_json.specs.View.{items_of}
 use Rattle.retro_json.specs.Values.{number_data}
 use Rattle.retro_keep.specs.Recording.{RecordingValue}
+use Rattle.casebook_profile.specs.declared.unknown_line.UnknownLine.{UnknownLine}
 use Rattle.casebook_view.specs.Effects.{EffectValue, effect_value}
 use Rattle.casebook_view.specs.Groups.{GroupValue, group_value}
 use Rattle.casebook_view.specs.Reasons.{cause_in, failing_in, reason_at}
@@ -27,6 +28,7 @@ use Rattle.casebook_json.specs.Lines.{line_data, line_with_reason, origin_in}
 use Rattle.casebook_json.specs.Restore.{added_in, removed_in, restoration_data}
 use Rattle.casebook_json.specs.Summary.{summary_data, summary_with}
 use Rattle.casebook_json.specs.Tell.{group_data, subject_path, subject_variable}
+use Rattle.casebook_json.specs.Unknown.{unknown_data}
 use Rattle.casebook_json.specs.Values.{number_or_null, path_data, user_data}
 
 number_depth : (n : Option ℕ) → depth (number_or_null n) ≡ 0
@@ -99,6 +101,9 @@ line_low : (r : RecordingValue) (reasons : List Reason) (line : ℕ × Fate)
     → depth (line_data r reasons line) ≤ 1
 line_low r reasons line = reasoned_low _ (reason_at line.0 reasons) line
 
+unknown_low : (line : UnknownLine) → depth (unknown_data line) ≤ 1
+unknown_low line = omega arith
+
 counts_low : (fates : List (ℕ × Fate)) → depth (counts_data fates) ≤ 1
 unfolding counts_data
 counts_low fates = omega arith
@@ -120,4 +125,6 @@ summary_low r summary restorations groups is_recording labels =
     let f =
     items_low (λ (g : Group). group_data labels (group_value g)) 2
     (λ g. group_low labels (group_value g)) groups in
-    omega (arith, a, b, c, d, e, f)
+    let g = items_low path_data 0 (λ p. omega arith) summary.doubtful.items in
+    let h = items_low unknown_data 1 unknown_low summary.unknown.items in
+    omega (arith, a, b, c, d, e, f, g, h)

@@ -5,6 +5,7 @@ use Rattle.serde_json.specs.Written.{has_float}
 use Rattle.retro_json.proofs.Floats.{array_float}
 use Rattle.retro_json.specs.Values.{number_data}
 use Rattle.retro_keep.specs.Recording.{RecordingValue}
+use Rattle.casebook_profile.specs.declared.unknown_line.UnknownLine.{UnknownLine}
 use Rattle.casebook_view.specs.Effects.{EffectValue, effect_value}
 use Rattle.casebook_view.specs.Groups.{GroupValue, group_value}
 use Rattle.casebook_view.specs.Reasons.{cause_in, failing_in, reason_at}
@@ -26,6 +27,7 @@ use Rattle.casebook_json.specs.Lines.{line_data, line_with_reason, origin_in}
 use Rattle.casebook_json.specs.Restore.{added_in, removed_in, restoration_data}
 use Rattle.casebook_json.specs.Summary.{summary_data, summary_with}
 use Rattle.casebook_json.specs.Tell.{group_data, subject_path, subject_variable}
+use Rattle.casebook_json.specs.Unknown.{unknown_data}
 use Rattle.casebook_json.specs.Values.{number_or_null, path_data, user_data}
 
 number_float : (n : Option ℕ) → has_float (number_or_null n) ≡ false
@@ -91,6 +93,9 @@ counts_float : (fates : List (ℕ × Fate)) → has_float (counts_data fates) �
 unfolding counts_data
 counts_float fates = refl
 
+unknown_float : (line : UnknownLine) → has_float (unknown_data line) ≡ false
+unknown_float line = refl
+
 pub summary_float : (r : RecordingValue) (summary : Summary) (restorations : List Restoration)
     (groups : List Group) (is_recording : Bool) (labels : Labels)
     → has_float (summary_data r summary restorations groups is_recording labels) ≡ false
@@ -99,10 +104,12 @@ summary_float r summary restorations groups is_recording labels = rw (
   array_float (λ (e : Effect). effect_data (effect_value e)) (λ e. effect_float (effect_value e))
       summary.effects.items,
   counts_float summary.fates.items,
+  array_float path_data (λ p. refl) summary.doubtful.items,
   array_float (leak_data labels) (leak_float labels) summary.leaks.items,
   array_float (line_data r summary.reasons.items) (line_float r summary.reasons.items)
       summary.fates.items,
   array_float restoration_data restoration_float restorations,
   array_float (λ (g : Group). group_data labels (group_value g))
       (λ g. group_float labels (group_value g)) groups,
+  array_float unknown_data unknown_float summary.unknown.items,
 ) refl

@@ -3,6 +3,8 @@ pub mod Counts
 pub mod Restore
 pub mod Tell
 pub mod Leaked
+pub mod Unknown
 pub mod Causes
 pub mod Lines
 pub mod Summary
+pub mod inner

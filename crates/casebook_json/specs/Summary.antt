@@ -16,21 +16,25 @@ use Rattle.casebook_json.specs.Leaked.{leak_data}
 use Rattle.casebook_json.specs.Lines.{line_data}
 use Rattle.casebook_json.specs.Restore.{restoration_data}
 use Rattle.casebook_json.specs.Tell.{group_data}
+use Rattle.casebook_json.specs.Unknown.{unknown_data}
+use Rattle.casebook_json.specs.Values.{path_data}
 
--- `{"causes":..,"counts":..,"leaked":..,"lines":..,"recording":..,"restore":..,"show":1,
--- "tell":..}`, with the keys in byte order, where these are the lines
+-- `{"causes":..,"counts":..,"doubtful":..,"leaked":..,"lines":..,"recording":..,"restore":..,
+-- "show":1,"tell":..,"unknown":..}`, with the keys in byte order, where these are the lines
 unfoldable pub summary_with : Data → Summary → List Restoration → List Group → Bool → Labels → Data
 summary_with lines summary restorations groups is_recording labels = object
     (member (codes "causes")
     (array_of (map (λ effect. effect_data (effect_value effect)) summary.effects.items))
     (member (codes "counts") (counts_data summary.fates.items)
+    (member (codes "doubtful") (array_of (map path_data summary.doubtful.items))
     (member (codes "leaked") (array_of (map (leak_data labels) summary.leaks.items))
     (member (codes "lines") lines
     (member (codes "recording") (boolean is_recording)
     (member (codes "restore") (array_of (map restoration_data restorations))
     (member (codes "show") (number_data 1)
     (member (codes "tell")
-    (array_of (map (λ group. group_data labels (group_value group)) groups)) no_members))))))))
+    (array_of (map (λ group. group_data labels (group_value group)) groups))
+    (member (codes "unknown") (array_of (map unknown_data summary.unknown.items)) no_members))))))))))
 
 abbrev pub lines_data : RecordingValue → Summary → Data
 lines_data r summary = array_of (map (line_data r summary.reasons.items) summary.fates.items)

@@ -12,8 +12,10 @@ mod effect_value;
 mod group_value;
 mod leak_value;
 mod line_value;
+mod parts;
 mod restoration_value;
 mod summary;
+mod unknown_value;
 mod value;
 
 pub use summary::summary_json;

@@ -8,19 +8,12 @@ ghost use Rattle.casebook_view.specs.Reasons.{number_in};
 ghost use Rattle.casebook_json.specs.Summary.{summary_data, summary_text, summary_with};
 
 use crate::NoMem;
-use crate::count_value::counts_value;
-use crate::effect_value::effect_values;
-use crate::group_value::group_values;
-use crate::leak_value::leak_values;
 use crate::line_value::line_values;
-use crate::restoration_value::restoration_values;
+use crate::parts::Parts;
 use casebook_screen::Sheet;
 use casebook_words::Labels;
-use serde_json::{Value, json};
+use serde_json::Value;
 use std::alloc::Global;
-
-/// The version of the document.
-const VERSION: u32 = 1;
 
 /// Returns the JSON value of what a repair would do, with these lines.
 #[tactic(auto, unfolding(crate::specs::Summary::summary_with))]
@@ -34,17 +27,8 @@ fn summary_with(
         sheet.entry.summary.now sheet.entry.restorations.now sheet.entry.groups.now
         sheet.entry.is_recording labels.now) }
 {
-    let summary = sheet.summary;
-    json!(in alloc; {
-        "causes": effect_values(alloc, summary.effects.as_slice())?,
-        "counts": counts_value(alloc, summary.fates.as_slice())?,
-        "leaked": leak_values(alloc, labels, summary.leaks.as_slice())?,
-        "lines": lines,
-        "recording": sheet.is_recording,
-        "restore": restoration_values(alloc, sheet.restorations)?,
-        "show": VERSION,
-        "tell": group_values(alloc, labels, sheet.groups)?
-    })
+    let parts = Parts::of(alloc, sheet, labels)?;
+    parts.document(alloc, lines, sheet.is_recording)
 }
 
 /// Returns the JSON value of what a repair would do.

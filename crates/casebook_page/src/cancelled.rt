@@ -3,7 +3,7 @@ use crate::NoMem;
 use crate::contents::Contents;
 use crate::html::Html;
 use crate::pair::push_output;
-use crate::shown::{push_command, push_fated_links, push_link, push_none, push_paths};
+use crate::shown::{push_command, push_fated_links, push_link, push_name, push_none, push_paths};
 use crate::tag::Tag;
 use casebook_view::Effect;
 use std::alloc::Global;
@@ -54,6 +54,21 @@ fn push_led(html: &mut Html, alloc: Global, effect: &Effect, most: usize) -> Res
     html.number(alloc, percent(effect.alike, most) as u64)?;
     html.fixed(Tag::BarEnd)?;
     html.count(alloc, count, "line")
+}
+
+/// Appends how many lines a line led to, or that it isn't known, if the line wasn't understood.
+fn push_known(
+    html: &mut Html,
+    alloc: Global,
+    contents: Contents<'_, '_>,
+    effect: &Effect,
+    most: usize,
+) -> Result<(), NoMem> {
+    if contents.obstacle_of(effect.number).is_none() {
+        return push_led(html, alloc, effect, most);
+    }
+    html.fixed(Tag::SignUnknown)?;
+    html.words(alloc, "what it did isn't known")
 }
 
 /// Appends how many bytes a cancelled line showed, unless it showed none.
@@ -127,10 +142,12 @@ fn push_effect(
 ) -> Result<(), NoMem> {
     html.fixed(Tag::Effect)?;
     push_link(html, alloc, effect.number)?;
-    html.fixed(Tag::RowCode)?;
+    html.fixed(Tag::EffectName)?;
+    push_name(html, alloc, contents, effect.number)?;
+    html.fixed(Tag::EffectCode)?;
     push_command(html, alloc, contents, effect.number)?;
     html.fixed(Tag::RowDetail)?;
-    push_led(html, alloc, effect, most)?;
+    push_known(html, alloc, contents, effect, most)?;
     push_leak(html, alloc, contents, effect.number)?;
     html.fixed(Tag::RowBody)?;
     push_inside(html, alloc, contents, effect)?;

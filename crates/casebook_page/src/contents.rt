@@ -1,5 +1,5 @@
 //! What a page shows.
-use casebook_view::{Case, LineRow, Summary};
+use casebook_view::{Case, LineRow, Obstacle, Summary};
 use casebook_words::Labels;
 
 /// What a page shows.
@@ -26,6 +26,23 @@ impl<'a> Contents<'a, '_> {
     pub(crate) fn line(&self, number: u32) -> Option<&'a LineRow<'a>> {
         match self.lines.binary_search_by_key(&number, |line| line.number) {
             Ok(index) => Some(&self.lines[index]),
+            Err(_) => None,
+        }
+    }
+
+    /// Returns the session of a line, or 0 if there is no such line.
+    pub(crate) fn session_of(&self, number: u32) -> u32 {
+        match self.line(number) {
+            Some(line) => line.session,
+            None => 0,
+        }
+    }
+
+    /// Returns why a line isn't understood, or `None` if it is.
+    pub(crate) fn obstacle_of(&self, number: u32) -> Option<Obstacle> {
+        let unknown = self.summary.unknown.as_slice();
+        match unknown.binary_search_by_key(&number, |line| line.number) {
+            Ok(index) => Some(unknown[index].obstacle),
             Err(_) => None,
         }
     }

@@ -15,6 +15,7 @@ use crate::row::Rows;
 use crate::sheet::Sheet;
 use crate::tag::Tag;
 use crate::tell::push_tell;
+use crate::unknown::push_unknown;
 use crate::why::whys;
 use std::alloc::Global;
 
@@ -24,6 +25,7 @@ fn front(contents: Contents<'_, '_>, rows: &Rows<'_, '_>) -> Result<Html, NoMem>
     let mut html = Html::new(alloc);
     push_head(&mut html, alloc, contents.title, rows.columns.len())?;
     push_lead(&mut html, alloc, contents, rows.columns.len())?;
+    push_unknown(&mut html, alloc, contents, rows.shows_untouched)?;
     push_overview(&mut html, alloc, contents, rows.columns)?;
     push_key(&mut html, alloc, contents)?;
     push_cancelled(&mut html, alloc, contents)?;

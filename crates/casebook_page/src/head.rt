@@ -3,6 +3,7 @@ use crate::NoMem;
 use crate::contents::Contents;
 use crate::html::Html;
 use crate::tag::Tag;
+use crate::unknown::push_unknown_link;
 use casebook_text::SafeLine;
 use casebook_view::Fate;
 use std::alloc::Global;
@@ -61,7 +62,8 @@ fn push_people(html: &mut Html, alloc: Global, contents: Contents<'_, '_>) -> Re
     html.fixed(Tag::StrongEnd)
 }
 
-/// Appends what the page rests on: how many lines the log has, and whether it is a recording.
+/// Appends what the page rests on: how many lines the log has, that they were played, and how many
+/// of them weren't understood.
 fn push_rests(
     html: &mut Html,
     alloc: Global,
@@ -72,13 +74,17 @@ fn push_rests(
     html.words(alloc, " of ")?;
     html.count(alloc, sessions, "session")?;
     if contents.is_recording {
-        html.words(alloc, ". The log is a recording: yes.")
+        html.words(
+            alloc,
+            ". Played in Retro's shell. Whether the machine did the same isn't known.",
+        )?;
     } else {
         html.words(
             alloc,
-            ". The log is a recording: no. All below is what its notes say.",
-        )
+            ". The log isn't a recording of its lines: all below is what its notes say.",
+        )?;
     }
+    push_unknown_link(html, alloc, contents)
 }
 
 /// Appends the page's first sentences: how many paths and screens differ, and what that rests on.

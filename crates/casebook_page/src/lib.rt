@@ -30,6 +30,7 @@ mod style;
 mod tag;
 mod tell;
 mod text_line;
+mod unknown;
 mod why;
 
 pub use contents::Contents;

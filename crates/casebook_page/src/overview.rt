@@ -32,19 +32,11 @@ fn push_tick(html: &mut Html, alloc: Global, place: u64, line: (u32, Fate)) -> R
     html.fixed(Tag::TickEnd)
 }
 
-/// Returns the session of a line, or 0 if there is no such line.
-pub(crate) fn session_of(contents: Contents<'_, '_>, number: u32) -> u32 {
-    match contents.line(number) {
-        Some(line) => line.session,
-        None => 0,
-    }
-}
-
 /// Returns the sessions of all lines, in order.
 fn sessions(alloc: Global, contents: Contents<'_, '_>) -> Result<Vec<u32>, NoMem> {
     let mut sessions = Vec::new(alloc);
     for line in &contents.summary.fates {
-        sessions.push(session_of(contents, line.0))?;
+        sessions.push(contents.session_of(line.0))?;
     }
     Ok(sessions)
 }

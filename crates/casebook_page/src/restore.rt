@@ -81,6 +81,11 @@ fn push_writer(
     Ok(())
 }
 
+/// Returns whether a line wrote a path that wasn't understood.
+fn is_doubtful(contents: Contents<'_, '_>, path: &Path) -> bool {
+    contents.summary.doubtful.binary_search(path).is_ok()
+}
+
 /// Appends the row of a path: how it differs, the first line that differs, and the diff.
 fn push_row(
     html: &mut Html,
@@ -98,6 +103,9 @@ fn push_row(
     html.fixed(Tag::RowDetail)?;
     push_kind(html, alloc, before.get(&path.path), after.get(&path.path))?;
     push_preview(html, alloc, &merged)?;
+    if is_doubtful(contents, &path.path) {
+        html.fixed(Tag::SignDoubtful)?;
+    }
     html.fixed(Tag::RowBody)?;
     push_writer(html, alloc, contents, &path.path)?;
     push_diff(html, alloc, &merged)?;

@@ -4,11 +4,12 @@ use crate::contents::Contents;
 use crate::html::Html;
 use crate::merged::Merged;
 use crate::pair::{push_output, push_pair};
-use crate::shown::{command_of, push_link, push_paths, push_shown_path};
+use crate::shown::{command_of, push_link, push_name, push_paths, push_shown_path};
 use crate::tag::Tag;
 use crate::tell::outputs_of;
 use casebook_text::SafeLine;
 use casebook_view::{Fate, LineRow, PathWrite, WriteKind, chain};
+use casebook_words::obstacle_text;
 use std::alloc::Global;
 use std::collections::BTreeMap;
 
@@ -82,10 +83,8 @@ fn push_writes(
 impl Rows<'_, '_> {
     /// Returns the column of a line.
     fn column_of(&self, number: u32) -> u32 {
-        match self.contents.line(number) {
-            Some(line) => self.columns.get(&line.session).copied().unwrap_or(0),
-            None => 0,
-        }
+        let session = self.contents.session_of(number);
+        self.columns.get(&session).copied().unwrap_or(0)
     }
 
     /// Appends the chain of lines that a line comes from, unless it is empty.
@@ -140,12 +139,34 @@ impl Rows<'_, '_> {
         push_pair(html, self.alloc, &merged)
     }
 
+    /// Appends which line an open row shows, and whose it is.
+    fn push_owner(&self, html: &mut Html, number: u32) -> Result<(), NoMem> {
+        html.fixed(Tag::Body)?;
+        html.number(self.alloc, u64::from(number))?;
+        html.fixed(Tag::BodyName)?;
+        push_name(html, self.alloc, self.contents, number)?;
+        html.fixed(Tag::BodyNameEnd)
+    }
+
+    /// Appends why a line isn't understood, unless it is.
+    fn push_obstacle(&self, html: &mut Html, number: u32) -> Result<(), NoMem> {
+        let Some(obstacle) = self.contents.obstacle_of(number) else {
+            return Ok(());
+        };
+        html.fixed(Tag::Paragraph)?;
+        html.fixed(Tag::SignUnknown)?;
+        html.words(self.alloc, "not understood: ")?;
+        html.words(self.alloc, obstacle_text(obstacle))?;
+        html.fixed(Tag::ParagraphEnd)
+    }
+
     /// Appends what the row of a line has inside.
     fn push_body(&self, html: &mut Html, number: u32, command: &Html) -> Result<(), NoMem> {
-        html.fixed(Tag::Body)?;
+        self.push_owner(html, number)?;
         html.fixed(Tag::Command)?;
         html.part(command)?;
         html.fixed(Tag::PreEnd)?;
+        self.push_obstacle(html, number)?;
         self.push_why(html, number)?;
         if let Some(row) = self.contents.line(number) {
             self.push_notes(html, row)?;
@@ -154,20 +175,31 @@ impl Rows<'_, '_> {
         html.fixed(Tag::BlockEnd)
     }
 
+    /// Appends what the closed row of a line shows: the line's number, its time, what its session
+    /// is called, and the command in that session's column.
+    fn push_closed(&self, html: &mut Html, line: (u32, Fate), command: &Html) -> Result<(), NoMem> {
+        html.number(self.alloc, u64::from(line.0))?;
+        html.fixed(Tag::LineTime)?;
+        let time = self.contents.labels.time_of(self.alloc, line.0)?;
+        html.shown(self.alloc, &time)?;
+        html.fixed(Tag::LineName)?;
+        push_name(html, self.alloc, self.contents, line.0)?;
+        html.fixed(Tag::LineColumn)?;
+        html.number(self.alloc, u64::from(self.column_of(line.0)))?;
+        html.fixed(sign_of(line.1))?;
+        if self.contents.obstacle_of(line.0).is_some() {
+            html.fixed(Tag::SignUnknown)?;
+        }
+        html.part(command)?;
+        html.fixed(Tag::LineEnd)
+    }
+
     /// Returns the row of a line but for its start.
     pub(crate) fn rest_of_row(&self, line: (u32, Fate)) -> Result<Html, NoMem> {
         let command = command_of(self.alloc, self.contents, line.0)?;
         let mut html = Html::new(self.alloc);
         html.fixed(class_of(line.1, self.contents.is_told(line.0)))?;
-        html.number(self.alloc, u64::from(line.0))?;
-        html.fixed(Tag::LineTime)?;
-        let time = self.contents.labels.time_of(self.alloc, line.0)?;
-        html.shown(self.alloc, &time)?;
-        html.fixed(Tag::LineColumn)?;
-        html.number(self.alloc, u64::from(self.column_of(line.0)))?;
-        html.fixed(sign_of(line.1))?;
-        html.part(&command)?;
-        html.fixed(Tag::LineEnd)?;
+        self.push_closed(&mut html, line, &command)?;
         self.push_body(&mut html, line.0, &command)?;
         html.fixed(Tag::DetailsEnd)?;
         Ok(html)

@@ -59,6 +59,18 @@ pub(crate) fn push_fated_links(
     Ok(())
 }
 
+/// Appends what the session of a line is called.
+pub(crate) fn push_name(
+    html: &mut Html,
+    alloc: Global,
+    contents: Contents<'_, '_>,
+    number: u32,
+) -> Result<(), NoMem> {
+    let session = contents.session_of(number);
+    let name = contents.labels.name_of(alloc, session)?;
+    html.shown(alloc, &name)
+}
+
 /// Appends the text of a line.
 pub(crate) fn push_command(
     html: &mut Html,

@@ -38,6 +38,22 @@ pub enum Tag {
     Strong,
     /// The end of a strong text.
     StrongEnd,
+    /// The start of the block of lines that weren't understood.
+    Unknown,
+    /// What comes before the lines of that block by their obstacles.
+    UnknownList,
+    /// The start of the lines with an obstacle.
+    UnknownRow,
+    /// The end of that.
+    UnknownRowEnd,
+    /// The end of the block of lines that weren't understood.
+    UnknownEnd,
+    /// The start of a link to that block.
+    UnknownLink,
+    /// The sign of a line that wasn't understood.
+    SignUnknown,
+    /// The sign of a path that a line wrote which wasn't understood.
+    SignDoubtful,
     /// The overview.
     Map,
     /// The end of a block.
@@ -130,8 +146,10 @@ pub enum Tag {
     Subject,
     /// What comes after how often something was seen.
     Times,
-    /// What comes before a row's text.
-    RowCode,
+    /// What comes before the name of a cancelled line's session.
+    EffectName,
+    /// What comes before a cancelled line.
+    EffectCode,
     /// What comes after a row's text.
     RowDetail,
     /// The end of what a closed row shows.
@@ -194,6 +212,8 @@ pub enum Tag {
     LineUntouched,
     /// What comes before a line's time.
     LineTime,
+    /// What comes before the name of a line's session.
+    LineName,
     /// What comes before a line's column.
     LineColumn,
     /// The sign of a cancelled line.
@@ -208,8 +228,12 @@ pub enum Tag {
     SignUntouched,
     /// The end of what the closed row of a line shows.
     LineEnd,
-    /// What the row of a line has inside.
+    /// What the row of a line has inside, up to the line's number.
     Body,
+    /// What comes before the name of an open row's session.
+    BodyName,
+    /// The end of that.
+    BodyNameEnd,
     /// Folded lines.
     Fold,
     /// The end of what a fold shows.
@@ -243,6 +267,15 @@ impl Tag {
             Tag::ParagraphEnd => "</p>",
             Tag::Strong => "<strong>",
             Tag::StrongEnd => "</strong>",
+            Tag::Unknown => "<section class=doubt id=unknown><p><i class=q>?</i> ",
+            Tag::UnknownList => "</p><ul>",
+            Tag::UnknownRow => "<li>",
+            Tag::UnknownRowEnd => "</li>",
+            Tag::UnknownEnd => "</ul></section>",
+            Tag::UnknownLink => " <a class=q href=#unknown>? ",
+            Tag::SignUnknown => "<i class=q title=\"not understood\">?</i> ",
+            Tag::SignDoubtful =>
+                " <i class=q title=\"written by a line that wasn't understood\">?</i>",
             Tag::Map => "<div class=map>",
             Tag::BlockEnd => "</div>",
             Tag::Span => "<span>",
@@ -294,7 +327,8 @@ impl Tag {
             Tag::Removed => "<details class=\"f remove\"><summary><i>D</i><code>",
             Tag::Subject => "<details class=f><summary><i>",
             Tag::Times => "&times;</i><code>",
-            Tag::RowCode => "</i><code>",
+            Tag::EffectName => "</i> <b class=who>",
+            Tag::EffectCode => "</b> <code>",
             Tag::RowDetail => "</code><span>",
             Tag::RowBody => "</span></summary>",
             Tag::DetailsEnd => "</details>\n",
@@ -325,15 +359,18 @@ impl Tag {
             Tag::LineAlike => " class=\"l s\"><summary><b>",
             Tag::LineKept => " class=\"l k\"><summary><b>",
             Tag::LineUntouched => " class=\"l u\"><summary><b>",
-            Tag::LineTime => "</b><time>",
-            Tag::LineColumn => "</time><code style=\"--i:",
+            Tag::LineTime => "</b> <time>",
+            Tag::LineName => "</time> <b class=who>",
+            Tag::LineColumn => "</b> <code style=\"--i:",
             Tag::SignCancelled => "\" title=\"cancelled\"><i>&#10005;</i>",
             Tag::SignChanged => "\" title=\"run again, another result\"><i>&#8635;</i>",
             Tag::SignAlike => "\" title=\"run again, the same result\"><i>=</i>",
             Tag::SignKept => "\" title=\"met, kept as recorded\"><i>&asymp;</i>",
             Tag::SignUntouched => "\" title=\"untouched\"><i>&middot;</i>",
             Tag::LineEnd => "</code></summary>",
-            Tag::Body => "<div class=b>",
+            Tag::Body => "<div class=b><p class=io>line ",
+            Tag::BodyName => ", session <b class=who>",
+            Tag::BodyNameEnd => "</b></p>",
             Tag::Fold => "<details class=fold><summary>",
             Tag::FoldEnd => "</summary>",
             Tag::Arrow => " &larr; ",

@@ -60,6 +60,7 @@ fn page_of_case(alloc: Global, case: &Case<'_>, given: Given<'_>) -> Result<Stri
         tests: Vec::new(alloc),
         text: None,
         shown: None,
+        is_unknown: false,
     };
     let lines = rows(alloc, case.recording(), &mut filters)?;
     let labels = labels_of(alloc, given.names)?;

@@ -73,7 +73,7 @@ const ELEMENTS: [&str; 41] = [
 ];
 
 /// Parts of the page, and how often each is in it: harm as itself, and as it is shown.
-const PARTS: [(&str, usize); 17] = [
+const PARTS: [(&str, usize); 19] = [
     ("<script", 1),
     ("</script", 1),
     ("<style", 1),
@@ -95,6 +95,11 @@ const PARTS: [(&str, usize); 17] = [
         "<h3>&quot;&gt;&lt;script&gt;alert(3)&lt;/script&gt;</h3>",
         1,
     ),
+    (
+        "<b class=who>&quot;&gt;&lt;script&gt;alert(3)&lt;/script&gt;</b>",
+        8,
+    ),
+    ("<b class=who>⟨U+202E⟩&lt;/span&gt;&amp;⟨U+001B⟩]</b>", 12),
     ("<code>/d/⟨U+202E⟩gnp.⟨U+001B⟩[31m</code>", 2),
     ("⟨FE⟩⟨FF⟩", 4),
 ];

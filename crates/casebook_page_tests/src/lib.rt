@@ -16,3 +16,5 @@ mod market;
 mod policy;
 #[cfg(test)]
 mod reading;
+#[cfg(test)]
+mod unknown;

@@ -11,7 +11,8 @@ const MANY: u32 = 5_001;
 /// repaired run the 100 lines and a diagnostic; both are shown twice, in halves of 32 lines. Line 4
 /// prints the 100 lines alone. Line 3 prints `first` and a line of 9,000 bytes, and in the repaired
 /// run that line with a diagnostic of 33 bytes at its end; 4,096 bytes of it are shown, once each.
-const CUT: [(&str, usize); 9] = [
+/// Sessions without a name are called by their numbers.
+const CUT: [(&str, usize); 11] = [
     ("<u>.. 37 lines, 296 bytes left out ..</u>\n", 4),
     ("<u>.. 36 lines, 288 bytes left out ..</u>\n", 1),
     ("left out", 5),
@@ -24,6 +25,8 @@ const CUT: [(&str, usize); 9] = [
         1,
     ),
     ("x<u> .. 4937 more bytes in this line</u></ins>\n", 1),
+    ("<p class=io>line 1, session <b class=who>2</b></p>", 1),
+    ("<p class=io>line 3, session <b class=who>1</b></p>", 1),
 ];
 
 /// Parts of the page of a log of 5,001 lines, of which the first is cancelled and the others are

@@ -54,11 +54,11 @@ pub(crate) const NAMES: [(u32, &str); 3] = [(1, "alice"), (2, "bob"), (3, "mallo
 
 /// The rows of cancelled lines.
 const CANCELLED_ROWS: &str = "\
-3 echo apple 1 &gt; /srv/prices 4 lines
-6 echo Bob: see /tmp/offer &gt;&gt; /etc/motd 2 lines
-9 echo free apples &gt; /tmp/offer 1 line
-13 &gt; /home/alice/notes 2 lines
-18 cat /home/bob/report 8 bytes seen
+3 mallory echo apple 1 &gt; /srv/prices 4 lines
+6 mallory echo Bob: see /tmp/offer &gt;&gt; /etc/motd 2 lines
+9 mallory echo free apples &gt; /tmp/offer 1 line
+13 mallory &gt; /home/alice/notes 2 lines
+18 mallory cat /home/bob/report 8 bytes seen
 ";
 
 /// The rows of paths to restore.
@@ -84,30 +84,31 @@ const TELL_ROWS: &str = "\
 
 /// The rows of lines.
 const LINE_ROWS: &str = "\
-1 &middot; cat /etc/motd
-2 &middot; echo plum 5 &gt;&gt; /srv/prices
-3 &#10005; echo apple 1 &gt; /srv/prices
-4 &#8635; cat /srv/prices &gt; report; cat report
-5 &middot; echo remember the pears &gt; notes
-6 &#10005; echo Bob: see /tmp/offer &gt;&gt; /etc/motd
-7 &#8635; cat /etc/motd
-8 &asymp; echo fig 7 &gt;&gt; /srv/prices
-9 &#10005; echo free apples &gt; /tmp/offer
-10 &#8635; cat /tmp/offer
-11 &#8635; cat /srv/prices
-12 &middot; echo order more figs &gt;&gt; notes
-13 &#10005; &gt; /home/alice/notes
-14 &#8635; cat notes
-15 &#8635; echo call Bob &gt;&gt; notes; cat notes
-16 &#8635; cat report /srv/prices &gt; /srv/summary
-17 &#8635; cat /srv/summary
-18 &#10005; cat /home/bob/report
-19 &middot; cat none; echo looked
-20 &#8635; cat /etc/motd notes
+1 alice &middot; cat /etc/motd
+2 alice &middot; echo plum 5 &gt;&gt; /srv/prices
+3 mallory &#10005; echo apple 1 &gt; /srv/prices
+4 bob &#8635; cat /srv/prices &gt; report; cat report
+5 alice &middot; echo remember the pears &gt; notes
+6 mallory &#10005; echo Bob: see /tmp/offer &gt;&gt; /etc/motd
+7 bob &#8635; cat /etc/motd
+8 bob &asymp; echo fig 7 &gt;&gt; /srv/prices
+9 mallory &#10005; echo free apples &gt; /tmp/offer
+10 bob &#8635; cat /tmp/offer
+11 alice &#8635; cat /srv/prices
+12 alice &middot; echo order more figs &gt;&gt; notes
+13 mallory &#10005; &gt; /home/alice/notes
+14 alice &#8635; cat notes
+15 alice &#8635; echo call Bob &gt;&gt; notes; cat notes
+16 bob &#8635; cat report /srv/prices &gt; /srv/summary
+17 alice &#8635; cat /srv/summary
+18 mallory &#10005; cat /home/bob/report
+19 bob &middot; cat none; echo looked
+20 alice &#8635; cat /etc/motd notes
 ";
 
-/// Parts of the page, and how often each is in it.
-const PARTS: [(&str, usize); 24] = [
+/// Parts of the page, and how often each is in it. Alice has 9 lines, Bob 6 and Mallory 5, each with
+/// a name in the closed and in the open row, and Mallory's also among the cancelled ones.
+const PARTS: [(&str, usize); 30] = [
     ("<title>The market</title>", 1),
     ("<h1>The market</h1>", 1),
     (
@@ -119,7 +120,7 @@ const PARTS: [(&str, usize); 24] = [
         1,
     ),
     (
-        "20 lines of 3 sessions. The log is a recording: yes.</p>",
+        "20 lines of 3 sessions. Played in Retro&#39;s shell. Whether the machine did the same isn&#39;t known.</p>",
         1,
     ),
     ("<i>&#10005;</i>5 cancelled</label>", 1),
@@ -151,6 +152,15 @@ const PARTS: [(&str, usize); 24] = [
         1,
     ),
     ("<pre>\n<u>nothing</u></pre>", 2),
+    (
+        "<p class=io>line 3, session <b class=who>mallory</b></p>",
+        1,
+    ),
+    ("<p class=io>line 4, session <b class=who>bob</b></p>", 1),
+    ("<p class=io>line 20, session <b class=who>alice</b></p>", 1),
+    ("<b class=who>alice</b>", 18),
+    ("<b class=who>bob</b>", 12),
+    ("<b class=who>mallory</b>", 15),
 ];
 
 /// Returns the market without some of its lines.

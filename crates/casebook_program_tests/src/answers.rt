@@ -17,7 +17,9 @@ const TABLE: &str = "1\t\t2\t2\techo fig > /f\t\t+/f\t>/f\n";
 
 /// What would be without the first line.
 const SHOWN: &str = "2 lines of 2 sessions. 1 cancelled.
-The log is a recording: yes.
+Played in Retro's shell. Whether the machine did the same isn't known.
+
+Every line was understood.
 
       1 cancelled
       1 run again, another result
@@ -79,7 +81,9 @@ fn lines_are_shown(rt: HostRuntime) -> Result<(), Fail> {
 fn lines_are_tabulated(rt: HostRuntime) -> Result<(), Fail> {
     hold(&rt, "lines log --writes / --format tsv", TABLE)?;
     hold(&rt, "lines log --touches /f --format numbers", "1,2\n")?;
-    hold(&rt, "lines log --touches /g/ --format numbers", "\n")
+    hold(&rt, "lines log --touches /g/ --format numbers", "\n")?;
+    hold(&rt, "lines log --unknown --format numbers", "\n")?;
+    hold(&rt, "lines odd --unknown --format numbers", "1\n")
 }
 
 #[test]

@@ -21,6 +21,11 @@ const FORGED: &str = r#"{"from":1,"lines":[
 [2,1,"cat /f",[["bytes","/f",["f","706c756d0a"]],["setstatus",0]],"706c756d0a"]],
 "log":2,"sessions":[[1,"/",0,[]],[2,"/",0,[]]],"tree":[]}"#;
 
+/// A log of two lines, of which the first one isn't understood.
+const ODD: &str = r#"{"from":1,"lines":[
+[1,1,"ls",[["setstatus",127]],"73683a206c733a206e6f7420666f756e640a"],[2,1,"echo a",[["setstatus",0]],"610a"]],
+"log":2,"sessions":[[1,"/",0,[]]],"tree":[]}"#;
+
 /// The documents that there are.
 #[derive(Clone, Copy, Drop)]
 pub(crate) struct Memory;
@@ -30,6 +35,7 @@ fn bytes_of(name: &str) -> Option<&'static [u8]> {
     match name {
         "log" | "-" | "\u{1B}[2J" => Some(LOG.as_bytes()),
         "forged" => Some(FORGED.as_bytes()),
+        "odd" => Some(ODD.as_bytes()),
         "about" => Some(
             br#"{"about":1,"sessions":[[1,"ann"],[2,"guest"]],"lines":[[1,1746528600],[2,1746528720]]}"#,
         ),

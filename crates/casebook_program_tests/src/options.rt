@@ -37,7 +37,7 @@ const ROUNDS: [&str; 4] = [
 
 /// The repair without line 1, for programs.
 const JSON: &str =
-    r#"{"causes":[{"alike":0,"changed":1,"line":1,"paths":["/f"]}],"counts":{"alike":0,"cancelled":1,"changed":1,"kept":0,"untouched":0},"leaked":[],"lines":[{"because_of":null,"fate":"cancelled","line":1,"note":null,"origin":null,"session":2},{"because_of":1,"fate":"changed","line":2,"note":0,"origin":1,"session":1}],"recording":true,"restore":[{"added":0,"change":"removed","extent":"lines","path":"/f","removed":1}],"show":1,"tell":[{"about":"path","lines":[2],"path":"/f","session":1,"user":null,"variable":null}]}
+    r#"{"causes":[{"alike":0,"changed":1,"line":1,"paths":["/f"]}],"counts":{"alike":0,"cancelled":1,"changed":1,"kept":0,"untouched":0},"doubtful":[],"leaked":[],"lines":[{"because_of":null,"fate":"cancelled","line":1,"note":null,"origin":null,"session":2},{"because_of":1,"fate":"changed","line":2,"note":0,"origin":1,"session":1}],"recording":true,"restore":[{"added":0,"change":"removed","extent":"lines","path":"/f","removed":1}],"show":1,"tell":[{"about":"path","lines":[2],"path":"/f","session":1,"user":null,"variable":null}],"unknown":[]}
 "#;
 
 /// Lines of a repair on a terminal that has colours: a head, a line that goes, one that comes, and

@@ -2,14 +2,12 @@
 use Rattle.std.proofs.Common.{◌≡◌, List, [], ◌∷◌, ◌++◌, ap, map, refl, ◌∙◌}
 use Rattle.std.proofs.lemmas.List.{append_assoc}
 
--- a head and three parts, appended one after another
-pub four_parts : {A : Type 0} (old one two three four : List A) (head : A) (a b c : List A)
-    → one ≡ old ++ head ∷ [] → two ≡ one ++ a → three ≡ two ++ b → four ≡ three ++ c
-    → four ≡ old ++ (head ∷ (a ++ b ++ c))
-four_parts old one two three four head a b c first second third fourth =
-    fourth ∙ ap (λ t. t ++ c) (third ∙ ap (λ t. t ++ b) (second ∙ ap (λ t. t ++ a) first))
-    ∙ ap (λ t. t ++ c) (ap (λ t. t ++ b) (append_assoc old (head ∷ []) a) ∙ append_assoc old (head ∷ a) b)
-    ∙ append_assoc old (head ∷ (a ++ b)) c
+-- a head and two parts, appended one after another
+pub three_parts : {A : Type 0} (old one two three : List A) (head : A) (a b : List A)
+    → one ≡ old ++ head ∷ [] → two ≡ one ++ a → three ≡ two ++ b → three ≡ old ++ (head ∷ (a ++ b))
+three_parts old one two three head a b first second third =
+    third ∙ ap (λ t. t ++ b) (second ∙ ap (λ t. t ++ a) first)
+    ∙ ap (λ t. t ++ b) (append_assoc old (head ∷ []) a) ∙ append_assoc old (head ∷ a) b
 
 -- three pieces, appended one after another
 pub three_pieces : {A : Type 0} (old one two three a b c : List A)

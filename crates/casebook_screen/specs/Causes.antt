@@ -1,10 +1,12 @@
 -- What cancelled and replaced lines led to, as a summary shows it.
-use Rattle.std.specs.Prelude.{ℕ, List, [], ◌∷◌, ◌++◌, codes, decimal, encode_utf8, flat_map, length, map}
+use Rattle.std.specs.Prelude.{ℕ, Bool, true, false, List, [], ◌∷◌, ◌++◌, codes, decimal, encode_utf8, flat_map, length, map}
 use Rattle.std.specs.Prelude.{if◌then◌else◌, nat_le, take}
 use Rattle.retro_keep.specs.Recording.{RecordingValue}
 use Rattle.retro_tree.specs.Path.{PathValue}
 use Rattle.casebook_text.specs.SafeLine.{ellipsis}
+use Rattle.casebook_profile.specs.declared.unknown_line.UnknownLine.{UnknownLine}
 use Rattle.casebook_view.specs.Effects.{EffectValue}
+use Rattle.casebook_view.specs.Unknown.{is_unknown}
 use Rattle.casebook_screen.specs.Layout.{count_width, left_aligned, right_aligned}
 use Rattle.casebook_screen.specs.LineTexts.{text_limit, text_of_line}
 use Rattle.casebook_screen.specs.RowTexts.{read_piece}
@@ -30,13 +32,18 @@ abbrev pub done_text : List ℕ → List PathValue → List ℕ
 done_text text [] = text
 done_text text (p ∷ paths) = left_aligned text_width text ++ codes " " ++ first_paths (p ∷ paths)
 
+-- a count, or a question mark if the line isn't understood
+abbrev pub led_words : Bool → ℕ → List ℕ
+led_words true count = codes "?"
+led_words false count = decimal count
+
 -- the number of the line, how many lines it led to that have another result and that are run again
 -- alike, and what it did
-unfoldable pub effect_text : RecordingValue → EffectValue → List ℕ
-effect_text r effect =
+unfoldable pub effect_text : RecordingValue → Bool → EffectValue → List ℕ
+effect_text r unknown effect =
     right_aligned count_width (decimal effect.number)
-    ++ right_aligned led_width (decimal effect.changed)
-    ++ right_aligned led_width (decimal effect.alike)
+    ++ right_aligned led_width (led_words unknown effect.changed)
+    ++ right_aligned led_width (led_words unknown effect.alike)
     ++ codes "  " ++ done_text (text_of_line text_limit r effect.number) effect.wrote
 
 unfoldable pub effects_head : List ℕ
@@ -44,6 +51,10 @@ effects_head =
     codes "CAUSES  what each cancelled line led to: lines with another result, "
     ++ codes "run again alike, paths it wrote"
 
+-- the same, given the lines that aren't understood
+abbrev pub effect_among : RecordingValue → List UnknownLine → EffectValue → List ℕ
+effect_among r unknown effect = effect_text r (is_unknown unknown effect.number) effect
+
 -- an empty line, a head, and each of the lines
-abbrev pub effect_lines : RecordingValue → List EffectValue → List (List ℕ)
-effect_lines r effects = [] ∷ effects_head ∷ map (effect_text r) effects
+abbrev pub effect_lines : RecordingValue → List UnknownLine → List EffectValue → List (List ℕ)
+effect_lines r unknown effects = [] ∷ effects_head ∷ map (effect_among r unknown) effects

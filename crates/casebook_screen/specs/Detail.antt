@@ -1,6 +1,8 @@
 -- One line in full, as a terminal shows it.
 use Rattle.std.specs.Prelude.{ℕ, ◌==◌, List, [], ◌∷◌, ◌++◌, Option, Some, None, codes, decimal, map, replicate}
+use Rattle.std.specs.Prelude.{option_map}
 use Rattle.std.specs.List.{find}
+use Rattle.casebook_usage.specs.declared.obstacle.Obstacle.{Obstacle}
 use Rattle.retro_keep.specs.Recording.{RecordingValue, noted_at}
 use Rattle.retro_keep.specs.declared.noted.Noted.{Noted}
 use Rattle.retro_redo.specs.declared.repair.Repair.{Repair}
@@ -15,7 +17,7 @@ use Rattle.casebook_words.specs.Words.{note_words}
 use Rattle.casebook_words.specs.declared.labels.Labels.{Labels}
 use Rattle.casebook_screen.specs.Counts.{fate_words}
 use Rattle.casebook_screen.specs.Layout.{SPACE, count_width, left_aligned, right_aligned}
-use Rattle.casebook_screen.specs.RowTexts.{indent, time_column}
+use Rattle.casebook_screen.specs.RowTexts.{indent, obstacle_lines, time_column}
 use Rattle.casebook_screen.specs.Why.{reason_text}
 
 -- number, time, name of the session and text
@@ -68,10 +70,16 @@ lines_of_runs repair reason n noted =
 
 -- ---- the line
 
+-- why the line with a number isn't understood, or None if it is
+abbrev pub obstacle_found : Summary → ℕ → Option Obstacle
+obstacle_found summary n =
+    option_map (λ line. line.obstacle) (find (λ line. line.number == n) summary.unknown.items)
+
 abbrev pub lines_of_detail : RecordingValue → Repair → Summary → Labels → ℕ → ℕ → Noted → List (List ℕ)
 lines_of_detail r repair summary labels width n noted =
     detail_head labels width n noted
-    ∷ (outcome_lines r repair summary n ++ lines_of_runs repair (reason_found summary n) n noted)
+    ∷ (obstacle_lines (obstacle_found summary n)
+    ++ outcome_lines r repair summary n ++ lines_of_runs repair (reason_found summary n) n noted)
 
 -- the line with a number, or nothing if there is none
 abbrev pub detail_if : RecordingValue → Repair → Summary → Labels → ℕ → ℕ → Option Noted → List (List ℕ)

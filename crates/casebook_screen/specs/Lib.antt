@@ -5,6 +5,7 @@ pub mod Counts
 pub mod LineTexts
 pub mod Leaks
 pub mod Causes
+pub mod Unknown
 pub mod Restorations
 pub mod Notices
 pub mod Summary

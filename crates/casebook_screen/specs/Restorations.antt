@@ -2,6 +2,7 @@
 use Rattle.std.specs.Prelude.{◌≡◌, ℕ, Bool, List, [], ◌∷◌, ◌++◌, chars, codes, count_by, decimal, length, map, max}
 use Rattle.std.specs.Prelude.{Option, Some, None, true, false}
 use Rattle.std.specs.FinMap as map_of
+use Rattle.std.specs.List.{list_any}
 use Rattle.casebook_cause.specs.declared.changed_path.ChangedPath.{ChangedPath}
 use Rattle.casebook_cause.specs.declared.changed_path.PathChange.{PathChange}
 use Rattle.casebook_cause.specs.declared.changed_path.PathChange.TheVariants.{Added, Removed, Modified}
@@ -9,6 +10,7 @@ use Rattle.casebook_text.specs.Diff.{in_new, in_old, marked}
 use Rattle.casebook_text.specs.Hunks.{Marked, count_in}
 use Rattle.casebook_words.specs.FileLines.{is_added, is_removed, lines_at}
 use Rattle.casebook_words.specs.Words.{path_words}
+use Rattle.retro_tree.specs.Order.{path_eq}
 use Rattle.retro_tree.specs.Path.{PathValue}
 use Rattle.retro_tree.specs.Tree.{Tree}
 use Rattle.retro_tree.specs.declared.entry.Entry.{Entry}
@@ -84,9 +86,14 @@ extent_words (Lines counts) =
     codes "+" ++ decimal counts.added ++ codes " -" ++ decimal counts.removed
 
 unfoldable pub change_sign : PathChange → List ℕ
-change_sign Added = codes "  A "
-change_sign Removed = codes "  D "
-change_sign Modified = codes "  M "
+change_sign Added = codes "A "
+change_sign Removed = codes "D "
+change_sign Modified = codes "M "
+
+-- a question mark before a doubtful path: a line wrote to it that isn't understood
+unfoldable pub doubt_sign : Bool → List ℕ
+doubt_sign true = codes "? "
+doubt_sign false = codes "  "
 
 -- the width of a path, and of the widest one
 abbrev pub path_width : Restoration → ℕ
@@ -96,10 +103,10 @@ abbrev pub widest : List Restoration → ℕ
 widest [] = 0
 widest (r ∷ rs) = max (path_width r) (widest rs)
 
--- how a path is restored, the path, and how much of it
-unfoldable pub restoration_text : ℕ → Restoration → List ℕ
-restoration_text width r =
-    change_sign r.change ++ left_aligned width (path_words r.path) ++ codes "  "
+-- whether a path is doubtful, how it is restored, the path, and how much of it
+unfoldable pub restoration_text : ℕ → Bool → Restoration → List ℕ
+restoration_text width doubtful r =
+    doubt_sign doubtful ++ change_sign r.change ++ left_aligned width (path_words r.path) ++ codes "  "
     ++ extent_words r.extent
 
 abbrev pub change_eq : PathChange → PathChange → Bool
@@ -118,6 +125,23 @@ restorations_head rs =
     ++ decimal (count_changed rs Added) ++ codes " come back, "
     ++ decimal (count_changed rs Removed) ++ codes " go"
 
--- an empty line, how many paths there are, and each of them
-abbrev pub restoration_lines : List Restoration → List (List ℕ)
-restoration_lines rs = [] ∷ restorations_head rs ∷ map (restoration_text (widest rs)) rs
+-- whether a path is among doubtful ones
+abbrev pub is_doubtful : List PathValue → PathValue → Bool
+is_doubtful doubtful path = list_any (λ other. path_eq other path) doubtful
+
+abbrev pub restoration_among : ℕ → List PathValue → Restoration → List ℕ
+restoration_among width doubtful r = restoration_text width (is_doubtful doubtful r.path) r
+
+-- what question marks say, if there are any
+unfoldable pub doubt_text : List ℕ
+doubt_text = codes "  ? written by a line that wasn't understood"
+
+abbrev pub doubt_lines : List PathValue → List (List ℕ)
+doubt_lines [] = []
+doubt_lines (path ∷ doubtful) = doubt_text ∷ []
+
+-- an empty line, how many paths there are, each of them, and what question marks say
+abbrev pub restoration_lines : List PathValue → List Restoration → List (List ℕ)
+restoration_lines doubtful rs =
+    [] ∷ restorations_head rs
+    ∷ (map (restoration_among (widest rs) doubtful) rs ++ doubt_lines doubtful)

@@ -1,5 +1,7 @@
 -- Rows of a recording as a terminal shows them.
-use Rattle.std.specs.Prelude.{ℕ, List, [], ◌∷◌, ◌++◌, codes, decimal, flat_map, length, replicate}
+use Rattle.std.specs.Prelude.{ℕ, Bool, true, false, List, [], ◌∷◌, ◌++◌, codes, decimal, flat_map, length, replicate}
+use Rattle.std.specs.Prelude.{Option, Some, None, is_some}
+use Rattle.std.specs.List.{list_any}
 use Rattle.retro_tree.specs.Path.{PathValue}
 use Rattle.casebook_text.specs.SafeLine.{safe_bytes}
 use Rattle.casebook_screen.specs.Fields.{write_field}
@@ -7,7 +9,9 @@ use Rattle.casebook_screen.specs.Layout.{SPACE, left_aligned, right_aligned}
 use Rattle.casebook_view.specs.Rows.{RowValue}
 use Rattle.casebook_view.specs.declared.path_write.PathWrite.{PathWrite}
 use Rattle.casebook_words.specs.Cut.{cut_words, first_text}
+use Rattle.casebook_usage.specs.declared.obstacle.Obstacle.{Obstacle}
 use Rattle.casebook_words.specs.Labels.{name_words, time_words}
+use Rattle.casebook_words.specs.Obstacles.{obstacle_text}
 use Rattle.casebook_words.specs.Words.{path_words}
 use Rattle.casebook_words.specs.declared.labels.Labels.{Labels}
 
@@ -27,10 +31,24 @@ abbrev pub time_column : List ℕ → List ℕ
 time_column [] = []
 time_column (b ∷ time) = codes " " ++ (b ∷ time)
 
--- number, time, name of the session and text
-abbrev pub head_text : Labels → ℕ → RowValue → List ℕ
-head_text labels width row =
+-- whether some row is that of a line that isn't understood
+abbrev pub has_unknown : List RowValue → Bool
+has_unknown rows = list_any (λ row. is_some row.obstacle) rows
+
+-- a question mark if the line isn't understood, in a column that is there only if some line isn't
+abbrev pub mark_in : Option Obstacle → List ℕ
+mark_in None = codes "  "
+mark_in (Some obstacle) = codes " ?"
+
+abbrev pub mark_column : Bool → Option Obstacle → List ℕ
+mark_column false obstacle = []
+mark_column true obstacle = mark_in obstacle
+
+-- number, question mark, time, name of the session and text
+abbrev pub head_text : Labels → ℕ → Bool → RowValue → List ℕ
+head_text labels width marked row =
     right_aligned number_width (decimal row.number)
+    ++ mark_column marked row.obstacle
     ++ time_column (time_words row.number labels)
     ++ codes " "
     ++ left_aligned width (name_words row.session labels)
@@ -55,6 +73,14 @@ shown_text output =
     indent ++ codes "shown " ++ decimal (length output) ++ codes " bytes: "
     ++ cut_words shown_limit (first_text output)
 
+-- why a line isn't understood
+abbrev pub obstacle_line : Obstacle → List ℕ
+obstacle_line obstacle = indent ++ codes "unknown: " ++ obstacle_text obstacle
+
+abbrev pub obstacle_lines : Option Obstacle → List (List ℕ)
+obstacle_lines None = []
+obstacle_lines (Some obstacle) = obstacle_line obstacle ∷ []
+
 -- a line for each kind of thing that the line did
 abbrev pub read_lines : List PathValue → List (List ℕ)
 read_lines [] = []
@@ -68,6 +94,13 @@ abbrev pub shown_lines : List ℕ → List (List ℕ)
 shown_lines [] = []
 shown_lines (b ∷ output) = shown_text (b ∷ output) ∷ []
 
-abbrev pub lines_of_row : Labels → ℕ → RowValue → List (List ℕ)
-lines_of_row labels width row =
-    head_text labels width row ∷ (read_lines row.read ++ wrote_lines row.wrote ++ shown_lines row.output)
+abbrev pub lines_below : RowValue → List (List ℕ)
+lines_below row = read_lines row.read ++ wrote_lines row.wrote ++ shown_lines row.output
+
+abbrev pub lines_of_row : Labels → ℕ → Bool → RowValue → List (List ℕ)
+lines_of_row labels width marked row =
+    head_text labels width marked row ∷ (obstacle_lines row.obstacle ++ lines_below row)
+
+-- all rows, with a column of question marks if some line isn't understood
+abbrev pub lines_of_rows : Labels → ℕ → List RowValue → List (List ℕ)
+lines_of_rows labels width rows = flat_map (lines_of_row labels width (has_unknown rows)) rows

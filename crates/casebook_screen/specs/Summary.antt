@@ -18,6 +18,7 @@ use Rattle.casebook_screen.specs.Counts.{count_lines, count_of}
 use Rattle.casebook_screen.specs.Leaks.{leak_lines}
 use Rattle.casebook_screen.specs.Notices.{notice_lines}
 use Rattle.casebook_screen.specs.Restorations.{restoration_lines}
+use Rattle.casebook_screen.specs.Unknown.{unknown_lines}
 use Rattle.casebook_view.specs.declared.group.Group.{Group}
 use Rattle.casebook_screen.specs.declared.restoration.Restoration.{Restoration}
 
@@ -49,22 +50,23 @@ head_text r labels fates =
     ++ codes ". " ++ decimal (count_of fates Cancelled) ++ codes " cancelled."
 
 unfoldable pub basis_text : Bool → List ℕ
-basis_text true = codes "The log is a recording: yes."
-basis_text false = codes "The log is a recording: no. All below is what its notes say."
+basis_text true = codes "Played in Retro's shell. Whether the machine did the same isn't known."
+basis_text false = codes "The log isn't a recording of its lines: all below is what its notes say."
 
--- what the log holds, whether it is a recording, and an empty line
+-- what the log holds, what it rests on, and an empty line
 abbrev pub head_lines : RecordingValue → Labels → List (ℕ × Fate) → Bool → List (List ℕ)
 head_lines r labels fates is_recording =
     head_text r labels fates ∷ basis_text is_recording ∷ [] ∷ []
 
--- the head, how many lines have which fate, what is to be restored, whom to tell, what cancelled
--- lines showed, and what they led to
+-- the head, which lines aren't understood, how many lines have which fate, what is to be restored,
+-- whom to tell, what cancelled lines showed, and what they led to
 abbrev pub summary_lines :
     RecordingValue → Summary → List Restoration → List Group → Bool → Labels → ℕ → List (List ℕ)
 summary_lines r summary restorations groups is_recording labels width =
     head_lines r labels summary.fates.items is_recording
-    ++ count_lines summary.fates.items
-    ++ restoration_lines restorations
+    ++ unknown_lines summary.unknown.items summary.fates.items
+    ++ [] ∷ count_lines summary.fates.items
+    ++ restoration_lines summary.doubtful.items restorations
     ++ notice_lines labels width (length summary.notices.items) groups
     ++ leak_lines r labels width summary.leaks.items
-    ++ effect_lines r (map effect_value summary.effects.items)
+    ++ effect_lines r summary.unknown.items (map effect_value summary.effects.items)

@@ -7,17 +7,18 @@ ghost use Rattle.casebook_text.specs.SafeText.{is_printable};
 ghost use Rattle.casebook_view.specs.Reasons.{number_in};
 ghost use Rattle.casebook_screen.specs.Detail.{detail_head, detail_lines, fate_lines, lines_of_detail};
 ghost use Rattle.casebook_screen.specs.Detail.{lines_of_run, note_text, output_text, reason_lines};
-ghost use Rattle.casebook_screen.specs.Detail.{lines_of_runs, outcome_lines, repaired_lines};
+ghost use Rattle.casebook_screen.specs.Detail.{lines_of_runs, obstacle_found, outcome_lines};
+ghost use Rattle.casebook_screen.specs.Detail.{repaired_lines};
 ghost use Rattle.casebook_screen.specs.RowTexts.{indent};
 
 use crate::NoMem;
 use crate::fate_counts::push_fate;
 use crate::layout::{COUNT_WIDTH, indented, number_column, push_padded};
 use crate::names::Names;
-use crate::row_text::{INDENT, push_time};
+use crate::row_text::{INDENT, push_obstacle, push_time};
 use crate::why_text::{Explainer, reason_line};
 use casebook_text::SafeLine;
-use casebook_view::{Case, Fate, Reason, Summary};
+use casebook_view::{Case, Fate, Obstacle, Reason, Summary};
 use casebook_words::{push_note, shown_lines};
 use retro_keep::Noted;
 use retro_redo::Repair;
@@ -207,6 +208,14 @@ fn lines_of_runs(
     Ok(lines)
 }
 
+/// Returns why the line with a number isn't understood, or `None` if it is.
+fn obstacle_found(summary: &Summary, number: u32) -> Option<Obstacle>
+    ensures { result ≡ obstacle_found summary.now number }
+{
+    let line = summary.unknown.iter().find(|line| line.number == number);
+    line.map(|line| line.obstacle)
+}
+
 /// Returns a line in full, of which this is the recorded run.
 fn lines_of_detail(
     alloc: Global,
@@ -224,12 +233,14 @@ fn lines_of_detail(
     let reason = reason_of(explainer.summary.reasons.as_slice(), number);
     let mut lines = Vec::new(alloc);
     lines.push(detail_head(alloc, names, number, noted)?)?;
+    push_obstacle(alloc, &mut lines, obstacle_found(explainer.summary, number))?;
     lines.append(&mut outcome_lines(alloc, explainer, number)?)?;
     lines.append(&mut lines_of_runs(alloc, repair, reason, number, noted)?)?;
     Ok(lines)
 }
 
-/// Returns the line with a number in full: its text, what becomes of it, why it is run again if it
+/// Returns the line with a number in full: its text, why it isn't understood if it isn't, what
+/// becomes of it, why it is run again if it
 /// is, and then its notes in words and its output, as recorded and, if it is run again, as repaired.
 /// Returns nothing if no line has the number. The contract says so if the summary's reasons are in
 /// order of lines, as they are of a repair.

@@ -1,15 +1,17 @@
 //! What cancelled and replaced lines led to, as a terminal shows it.
 ghost use Rattle.std.specs.Prelude.{◌≡◌, ◌++◌, IfOk, OnOk, map};
 ghost use Rattle.casebook_view.specs.Effects.{effect_value};
-ghost use Rattle.casebook_screen.specs.Causes.{done_text, effect_lines, effect_text, effects_head};
-ghost use Rattle.casebook_screen.specs.Causes.{first_paths};
+ghost use Rattle.casebook_screen.specs.Causes.{done_text, effect_among, effect_lines, effect_text};
+ghost use Rattle.casebook_screen.specs.Causes.{effects_head, first_paths, led_width, led_words};
+ghost use Rattle.casebook_screen.specs.Layout.{right_aligned};
 
 use crate::NoMem;
-use crate::layout::{COUNT_WIDTH, number_column, push_padded};
+use crate::layout::{COUNT_WIDTH, column, number_column, number_line, push_padded};
 use crate::line_text::{TEXT_LIMIT, push_text};
 use crate::row_text::push_paths;
+use crate::unknown_numbers::UnknownNumbers;
 use casebook_text::SafeLine;
-use casebook_view::Effect;
+use casebook_view::{Effect, UnknownLine};
 use retro_keep::Recording;
 use retro_tree::Path;
 use std::alloc::Global;
@@ -53,16 +55,42 @@ fn push_done(
     push_first_paths(alloc, line, paths)
 }
 
+/// Returns a count, or a question mark if the line isn't understood.
+fn led_words(alloc: Global, is_unknown: bool, count: u64) -> Result<SafeLine, NoMem>
+    ensures { IfOk result (λ line. line ≡ led_words is_unknown count) }
+{
+    if is_unknown {
+        let mut line = SafeLine::new(alloc);
+        line.push_ascii("?")?;
+        return Ok(line);
+    }
+    number_line(alloc, count)
+}
+
+/// Returns a count in a column, or a question mark if the line isn't understood.
+fn led_column(alloc: Global, is_unknown: bool, count: usize) -> Result<SafeLine, NoMem>
+    ensures { IfOk result (λ line. line ≡ right_aligned led_width (led_words is_unknown count)) }
+{
+    let words = led_words(alloc, is_unknown, count as u64)?;
+    column(alloc, &words, LED_WIDTH)
+}
+
 /// Returns what a line led to.
 #[tactic(auto, unfolding(crate::specs::Causes::effect_text))]
-fn effect_line(alloc: Global, recording: &Recording, effect: &Effect) -> Result<SafeLine, NoMem>
-    ensures { IfOk result (λ line. line ≡ effect_text recording.now (effect_value effect.now)) }
+fn effect_line(
+    alloc: Global,
+    recording: &Recording,
+    is_unknown: bool,
+    effect: &Effect,
+) -> Result<SafeLine, NoMem>
+    ensures { IfOk result (λ line.
+        line ≡ effect_text recording.now is_unknown (effect_value effect.now)) }
 {
     let mut text = SafeLine::new(alloc);
     push_text(alloc, &mut text, recording, effect.number, TEXT_LIMIT)?;
     let mut line = number_column(alloc, u64::from(effect.number), COUNT_WIDTH)?;
-    line.push_line(&number_column(alloc, effect.changed as u64, LED_WIDTH)?)?;
-    line.push_line(&number_column(alloc, effect.alike as u64, LED_WIDTH)?)?;
+    line.push_line(&led_column(alloc, is_unknown, effect.changed)?)?;
+    line.push_line(&led_column(alloc, is_unknown, effect.alike)?)?;
     line.push_ascii("  ")?;
     push_done(alloc, &mut line, &text, effect.wrote.as_slice())?;
     Ok(line)
@@ -84,13 +112,17 @@ fn push_effects(
     alloc: Global,
     lines: &mut Vec<SafeLine>,
     recording: &Recording,
+    unknown: &[UnknownLine],
     effects: &[Effect],
 ) -> Result<(), NoMem>
     ensures { OnOk result (lines.new.items ≡ lines.old.items
-        ++ map (λ effect. effect_text recording.now (effect_value effect)) effects.now) }
+        ++ map (λ effect. effect_among recording.now unknown.now (effect_value effect))
+        effects.now) }
 {
+    let numbers = UnknownNumbers::of(alloc, unknown)?;
     for effect in effects {
-        lines.push(effect_line(alloc, recording, effect)?)?;
+        let is_unknown = numbers.contains(effect.number);
+        lines.push(effect_line(alloc, recording, is_unknown, effect)?)?;
     }
     Ok(())
 }
@@ -99,14 +131,15 @@ fn push_effects(
 pub(crate) fn effect_lines(
     alloc: Global,
     recording: &Recording,
+    unknown: &[UnknownLine],
     effects: &[Effect],
 ) -> Result<Vec<SafeLine>, NoMem>
     ensures { IfOk result (λ lines. lines.items
-        ≡ effect_lines recording.now (map effect_value effects.now)) }
+        ≡ effect_lines recording.now unknown.now (map effect_value effects.now)) }
 {
     let mut lines = Vec::new(alloc);
     lines.push(SafeLine::new(alloc))?;
     lines.push(effects_head(alloc)?)?;
-    push_effects(alloc, &mut lines, recording, effects)?;
+    push_effects(alloc, &mut lines, recording, unknown, effects)?;
     Ok(lines)
 }

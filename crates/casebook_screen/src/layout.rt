@@ -37,14 +37,21 @@ pub(crate) fn indented(alloc: Global, count: usize) -> Result<SafeLine, NoMem>
     Ok(line)
 }
 
+/// Returns a cell, right-aligned in a column of this width.
+pub(crate) fn column(alloc: Global, cell: &SafeLine, width: usize) -> Result<SafeLine, NoMem>
+    ensures { IfOk result (λ line. line ≡ right_aligned width cell.now) }
+{
+    let mut line = indented(alloc, width.saturating_sub(cell.width()))?;
+    line.push_line(cell)?;
+    Ok(line)
+}
+
 /// Returns a number, right-aligned in a column of this width.
 pub(crate) fn number_column(alloc: Global, number: u64, width: usize) -> Result<SafeLine, NoMem>
     ensures { IfOk result (λ line. line ≡ right_aligned width (decimal number)) }
 {
     let digits = number_line(alloc, number)?;
-    let mut line = indented(alloc, width.saturating_sub(digits.width()))?;
-    line.push_line(&digits)?;
-    Ok(line)
+    column(alloc, &digits, width)
 }
 
 /// Appends a line, and spaces up to a width.

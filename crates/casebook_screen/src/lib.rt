@@ -2,8 +2,8 @@
 //!
 //! [`row_lines`], [`row_table`] and [`row_numbers`] show rows as text, as a table and as numbers.
 //!
-//! [`summary_lines`] shows a [`Sheet`], which says what a repair would do: how many lines have which
-//! fate, what is to be restored (by [`to_restore`]), whom to tell about what, which cancelled lines
+//! [`summary_lines`] shows a [`Sheet`], which says what a repair would do: which lines aren't
+//! understood, how many lines have which fate, what is to be restored (by [`to_restore`]), whom to tell about what, which cancelled lines
 //! showed something, and what each cancelled line led to.
 //!
 //! [`why_lines`] says why lines are run again, [`diff_lines`] shows what changes as unified diffs, and
@@ -31,6 +31,8 @@ mod summary_head;
 mod summary_text;
 mod table;
 mod unified;
+mod unknown_numbers;
+mod unknown_text;
 mod why_text;
 
 pub use detail_text::detail_lines;

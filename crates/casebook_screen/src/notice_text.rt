@@ -45,7 +45,7 @@ fn subject_line(alloc: Global, subject: &Subject) -> Result<SafeLine, NoMem>
 }
 
 /// Appends numbers, each after a space.
-fn push_numbers(alloc: Global, line: &mut SafeLine, numbers: &[u32]) -> Result<(), NoMem>
+pub(crate) fn push_numbers(alloc: Global, line: &mut SafeLine, numbers: &[u32]) -> Result<(), NoMem>
     ensures { OnOk result (line.new ≡ line.old ++ flat_map number_piece numbers.now) }
 {
     for number in numbers {

@@ -2,6 +2,8 @@
 ghost use Rattle.std.specs.Prelude.{◌≡◌, ◌++◌, IfOk, OnOk, map};
 ghost use Rattle.casebook_words.specs.Words.{path_words};
 ghost use Rattle.casebook_screen.specs.Restorations.{change_sign, count_changed, extent_words};
+ghost use Rattle.casebook_screen.specs.Restorations.{doubt_lines, doubt_sign, doubt_text};
+ghost use Rattle.casebook_screen.specs.Restorations.{is_doubtful, restoration_among};
 ghost use Rattle.casebook_screen.specs.Restorations.{restoration_lines, restoration_text};
 ghost use Rattle.casebook_screen.specs.Restorations.{restorations_head, widest};
 
@@ -33,15 +35,27 @@ fn push_extent(alloc: Global, line: &mut SafeLine, extent: Extent) -> Result<(),
     }
 }
 
+/// Appends a question mark before a doubtful path.
+#[tactic(auto, unfolding(crate::specs::Restorations::doubt_sign))]
+fn push_doubt(line: &mut SafeLine, is_doubtful: bool) -> Result<(), NoMem>
+    ensures { OnOk result (line.new ≡ line.old ++ doubt_sign is_doubtful) }
+{
+    if is_doubtful {
+        line.push_ascii("? ")
+    } else {
+        line.push_ascii("  ")
+    }
+}
+
 /// Appends the letter of a change.
 #[tactic(auto, unfolding(crate::specs::Restorations::change_sign))]
 fn push_sign(line: &mut SafeLine, change: PathChange) -> Result<(), NoMem>
     ensures { OnOk result (line.new ≡ line.old ++ change_sign change) }
 {
     match change {
-        PathChange::Added => line.push_ascii("  A "),
-        PathChange::Removed => line.push_ascii("  D "),
-        PathChange::Modified => line.push_ascii("  M "),
+        PathChange::Added => line.push_ascii("A "),
+        PathChange::Removed => line.push_ascii("D "),
+        PathChange::Modified => line.push_ascii("M "),
     }
 }
 
@@ -67,10 +81,16 @@ fn widest(alloc: Global, paths: &[Restoration]) -> Result<usize, NoMem>
 
 /// Returns what is to be restored at a path.
 #[tactic(auto, unfolding(crate::specs::Restorations::restoration_text))]
-fn restoration_line(alloc: Global, path: &Restoration, width: usize) -> Result<SafeLine, NoMem>
-    ensures { IfOk result (λ line. line ≡ restoration_text width path.now) }
+fn restoration_line(
+    alloc: Global,
+    path: &Restoration,
+    is_doubtful: bool,
+    width: usize,
+) -> Result<SafeLine, NoMem>
+    ensures { IfOk result (λ line. line ≡ restoration_text width is_doubtful path.now) }
 {
     let mut line = SafeLine::new(alloc);
+    push_doubt(&mut line, is_doubtful)?;
     push_sign(&mut line, path.change)?;
     push_padded(&mut line, &path_line(alloc, &path.path)?, width)?;
     line.push_ascii("  ")?;
@@ -101,33 +121,67 @@ fn restorations_head(alloc: Global, paths: &[Restoration]) -> Result<SafeLine, N
     Ok(line)
 }
 
-/// Appends a line for each path.
+/// Returns whether a path is among doubtful ones.
+fn is_doubtful(doubtful: &[Path], path: &Path) -> bool
+    ensures { result ≡ is_doubtful doubtful.now path.now }
+{
+    doubtful.iter().any(|other| *other == *path)
+}
+
+/// Appends a line for each path. Takes time in proportion to the number of paths times the number
+/// of doubtful ones.
 fn push_restorations(
     alloc: Global,
     lines: &mut Vec<SafeLine>,
+    doubtful: &[Path],
     paths: &[Restoration],
     width: usize,
 ) -> Result<(), NoMem>
     ensures { OnOk result (lines.new.items
-        ≡ lines.old.items ++ map (restoration_text width) paths.now) }
+        ≡ lines.old.items ++ map (restoration_among width doubtful.now) paths.now) }
 {
     for path in paths {
-        lines.push(restoration_line(alloc, path, width)?)?;
+        let is_doubtful = is_doubtful(doubtful, &path.path);
+        lines.push(restoration_line(alloc, path, is_doubtful, width)?)?;
     }
     Ok(())
 }
 
-/// Returns what is to be restored: an empty line, how many paths there are, and each of them.
+/// Returns what question marks say.
+#[tactic(auto, unfolding(crate::specs::Restorations::doubt_text))]
+fn doubt_line(alloc: Global) -> Result<SafeLine, NoMem>
+    ensures { IfOk result (λ line. line ≡ doubt_text) }
+{
+    let mut line = SafeLine::new(alloc);
+    line.push_ascii("  ? written by a line that wasn't understood")?;
+    Ok(line)
+}
+
+/// Appends what question marks say, if there are any.
+fn push_doubts(alloc: Global, lines: &mut Vec<SafeLine>, doubtful: &[Path]) -> Result<(), NoMem>
+    ensures { OnOk result (lines.new.items ≡ lines.old.items ++ doubt_lines doubtful.now) }
+{
+    if doubtful.is_empty() {
+        return Ok(());
+    }
+    lines.push(doubt_line(alloc)?)?;
+    Ok(())
+}
+
+/// Returns what is to be restored: an empty line, how many paths there are, and each of them, with a
+/// question mark before doubtful ones.
 pub(crate) fn restoration_lines(
     alloc: Global,
+    doubtful: &[Path],
     paths: &[Restoration],
 ) -> Result<Vec<SafeLine>, NoMem>
-    ensures { IfOk result (λ lines. lines.items ≡ restoration_lines paths.now) }
+    ensures { IfOk result (λ lines. lines.items ≡ restoration_lines doubtful.now paths.now) }
 {
     let width = widest(alloc, paths)?;
     let mut lines = Vec::new(alloc);
     lines.push(SafeLine::new(alloc))?;
     lines.push(restorations_head(alloc, paths)?)?;
-    push_restorations(alloc, &mut lines, paths, width)?;
+    push_restorations(alloc, &mut lines, doubtful, paths, width)?;
+    push_doubts(alloc, &mut lines, doubtful)?;
     Ok(lines)
 }

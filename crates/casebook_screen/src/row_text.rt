@@ -1,6 +1,9 @@
 //! Rows as a terminal shows them.
-ghost use Rattle.std.specs.Prelude.{◌≡◌, ◌++◌, IfOk, OnOk, flat_map};
-ghost use Rattle.casebook_screen.specs.RowTexts.{head_text, lines_of_row, read_lines, read_piece};
+ghost use Rattle.std.specs.Prelude.{◌≡◌, ◌++◌, IfOk, OnOk, flat_map, is_some, map};
+ghost use Rattle.std.specs.List.{list_any};
+ghost use Rattle.casebook_screen.specs.RowTexts.{head_text, lines_below, lines_of_row};
+ghost use Rattle.casebook_screen.specs.RowTexts.{lines_of_rows, mark_column, obstacle_line};
+ghost use Rattle.casebook_screen.specs.RowTexts.{obstacle_lines, read_lines, read_piece};
 ghost use Rattle.casebook_screen.specs.RowTexts.{read_text, shown_lines, shown_text, time_column};
 ghost use Rattle.casebook_screen.specs.RowTexts.{write_piece, wrote_lines, wrote_text};
 ghost use Rattle.casebook_view.specs.Rows.{row_value};
@@ -9,8 +12,8 @@ use crate::NoMem;
 use crate::layout::{indented, number_column, push_padded};
 use crate::table::write_line;
 use casebook_text::SafeLine;
-use casebook_view::{LineRow, PathWrite};
-use casebook_words::{Labels, push_first_line, push_path};
+use casebook_view::{LineRow, Obstacle, PathWrite};
+use casebook_words::{Labels, obstacle_text, push_first_line, push_path};
 use retro_tree::Path;
 use std::alloc::Global;
 
@@ -23,6 +26,17 @@ pub(crate) const INDENT: usize = 8;
 /// How many bytes of an output are shown.
 const SHOWN_LIMIT: usize = 60;
 
+/// The columns of rows.
+#[derive(Drop, Clone, Copy)]
+struct Columns<'a> {
+    /// The names of sessions, and the times of lines.
+    labels: &'a Labels,
+    /// The width of the column of names.
+    width: usize,
+    /// Whether there is a column of question marks.
+    has_marks: bool,
+}
+
 /// Appends a time after a space, if it is known.
 pub(crate) fn push_time(line: &mut SafeLine, time: &SafeLine) -> Result<(), NoMem>
     ensures { OnOk result (line.new ≡ line.old ++ time_column time.now) }
@@ -34,19 +48,34 @@ pub(crate) fn push_time(line: &mut SafeLine, time: &SafeLine) -> Result<(), NoMe
     line.push_line(time)
 }
 
-/// Returns the number, the time, the session and the text of a line.
-fn head_line(
-    alloc: Global,
-    row: &LineRow<'_>,
-    labels: &Labels,
-    width: usize,
-) -> Result<SafeLine, NoMem>
-    ensures { IfOk result (λ line. line ≡ head_text labels.now width (row_value row.now)) }
+/// Appends a question mark if a line isn't understood, in a column that is there if `has_marks`.
+fn push_mark(line: &mut SafeLine, has_marks: bool, obstacle: Option<Obstacle>) -> Result<(), NoMem>
+    ensures { OnOk result (line.new ≡ line.old ++ mark_column has_marks obstacle) }
 {
+    if !has_marks {
+        return Ok(());
+    }
+    match obstacle {
+        Some(_) => line.push_ascii(" ?"),
+        None => line.push_ascii("  "),
+    }
+}
+
+/// Returns the number, the question mark, the time, the session and the text of a line.
+fn head_line(alloc: Global, row: &LineRow<'_>, columns: Columns<'_>) -> Result<SafeLine, NoMem>
+    ensures { IfOk result (λ line. line ≡ head_text columns.entry.labels.now
+        columns.entry.width columns.entry.has_marks (row_value row.now)) }
+{
+    let labels = columns.labels;
     let mut line = number_column(alloc, u64::from(row.number), NUMBER_WIDTH)?;
+    push_mark(&mut line, columns.has_marks, row.obstacle)?;
     push_time(&mut line, &labels.time_of(alloc, row.number)?)?;
     line.push_ascii(" ")?;
-    push_padded(&mut line, &labels.name_of(alloc, row.session)?, width)?;
+    push_padded(
+        &mut line,
+        &labels.name_of(alloc, row.session)?,
+        columns.width,
+    )?;
     line.push_ascii(" ")?;
     line.push_bytes(alloc, row.text.bytes())?;
     Ok(line)
@@ -107,6 +136,30 @@ fn shown_line(alloc: Global, output: &[u8]) -> Result<SafeLine, NoMem>
     Ok(line)
 }
 
+/// Returns why a line isn't understood.
+fn obstacle_line(alloc: Global, obstacle: Obstacle) -> Result<SafeLine, NoMem>
+    ensures { IfOk result (λ line. line ≡ obstacle_line obstacle) }
+{
+    let mut line = indented(alloc, INDENT)?;
+    line.push_ascii("unknown: ")?;
+    line.push_ascii(obstacle_text(obstacle))?;
+    Ok(line)
+}
+
+/// Appends why a line isn't understood, if it isn't.
+pub(crate) fn push_obstacle(
+    alloc: Global,
+    lines: &mut Vec<SafeLine>,
+    obstacle: Option<Obstacle>,
+) -> Result<(), NoMem>
+    ensures { OnOk result (lines.new.items ≡ lines.old.items ++ obstacle_lines obstacle) }
+{
+    if let Some(obstacle) = obstacle {
+        lines.push(obstacle_line(alloc, obstacle)?)?;
+    }
+    Ok(())
+}
+
 /// Appends what a line read, if it read anything.
 fn push_read(alloc: Global, lines: &mut Vec<SafeLine>, paths: &[Path]) -> Result<(), NoMem>
     ensures { OnOk result (lines.new.items ≡ lines.old.items ++ read_lines paths.now) }
@@ -140,27 +193,44 @@ fn push_shown(alloc: Global, lines: &mut Vec<SafeLine>, output: &[u8]) -> Result
     Ok(())
 }
 
-/// Appends a row: its head, and up to three lines below it, for what the line read, what it wrote
-/// and what it printed. A line that did nothing of a kind has no line for it.
-#[tactic(auto, using(crate::proofs::RowParts::four_parts))]
-fn push_row(
-    alloc: Global,
-    lines: &mut Vec<SafeLine>,
-    row: &LineRow<'_>,
-    labels: &Labels,
-    width: usize,
-) -> Result<(), NoMem>
+/// Appends up to three lines, for what a line read, what it wrote and what it printed. A line that
+/// did nothing of a kind has no line for it.
+#[tactic(auto, using(crate::proofs::RowParts::three_pieces))]
+fn push_below(alloc: Global, lines: &mut Vec<SafeLine>, row: &LineRow<'_>) -> Result<(), NoMem>
     ensures { OnOk result (lines.new.items
-        ≡ lines.old.items ++ lines_of_row labels.now width (row_value row.now)) }
+        ≡ lines.old.items ++ lines_below (row_value row.now)) }
 {
-    lines.push(head_line(alloc, row, labels, width)?)?;
     push_read(alloc, lines, row.read.as_slice())?;
     push_wrote(alloc, lines, row.wrote.as_slice())?;
     push_shown(alloc, lines, row.output.as_slice())
 }
 
-/// Returns rows as the lines that a terminal shows: one to four for each. `width` is that of the
-/// column of names.
+/// Appends a row: its head, why the line isn't understood if it isn't, and what it did.
+#[tactic(auto, using(crate::proofs::RowParts::three_parts))]
+fn push_row(
+    alloc: Global,
+    lines: &mut Vec<SafeLine>,
+    row: &LineRow<'_>,
+    columns: Columns<'_>,
+) -> Result<(), NoMem>
+    ensures { OnOk result (lines.new.items ≡ lines.old.items ++ lines_of_row
+        columns.entry.labels.now columns.entry.width columns.entry.has_marks
+        (row_value row.now)) }
+{
+    lines.push(head_line(alloc, row, columns)?)?;
+    push_obstacle(alloc, lines, row.obstacle)?;
+    push_below(alloc, lines, row)
+}
+
+/// Returns whether some row is that of a line that isn't understood.
+fn has_unknown(rows: &[LineRow<'_>]) -> bool
+    ensures { result ≡ list_any (λ row. is_some row.obstacle) rows.now }
+{
+    rows.iter().any(|row| row.obstacle.is_some())
+}
+
+/// Returns rows as the lines that a terminal shows: one to five for each. `width` is that of the
+/// column of names. If some line isn't understood, there is a column of question marks.
 pub fn row_lines(
     alloc: Global,
     rows: &[LineRow<'_>],
@@ -168,11 +238,16 @@ pub fn row_lines(
     width: usize,
 ) -> Result<Vec<SafeLine>, NoMem>
     ensures { IfOk result (λ lines. lines.items
-        ≡ flat_map (λ row. lines_of_row labels.now width (row_value row)) rows.now) }
+        ≡ lines_of_rows labels.now width (map row_value rows.now)) }
 {
+    let columns = Columns {
+        labels,
+        width,
+        has_marks: has_unknown(rows),
+    };
     let mut lines = Vec::new(alloc);
     for row in rows {
-        push_row(alloc, &mut lines, row, labels, width)?;
+        push_row(alloc, &mut lines, row, columns)?;
     }
     Ok(lines)
 }

@@ -90,21 +90,23 @@ fn head_line(
     Ok(line)
 }
 
-/// Returns whether the log is a recording, in words.
+/// Returns what the log rests on.
 #[tactic(auto, unfolding(crate::specs::Summary::basis_text))]
 fn basis_line(alloc: Global, is_recording: bool) -> Result<SafeLine, NoMem>
     ensures { IfOk result (λ line. line ≡ basis_text is_recording) }
 {
     let mut line = SafeLine::new(alloc);
     if is_recording {
-        line.push_ascii("The log is a recording: yes.")?;
+        line.push_ascii("Played in Retro's shell. Whether the machine did the same isn't known.")?;
     } else {
-        line.push_ascii("The log is a recording: no. All below is what its notes say.")?;
+        line.push_ascii(
+            "The log isn't a recording of its lines: all below is what its notes say.",
+        )?;
     }
     Ok(line)
 }
 
-/// Returns what the log holds, whether it is a recording, and an empty line.
+/// Returns what the log holds, what it rests on, and an empty line.
 pub(crate) fn head_lines(
     alloc: Global,
     recording: &Recording,

@@ -11,6 +11,7 @@ use crate::notice_text::notice_lines;
 use crate::restoration::Restoration;
 use crate::restoration_text::restoration_lines;
 use crate::summary_head::head_lines;
+use crate::unknown_text::unknown_lines;
 use casebook_text::SafeLine;
 use casebook_view::{Group, Summary};
 use retro_keep::Recording;
@@ -31,9 +32,9 @@ pub struct Sheet<'a> {
     pub is_recording: bool,
 }
 
-/// Returns a summary as the lines that a terminal shows: what the log holds, how many lines have
-/// which fate, what is to be restored, whom to tell about what, which cancelled lines showed
-/// something, and what each cancelled line led to.
+/// Returns a summary as the lines that a terminal shows: what the log holds, which lines aren't
+/// understood, how many lines have which fate, what is to be restored, whom to tell about what,
+/// which cancelled lines showed something, and what each cancelled line led to.
 pub fn summary_lines(
     alloc: Global,
     sheet: Sheet<'_>,
@@ -46,13 +47,16 @@ pub fn summary_lines(
 {
     let recording = sheet.recording;
     let summary = sheet.summary;
+    let unknown = summary.unknown.as_slice();
     let fates = summary.fates.as_slice();
     let screens = summary.notices.len();
     let mut lines = head_lines(alloc, recording, names.labels, fates, sheet.is_recording)?;
+    lines.append(&mut unknown_lines(alloc, unknown, fates)?)?;
+    lines.push(SafeLine::new(alloc))?;
     lines.append(&mut count_lines(alloc, fates)?)?;
-    lines.append(&mut restoration_lines(alloc, sheet.restorations)?)?;
+    lines.append(&mut restoration_lines(alloc, summary.doubtful.as_slice(), sheet.restorations)?)?;
     lines.append(&mut notice_lines(alloc, names, screens, sheet.groups)?)?;
     lines.append(&mut leak_lines(alloc, recording, names, summary.leaks.as_slice())?)?;
-    lines.append(&mut effect_lines(alloc, recording, summary.effects.as_slice())?)?;
+    lines.append(&mut effect_lines(alloc, recording, unknown, summary.effects.as_slice())?)?;
     Ok(lines)
 }

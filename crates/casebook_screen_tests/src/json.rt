@@ -1,6 +1,6 @@
 //! Tests of the document of a repair, which is read back as JSON.
 use crate::given::{Edited, Named, compare, labels_of, recording_of, repair_of};
-use crate::{documents, edges, kinds, market, quoted};
+use crate::{documents, edges, kinds, market, quoted, unknown};
 use casebook_json::summary_json;
 use casebook_screen::{NoMem, Sheet, to_restore};
 use casebook_view::{Case, Summary, grouped};
@@ -197,4 +197,16 @@ fn hostile_texts_are_written(rt: HostRuntime) -> Result<(), Fail> {
         rows: &documents::QUOTED,
     };
     hold(rt.alloc(), quoted)
+}
+
+#[test]
+fn lines_that_are_not_understood_are_written(rt: HostRuntime) -> Result<(), Fail> {
+    let unknown = Table {
+        script: unknown::SCRIPT,
+        edited: unknown::edited(),
+        names: &unknown::NAMES,
+        is_recording: true,
+        rows: &documents::UNKNOWN,
+    };
+    hold(rt.alloc(), unknown)
 }

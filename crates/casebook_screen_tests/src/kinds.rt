@@ -12,7 +12,7 @@ pub(crate) const SCRIPT: &str = r#"{
     [1,1,"cd /d"],
     [2,1,"X=a; false"],
     [3,1,"echo $?"],
-    [4,1,"echo $X"],
+    [4,1,"echo \"is $X\""],
     [5,1,"pwd"],
     [6,2,"rm /n /f; rm -r /g /d/t; > /d/t; > /e; mkdir /m"],
     [7,2,"echo twice"],

@@ -29,6 +29,8 @@ mod rows;
 #[cfg(test)]
 mod summary;
 #[cfg(test)]
+mod unknown;
+#[cfg(test)]
 mod unlike;
 #[cfg(test)]
 mod why;

@@ -1,6 +1,6 @@
 //! Tests of what is shown of repairs: summaries, reasons, diffs and single lines.
 use crate::given::{Edited, Named, compare, labels_of, recording_of, repair_of};
-use crate::{detail, diff, edges, market, summary, why};
+use crate::{detail, diff, edges, market, summary, unknown, why};
 use casebook_screen::{
     Names, NoMem, Sheet, detail_lines, diff_lines, summary_lines, to_restore, why_lines,
 };
@@ -70,7 +70,19 @@ const EDGES: [(Show, &str); 3] = [
     (Show::Diff, diff::EDGES),
 ];
 
-/// The times of its first and its last line.
+/// What is shown of a repair whose lines aren't all understood.
+const UNKNOWN: [(Show, &str); 2] = [
+    (Show::Summary(true), unknown::SUMMARY),
+    (Show::Detail(5), unknown::DETAIL),
+];
+
+/// What is shown if a line runs a text that isn't understood.
+const OTHER: [(Show, &str); 1] = [(Show::Summary(true), unknown::OTHER)];
+
+/// What is shown if one line alone isn't understood.
+const LONE: [(Show, &str); 1] = [(Show::Summary(true), unknown::LONE_SUMMARY)];
+
+/// The times of the other case's first and last line.
 const PERIOD: [(u32, &str); 2] = [(1, "May 05 09:30"), (4, "May 06 10:52")];
 
 /// Returns a summary as lines.
@@ -216,4 +228,33 @@ fn unlike_repairs_are_shown(rt: HostRuntime) -> Result<(), Fail> {
         rows: &EDGES,
     };
     hold_script(rt.alloc(), edges::SCRIPT, edges::edited(), table)
+}
+
+/// Returns what is wanted of a repair whose lines aren't all understood.
+fn unknown_table<'a>(rows: &'a [(Show, &'a str)]) -> Table<'a> {
+    Table {
+        named: Named {
+            names: &unknown::NAMES,
+            times: &[],
+        },
+        rows,
+    }
+}
+
+#[test]
+fn lines_that_are_not_understood_are_shown(rt: HostRuntime) -> Result<(), Fail> {
+    let table = unknown_table(&UNKNOWN);
+    hold_script(rt.alloc(), unknown::SCRIPT, unknown::edited(), table)
+}
+
+#[test]
+fn replaced_lines_that_are_not_understood_are_shown(rt: HostRuntime) -> Result<(), Fail> {
+    let table = unknown_table(&OTHER);
+    hold_script(rt.alloc(), unknown::SCRIPT, unknown::replaced(), table)
+}
+
+#[test]
+fn one_line_that_is_not_understood_is_shown(rt: HostRuntime) -> Result<(), Fail> {
+    let table = unknown_table(&LONE);
+    hold_script(rt.alloc(), unknown::LONE, unknown::lone_edited(), table)
 }

@@ -1,6 +1,6 @@
 //! Tests of rows.
 use crate::given::{Named, compare, labels_of, recording_of};
-use crate::{hostile, market};
+use crate::{hostile, market, unknown};
 use casebook_screen::{NoMem, row_lines, row_numbers, row_table};
 use casebook_text::{list_of_numbers, text_of_lines, text_of_rows};
 use casebook_view::{Filters, LineRow, LineTest, rows};
@@ -85,6 +85,7 @@ fn rows_between(
         tests: tests_of(alloc, from, to)?,
         text: None,
         shown: None,
+        is_unknown: false,
     };
     rows(alloc, recording, &mut filters)
 }
@@ -193,4 +194,25 @@ fn rows_are_harmless(rt: HostRuntime) -> Result<(), Fail> {
         wanted: hostile::ROWS,
     };
     hold_row(rt.alloc(), hostile::SCRIPT, row)
+}
+
+/// Compares what is shown of lines that aren't all understood.
+fn hold_unknown(alloc: Global, form: Form, to: u32, wanted: &str) -> Result<(), Fail> {
+    let row = Row {
+        form,
+        from: 2,
+        to,
+        named: Named {
+            names: &unknown::NAMES,
+            times: &[],
+        },
+        wanted,
+    };
+    hold_row(alloc, unknown::SCRIPT, row)
+}
+
+#[test]
+fn rows_that_are_not_understood_are_shown(rt: HostRuntime) -> Result<(), Fail> {
+    hold_unknown(rt.alloc(), Form::Screen, 4, unknown::ROWS)?;
+    hold_unknown(rt.alloc(), Form::Table, 3, unknown::TABLE)
 }

@@ -2,7 +2,9 @@
 
 /// What the market's repair would do.
 pub(crate) const MARKET: &str = "20 lines of 3 sessions. 5 cancelled.
-The log is a recording: yes.
+Played in Retro's shell. Whether the machine did the same isn't known.
+
+Every line was understood.
 
       5 cancelled
       9 run again, another result
@@ -41,7 +43,9 @@ CAUSES  what each cancelled line led to: lines with another result, run again al
 /// What the other case's repair would do, if the log isn't a recording. Its first two lines wrote
 /// more paths than are shown.
 pub(crate) const EDGES: &str = "4 lines of 1 session, May 05 09:30 to May 06 10:52. 2 cancelled.
-The log is a recording: no. All below is what its notes say.
+The log isn't a recording of its lines: all below is what its notes say.
+
+Every line was understood.
 
       2 cancelled
       2 run again, another result

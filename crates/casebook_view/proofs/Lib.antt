@@ -6,5 +6,7 @@ pub mod FirstLemmas
 pub mod GroupLemmas
 pub mod OriginLemmas
 pub mod PathLemmas
+pub mod PathSets
 pub mod Reasoning
+pub mod Replacing
 pub mod RowLemmas

@@ -9,7 +9,9 @@ use Rattle.retro_tree.specs.Order.{path_eq}
 use Rattle.retro_tree.specs.Path.{PathValue, below}
 use Rattle.retro_tree.specs.declared.note.Note.{Note}
 use Rattle.retro_keep.specs.declared.noted.Noted.{Noted}
+use Rattle.casebook_profile.specs.declared.unknown_line.UnknownLine.{UnknownLine}
 use Rattle.casebook_view.specs.NotePaths.{asked_path, write_in}
+use Rattle.casebook_view.specs.Unknown.{is_unknown}
 use Rattle.casebook_view.specs.declared.filters.Filters.{Filters as FiltersCode}
 use Rattle.casebook_view.specs.declared.line_test.LineTest.{LineTest}
 use Rattle.casebook_view.specs.declared.line_test.LineTest.TheVariants.{Sessions, From, To, Reads, Writes, Touches}
@@ -49,18 +51,31 @@ pub record FiltersValue : Type 0 where
   pub tests : List LineTest
   pub text : Option Re
   pub shown : Option Re
+  pub is_unknown : Bool
 
 abbrev pub filters_of : FiltersCode → FiltersValue
 filters_of f = record {
   tests = f.tests.items;
   text = option_map matcher_pattern f.text;
   shown = option_map matcher_pattern f.shown;
+  is_unknown = f.is_unknown;
 }
 
 -- whether the patterns are found in a line's text and in what it printed
 abbrev pub finds_both : FiltersValue → Noted → Bool
 finds_both f noted = finds f.text noted.text && finds f.shown noted.output
 
--- whether a line passes all tests and both patterns are found
-abbrev pub passes : FiltersValue → ℕ × Noted → Bool
-passes f line = list_all (passes_test line) f.tests && finds_both f line.1
+-- whether a line isn't understood, or true if lines that are understood pass too
+abbrev pub passes_unknown : Bool → Bool → Bool
+passes_unknown true unknown = unknown
+passes_unknown false unknown = true
+
+-- Whether a line passes all tests and both patterns are found, and it isn't understood if only such
+-- lines pass.
+abbrev pub passes_as : Bool → FiltersValue → ℕ × Noted → Bool
+passes_as unknown f line =
+    passes_unknown f.is_unknown unknown && (list_all (passes_test line) f.tests && finds_both f line.1)
+
+-- the same, given the lines that aren't understood
+abbrev pub passes : FiltersValue → List UnknownLine → ℕ × Noted → Bool
+passes f unknown line = passes_as (is_unknown unknown line.0) f line

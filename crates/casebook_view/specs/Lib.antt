@@ -2,6 +2,7 @@ pub mod ByNumber
 pub mod FirstOfEach
 pub mod NotePaths
 pub mod Filters
+pub mod Unknown
 pub mod Rows
 pub mod Fates
 pub mod Reasons

@@ -1,11 +1,17 @@
 -- Rows of a recording.
-use Rattle.std.specs.Prelude.{ℕ, List}
-use Rattle.std.specs.List.{filter_map}
+use Rattle.std.specs.Prelude.{ℕ, List, Option, map}
+use Rattle.std.specs.List.{filter, filter_map}
 use Rattle.retro_tree.specs.Order.{path_eq}
 use Rattle.retro_tree.specs.Path.{PathValue}
+use Rattle.retro_keep.specs.Recording.{RecordingValue}
 use Rattle.retro_keep.specs.declared.noted.Noted.{Noted}
+use Rattle.casebook_usage.specs.declared.obstacle.Obstacle.{Obstacle}
+use Rattle.casebook_profile.specs.UnknownLines.{unknown_lines_of}
+use Rattle.casebook_profile.specs.declared.unknown_line.UnknownLine.{UnknownLine}
+use Rattle.casebook_view.specs.Filters.{FiltersValue, passes}
 use Rattle.casebook_view.specs.FirstOfEach.{first_of_each}
 use Rattle.casebook_view.specs.NotePaths.{asked_path, write_eq, write_in}
+use Rattle.casebook_view.specs.Unknown.{obstacle_at}
 use Rattle.casebook_view.specs.declared.line_row.LineRow.{LineRow}
 use Rattle.casebook_view.specs.declared.path_write.PathWrite.{PathWrite}
 
@@ -16,6 +22,7 @@ pub record RowValue : Type 0 where
   pub text : List ℕ
   pub read : List PathValue
   pub wrote : List PathWrite
+  pub obstacle : Option Obstacle
   pub output : List ℕ
 
 abbrev pub row_value : LineRow → RowValue
@@ -25,16 +32,30 @@ row_value row = record {
   text = row.text.now;
   read = row.read.items;
   wrote = row.wrote.items;
+  obstacle = row.obstacle;
   output = row.output.now;
 }
 
--- the row of a line
-abbrev pub row_of : ℕ × Noted → RowValue
-row_of line = record {
+-- the row of a line with an obstacle
+abbrev pub row_with : Option Obstacle → ℕ × Noted → RowValue
+row_with obstacle line = record {
   number = line.0;
   session = line.1.sid;
   text = line.1.text;
   read = first_of_each path_eq (filter_map asked_path line.1.notes);
   wrote = first_of_each write_eq (filter_map write_in line.1.notes);
+  obstacle = obstacle;
   output = line.1.output;
 }
+
+-- the row of a line, given the lines that aren't understood
+abbrev pub row_of : List UnknownLine → ℕ × Noted → RowValue
+row_of unknown line = row_with (obstacle_at line.0 unknown) line
+
+-- the rows of lines that pass filters, given the lines that aren't understood
+abbrev pub rows_among : FiltersValue → List UnknownLine → List (ℕ × Noted) → List RowValue
+rows_among filters unknown lines = map (row_of unknown) (filter (passes filters unknown) lines)
+
+-- the rows of the lines of a recording that pass filters
+abbrev pub rows_of : FiltersValue → RecordingValue → List RowValue
+rows_of filters r = rows_among filters (unknown_lines_of r) r.lines

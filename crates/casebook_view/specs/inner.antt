@@ -2,4 +2,5 @@
 pub mod Cases
 pub mod GroupLines
 pub mod Names
+pub mod Obstacles
 pub mod Origins

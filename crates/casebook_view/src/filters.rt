@@ -1,8 +1,8 @@
 //! Filters of lines.
-ghost use Rattle.std.specs.Prelude.{◌≡◌, option_map};
+ghost use Rattle.std.specs.Prelude.{◌≡◌, not, option_map};
 ghost use Rattle.std.specs.List.{list_all};
 ghost use Rattle.regex.specs.Bytes.{matcher_pattern};
-ghost use Rattle.casebook_view.specs.Filters.{filters_of, finds, finds_both, passes, passes_test};
+ghost use Rattle.casebook_view.specs.Filters.{filters_of, finds, finds_both, passes_as, passes_test};
 
 use crate::line_test::LineTest;
 use regex::bytes::Matcher;
@@ -17,6 +17,8 @@ pub struct Filters<'r> {
     pub text: Option<Matcher<'r>>,
     /// A pattern that is found in what the line printed.
     pub shown: Option<Matcher<'r>>,
+    /// Whether only lines pass that aren't understood.
+    pub is_unknown: bool,
 }
 
 /// Returns whether a pattern is found in bytes, or true if there is no pattern.
@@ -50,11 +52,15 @@ impl<'r> Filters<'r> {
         finds(&mut self.shown, noted.output.as_slice())
     }
 
-    /// Returns whether a line passes all tests and both patterns are found.
-    pub(crate) fn passes(&mut self, line: &(u32, Noted)) -> bool
-        ensures value { result ≡ passes (filters_of self.old) line.now }
+    /// Returns whether a line passes all tests, both patterns are found, and the line isn't
+    /// understood if only such lines pass.
+    pub(crate) fn passes(&mut self, line: &(u32, Noted), is_understood: bool) -> bool
+        ensures value { result ≡ passes_as (not is_understood) (filters_of self.old) line.now }
         ensures same { filters_of self.new ≡ filters_of self.old }
     {
+        if self.is_unknown && is_understood {
+            return false;
+        }
         if !passes_tests(self.tests.as_slice(), line) {
             return false;
         }

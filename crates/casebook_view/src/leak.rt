@@ -1,11 +1,15 @@
 //! What cancelled lines showed.
 ghost use Rattle.std.specs.Prelude.{◌≡◌, IfOk, map};
+ghost use Rattle.std.specs.List.{filter};
 ghost use Rattle.casebook_cause.specs.Compensations.{leaks};
 ghost use Rattle.casebook_view.specs.Summaries.{leak_for};
+ghost use Rattle.casebook_view.specs.Unknown.{is_understood};
 
 use crate::NoMem;
 use crate::case::Case;
+use crate::obstacles::Obstacles;
 use casebook_cause::leaks;
+use casebook_profile::UnknownLine;
 use retro_redo::Compensation;
 use std::alloc::Global;
 
@@ -31,15 +35,19 @@ fn leak_of(case: &Case<'_>, compensation: &Compensation) -> Leak
     }
 }
 
-/// Returns the cancelled lines that showed something, in order.
-pub fn leaks_of(alloc: Global, case: &Case<'_>) -> Result<Vec<Leak>, NoMem>
-    ensures { IfOk result (λ found. found.items
-        ≡ map (leak_for case.now.recording) (leaks case.now.repair)) }
+/// Returns the cancelled lines that showed something, in order, without those that aren't
+/// understood. What such a line printed is Retro's own, and nobody saw it.
+pub fn leaks_of(alloc: Global, case: &Case<'_>, unknown: &[UnknownLine]) -> Result<Vec<Leak>, NoMem>
+    ensures { IfOk result (λ found. found.items ≡ map (leak_for case.now.recording)
+        (filter (is_understood unknown.now) (leaks case.now.repair))) }
 {
     let compensations = leaks(alloc, case.repair())?;
+    let obstacles = Obstacles::of(alloc, unknown)?;
     let mut found = Vec::new(alloc);
     for compensation in &compensations {
-        found.push(leak_of(case, compensation))?;
+        if obstacles.has_none(compensation.number) {
+            found.push(leak_of(case, compensation))?;
+        }
     }
     Ok(found)
 }

@@ -1,7 +1,7 @@
 //! What a log says and what a repair would do, as values.
 //!
 //! [`rows`] returns the lines of a recording that pass [`Filters`], each with what it read and
-//! wrote.
+//! wrote, and with why it isn't understood if it isn't.
 //!
 //! A [`Case`] is a recording with its repair, and a [`Summary`] says what the repair would do: the
 //! [`Fate`] of each line, the paths to restore, the [`Notice`]s to people, the [`Leak`]s, the
@@ -9,12 +9,18 @@
 //! [`answers_of`] returns both answers to the query that is the reason. [`grouped`] puts notices
 //! together by session and by what they are about.
 //!
+//! Lines of which Retro's shell knows nothing are named, with why they aren't understood. Their
+//! output is Retro's own, so it makes no notice and no leak. A path is doubtful if such a line wrote
+//! to it.
+//!
 //! Nothing is computed anew: everything is read from recordings and repairs.
 //!
 //! If allocation fails, calls return `NoMem`.
 #![tactic(auto)]
 
 mod case;
+mod case_obstacles;
+mod doubt;
 mod effect;
 mod fate;
 mod filters;
@@ -27,16 +33,20 @@ mod line_rows;
 mod line_test;
 mod note_paths;
 mod notice;
+mod obstacles;
 mod origins;
 mod other_answer;
+mod path_set;
 mod path_test;
 mod path_write;
 mod reason;
 mod restoration;
 mod subject;
 mod summary;
+mod unknown;
 
 pub use case::Case;
+pub use casebook_profile::{Obstacle, UnknownLine};
 pub use effect::{Effect, effects};
 pub use fate::{Fate, fates};
 pub use filters::Filters;
@@ -54,6 +64,7 @@ pub use reason::{Reason, chain, reasons};
 pub use restoration::restorations;
 pub use subject::Subject;
 pub use summary::Summary;
+pub use unknown::unknown_in;
 
 /// Allocation failed.
 pub use retro_tree::NoMem;

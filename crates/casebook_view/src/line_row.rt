@@ -1,5 +1,6 @@
 //! Rows of a recording: what a person is shown of each line.
 use crate::path_write::PathWrite;
+use casebook_profile::Obstacle;
 use retro_tree::{Bytes, Path, Text};
 
 /// A line of a recording, with the paths that its notes name. Borrows the recording.
@@ -16,6 +17,8 @@ pub struct LineRow<'a> {
     /// What the line wrote, each kind of write to a path once, in the order in which they first
     /// occur.
     pub wrote: Vec<PathWrite>,
+    /// Why the line isn't understood, or `None` if it is.
+    pub obstacle: Option<Obstacle>,
     /// What the line printed.
     pub output: &'a Bytes,
 }

@@ -1,19 +1,27 @@
 //! The rows of a recording.
-ghost use Rattle.std.specs.Prelude.{◌≡◌, ◌++◌, ◌∷◌, [], IfOk, OnOk, map};
-ghost use Rattle.std.specs.List.{filter};
-ghost use Rattle.casebook_view.specs.Filters.{filters_of, passes};
-ghost use Rattle.casebook_view.specs.Rows.{row_of, row_value};
+ghost use Rattle.std.specs.Prelude.{◌≡◌, ◌++◌, ◌∷◌, [], List, IfOk, OnOk, map};
+ghost use Rattle.casebook_profile.specs.declared.unknown_line.UnknownLine.{UnknownLine};
+ghost use Rattle.casebook_view.specs.Filters.{filters_of};
+ghost use Rattle.casebook_view.specs.Rows.{row_value, row_with, rows_among, rows_of};
+ghost use Rattle.casebook_view.specs.inner.Obstacles.{AreObstacles};
 
 use crate::filters::Filters;
 use crate::line_row::LineRow;
 use crate::note_paths::{read_paths, writes_of};
+use crate::obstacles::Obstacles;
+use crate::unknown::obstacles_of;
+use casebook_profile::Obstacle;
 use retro_keep::{Noted, Recording};
 use retro_tree::NoMem;
 use std::alloc::Global;
 
-/// Returns the row of a line.
-fn row_of(alloc: Global, line: &(u32, Noted)) -> Result<LineRow<'_>, NoMem>
-    ensures { IfOk result (λ row. row_value row ≡ row_of line.entry.now) }
+/// Returns the row of a line with an obstacle.
+fn row_of(
+    alloc: Global,
+    line: &(u32, Noted),
+    obstacle: Option<Obstacle>,
+) -> Result<LineRow<'_>, NoMem>
+    ensures { IfOk result (λ row. row_value row ≡ row_with obstacle line.entry.now) }
 {
     let noted = &line.1;
     let notes = noted.notes.as_slice();
@@ -23,6 +31,7 @@ fn row_of(alloc: Global, line: &(u32, Noted)) -> Result<LineRow<'_>, NoMem>
         text: &noted.text,
         read: read_paths(alloc, notes)?,
         wrote: writes_of(alloc, notes)?,
+        obstacle,
         output: &noted.output,
     })
 }
@@ -32,14 +41,17 @@ fn push_row<'a>(
     alloc: Global,
     found: &mut Vec<LineRow<'a>>,
     filters: &mut Filters<'_>,
+    obstacles: &Obstacles,
     line: &'a (u32, Noted),
 ) -> Result<(), NoMem>
-    ensures rows { OnOk result (map row_value found.new.items ≡ map row_value found.old.items
-        ++ map row_of (filter (passes (filters_of filters.old)) (line.now ∷ []))) }
+    ensures rows { (unknown : List UnknownLine) → AreObstacles unknown obstacles.now
+        → OnOk result (map row_value found.new.items ≡ map row_value found.old.items
+        ++ rows_among (filters_of filters.old) unknown (line.now ∷ [])) }
     ensures same { filters_of filters.new ≡ filters_of filters.old }
 {
-    if filters.passes(line) {
-        found.push(row_of(alloc, line)?)?;
+    let obstacle = obstacles.at(line.0);
+    if filters.passes(line, obstacle.is_none()) {
+        found.push(row_of(alloc, line, obstacle)?)?;
     }
     Ok(())
 }
@@ -51,12 +63,13 @@ pub fn rows<'a>(
     filters: &mut Filters<'_>,
 ) -> Result<Vec<LineRow<'a>>, NoMem>
     ensures { IfOk result (λ found. map row_value found.items
-        ≡ map row_of (filter (passes (filters_of filters.old)) recording.now.lines)) }
+        ≡ rows_of (filters_of filters.old) recording.now) }
 {
     let lines = recording.lines();
+    let obstacles = obstacles_of(alloc, recording)?;
     let mut found = Vec::new(alloc);
     for line in lines {
-        push_row(alloc, &mut found, filters, line)?;
+        push_row(alloc, &mut found, filters, &obstacles, line)?;
     }
     Ok(found)
 }

@@ -1,15 +1,19 @@
 //! Whom to tell, and about what.
 ghost use Rattle.std.specs.Prelude.{◌≡◌, IfOk, IsTrue, map};
+ghost use Rattle.std.specs.List.{filter};
 ghost use Rattle.retro_keep.specs.Script.{rises_from};
 ghost use Rattle.casebook_cause.specs.Compensations.{tellings};
 ghost use Rattle.casebook_view.specs.Reasons.{number_in};
 ghost use Rattle.casebook_view.specs.Summaries.{line_subject, line_told, notice_for, number_of};
+ghost use Rattle.casebook_view.specs.Unknown.{is_understood};
 
 use crate::NoMem;
 use crate::case::Case;
+use crate::obstacles::Obstacles;
 use crate::reason::{Reason, failing_ask, failing_in};
 use crate::subject::Subject;
 use casebook_cause::tellings;
+use casebook_profile::UnknownLine;
 use retro_redo::Compensation;
 use std::alloc::Global;
 
@@ -62,18 +66,27 @@ fn notice_of(
 }
 
 /// Returns whom to tell about what: a notice for each line that isn't cancelled and prints something
-/// else, in order.
-pub fn notices(alloc: Global, case: &Case<'_>, reasons: &[Reason]) -> Result<Vec<Notice>, NoMem>
+/// else, in order, without those that aren't understood. What such a line printed is Retro's own,
+/// and nobody saw it.
+pub fn notices(
+    alloc: Global,
+    case: &Case<'_>,
+    reasons: &[Reason],
+    unknown: &[UnknownLine],
+) -> Result<Vec<Notice>, NoMem>
     ensures lines { IfOk result (λ found. map line_told found.items
-        ≡ map number_of (tellings case.now.repair)) }
+        ≡ map number_of (filter (is_understood unknown.now) (tellings case.now.repair))) }
     ensures values { IsTrue (rises_from 0 (map number_in reasons.now)) → IfOk result (λ found.
         found.items ≡ map (notice_for case.now.recording reasons.now)
-        (tellings case.now.repair)) }
+        (filter (is_understood unknown.now) (tellings case.now.repair))) }
 {
     let compensations = tellings(alloc, case.repair())?;
+    let obstacles = Obstacles::of(alloc, unknown)?;
     let mut found = Vec::new(alloc);
     for compensation in &compensations {
-        found.push(notice_of(alloc, case, reasons, compensation)?)?;
+        if obstacles.has_none(compensation.number) {
+            found.push(notice_of(alloc, case, reasons, compensation)?)?;
+        }
     }
     Ok(found)
 }

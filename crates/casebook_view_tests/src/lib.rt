@@ -8,3 +8,5 @@ mod lines;
 mod market;
 #[cfg(test)]
 mod show;
+#[cfg(test)]
+mod unknown;

@@ -46,7 +46,9 @@ writes / => 2,3,4,5,6,8,9,12,13,15,16
 text ^cat => 1,4,7,10,11,14,16,17,18,19,20
 shown fig => 11,17
 text report; shown apple => 4,18
-text nothing => none";
+text nothing => none
+only unknown => none
+session 3; only unknown => none";
 
 /// Adds a test of a row.
 fn add_test(alloc: Global, tests: &mut Vec<LineTest>, row: &str) -> Result<(), Fail> {
@@ -130,6 +132,7 @@ fn filtered_by(
         tests: tests_of(alloc, row)?,
         text: Some(text.matcher(alloc)?),
         shown: Some(shown.matcher(alloc)?),
+        is_unknown: given(row, "only") == "unknown",
     };
     passing(alloc, recording, &mut filters)
 }
@@ -180,6 +183,7 @@ pub(crate) fn no_filters<'r>(alloc: Global) -> Filters<'r> {
         tests: Vec::new(alloc),
         text: None,
         shown: None,
+        is_unknown: false,
     }
 }
 

@@ -5,3 +5,4 @@ pub mod Difference
 pub mod FileLines
 pub mod Labels
 pub mod inner
+pub mod Obstacles

@@ -1,9 +1,8 @@
 use Rattle.std.proofs.Common.{◌≡◌, ◌++◌, ap, map, option_map, subst, ◌∙◌}
-use Rattle.std.specs.List.{filter}
 use Rattle.std.proofs.lemmas.Result.{IfOk-weaker}
 use Rattle.casebook_about.specs.Rows.{time_view}
-use Rattle.casebook_view.specs.Filters.{FiltersValue, passes}
-use Rattle.casebook_view.specs.Rows.{row_of, row_value}
+use Rattle.casebook_view.specs.Filters.{FiltersValue}
+use Rattle.casebook_view.specs.Rows.{row_value, rows_of}
 use Rattle.casebook_cli.specs.Bounds.{typed}
 use Rattle.casebook_cli.specs.Lines.{user_tests}
 use Rattle.casebook_cli.specs.Request.{test_view}
@@ -13,7 +12,6 @@ pub returns : goal.returns
 returns c =
     let request = c.args.request in
     let known = c.args.known.now in
-    let lines = c.args.recording.now.lines in
     let tests = c.push_user.new.tests.items in
     let found = c.in_ok-found.found.items in
     IfOk-weaker c.typed_rows.result _ _
@@ -27,6 +25,6 @@ returns c =
       are_rows = h
           ∙ ap (λ times. typed request.bounds (map time_view times) (map row_value found)) c.as_slice.ensures.value
           ∙ ap (typed request.bounds (map time_view known.times.items))
-          (c.in_ok-found.ensures ∙ ap (λ (f : FiltersValue). map row_of (filter (passes f) lines)) c.in_ok-filters.ensures);
+          (c.in_ok-found.ensures ∙ ap (λ (f : FiltersValue). rows_of f c.args.recording.now) c.in_ok-filters.ensures);
     })
     c.typed_rows.ensures

@@ -1,8 +1,6 @@
-use Rattle.std.proofs.Common.{ap, map, ◌∙◌}
-use Rattle.std.specs.List.{filter}
+use Rattle.std.proofs.Common.{ap, map, refl, ◌∙◌}
 use Rattle.std.proofs.lemmas.Result.{err_from_is_err_and}
-use Rattle.casebook_view.specs.Filters.{passes}
-use Rattle.casebook_view.specs.Rows.{row_of, row_value}
+use Rattle.casebook_view.specs.Rows.{row_value, rows_of}
 use Rattle.casebook_cli.specs.Bounds.{typed}
 use Rattle.casebook_cli.specs.Lines.{filters_by, rows_text, widest_name}
 use Rattle.casebook_cli.specs.Stops.{no_memory}
@@ -28,7 +26,7 @@ returns-clause-ok c =
     let request = c.args.request in
     let labels = c.in_ok-known.known.labels in
     let lines = c.in_ok-recording.recording.lines in
-    let filters = filters_by c.in_ok-found.ensures.tests c.in_ok-patterns.patterns in
+    let filters = filters_by c.in_ok-found.ensures.tests c.in_ok-patterns.patterns request.is_unknown in
     let found = c.in_ok-found.found.items in
     record {
       recording = c.in_ok-recording.recording;
@@ -40,6 +38,7 @@ returns-clause-ok c =
         tests = c.in_ok-found.ensures.are_tests;
         text = c.in_ok-patterns.ensures.text;
         shown = c.in_ok-patterns.ensures.shown;
+        unknown = refl;
       };
       shown = c.in_ok-rows_text.ensures
           ∙ ap (λ rs. rows_text request.format labels c.in_ok-width.width (map row_value rs)) c.as_slice.ensures.value
@@ -47,6 +46,6 @@ returns-clause-ok c =
           (c.in_ok-width.ensures ∙ ap (widest_name labels) c.lines.ensures.value)
           ∙ ap (rows_text request.format labels (widest_name labels lines))
           (c.in_ok-found.ensures.are_rows
-          ∙ ap (λ times. typed request.bounds times (map row_of (filter (passes filters) lines)))
+          ∙ ap (λ times. typed request.bounds times (rows_of filters c.in_ok-recording.recording))
           c.in_ok-known.ensures.times);
     }

@@ -1,4 +1,4 @@
-use Rattle.std.proofs.Common.{ℕ, ◌==◌, ◌≡◌, List, ◌++◌, ap, ap₂, ◌∙◌}
+use Rattle.std.proofs.Common.{ℕ, ◌==◌, List, ◌++◌, ap, ap₂, ◌∙◌}
 use Rattle.std.specs.List.{find}
 use Rattle.casebook_view.specs.declared.fate.Fate.{Fate}
 use Rattle.casebook_view.specs.declared.reason.Reason.{Reason}

@@ -1,12 +1,12 @@
 use Rattle.std.proofs.Common.{◌≡◌, ◌∙◌, [], ◌∷◌, ap, map, rules, sym}
 use Rattle.casebook_view.specs.Effects.{effect_value}
-use Rattle.casebook_screen.specs.Causes.{effect_text, effects_head}
+use Rattle.casebook_screen.specs.Causes.{effect_among, effects_head}
 use Rattle.casebook_screen.proofs.RowParts.{map_map}
 use Rattle.casebook_screen.proofs.effect_text.effect_lines.Goals as goal
 
 pub returns : goal.returns
 returns c =
-    let r = c.args.recording.now in
+    let shown_as = effect_among c.args.recording.now c.args.unknown.now in
     let shown : c.push_effects.new.lines.items
-    ≡ [] ∷ effects_head ∷ map (λ effect. effect_text r (effect_value effect)) c.args.effects.now = search rules in
-    shown ∙ ap (λ t. [] ∷ effects_head ∷ t) (sym (map_map (effect_text r) effect_value c.args.effects.now))
+    ≡ [] ∷ effects_head ∷ map (λ effect. shown_as (effect_value effect)) c.args.effects.now = search rules in
+    shown ∙ ap (λ t. [] ∷ effects_head ∷ t) (sym (map_map shown_as effect_value c.args.effects.now))

@@ -1,0 +1,59 @@
+//! Paths that lines wrote that aren't understood.
+ghost use Rattle.std.specs.Prelude.{◌≡◌, ◌||◌, IfOk, OnOk, map};
+ghost use Rattle.std.specs.List.{filter};
+ghost use Rattle.retro_tree.specs.Path.{PathValue};
+ghost use Rattle.casebook_cause.specs.ChangedPaths.{path_in};
+ghost use Rattle.casebook_view.specs.Unknown.{is_doubtful, is_writer};
+ghost use Rattle.casebook_view.specs.inner.Obstacles.{has_path};
+
+use crate::NoMem;
+use crate::case::Case;
+use crate::path_set::PathSet;
+use casebook_cause::ChangedPath;
+use casebook_profile::UnknownLine;
+use retro_tree::Path;
+use std::alloc::Global;
+
+/// Adds the paths to which a line writes, as it was recorded and in the repaired recording.
+fn add_line(paths: &mut PathSet, case: &Case<'_>, number: u32) -> Result<(), NoMem>
+    ensures { OnOk result ((p : PathValue) → has_path p paths.new.paths.keys
+        ≡ (has_path p paths.old.paths.keys
+        || is_writer case.now.recording case.now.repair.recording p number)) }
+{
+    paths.add_line(case.recorded(number))?;
+    paths.add_line(case.repaired(number))
+}
+
+/// Returns the paths to which lines write that aren't understood.
+fn written_paths(alloc: Global, case: &Case<'_>, unknown: &[UnknownLine]) -> Result<PathSet, NoMem>
+    ensures { IfOk result (λ paths. (p : PathValue) → has_path p paths.paths.keys
+        ≡ is_doubtful case.now.recording case.now.repair.recording unknown.now p) }
+{
+    let mut paths = PathSet::new(alloc);
+    for line in unknown {
+        add_line(&mut paths, case, line.number)?;
+    }
+    Ok(paths)
+}
+
+/// Returns those of the changed paths to which a line writes that isn't understood, in the same
+/// order.
+pub(crate) fn doubtful_paths(
+    alloc: Global,
+    case: &Case<'_>,
+    unknown: &[UnknownLine],
+    changed: &[ChangedPath],
+) -> Result<Vec<Path>, NoMem>
+    ensures { IfOk result (λ found. found.items ≡ filter
+        (is_doubtful case.now.recording case.now.repair.recording unknown.now)
+        (map path_in changed.now)) }
+{
+    let written = written_paths(alloc, case, unknown)?;
+    let mut found = Vec::new(alloc);
+    for change in changed {
+        if written.contains(&change.path) {
+            found.push(change.path.copy()?)?;
+        }
+    }
+    Ok(found)
+}

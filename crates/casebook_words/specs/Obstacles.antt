@@ -1,0 +1,16 @@
+-- Why lines aren't understood, in words: of one line, and of several.
+use Rattle.std.specs.Prelude.{ℕ, List, codes}
+use Rattle.casebook_usage.specs.declared.obstacle.Obstacle.{Obstacle}
+use Rattle.casebook_usage.specs.declared.obstacle.Obstacle.TheVariants.{Command, Form, Expansion, Terminal}
+
+unfoldable pub obstacle_text : Obstacle → List ℕ
+obstacle_text Command = codes "a command that Retro doesn't know"
+obstacle_text Form = codes "an option or form that it doesn't have"
+obstacle_text Expansion = codes "a pattern or value that a shell expands"
+obstacle_text Terminal = codes "a command that reads the terminal"
+
+unfoldable pub obstacles_text : Obstacle → List ℕ
+obstacles_text Command = codes "commands that Retro doesn't know"
+obstacles_text Form = codes "options or forms that it doesn't have"
+obstacles_text Expansion = codes "patterns or values that a shell expands"
+obstacles_text Terminal = codes "commands that read the terminal"
