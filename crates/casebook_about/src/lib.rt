@@ -7,6 +7,17 @@
 //! [`second_of`] reads one.
 //!
 //! If allocation fails, calls return `OutOfMemory` as a variant of their error.
+//!
+//! # What is proved
+//!
+//! - `read_about` returns all rows of sessions and of lines that an about document has, in order,
+//!   or why the text is none: the first fault of the value, of its parts, of the rows of sessions
+//!   and of the rows of lines, in this order, with the part and the place of a row
+//!   (`specs/About.antt`, `specs/Rows.antt`).
+//! - `time_text` returns a text in which `jiff` shows the instant in the form `%b %d %H:%M`
+//!   (`specs/Time.antt`). That it is the text which people expect is only tested.
+//! - `second_of` returns the second of the instant that a text names as `jiff` reads it: with an
+//!   offset of its own, or in UTC, or as a date's first second in UTC (`specs/Time.antt`).
 #![tactic(auto)]
 
 mod about;

@@ -8,6 +8,31 @@
 //! Nothing is repaired here: everything is read from a repair and from recordings.
 //!
 //! If allocation fails, calls return `NoMem`.
+//!
+//! Start reading at `differences.rt`, then `search.rt` and `tree_diff.rt`.
+//!
+//! # What is proved
+//!
+//! - `changed_paths` returns exactly the paths in which two trees differ, each once and with how
+//!   they differ there, in order of paths [by `AreChangedPaths`].
+//! - `has_another_result` is true exactly if the outputs of two runs differ, or their changes,
+//!   compared in order.
+//! - `first_failing_note` returns `None` exactly if the notes hold in the view's state [`none`].
+//!   Otherwise it returns an index: the notes before it hold, and the note there is a query that
+//!   has another answer in the state after their changes [`some`].
+//! - `Differences::of` returns two recordings: it is the two of them in contracts. `cause_of`
+//!   returns the last line before a number that changes the cells of a query otherwise in one of
+//!   them than in the other [`some`], or `None` if there is none [`none`]. If the recordings begin
+//!   with the same state and the query has another answer before the line, there is a cause
+//!   [`exists`]. So each line that an exact repair runs again, though its text isn't replaced, has
+//!   one: its notes don't hold before it in the repaired recording
+//!   (`redone_lines_have_a_failing_note`), and the first failing query has another answer there
+//!   (`failing_queries_have_another_answer`). A cause is a line that the repair cancels or runs
+//!   again (`causes_are_cancelled_or_redone`), and earlier than what it causes: so each chain of
+//!   causes ends at an edited line.
+//! - `leaks` returns the compensations of the lines that a verdict cancels, `tellings` all others,
+//!   both in order. Merged in order they are the repair's compensations
+//!   (`leaks_and_tellings_are_all`).
 #![tactic(auto)]
 
 mod alike;

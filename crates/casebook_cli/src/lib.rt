@@ -2,10 +2,47 @@
 //!
 //! [`run_with`] answers the request of the command line. It reads the documents that the request
 //! names from a [`Documents`], and writes the answer. If it returns [`Exit::Done`] or [`Exit::No`],
-//! it wrote exactly an answer that `specs/Answers.antt` defines. If it returns [`Exit::Stopped`], it
-//! wrote nothing, and [`Exit::message`] says why.
+//! it wrote exactly an answer that `specs/Answers.antt` defines. If it returns [`Exit::Stopped`],
+//! it wrote nothing, and [`Exit::message`] says why.
 //!
 //! If allocation fails, calls return `NoMem` or [`Stop::OutOfMemory`].
+//!
+//! Start reading at `program.rt`, then `command_line.rt`, `reading.rt` and `answers.rt`.
+//!
+//! # What is proved
+//!
+//! - `run_with` writes, after `Done` and `No`, exactly a text that answers its words about the
+//!   documents that they name [`runs`, by `Answers` of `specs/Answers.antt`]. What words ask for is
+//!   an equation (`request_in`), over `clap`'s definition of the command that they name.
+//! - `lines` is answered by the rows of exactly those lines of the log that pass the filters and
+//!   were typed between the bounds, in order, as text, as a table or as a list of numbers: an
+//!   equation [by `AreLines`]. A pattern is one that the text of its option is read as. A line was
+//!   typed between bounds if a row of the document with times says so.
+//! - `show` is answered by the summary of a repair of the log without the lines of the list, and
+//!   with other lines replaced, and on demand by why lines are run again and by diffs, or by one
+//!   line in full, or by the summary as JSON; `page` by the page of the same repair [by `IsShown`,
+//!   `IsPage`]. The repair is exact if the log is a recording of its lines, and otherwise what
+//!   choices for its lines come to, whether lines are run ahead or not. The summary says that the
+//!   log is a recording only if it is one; that it never says no of a recording is only tested. The
+//!   numbers of the lines of which the summary speaks rise, so reasons, single lines and the JSON
+//!   are as the clauses of the crates below define them [`rise` of `IsSummary`].
+//! - With colours, each line of what `show` writes for people stands between two codes that its
+//!   first byte chooses (`specs/Colours.antt`), and everything else is the same. Nothing else that
+//!   is written for people has a control code but newlines and tabs.
+//! - `check` is answered, after `Done`, by a text that says that the document is a script, or that
+//!   it is the log of a recording of its lines, and only if it is one; or, after `No`, by the first
+//!   line that isn't as noted and how, or by why the document is refused [by `IsChecked`]. What has
+//!   a key `script` is read as a script, and all else as a log.
+//! - After `Stopped` nothing was written [`unwritten`], and the `Stop` is one of `StopsWords`
+//!   (`specs/Stops.antt`): the words are bad, a document can't be read, isn't a log, isn't UTF-8 or
+//!   has no names and times, a pattern or a list is refused, no line has the number, or the repair
+//!   or how lines are run ahead is refused; each as the definitions refuse it. After `WriteFailed`
+//!   a part of the answer was written, but not all of it, and it is returned exactly if the output
+//!   failed [`write_failure`].
+//! - All this is said where the documents are known (`Documents`, `bytes_of`). Of the files of a
+//!   process nothing is known, so no proof speaks of what a file holds.
+//! - `Exit::status` and `Exit::message` give the status and the line for standard error, whose
+//!   characters are harmless, as it is a `SafeLine`. What `help` says is a constant.
 #![tactic(auto)]
 
 mod answer;

@@ -6,6 +6,20 @@
 //! where they know nothing narrower, it's the whole document. [`push_place`] says a place in words.
 //!
 //! If allocation fails, calls return `NoMem`.
+//!
+//! # What is proved
+//!
+//! - `place_in_log` and `place_in_script` return a place in the bytes where they break the rule of
+//!   the refusal that they are given, as `specs/Place.antt` defines it [by `IsPlace`]: the first
+//!   item of its list whose own reading gives that refusal; the first line whose number is too
+//!   small; the first line with a session that isn't listed; the first session whose number is
+//!   listed before it; a key that such a document can't have; the first key that it lacks; a key
+//!   whose value as a whole is refused so; or the end of the longest front of the bytes that is
+//!   UTF-8. Any call may answer `Document`, which says nothing.
+//! - A byte at which a text stops to be JSON is named only if the text isn't a JSON value; that
+//!   reading stopped there is only tested. So is it that a narrower place than `Document` is found,
+//!   and that of several keys which don't belong there the first in the text is named.
+//! - `push_place` appends the words that `specs/Words.antt` defines for a place.
 #![tactic(auto)]
 
 mod finding;

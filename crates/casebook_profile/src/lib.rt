@@ -10,6 +10,21 @@
 //! options of the shell such as `noclobber`.
 //!
 //! If allocation fails, calls return `NoMem`.
+//!
+//! Start reading at `finding.rt`, then `lines.rt`, `commands.rt` and `words.rt`.
+//!
+//! # What is proved
+//!
+//! - `unknown_lines` returns exactly the lines of a recording that aren't understood, in order,
+//!   each with its first obstacle (`unknown_lines_of` of `specs/UnknownLines.antt`): an equation
+//!   over the parse trees of the texts, and over which variables the first state and the notes of
+//!   earlier lines set.
+//! - `understood_lines_have_proper_commands`: in whatever state an understood line begins, each
+//!   command that it runs names a utility, and is no usage fault whatever state and input the
+//!   utility meets (`ProperLine` of `specs/Proper.antt`, which follows the run of the line).
+//!   Nothing is said of a command that runs while a home directory doesn't begin with a slash,
+//!   since `~` could then become an option. `known_lines_have_proper_commands` says the same of the
+//!   lines of a recording that `unknown_lines` leaves out.
 #![tactic(auto)]
 
 mod characters;

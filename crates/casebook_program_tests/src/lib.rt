@@ -1,5 +1,5 @@
-//! Tests of the program for people, over public items alone: its words, its documents and its exits.
-//! What is wanted is written by hand, from the design of the program.
+//! Tests of the program for people, over public items alone: its words, its documents and its
+//! exits. What is wanted is written by hand, from the design of the program.
 #![tactic(auto)]
 
 #[cfg(test)]

@@ -3,16 +3,40 @@
 //! [`row_lines`], [`row_table`] and [`row_numbers`] show rows as text, as a table and as numbers.
 //!
 //! [`summary_lines`] shows a [`Sheet`], which says what a repair would do: which lines aren't
-//! understood, how many lines have which fate, what is to be restored (by [`to_restore`]), whom to tell about what, which cancelled lines
-//! showed something, and what each cancelled line led to.
+//! understood, how many lines have which fate, what is to be restored (by [`to_restore`]), whom to
+//! tell about what, which cancelled lines showed something, and what each cancelled line led to.
 //!
-//! [`why_lines`] says why lines are run again, [`diff_lines`] shows what changes as unified diffs, and
-//! [`detail_lines`] shows one line in full.
+//! [`why_lines`] says why lines are run again, [`diff_lines`] shows what changes as unified diffs,
+//! and [`detail_lines`] shows one line in full.
 //!
 //! All that is shown is a `SafeLine`, so no byte of a log gets into it but as `casebook_text` shows
 //! it. In contracts a line is the list of its bytes.
 //!
 //! If allocation fails, calls return `NoMem`.
+//!
+//! Start reading at `summary_text.rt`, then `why_text.rt` and `diff_text.rt`.
+//!
+//! # What is proved
+//!
+//! - `row_lines`, `row_table` and `row_numbers` return the lines, fields and numbers that
+//!   `specs/RowTexts.antt` and `specs/Fields.antt` define for each row, in order: an equation each.
+//! - `to_restore` returns a restoration for each path that it is given, in order, with how it
+//!   differs and how much: a directory or an empty file that comes or goes, a file that becomes a
+//!   directory or the other way, or how many lines a diff of the two files adds and removes [by
+//!   `IsExtent`].
+//! - `summary_lines` returns the lines that `specs/Summary.antt` defines for a summary, for what is
+//!   to be restored and for the groups of lines to tell about that it is given: an equation.
+//! - `why_lines` returns the lines that `specs/Why.antt` defines: two for each line that is run
+//!   again with another result, with the query that fails, both its answers and the chain of
+//!   causes. It is an equation if the fates and the reasons of the summary are in order of lines.
+//! - `diff_lines` returns a unified diff for each path with a file before or after, and one for
+//!   each output that differs, in order [by `AreDiffs`]. The lines marked ` ` and `-` are the old
+//!   text, and those marked ` ` and `+` the new one; each head counts the lines of its part;
+//!   exactly the lines at most three from one that differs are shown [by `IsUnified`]. Texts are
+//!   compared as they are shown, with a remark after a last line without a newline.
+//! - `detail_lines` returns the lines that `specs/Detail.antt` defines for the line with a number,
+//!   an equation if the reasons are in order of lines.
+//! - What all these return are `SafeLine`s, so their characters are harmless.
 #![tactic(auto)]
 
 mod detail_text;

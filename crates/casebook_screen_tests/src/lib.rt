@@ -1,5 +1,6 @@
-//! Tests of `casebook_screen`, `casebook_check` and `casebook_json`, over public items alone. What is
-//! wanted is written by hand, from the design of the program's output and from `docs/FORMATS.md`.
+//! Tests of `casebook_screen`, `casebook_check` and `casebook_json`, over public items alone. What
+//! is wanted is written by hand, from the design of the program's output and from
+//! `docs/FORMATS.md`.
 #![tactic(auto)]
 
 #[cfg(test)]

@@ -5,6 +5,18 @@
 //! shell it is no usage fault, whatever its words become.
 //!
 //! If allocation fails, calls return `NoMem`.
+//!
+//! Start reading at `uses.rt`, then `form.rt`.
+//!
+//! # What is proved
+//!
+//! - `obstacle_of_use` returns why a use of a utility isn't understood, or `None` if it is, by
+//!   `use_obstacle` (`specs/Obstacles.antt`): an equation over what is known of its words.
+//! - `understood_uses_fit`: a use that is understood is in a form that the utility has (`takes` of
+//!   `specs/Forms.antt`), whatever fields its words become. `fitting_calls_are_no_usage_faults` and
+//!   `other_calls_are_usage_faults`: a call is a usage fault in Retro's shell exactly if its fields
+//!   aren't in such a form, in any state. `calls_set_no_variables` and `outputs_leave_sessions` say
+//!   what calls and redirections leave.
 #![tactic(auto)]
 
 mod echo;

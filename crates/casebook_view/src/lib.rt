@@ -10,12 +10,50 @@
 //! together by session and by what they are about.
 //!
 //! Lines of which Retro's shell knows nothing are named, with why they aren't understood. Their
-//! output is Retro's own, so it makes no notice and no leak. A path is doubtful if such a line wrote
-//! to it.
+//! output is Retro's own, so it makes no notice and no leak. A path is doubtful if such a line
+//! wrote to it.
 //!
 //! Nothing is computed anew: everything is read from recordings and repairs.
 //!
 //! If allocation fails, calls return `NoMem`.
+//!
+//! Start reading at `case.rt`, then `summary.rt`, `reason.rt` and `effect.rt`.
+//!
+//! # What is proved
+//!
+//! - `rows` returns exactly the lines of a recording for which all filters hold (`passes` of
+//!   `specs/Filters.antt`), in order. A row names each path about which a note asks and each write
+//!   of a note, once, in the order in which they first occur (`row_of` of `specs/Rows.antt`).
+//!   Whether a file can be written counts only if it can't.
+//! - `Case::of` returns a recording with its repair: it is the two of them in contracts, and its
+//!   type keeps that its differences and its history are theirs. `Case::cause_of` returns the last
+//!   line before another one that changes otherwise what a query asks about, or says that there is
+//!   none [by `IsCauseOf`].
+//! - `fates` returns one fate for each verdict, in order [by `AreFates`]: a line that is run again
+//!   has another result exactly if its outputs or its changes differ.
+//! - `reasons` returns one reason for each line that is run again, in order [by `AreReasons`]. It
+//!   names the first recorded note that doesn't hold in the repaired state before the line, and the
+//!   last earlier line that changes otherwise what that note asks about, or says that there is
+//!   none. If the verdicts are in order of lines, a reason's origin is that of its cause, or the
+//!   cause itself if that isn't run again.
+//! - `answers_of` returns the query of a reason with the noted answer and with the answer in the
+//!   repaired state before the line, after the changes that the line made before the query.
+//! - `chain` follows causes, as many times as there are reasons at most.
+//! - `restorations` returns exactly the paths in which the final trees of the recording and of the
+//!   repair differ, each once and with how they differ.
+//! - `unknown_in` returns the lines that aren't understood, and the replaced ones whose new text
+//!   isn't, in order of numbers [by `specs/Unknown.antt`]. `Summary::of` names the paths to restore
+//!   that one of these lines wrote, in one of the two recordings.
+//! - `leaks_of` returns what the compensations of cancelled lines say, and `notices` what all
+//!   others say, but for lines that aren't understood: an equation each. So by
+//!   `leaks_and_tellings_are_all` each compensation of a line that is understood is in one of them.
+//! - `effects` returns the lines at which chains of causes end, in order. Of each it counts the
+//!   other lines that are run again and whose chains end there, and names the paths that it wrote.
+//! - `grouped` returns a group for each session and subject that notices have, in order of sessions
+//!   and then of first lines, with the numbers of all its lines in order: an equation
+//!   (`specs/Groups.antt`).
+//! - `Summary::of` returns the results of these calls for one repair, and `fate_of` finds the fate
+//!   of a line in it.
 #![tactic(auto)]
 
 mod case;

@@ -2,14 +2,33 @@
 //!
 //! [`push_query`], [`push_answer`], [`push_change`] and [`push_note`] say what a line read and
 //! wrote, [`push_path`] a path, and [`push_cut`] bytes up to a limit. [`push_difference`] says how
-//! two answers to a query differ. [`FileLines`] has the lines of a file before and after, and merges
-//! them. [`Labels`] has the names of sessions and the times of lines. [`obstacle_text`] and
+//! two answers to a query differ. [`FileLines`] has the lines of a file before and after, and
+//! merges them. [`Labels`] has the names of sessions and the times of lines. [`obstacle_text`] and
 //! [`obstacles_text`] say why one line isn't understood, and why several aren't.
 //!
 //! All that is appended is a `SafeLine`, so no byte of a log gets into it but as `casebook_text`
 //! shows it. In contracts a line is the list of its bytes.
 //!
 //! If allocation fails, calls return `NoMem`.
+//!
+//! # What is proved
+//!
+//! - `push_query`, `push_answer`, `push_change`, `push_note`, `push_path`, `push_count`, `push_cut`
+//!   and `push_first_line` append the words that `specs/Words.antt` and `specs/Cut.antt` define,
+//!   and nothing else. If memory runs out, they may have appended a part.
+//! - `push_difference` appends the words of `specs/Difference.antt`: of two files the first line
+//!   that differs, of two listings the first name that one lacks, and else both answers. The first
+//!   line is the first: all lines before it are the same, those at it aren't, and there is none
+//!   only if all lines are the same (`first_differences_are_first`).
+//! - `FileLines::of`, `FileLines::of_bytes` and `shown_lines` return the lines of texts as they are
+//!   shown; a last line without a newline says so (`specs/FileLines.antt`). The lines of a text
+//!   make it, and no line has a newline inside (`lines_make_the_text`). Of `merged` lines those
+//!   marked `Same` and `Removed` are the old text's [`old`], those marked `Same` and `Added` the
+//!   new one's [`new`], and equal texts have no other mark than `Same` [`equal`]. `count_added` and
+//!   `count_removed` count marks.
+//! - `Labels` keeps the last name of each session and the last time of each line: equations on
+//!   finite maps. `name_of` and `time_of` show them.
+//! - What all these return is a `SafeLine`, so its characters are harmless.
 #![tactic(auto)]
 
 mod answer_words;

@@ -14,6 +14,24 @@
 //! whether notes hold in the repaired state.
 //!
 //! If allocation fails, calls return `NoMem` and leave their arguments unchanged.
+//!
+//! # What is proved
+//!
+//! - `touches`, `changes`, `note_touches` and `writes` are exact, and `effects` and `written`
+//!   return the value of a cell after notes and after a change. `overlay_of` returns an overlay
+//!   that gives the state after the notes over every state [`overlays`], has entries for the cells
+//!   that the notes change and no others [`cells`], and whose entries are of their cells' kinds
+//!   [`fits`].
+//! - `advance` takes an overlay whose entries are values that differ from the recorded state's. If
+//!   it is exact, it is exact again after a line, whatever notes the recorded and the repaired
+//!   state go on by [`exact`]; if allocation fails, it is unchanged [`err`]. `advance_both` does
+//!   the same over a line with the same notes in both states.
+//! - By the exact overlay of two states, `is_met` is true exactly if they differ in a cell that
+//!   notes read or write. If it is false, they agree on these cells, and notes that hold in the one
+//!   state hold in the other (`notes_hold_by_their_cells`).
+//! - A `Combined` answers as the state that an overlay makes of a view's. `equiv` is true exactly
+//!   if notes hold in the state that an exact overlay makes of a view's.
+//! - `Cells::get` borrows the value of a cell in one state.
 #![tactic(auto)]
 
 mod advancing;

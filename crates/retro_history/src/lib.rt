@@ -17,6 +17,27 @@
 //! existed.
 //!
 //! If allocation fails, calls return `NoMem` and leave their arguments unchanged.
+//!
+//! Start reading at `history.rt`, then `cell_history.rt`, `track.rt` and `uses.rt`, then `at.rt`.
+//!
+//! # What is proved
+//!
+//! - `History::of` returns the history of a recording: it is that recording in contracts, and each
+//!   call is an equation on its lines. `recorded_before` (of `retro_keep`) is the state after all
+//!   lines with numbers below one: the state before that line (`recorded_states_follow_the_lines`).
+//! - `value_at` returns, and `get` borrows, the value of a cell in that state. `entry_at` and
+//!   `names_at` return the state's answers about a user and a directory. `at` is the state as a
+//!   view, so that it answers every query as the state does, and lends the value of each cell.
+//! - `checkpoints` returns the numbers of the versions of a cell that are kept whole
+//!   (`specs/Versions.antt`), which rise from 0 (`checkpoints_rise`). `rollback` returns the last
+//!   checkpoint below a number [`from`] with the growths between it and the number [`rule`], which
+//!   is the recorded value [`value`] (`versions_give_the_recorded_values`).
+//! - `writers` and `written_by` give the lines whose notes change a cell, `readers` those with a
+//!   query whose answer can depend on it, and `listed_by` those that list a directory: each
+//!   exactly, in order (`specs/Index.antt`). `next_use` returns the least number above another of a
+//!   line that reads or changes a cell, or `None` if there is no such line, and `next_meeting` and
+//!   `next_meeting_in` that of a line that does so with one of some cells. `changed_cell` returns
+//!   the cell of a change. A listing reads the cell of each child, also of one that never existed.
 #![tactic(auto)]
 
 mod at;

@@ -10,6 +10,17 @@
 //!
 //! If allocation fails, calls return `NoMem`, alone or as a variant of their error, and leave
 //! borrowed arguments unchanged.
+//!
+//! # What is proved
+//!
+//! - `read_tree_rows` and `read_session_rows` read the next value of a text, and return the rows
+//!   that it lists, or their worst refusal; `read_tree_row` and `read_session_row` read one row;
+//!   `tree_of_rows` and `with_sessions` return the state that rows make. `notes_field` returns the
+//!   notes of a line. Each is an equation with a definition over `serde_json`'s values.
+//! - `read_replacements` returns the lines whose text is replaced that a text lists, or its
+//!   refusal, by an equation of the same kind.
+//! - `tree_value`, `sessions_value`, `notes_value` and `hex_value` return the JSON values of their
+//!   definitions [`value`]; `Refusal::number` the refusal's number.
 #![tactic(auto)]
 
 mod fault;

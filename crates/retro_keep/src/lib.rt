@@ -20,6 +20,38 @@
 //!
 //! If allocation fails, calls return `NoMem`, alone or as a variant of their error, and leave
 //! borrowed arguments unchanged.
+//!
+//! Start reading at `script.rt`, then `edit.rt`, `recorder.rt` and `recording.rt`.
+//!
+//! # What is proved
+//!
+//! - `Script::new` returns the script of its parts, or the first refusal in the order limits, tree,
+//!   numbers, sessions; `Script::of_lawful` the same over a state that is lawful. `Script::edit`
+//!   returns the script with its edited lines, or the refusal of the least number that two
+//!   different edits name, and then of the least one that no line has; both are found without
+//!   memory. `Recording::test_edits` returns the same refusals for the lines of a recording, and
+//!   between them that of the least number, from 1 on, below the one at which it begins. Editing by
+//!   two lists in turn that name different lines edits by both (`edits_in_turn_edit_both`).
+//! - A `Script`'s type keeps that its first state is lawful, its numbers rise from 1, and its
+//!   sessions exist.
+//! - `keep` and `keep_alone` return a recording of the script [`recording`]: it has the script's
+//!   first state and lines, each line's notes certify it and hold in the state before it, and the
+//!   line prints the noted output there. So its last state and its outputs are those of running the
+//!   lines one by one [`outcome`]. It begins at 1 [`begins`].
+//! - A `Recording`'s type keeps that its first state is lawful, it begins at 1 or later, its
+//!   numbers rise and none is below the one at which it begins, each line's session exists and is
+//!   the only one that its notes name, each noted answer is of its query's kind, and each noted
+//!   change is lawful where it is made [`well_formed`, of each reader]. `Recording::new` returns
+//!   the recording of its parts exactly if this holds of them [`exact`, `value`].
+//!   `Recording::of_lawful` returns the recording of a lawful state and of lines whose notes are
+//!   their session's, with answers of their queries' kinds; or the first refusal in the order
+//!   numbers, sessions, changes [`value`, `well_formed`, `fault`]. `Recording::of_well_formed`
+//!   returns the recording of parts for which this is known.
+//! - `Recording::trim` returns the recording that begins at a number, or `BeforeCheckpoint` exactly
+//!   if the number is below the one at which the recording begins: the lines from the number on,
+//!   over the recorded state before them [`trimmed`]. Of a recording of a script it is a recording
+//!   of the script that begins there [`recording`] (`specs/Trim.antt`). `Recording::run_of` finds
+//!   the line with a number, and `last` returns the state after the noted changes [`value`].
 #![tactic(auto)]
 
 mod edit;

@@ -13,6 +13,13 @@
 //!
 //! If allocation fails, calls return `NoMem`. A `Local` then has its earlier notes and maybe
 //! some later ones, which hold. Other arguments are unchanged.
+//!
+//! # What is proved
+//!
+//! - A `Local` answers as the view's state after its changes, and notes each answer and change. Its
+//!   notes hold in the view's state [`hold`]. If they are one session's, then in every lawful state
+//!   that has this session and in which they hold, each change is lawful where it is made
+//!   [`allowed`]. `holds` is exact, and `apply_notes` leaves the state after the notes.
 #![tactic(auto)]
 
 mod local;

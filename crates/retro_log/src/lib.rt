@@ -19,6 +19,23 @@
 //!
 //! If allocation fails, calls return `NoMem`, alone or as a variant of their error, and leave
 //! borrowed arguments unchanged.
+//!
+//! Start reading at `reading/log.rt`, then `reading/log_parts.rt` and `reading/log_lines.rt`.
+//!
+//! # What is proved
+//!
+//! - `read_script` returns the script that the bytes are, or the refusal that applies first, by an
+//!   equation with a definition over `serde_json`'s values.
+//! - `read_log` returns the recording that the bytes are, or the refusal that applies first, in the
+//!   same way. It reads both versions; a log of version 1 begins at line 1. Within its lines the
+//!   worst refusal of the whole list counts. Its notes are their line's, and each change is lawful
+//!   where it is made; answers aren't compared with the states.
+//! - `read_script_line`, `read_log_line` and `line_number` return one line, or the number of one,
+//!   or its refusal, in the same way.
+//! - `write_log` returns the log of a recording in version 2, byte for byte [`text`], and reading
+//!   it gives that recording again, if it is the recording of a script or was read itself, and no
+//!   name of a path or of a listing has NUL [`again`].
+//! - If `check` returns true, the recording is one of the script that its lines are.
 #![tactic(auto)]
 
 mod checking;

@@ -7,6 +7,13 @@
 //!
 //! If allocation fails, calls return `NoMem`. The `Local` then has its earlier notes and maybe
 //! some later ones, which hold.
+//!
+//! # What is proved
+//!
+//! - `remove` leaves the tree without a path and everything below it, or unchanged if the path is a
+//!   directory and the removal isn't recursive; `move_dir` leaves the tree with a directory moved
+//!   [`means`]. Which queries a recursive removal and `move_dir` ask, and in which order, is proved
+//!   too [`notes`], for `move_dir` over a view of a lawful state.
 #![tactic(auto)]
 
 mod laws;

@@ -8,6 +8,14 @@
 //! `resolve` computes the path that a text names from a directory, from the text alone.
 //!
 //! If allocation fails, calls return `NoMem` and leave borrowed arguments unchanged.
+//!
+//! # What is proved
+//!
+//! - `resolve` returns the path that a text names, or that it is empty, or that it has a name that
+//!   is too long. A text that isn't relative resolves alike in every directory
+//!   (`resolve_ignores_the_directory`).
+//! - `Path::of`, `Name::of` and `VarName::of` return a value exactly if the rule of its type holds.
+//!   Every other call is an equation on lists.
 #![tactic(auto)]
 
 mod bytes;

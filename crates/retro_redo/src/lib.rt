@@ -25,6 +25,50 @@
 //!
 //! If allocation fails, calls return `NoMem`, or `OutOfMemory` if they have other refusals. Their
 //! arguments are then unchanged.
+//!
+//! Start reading at `repairing.rt`, then `repairer.rt` and `progress.rt`, then `outcome.rt`.
+//!
+//! # What is proved
+//!
+//! - `repair_alone` and `repair_watched` return the repair of a recording with edited lines. If the
+//!   recording is one of its lines' script, its state and outputs are those of running the edited
+//!   lines one by one; its compensations are exactly the lines whose output differs, with both
+//!   texts; the verdicts are exact: a line is cancelled if an edit says so, redone if its text is
+//!   replaced or its notes don't hold in the repaired state, and else kept; the met lines are
+//!   exactly the replaced ones, and those that aren't cancelled and that read or write a cell in
+//!   which the two states differ; and its recording is one of the edited lines
+//!   (`specs/Repair.antt`) [`repair`]. For any other recording the answer is what some choices for
+//!   its lines come to, each one that its line allows, and with new runs of met lines alone; if the
+//!   lines as chosen aren't well formed, since a change isn't lawful where it is made, the edited
+//!   lines are all run again (`specs/Settled.antt`) [`settled`]. The repaired recording begins
+//!   where the recording does, in either case. If edits are refused, the answer is `TwoEdits`,
+//!   `BeforeCheckpoint` or `NoSuchLine`, as `Recording::test_edits` says: there is no repair then
+//!   [`known`], and `OutOfMemory` comes only if no edit is refused [`refused`].
+//! - `Repairer` is the repair line by line. The repaired state is here what the steps so far make
+//!   of the first state. `overlay` returns exactly the cells in which it differs from the recorded
+//!   state before the next line [`exact`]. If the recording is one of its lines, these two states
+//!   are those of running the settled lines and of running them as they are edited [`runs`, by
+//!   `AreStatesOfRuns`]. `is_met` decides whether the next line is met [`met`], `equiv` whether
+//!   nothing edits it and its notes hold, `fits` whether the notes of a run do, `redo` returns a
+//!   run of the line's new text whose notes hold [`new_run`, `holds`], and `step` settles it in one
+//!   of the ways that its contract allows [`may`, `ok`], or, if allocation fails, leaves all
+//!   unchanged [`err`]. `settle` chooses the step [`one`], and says how: only a stale line gets a
+//!   new run, and the notes of a kept one hold [`how`]. The new run is a guess, if the caller has
+//!   one whose notes hold. The notes of an unmet line that nothing edits hold in the repaired
+//!   state, if the recording is one of its lines [`holds` of `is_met`]. `skip_unmet` keeps exactly
+//!   the lines before the next one that is edited or met, and an overlay that was exact is so
+//!   before each of them (`specs/Skipping.antt`) [`next`, `ok`, `err`]. `stops_until` returns the
+//!   numbers of the lines up to an index that are edited or use a cell in which the states differ
+//!   now. `ground` lends what guesses need: its view of any line is the recorded state combined
+//!   with the overlay [`state`, `overlays` of `Ground::view`], and of the next line the repaired
+//!   state [`shows`]. `finish` returns the repair [`repair`], and for any recording what the
+//!   choices come to, or all edited lines run again if they aren't well formed [`settled`].
+//! - Two states have only one exact overlay (`exact_overlays_are_one`).
+//! - That choices which each line allows come to the run of the edited lines is a law
+//!   (`repairs_come_to_the_whole_run`), by one induction over the lines.
+//! - Repairing a repaired recording by a second list of edits, which names other lines than the
+//!   first, gives the state and the outputs that the lines with both lists of edits give
+//!   (`repairs_in_turn_repair_both`).
 #![tactic(auto)]
 
 mod altered_paths;

@@ -12,6 +12,22 @@
 //! differ unchanged, so it passes over no job, and a piece of which it leaves no line has no round.
 //!
 //! The tally of a repair says how many jobs there were and how they ended.
+//!
+//! Start reading at `repairing.rt`, then `rounds.rt`.
+//!
+//! # What is proved
+//!
+//! - `repair` returns the repair of a recording with edited lines, for every number of workers up
+//!   to 16, every cut into pieces and every schedule of the threads. Its answer is as that of
+//!   `repair_alone` [`repair`, `settled`]. The tally adds up: each job was taken up, unused,
+//!   wrong or given up. If the recording is one of its lines' script, `jobs` is the number of lines
+//!   that are run ahead, and `unused` the number of those among them that are kept at their turn,
+//!   both by the states of the two runs (`specs/Pieces.antt`, `specs/Jobs.antt`) [`tally`, by
+//!   `IsTally`].
+//! - A repair is refused for too many workers, else for no cuts or a zero among them, else for the
+//!   least number that two different edits name, else for the least edited number, from 1 on, below
+//!   the one at which the recording begins, else for the least edited number that no line has, each
+//!   exactly then [`accepted`, `refused`]; `OutOfMemory` comes only if none of these applies.
 #![tactic(auto)]
 
 mod any_seat;

@@ -9,6 +9,21 @@
 //! [`step`] runs a line and changes a state in place. [`play`] does so on a copy of a state.
 //!
 //! The only error is a failed allocation, `NoMem`. Arguments are then unchanged.
+//!
+//! Start reading at `line.rt`, then `command.rt` and `simple.rt`.
+//!
+//! # What is proved
+//!
+//! - `run_line` and `run_parsed` run a line over any view, lawful or not, and return a `Run`. Its
+//!   type keeps that its notes certify the line: in every lawful state that has the session and in
+//!   which they hold, each change is lawful where it is made, and the line, as `specs/Line.antt`
+//!   defines it, gives the state after the notes and the output. It also keeps that they name no
+//!   session but the line's [`run`, of each reader]. The notes hold in the view's state [`holds`];
+//!   if that is lawful and has the session, the line means there what the run says [`means`].
+//! - `step` and `play` return the text that the terminal gets and leave or return the state after
+//!   the line, as `specs/Line.antt` defines them [`means`]. A lawful state stays lawful [`lawful`],
+//!   with the same sessions [`sessions`]. If allocation fails, `step` leaves the state unchanged
+//!   [`err`].
 #![tactic(auto)]
 
 mod assignment;

@@ -13,6 +13,24 @@
 //!
 //! If allocation fails, calls return `NoMem`, alone or as a variant of their error, and leave
 //! borrowed arguments unchanged.
+//!
+//! Start reading at `tree.rt`, then `lines.rt`, then `lexer.rt` and `parser.rt`.
+//!
+//! # What is proved
+//!
+//! - `parse` returns the one line that the text spells; `TooLong` exactly over 4,096 bytes; else
+//!   `Unsupported` exactly if no line is spelled; else `TooDeep` exactly if the line nests over 32
+//!   deep [`meets`]. It is a function of the text [`function`].
+//! - A text spells at most one line (`one_line`). The parser finds exactly the tree that tokens
+//!   spell (`reading_is_spelling`, `parsed_is_spelling`).
+//! - All tokens of a text have a canonical writing, and are read back from it (`writing_is_read`).
+//! - From any state of the lexer in which they apply: single quotes and a backslash read as double
+//!   quotes (`single_quotes_read_as_double_quotes`, `backslash_reads_as_double_quotes`), `$n` as
+//!   `${n}` (`name_reads_as_name_in_braces`), and a blank around an operator, a comment and a
+//!   removed newline as nothing (`blank_reads_as_nothing`, `comment_reads_as_nothing`,
+//!   `removed_newline_reads_as_nothing`).
+//! - A `Parsed` keeps a text with `parse`'s result. `tilde_prefix` of words and assignments returns
+//!   the prefix exactly if there is one.
 #![tactic(auto)]
 
 mod build;

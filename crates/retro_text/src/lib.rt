@@ -5,6 +5,11 @@
 //! knows files or states. Each call is an equation between its arguments and its result.
 //!
 //! If allocation fails, calls return `NoMem` and leave their arguments unchanged.
+//!
+//! # What is proved
+//!
+//! - Each call is an equation: options and operands (`Request::of`), `Cut::of` and `Cut::text`,
+//!   `Search::of` and `Search::run`, `Condition::of`, `echo_text`, `Utility::of`.
 #![tactic(auto)]
 
 mod condition;

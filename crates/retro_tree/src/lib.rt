@@ -22,6 +22,33 @@
 //! only this one.
 //!
 //! If allocation fails, calls return `NoMem` and leave borrowed arguments unchanged.
+//!
+//! Start reading at `state.rt`, then `cell.rt`, `ask.rt` and `change.rt`, then `overlay.rt`.
+//!
+//! # What is proved
+//!
+//! - States are finite maps in contracts, and each call on a `State` is an equation on them. If
+//!   allocation fails, the state is unchanged.
+//! - A change writes its own cell and no other (`changes_write_one_cell`); an answer depends only
+//!   on the cells that `supports` tells (`answers_depend_on_cells`); states with equal cells and
+//!   sessions are equal (`cells_make_the_state`); a listing is sorted and has exactly the names of
+//!   the children (`listings_name_the_children`).
+//! - `State::is_lawful`, `State::validate` and `State::is_within_limits` are exact. `State::allows`
+//!   is true exactly if a change is lawful. In a lawful state that is exactly a test at the cell
+//!   and around it (`lawful_changes`), and writes that `State::permit` allows pass it, except at
+//!   `/dev/null` (`file_changes_pass`, `directory_changes_pass`, `removals_pass`). A change whose
+//!   session exists leaves the same sessions (`changes_keep_sessions`).
+//! - Notes act on each cell alone (`notes_act_on_each_cell`); whether they hold depends on the
+//!   cells that they touch (`notes_hold_by_their_cells`); lawful notes keep a lawful state lawful
+//!   (`allowed_notes_keep_the_law`) and its sessions (`allowed_notes_keep_the_sessions`).
+//! - `Overlay::answer`, `value` and `children` answer as the combined state does, over every view,
+//!   lawful or not. `Overlay::apply` leaves the overlay of the state after a change.
+//!   `Overlay::commit` writes every entry or none. An overlay whose entries fit their cells has a
+//!   combined state (`fitting_overlays_combine`).
+//! - An overlay that is exactly the difference of two states stays so over a line of each
+//!   (`lines_keep_overlays_exact`), and committing it to one gives the other
+//!   (`exact_overlays_make_the_state`).
+//! - `is_same` of `Ask`, `Answer`, `Cell`, `Change`, `Value`, `Note` and `Notes` is exact equality.
 #![tactic(auto)]
 
 mod answer;

@@ -6,6 +6,16 @@
 //!
 //! If allocation fails, calls return `NoMem`. A `Local` then has its earlier notes and maybe
 //! some later ones, which hold.
+//!
+//! Start reading at `call.rt`, then `utilities/cat.rt`, then `operand.rt` and `reader.rt`.
+//!
+//! # What is proved
+//!
+//! - `utility` runs the utility with a name on its fields, over any view. In every lawful state in
+//!   which its notes hold, the utility's definition on whole states (`specs/Utility.antt`) gives
+//!   the result and the state after the notes [`means`]. It returns `None` exactly if no utility
+//!   has the name [`known`], and then notes nothing [`none`]. If the notes before named no session
+//!   but the place's, those after it don't either [`extends`].
 #![tactic(auto)]
 
 mod call;

@@ -7,6 +7,13 @@
 //! of `specs/Borrowed.antt`), and a reader by the tokens that are left.
 //!
 //! If allocation fails, calls return `NoMem` as a variant of their error.
+//!
+//! # What is proved
+//!
+//! - `read_value`, `next_item`, `begins_array`, `begins_object` and `pass_value` take from the
+//!   tokens that are left the value, the item or the bracket with which they begin, as `serde_json`
+//!   defines it, or fail with `NotJson` only if there is none [`value`, `not_json`]. `read_whole`
+//!   returns the value that a text is.
 #![tactic(auto)]
 
 mod error;
