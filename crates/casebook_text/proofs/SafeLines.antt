@@ -7,6 +7,7 @@ use Rattle.std.specs.Str.{chars, IsUtf8}
 use Rattle.std.specs.Fmt.{decimal}
 use Rattle.std.specs.Char.{encode_utf8}
 use Rattle.ucd_category.proofs.Computing.{ucd_category}
+use Rattle.ucd_derived.proofs.Computing.{ucd_derived}
 use Rattle.std.proofs.lemmas.Bool.{and_from, and_parts, le-leb, lt-ltb, or_left, or_right}
 use Rattle.std.proofs.lemmas.Fmt.{decimal_by_steps}
 use Rattle.std.proofs.lemmas.Str.{chars-append, chars-encodes, chars-nil, IsUtf8-append, encodes-chars}
@@ -72,7 +73,7 @@ harmless_safe c is harmless =
     }
 
 pub ellipsis_harmless : is_harmless 0x2026 ≡ true
-unfolding is_harmless ucd_category
+unfolding is_harmless ucd_category ucd_derived
 ellipsis_harmless = refl
 
 -- ---- the bytes of a safe line

@@ -30,10 +30,10 @@ use Rattle.casebook_text.specs.SafeText.{Part, character, stray, parts_in, parts
 use Rattle.casebook_text.specs.SafeText.{is_shown, is_harmless, is_break, is_bracket, keeps_breaks}
 use Rattle.casebook_text.specs.SafeText.{hex_digit, hex_digits, code_width, in_brackets}
 use Rattle.casebook_text.specs.SafeText.{left_bracket, right_bracket, safe_text, is_safe}
-use Rattle.casebook_text.specs.SafeText.{is_safe_byte}
+use Rattle.casebook_text.specs.SafeText.{is_safe_byte, blurs_words}
 use Rattle.casebook_text.proofs.Parts.{parts_of-step, parts_of-nil}
 use Rattle.casebook_text.proofs.Harmless.{ascii_harmless, printable_harmless, left_harmless}
-use Rattle.casebook_text.proofs.Harmless.{right_harmless}
+use Rattle.casebook_text.proofs.Harmless.{right_harmless, ascii_clear}
 
 map_all : {X Y : Type 0} (q : Y → Bool) (f : X → Y) → ((x : X) → q (f x) ≡ true) → (xs : List X) → list_all q (map f xs) ≡ true
 map_all q f each [] = refl
@@ -115,7 +115,8 @@ text_passes p b codes_pass itself bs =
 shown_safe : (b : Breaks) (c : ℕ) → is_shown b c ≡ true → is_safe b c ≡ true
 unfolding is_shown
 shown_safe b c h =
-    tests (is_bracket c) (is_break c) (keeps_breaks b) (is_harmless c) (not (c == space) || keeps_spaces b) h
+    tests (is_bracket c) (is_break c) (keeps_breaks b) (is_harmless c)
+    (keeps_spaces b || not (blurs_words c)) h
   where
     tests : (bracket break keeps harmless spaced : Bool)
         → (if bracket then false else if break then keeps else harmless && spaced) ≡ true
@@ -205,7 +206,14 @@ printable_shown b c h =
     let harmless = printable_harmless c low high in
     let no_bracket : is_bracket c ≡ false = or_from _ _ (ne_eqb c left_bracket (λ e. absurd (omega arith))) (ne_eqb c right_bracket (λ e. absurd (omega arith))) in
     let no_break : is_break c ≡ false = or_from _ _ (ne_eqb c 10 (λ e. absurd (omega arith))) (ne_eqb c 9 (λ e. absurd (omega arith))) in
-    rw (no_bracket, no_break) (and_from _ _ harmless plain.1)
+    let clear = ascii_clear c (omega arith) in
+    let spaced : keeps_spaces b || not (blurs_words c) ≡ true = rw clear (swapped (not (c == space)) (keeps_spaces b) plain.1) in
+    rw (no_bracket, no_break) (and_from _ _ harmless spaced)
+  where
+    swapped : (x y : Bool) → (x || y) ≡ true → (y || x) ≡ true
+    swapped true true e = refl
+    swapped true false e = refl
+    swapped false y e = or_left _ _ e
 
 itself : (b : Breaks) (c : ℕ) → is_shown b c ≡ true → shown b (character c) ≡ c ∷ []
 unfolding shown

@@ -7,9 +7,8 @@ use Rattle.bstr.specs.Utf8.{Decoded, pieces}
 use Rattle.ucd_category.specs.GeneralCategory.{general_category}
 use Rattle.ucd_category.specs.GeneralCategoryGroup.{in_group}
 use Rattle.ucd_category.specs.declared.GeneralCategory.{GeneralCategory}
-use Rattle.ucd_category.specs.declared.GeneralCategory.TheVariants.{LineSeparator}
-use Rattle.ucd_category.specs.declared.GeneralCategory.TheVariants.{ParagraphSeparator}
-use Rattle.ucd_category.specs.declared.GeneralCategoryGroup.TheVariants.{Other}
+use Rattle.ucd_category.specs.declared.GeneralCategoryGroup.TheVariants.{Other, Separator, Mark}
+use Rattle.ucd_derived.specs.Binary.{is_default_ignorable_code_point}
 use Rattle.casebook_text.specs.declared.safe_text.Breaks.{Breaks}
 use Rattle.casebook_text.specs.declared.safe_text.Breaks.TheVariants.{Keep, Show, Words}
 
@@ -67,25 +66,32 @@ keeps_spaces Keep = true
 keeps_spaces Show = true
 keeps_spaces Words = false
 
--- a separator of lines or of paragraphs
-abbrev pub is_separator : GeneralCategory → Bool
-is_separator LineSeparator = true
-is_separator ParagraphSeparator = true
-is_separator _ = false
-
 -- a category of characters that can't be seen, or that change how others are shown
 abbrev pub is_hidden : GeneralCategory → Bool
-is_hidden category = in_group Other category || is_separator category
+is_hidden category = in_group Other category || in_group Separator category
 
--- a character that can be seen and leaves its neighbours as they are
+-- the pattern of Braille without a dot, U+2800
+abbrev pub blank_pattern : ℕ
+blank_pattern = 0x2800
+
+-- a character that nothing, or a blank, is shown for, whatever its category
+abbrev pub is_invisible : ℕ → Bool
+is_invisible c = is_default_ignorable_code_point c || c == blank_pattern
+
+-- a space, or a character that can be seen
 unfoldable pub is_harmless : ℕ → Bool
-is_harmless c = not (is_hidden (general_category c))
+is_harmless c = c == space || not (is_invisible c || is_hidden (general_category c))
+
+-- a character by which a word could be taken for two, or for another one: a space, and a mark, which
+-- combines with the character before it
+unfoldable pub blurs_words : ℕ → Bool
+blurs_words c = c == space || in_group Mark (general_category c)
 
 unfoldable pub is_shown : Breaks → ℕ → Bool
 is_shown breaks c =
     if is_bracket c then false
     else if is_break c then keeps_breaks breaks
-    else is_harmless c && (not (c == space) || keeps_spaces breaks)
+    else is_harmless c && (keeps_spaces breaks || not (blurs_words c))
 
 -- ---- codes
 

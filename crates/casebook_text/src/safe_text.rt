@@ -3,7 +3,7 @@ ghost use Rattle.std.specs.Prelude.{◌≡◌, ◌<◌, ◌++◌, ◌∷◌, [],
 ghost use Rattle.std.specs.Prelude.{encode_utf8_all, codes};
 ghost use Rattle.casebook_text.specs.SafeText.{hex_digit, hex_digits, code_width, is_harmless};
 ghost use Rattle.casebook_text.specs.SafeText.{is_shown, shown, character, in_brackets, safe_text};
-ghost use Rattle.casebook_text.specs.SafeText.{keeps_breaks, keeps_spaces, is_separator};
+ghost use Rattle.casebook_text.specs.SafeText.{keeps_breaks, keeps_spaces, blurs_words};
 ghost use Rattle.std.specs.Prelude.{flat_map, IsTrue, chars};
 ghost use Rattle.std.specs.List.{list_all};
 ghost use Rattle.casebook_text.specs.SafeText.{is_safe, is_safe_byte, is_plain, original};
@@ -12,6 +12,10 @@ use crate::NoMem;
 use bstr::decode_utf8;
 use std::alloc::Global;
 use ucd_category::{GeneralCategory, GeneralCategoryGroup};
+use ucd_derived::is_default_ignorable_code_point;
+
+/// The pattern of Braille without a dot.
+const BLANK_PATTERN: char = '\u{2800}';
 
 /// Which white space is shown as itself.
 #[derive(Clone, Copy, Debug, PartialEq, Eq)]
@@ -20,7 +24,8 @@ pub enum Breaks {
     Keep,
     /// Spaces alone: for text in one line. Newlines and tabs are shown by their codes.
     Show,
-    /// None, all are shown by their codes: for a word among others.
+    /// None, all are shown by their codes, and so are marks, which combine with the character
+    /// before them: for a word among others.
     Words,
 }
 
@@ -40,25 +45,31 @@ impl Breaks {
     }
 }
 
-/// Returns whether a category is of separators of lines or paragraphs.
-fn is_separator(category: GeneralCategory) -> bool
-    ensures { result ≡ is_separator category }
-{
-    match category {
-        GeneralCategory::LineSeparator | GeneralCategory::ParagraphSeparator => true,
-        _ => false,
-    }
-}
-
-/// Returns whether a character can be seen and leaves its neighbours as they are: its general
-/// category isn't in the group Other (control, format, surrogate, private use, unassigned) and
-/// isn't a separator of lines or paragraphs (Unicode Standard, section 4.5).
+/// Returns whether a character is the space or can be seen: its general category isn't in the
+/// groups Other (control, format, surrogate, private use, unassigned) and Separator (Unicode
+/// Standard, section 4.5), it isn't ignorable by default (section 5.21), and it isn't the pattern
+/// of Braille without a dot.
 #[tactic(auto, unfolding(crate::specs::SafeText::is_harmless))]
 fn is_harmless(c: char) -> bool
     ensures { result ≡ is_harmless c }
 {
+    if c == ' ' {
+        return true;
+    }
+    if is_default_ignorable_code_point(c) || c == BLANK_PATTERN {
+        return false;
+    }
     let category = GeneralCategory::for_char(c);
-    !(GeneralCategoryGroup::Other.contains(category) || is_separator(category))
+    !(GeneralCategoryGroup::Other.contains(category)
+        || GeneralCategoryGroup::Separator.contains(category))
+}
+
+/// Returns whether a character is a space or a mark.
+#[tactic(auto, unfolding(crate::specs::SafeText::blurs_words))]
+fn blurs_words(c: char) -> bool
+    ensures { result ≡ blurs_words c }
+{
+    c == ' ' || GeneralCategoryGroup::Mark.contains(GeneralCategory::for_char(c))
 }
 
 /// Returns whether a character is shown as itself.
@@ -72,7 +83,7 @@ fn is_shown(c: char, breaks: Breaks) -> bool
     if c == '\n' || c == '\t' {
         return breaks.are_kept();
     }
-    is_harmless(c) && (c != ' ' || breaks.keeps_spaces())
+    is_harmless(c) && (breaks.keeps_spaces() || !blurs_words(c))
 }
 
 /// Returns the upper-case hexadecimal digit of a number under 16.
@@ -146,13 +157,14 @@ fn push_all_stray(text: &mut String, bytes: &[u8]) -> Result<(), NoMem>
 
 /// Returns bytes as a text that is safe to show. The bytes are read as UTF-8 (Unicode Standard,
 /// table 3-7). A harmless character is shown as itself, unless it is one of the brackets `⟨` and
-/// `⟩`; with `Breaks::Keep` so are newlines and tabs, and with `Breaks::Words` spaces aren't. Any
-/// other character is shown by its code, as `⟨U+001B⟩`, and a byte that belongs to no character as
-/// `⟨1B⟩`.
+/// `⟩`; with `Breaks::Keep` so are newlines and tabs, and with `Breaks::Words` spaces and marks
+/// aren't. Any other character is shown by its code, as `⟨U+001B⟩`, and a byte that belongs to no
+/// character as `⟨1B⟩`.
 ///
-/// A character is harmless unless its general category is in the group Other (control, format,
-/// surrogate, private use, unassigned) or is a separator of lines or paragraphs (Unicode Standard,
-/// section 4.5).
+/// A character is harmless if it is the space or can be seen. Its general category isn't in the
+/// groups Other (control, format, surrogate, private use, unassigned) and Separator (Unicode
+/// Standard, section 4.5), it isn't ignorable by default (section 5.21), and it isn't the pattern
+/// of Braille without a dot.
 pub fn safe(alloc: Global, bytes: &[u8], breaks: Breaks) -> Result<String, NoMem>
     ensures value { IfOk result (λ text.
         string_bytes text ≡ encode_utf8_all (safe_text breaks bytes.now)) }
