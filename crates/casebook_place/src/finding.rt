@@ -19,11 +19,12 @@ use crate::members::{items_at, member_at, missing_key, other_key};
 use crate::numbers::{first_fall, least_number};
 use crate::place::Place;
 use crate::sessions::{first_repeat, first_stranger};
+use crate::stops::stop_of;
 use crate::versions::version_place;
-use json::{Error, Reader, Scratch, Value};
+use json::{Scratch, Value};
 use retro_json::{Part, Refusal, cells};
 use retro_tree::Text;
-use retro_value::{DEPTH, ReadError, read_whole};
+use retro_value::{ReadError, read_whole};
 use std::alloc::Global;
 use std::str::from_utf8;
 
@@ -215,34 +216,14 @@ fn place_in_value(
     }
 }
 
-/// Returns the byte, counted from 1, at which reading a text that isn't a JSON value stops. Returns
-/// `None` if only a number is too large.
-fn stop_of(alloc: Global, text: &str) -> Result<Option<usize>, NoMem> {
-    let mut scratch = Scratch::new(alloc);
-    let mut reader = Reader::new(text, &mut scratch)?;
-    match Value::read(alloc, &mut reader, DEPTH) {
-        Ok(_) => {
-            let end = reader.offset();
-            match reader.next() {
-                Some(_) => Ok(Some(end.saturating_add(1))),
-                None => Ok(None),
-            }
-        }
-        Err(Error::OutOfMemory) => Err(NoMem),
-        Err(_) => Ok(Some(reader.offset().saturating_add(1))),
-    }
-}
-
-/// Returns the byte at which a text stops to be a JSON value.
+/// Returns the byte, counted from 1, at which a text stops to be a JSON value.
 fn stop_place(alloc: Global, text: &str) -> Result<Place, NoMem>
     requires utf8 { IsUtf8 text.now }
     requires no_value { read_text text.now ≡ None }
     ensures { IfOk result (λ place. (kind : Kind) → IsPlace kind text.now refusals.NotJson place) }
 {
-    match stop_of(alloc, text)? {
-        Some(position) => Ok(Place::Byte(position)),
-        None => Ok(Place::Document),
-    }
+    let offset = stop_of(alloc, text)?;
+    Ok(Place::Byte(offset.saturating_add(1)))
 }
 
 /// Returns the place in the text of a document for which it is refused.

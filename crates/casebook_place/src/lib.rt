@@ -31,6 +31,7 @@ mod members;
 mod numbers;
 mod place;
 mod sessions;
+mod stops;
 mod versions;
 mod words;
 

@@ -35,7 +35,15 @@ const SCRIPTS: &str =
 {"script":2,"tree":[],"sessions":[],"lines":[]} => 16 the value of "script"
 {"script":1,} => 12 byte 13
 {} x => 12 byte 4
-{"script":1e999} => 12 the document"#;
+{"a":} => 12 byte 6
+{"a": 1 2} => 12 byte 9
+[1} => 12 byte 3
+["a":1] => 12 byte 2
+{"a" => 12 byte 2
+[1, [2] => 12 byte 8
+1,2 => 12 byte 3
+{"script":1e999} => 12 byte 11
+[1,-1e400 ] => 12 byte 4"#;
 
 /// Logs that are refused, and for what and where.
 const LOGS: &str =

@@ -28,7 +28,7 @@ mod whole;
 pub use error::ReadError;
 pub use list::{begins_array, begins_object, next_item};
 pub use look::{is_null, items_in, text_in};
-pub use number::unsigned_in;
+pub use number::{is_number_in_range, unsigned_in};
 pub use skip::pass_value;
 pub use value::read_value;
 pub use whole::{DEPTH, read_whole};
