@@ -89,7 +89,7 @@ fn lists_name_lines(rt: HostRuntime) -> Result<(), Fail> {
 #[test]
 fn files_hold_lists(rt: HostRuntime) -> Result<(), Fail> {
     let alloc = rt.alloc();
-    let text = "# the guest's lines\n5:all  # but for two\n\n\t-41,-44\r\n90-98#\n";
+    let text = "# the guest's lines\n5:all  # but for two\n\n\t-41 ,\t-44\r\n90-98#\n";
     let list = list_of_file(alloc, text)?;
     compare(alloc, text, "5:all,-41,-44,90-98", list.as_str())?;
     let returned = answer(alloc, list.as_str())?;
