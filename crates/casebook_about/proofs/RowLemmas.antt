@@ -50,10 +50,10 @@ goes_on part row front place x xs y total h so_far =
 
 ends : {A : Type 0} (part : Part) (row : Data → Option A) (front : List A) (place : ℕ) (x : Data) (xs : List Data)
     (total : Result (List A) AboutFault)
-    → row x ≡ None → with_front front (rows_from part row place (x ∷ xs)) ≡ total → total ≡ Err (BadRow part place)
+    → row x ≡ None → with_front front (rows_from part row place (x ∷ xs)) ≡ total → total ≡ Err (BadRow part (place + 1))
 unfolding rows_from
 ends part row front place x xs total h so_far =
-    let one : with_front front (rows_from part row place (x ∷ xs)) ≡ Err (BadRow part place) = rw h refl in
+    let one : with_front front (rows_from part row place (x ∷ xs)) ≡ Err (BadRow part (place + 1)) = rw h refl in
     sym so_far ∙ one
 
 done : {A : Type 0} (part : Part) (row : Data → Option A) (front : List A) (place : ℕ) (total : Result (List A) AboutFault)
@@ -76,7 +76,7 @@ loop_goes_on part row va vc out new items i d x y lt is push h so_far =
 pub loop_ends : {V C A : Type 0} (part : Part) (row : Data → Option A) (va : V → Data) (vc : C → A) (out : List C)
     (items : List V) (i : ℕ) (d x : V) (place : ℕ)
     → i < length items → x ≡ get_or items i d → row (va x) ≡ None → place ≡ length out
-    → IsReadTo part row va vc out items i → rows_read part row (map va items) ≡ Err (BadRow part place)
+    → IsReadTo part row va vc out items i → rows_read part row (map va items) ≡ Err (BadRow part (place + 1))
 loop_ends part row va vc out items i d x place lt is h at so_far =
     let e : place ≡ i = at ∙ so_far.0 in
     rw e

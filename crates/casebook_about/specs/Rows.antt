@@ -40,11 +40,11 @@ abbrev pub time_row : Data → Option (ℕ × ℤ)
 time_row row = both (number_at 0 row) (signed_at 1 row)
 
 abbrev pub row_then : {A : Type 0} → Part → ℕ → Option A → Result (List A) AboutFault → Result (List A) AboutFault
-row_then part place None rest = Err (BadRow part place)
+row_then part place None rest = Err (BadRow part (place + 1))
 row_then part place (Some x) (Ok xs) = Ok (x ∷ xs)
 row_then part place (Some x) (Err fault) = Err fault
 
--- what all rows from a place on say, or the place of the first that is none
+-- what all rows from an index on say, or the place of the first that is none, counted from 1
 unfoldable pub rows_from : {A : Type 0} → Part → (Data → Option A) → ℕ → List Data → Result (List A) AboutFault
 rows_from part row place [] = Ok []
 rows_from part row place (d ∷ ds) = row_then part place (row d) (rows_from part row (place + 1) ds)

@@ -32,11 +32,11 @@ pub enum AboutFault {
     #[error("{0}: not a list")]
     NotAList(Part),
     /// A row doesn't begin as rows of its part do.
-    #[error("{part}[{place}]: not a row")]
+    #[error("{part}, row {place}: not a row")]
     BadRow {
         /// The part that the row is in.
         part: Part,
-        /// The row's place. The first is 0.
+        /// The row's place. The first is 1.
         place: usize,
     },
 }

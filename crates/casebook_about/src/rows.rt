@@ -71,7 +71,7 @@ pub(crate) fn read_users(alloc: Global, rows: &[Value]) -> Result<Vec<SessionUse
             None => {
                 return Err(AboutFault::BadRow {
                     part: Part::Sessions,
-                    place: users.len(),
+                    place: users.len() + 1,
                 });
             }
         }
@@ -91,7 +91,7 @@ pub(crate) fn read_times(alloc: Global, rows: &[Value]) -> Result<Vec<LineTime>,
             None => {
                 return Err(AboutFault::BadRow {
                     part: Part::Lines,
-                    place: times.len(),
+                    place: times.len() + 1,
                 });
             }
         }

@@ -18,12 +18,12 @@ const DOCUMENTS: &str = r#"{"about":1} => -
 {"about":1} x => not a JSON value
 {"about":1,"sessions":{}} => sessions: not a list
 {"about":1,"lines":7,"sessions":[7]} => lines: not a list
-{"about":1,"sessions":[[1,"a"],[4294967296,"b"]]} => sessions[1]: not a row
-{"about":1,"sessions":[[1]]} => sessions[0]: not a row
-{"about":1,"sessions":[[1,2]]} => sessions[0]: not a row
-{"about":1,"lines":[[1,2],[2,3],[3,"x"]]} => lines[2]: not a row
-{"about":1,"lines":[[1,2.5]]} => lines[0]: not a row
-{"about":1,"lines":[["1",2]],"sessions":[5]} => sessions[0]: not a row"#;
+{"about":1,"sessions":[[1,"a"],[4294967296,"b"]]} => sessions, row 2: not a row
+{"about":1,"sessions":[[1]]} => sessions, row 1: not a row
+{"about":1,"sessions":[[1,2]]} => sessions, row 1: not a row
+{"about":1,"lines":[[1,2],[2,3],[3,"x"]]} => lines, row 3: not a row
+{"about":1,"lines":[[1,2.5]]} => lines, row 1: not a row
+{"about":1,"lines":[["1",2]],"sessions":[5]} => sessions, row 1: not a row"#;
 
 /// Returns what an about document says, with spaces between the parts, or a dash if that is nothing.
 fn said(alloc: Global, about: &About) -> Result<String, Fail> {
