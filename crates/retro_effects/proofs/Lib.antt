@@ -1,10 +1,8 @@
 pub mod Lending
-pub mod SameCells
 pub mod TwoParts
 pub mod Decisions
 pub mod Undoing
 pub mod Plans
 pub mod Covering
 pub mod Advanced
-pub mod Meets
 pub mod Holding

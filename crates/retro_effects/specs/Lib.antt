@@ -1,4 +1,3 @@
 pub mod ValueRef
-pub mod Touching
 pub mod Meeting
 pub mod inner

@@ -1,34 +1,27 @@
 //! What notes do to the cells of a state, and the exact overlay of a repair, which they advance.
 //!
-//! A `ValueRef` is a borrowed value of a cell, and `Cells` lends the values of one state. `touches`
-//! and `changes` say which cells notes read or write, and `effects` gives a cell's value after
-//! them. `overlay_of` gives what notes do to all cells, as an overlay that has an entry for each
-//! cell that they change. It takes no state.
+//! A `ValueRef` is a borrowed value of a cell, and `Cells` lends the values of one state.
+//! `overlay_of` gives what notes do to all cells, as an overlay that has an entry for each cell that
+//! they change. It takes no state.
 //!
 //! A repair compares two states: the recorded state, as the lines were run, and the repaired one.
 //! An overlay is exact if it has entries for exactly the cells in which they differ, each with the
 //! repaired value. `advance` keeps it exact over a line that has some notes in the recorded state
 //! and perhaps others in the repaired one. `advance_both` does so over a line that has the same
-//! notes in both. `is_met` says whether notes read or write a cell in which the states differ.
-//! `Combined` is a view of a combined state: an overlay on the state of another view. `equiv` says
-//! whether notes hold in the repaired state.
+//! notes in both. `Combined` is a view of a combined state: an overlay on the state of another view.
+//! `equiv` says whether notes hold in the repaired state.
 //!
 //! If allocation fails, calls return `NoMem` and leave their arguments unchanged.
 //!
 //! # What is proved
 //!
-//! - `touches`, `changes`, `note_touches` and `writes` are exact, and `effects` and `written`
-//!   return the value of a cell after notes and after a change. `overlay_of` returns an overlay
-//!   that gives the state after the notes over every state [`overlays`], has entries for the cells
-//!   that the notes change and no others [`cells`], and whose entries are of their cells' kinds
-//!   [`fits`].
+//! - `overlay_of` returns an overlay that gives the state after the notes over every state
+//!   [`overlays`], has entries for the cells that the notes change and no others [`cells`], and
+//!   whose entries are of their cells' kinds [`fits`].
 //! - `advance` takes an overlay whose entries are values that differ from the recorded state's. If
 //!   it is exact, it is exact again after a line, whatever notes the recorded and the repaired
 //!   state go on by [`exact`]; if allocation fails, it is unchanged [`err`]. `advance_both` does
 //!   the same over a line with the same notes in both states.
-//! - By the exact overlay of two states, `is_met` is true exactly if they differ in a cell that
-//!   notes read or write. If it is false, they agree on these cells, and notes that hold in the one
-//!   state hold in the other (`notes_hold_by_their_cells`).
 //! - A `Combined` answers as the state that an overlay makes of a view's. `equiv` is true exactly
 //!   if notes hold in the state that an exact overlay makes of a view's.
 //! - `Cells::get` borrows the value of a cell in one state.
@@ -40,11 +33,9 @@ mod cells;
 mod combined;
 mod decision;
 mod grown_ref;
-mod meeting;
 mod overlays;
 mod plan;
 mod planner;
-mod touching;
 mod undo;
 mod value_ref;
 mod write;
@@ -54,7 +45,5 @@ mod writing;
 pub use advancing::{advance, advance_both};
 pub use cells::Cells;
 pub use combined::{Combined, equiv};
-pub use meeting::is_met;
 pub use overlays::overlay_of;
-pub use touching::{changes, effects, note_touches, touches, writes, written};
 pub use value_ref::ValueRef;
