@@ -40,8 +40,8 @@ use Rattle.retro_json.specs.Typed.{are_bytes, is_u32, are_names, node_typed, lis
 use Rattle.retro_json.specs.Typed.{ask_typed, change_typed, note_typed}
 use Rattle.retro_json.specs.NoNul.{has_no_nul, have_no_nul, ask_without_nul, listing_without_nul, answer_without_nul}
 use Rattle.retro_json.specs.NoNul.{change_without_nul, note_without_nul}
-use Rattle.retro_json.specs.inner.NoteLimits.{node_fits, value_fits, found_fits, answer_fits}
-use Rattle.retro_json.specs.inner.NoteLimits.{change_fits, note_fits}
+use Rattle.retro_json.specs.NoteLimits.{node_fits, value_fits, found_fits, answer_fits}
+use Rattle.retro_json.specs.NoteLimits.{change_fits, note_fits}
 use Rattle.retro_json.proofs.Json.{item_list-items_of}
 use Rattle.retro_json.proofs.Listed.{all_both, every_again, map_unchanged}
 use Rattle.retro_json.proofs.Names.{written, short}

@@ -34,8 +34,8 @@ use Rattle.retro_keep.specs.Recording.{RecordingValue, AllLinesAllowed, AllRecor
 use Rattle.retro_keep.specs.Recording.{script_in}
 use Rattle.retro_keep.specs.declared.noted.Noted.{Noted}
 use Rattle.retro_json.specs.Shape.{Text}
-use Rattle.retro_json.specs.inner.NoteLimits.{node_fits, found_fits, answer_fits, change_fits}
-use Rattle.retro_json.specs.inner.NoteLimits.{note_fits, line_fits, notes_fit}
+use Rattle.retro_json.specs.NoteLimits.{node_fits, found_fits, answer_fits, change_fits}
+use Rattle.retro_json.specs.NoteLimits.{note_fits, line_fits, notes_fit}
 
 -- ---- answers of a lawful state
 
@@ -84,7 +84,8 @@ change_fits_by_test (changes.SetStatus sid status) s h = refl
 
 -- ---- notes, lines and recordings
 
-all_fit : (notes : List Note) (s : State) → IsLawful s → Holds notes s → AllAllowed notes s
+-- what held and was lawful in a lawful state
+pub all_fit : (notes : List Note) (s : State) → IsLawful s → Holds notes s → AllAllowed notes s
     → list_all note_fits notes ≡ true
 all_fit [] s lawful holds allowed = refl
 all_fit (Asked ask noted ∷ notes) s lawful holds allowed =

@@ -14,9 +14,9 @@ pub mod Values
 pub mod NoteValues
 pub mod Typed
 pub mod NoNul
+pub mod NoteLimits
 pub mod ReadBack
 pub mod Views
 pub mod Rows
 pub mod ReadFaults
 pub mod Replacements
-pub mod inner

@@ -24,7 +24,7 @@ use Rattle.retro_log.specs.Allowed.{is_lawful_change, are_allowed, are_lines_all
 use Rattle.retro_log.specs.Document.{recording_of, log_from, log_parts_of, log_of, log_in}
 use Rattle.retro_log.specs.LogText.{line_data, lines_data, log_data, log_object}
 use Rattle.retro_json.specs.NoNul.{tree_without_nul, sessions_without_nul, line_without_nul, recording_without_nul}
-use Rattle.retro_json.specs.inner.NoteLimits.{line_fits, notes_fit}
+use Rattle.retro_json.specs.NoteLimits.{line_fits, notes_fit}
 use Rattle.retro_json.specs.Typed.{is_u32, note_typed, tree_typed, sessions_typed, line_typed, recording_typed}
 use Rattle.retro_json.specs.Values.{sessions_data, tree_data}
 use Rattle.retro_json.proofs.Json.{item_list-items_of}

@@ -32,8 +32,8 @@ use Rattle.retro_log.specs.LogLinesPart.{with_run, log_line_cells, log_line_of, 
 use Rattle.retro_log.specs.Allowed.{are_lines_allowed}
 use Rattle.retro_log.specs.Document.{member_at, first_of, json_of, recording_of, log_from, log_parts_of, log_of}
 use Rattle.retro_log.specs.Document.{log_in}
-use Rattle.retro_json.specs.inner.NoteLimits.{node_fits, value_fits, found_fits, note_fits}
-use Rattle.retro_json.specs.inner.NoteLimits.{line_fits, notes_fit}
+use Rattle.retro_json.specs.NoteLimits.{node_fits, value_fits, found_fits, note_fits}
+use Rattle.retro_json.specs.NoteLimits.{line_fits, notes_fit}
 use Rattle.retro_log.specs.RoundTrip.{WasRead}
 use Rattle.retro_json.proofs.RecordedLimits.{recorded_fits}
 

@@ -5,6 +5,7 @@ ghost use Rattle.retro_keep.specs.Recording.{IsRecordingOf, IsWellFormed, script
 ghost use Rattle.retro_log.specs.Document.{log_in};
 ghost use Rattle.retro_log.specs.LogText.{log_data, log_text};
 ghost use Rattle.retro_json.specs.NoNul.{recording_without_nul};
+ghost use Rattle.retro_json.specs.NoteLimits.{notes_fit};
 ghost use Rattle.retro_json.specs.ReadBack.{IsReadBack};
 ghost use Rattle.retro_log.specs.RoundTrip.{WasRead};
 ghost use Rattle.retro_json.specs.Typed.{recording_typed};
@@ -40,13 +41,16 @@ fn push_log(alloc: Global, recording: &Recording, text: &mut Vec<u8>) -> Result<
 /// Returns the log of a recording, of version 2: compact JSON (RFC 8259) with keys in byte order,
 /// and a newline.
 ///
-/// [`read_log`](crate::read_log) reads the log back as the same recording if the recording is one
-/// of a script or was itself read from a log, and if no name of a path or of a listing has a NUL.
+/// [`read_log`](crate::read_log) reads the log back as the same recording if the notes keep the
+/// limits that a log is read with, and if no name of a path or of a listing has a NUL. The notes of
+/// a recording of a script keep the limits, and so do those of a recording that was itself read.
 pub fn write_log(alloc: Global, recording: &Recording) -> Result<Vec<u8>, NoMem>
     ensures text { IfOk result (λ text. text.items ≡ log_text recording.now) }
-    ensures again { IfOk result (λ text.
-        IsRecordingOf (script_in recording.now) recording.now ⊎ WasRead recording.now
-        → recording_without_nul recording.now ≡ true → log_in text.items ≡ Ok recording.now) }
+    ensures again { IfOk result (λ text. notes_fit recording.now ≡ true →
+        recording_without_nul recording.now ≡ true → log_in text.items ≡ Ok recording.now) }
+    ensures fits { OnOk result
+        (IsRecordingOf (script_in recording.now) recording.now ⊎ WasRead recording.now
+        → notes_fit recording.now ≡ true) }
 {
     let mut text = Vec::new(alloc);
     push_log(alloc, recording, &mut text)?;

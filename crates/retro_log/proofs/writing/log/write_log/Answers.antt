@@ -23,7 +23,7 @@ returns-clause-text c =
     ∙ ap (λ text. text ++ compact_text (log_data c.args.recording.now)) c.new-text.ensures.items)
 
 pub returns-clause-again : goal.returns-clause-again
-returns-clause-again c = λ how plain.
+returns-clause-again c = λ fit plain.
     let r = c.args.recording.now in
     let pushed = c.in_ok-push_log.ensures in
     let d = log_data r in
@@ -35,5 +35,7 @@ returns-clause-again c = λ how plain.
     let utf8 : IsUtf8 (text ++ 10 ∷ []) = IsUtf8-append text (10 ∷ []) pushed.read_back.utf8 newline_utf8 in
     ap log_in (c.in_ok-push.ensures.items
     ∙ ap (λ t. t ++ 10 ∷ []) (pushed.text ∙ ap (λ t. t ++ text) c.new-text.ensures.items))
-    ∙ log_again (text ++ 10 ∷ []) r utf8 reads pushed.well_formed pushed.typed
-    (fits_again r pushed.well_formed how) plain
+    ∙ log_again (text ++ 10 ∷ []) r utf8 reads pushed.well_formed pushed.typed fit plain
+
+pub returns-clause-fits : goal.returns-clause-fits
+returns-clause-fits c = fits_again c.args.recording.now c.in_ok-push_log.ensures.well_formed

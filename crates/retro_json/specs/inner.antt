@@ -1,2 +1,0 @@
--- Definitions that only private contracts, invariants and proofs name.
-pub mod NoteLimits
