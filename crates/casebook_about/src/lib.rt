@@ -3,8 +3,8 @@
 //! [`read_about`] reads it from an about document: JSON (RFC 8259) of an object with `"about": 1`,
 //! with `"sessions"`, rows that begin with a session's number and the name of its user, and with
 //! `"lines"`, rows that begin with a line's number and a time in seconds since the start of 1970
-//! (UTC). Both may be missing, further cells and keys don't count. [`time_text`] shows a time, and
-//! [`second_of`] reads one.
+//! (UTC). Both may be missing, further cells and keys don't count. [`time_text`] shows a time,
+//! [`second_of`] reads one, and [`last_second_of`] reads its last second.
 //!
 //! If allocation fails, calls return `OutOfMemory` as a variant of their error.
 //!
@@ -18,6 +18,8 @@
 //!   (`specs/Time.antt`). That it is the text which people expect is only tested.
 //! - `second_of` returns the second of the instant that a text names as `jiff` reads it: with an
 //!   offset of its own, or in UTC, or as a date's first second in UTC (`specs/Time.antt`).
+//! - `last_second_of` returns the last second of such a time: in UTC a date lasts a day, a time of day
+//!   without minutes an hour, and one without seconds a minute (`specs/Time.antt`).
 #![tactic(auto)]
 
 mod about;
@@ -28,4 +30,4 @@ mod time;
 pub use about::{About, read_about};
 pub use fault::{AboutFault, Part};
 pub use rows::{LineTime, SessionUser};
-pub use time::{TIME_FORMAT, second_of, time_text};
+pub use time::{TIME_FORMAT, last_second_of, second_of, time_text};

@@ -1,6 +1,6 @@
 //! Times as text.
 ghost use Rattle.std.specs.Prelude.{◌≡◌, ◌++◌, IfOk, string_bytes};
-ghost use Rattle.casebook_about.specs.Time.{IsTimeText, instant_in, second_in};
+ghost use Rattle.casebook_about.specs.Time.{IsTimeText, instant_in, last_second_in, second_in};
 
 use jiff::{Error, Timestamp};
 use std::alloc::{AllocError, Global};
@@ -26,7 +26,8 @@ fn second_of_instant(text: &str) -> Option<i64>
     }
 }
 
-/// Returns the second of the instant that a text names with this at its end, if it names one.
+/// Returns the second of the instant that a text with an end appended names, or `None` if it names
+/// none.
 fn second_with(alloc: Global, text: &str, end: &str) -> Result<Option<i64>, AllocError>
     ensures { IfOk result (λ second. second ≡ instant_in (text.now ++ end.now)) }
 {
@@ -49,5 +50,24 @@ pub fn second_of(alloc: Global, text: &str) -> Result<Option<i64>, AllocError>
     match second_with(alloc, text, "Z")? {
         Some(second) => Ok(Some(second)),
         None => second_with(alloc, text, " 00:00Z"),
+    }
+}
+
+/// Returns the last second of the time that a text names, as [`second_of`] reads it, or `None` if it
+/// names none. In UTC a date lasts a day, a time of day without minutes an hour, and one without
+/// seconds a minute. Another time lasts a second.
+#[tactic(auto, unfolding(crate::specs::Time::last_second_in))]
+pub fn last_second_of(alloc: Global, text: &str) -> Result<Option<i64>, AllocError>
+    ensures { IfOk result (λ second. second ≡ last_second_in text.now) }
+{
+    if let Some(second) = second_with(alloc, text, " 23:59:59Z")? {
+        return Ok(Some(second));
+    }
+    if let Some(second) = second_with(alloc, text, ":59:59Z")? {
+        return Ok(Some(second));
+    }
+    match second_with(alloc, text, ":59Z")? {
+        Some(second) => Ok(Some(second)),
+        None => second_of(alloc, text),
     }
 }
