@@ -44,6 +44,6 @@ mod streams;
 mod target;
 
 pub use line::{play, run_line, run_parsed, step};
-pub use retro_tree::NoMem;
+pub use retro_tree::{NoMem, Note, Notes};
 pub use retro_utils::{apply_notes, holds};
 pub use run::Run;
