@@ -84,6 +84,26 @@ fn three_jobs_are_taken_by_three_seats(rt: HostRuntime) -> Result<(), Fail> {
 }
 
 #[test]
+fn the_owner_takes_all_jobs_that_idle_thieves_leave(rt: HostRuntime) -> Result<(), Fail> {
+    let alloc = rt.alloc();
+    let (mut owner, thieves) = Board::new(alloc, 2, 3)?;
+    assert_eq!(rt; deal_all(&mut owner, jobs_of(alloc, LINES)?), Some((19, 5)));
+    for want in [Some(2), Some(3), Some(4), None] {
+        assert_eq!(rt; next(&mut owner), want);
+    }
+    match settle(owner, thieves) {
+        Ok(lists) => {
+            assert_eq!(rt; lists.seats.len(), 3);
+            assert_eq!(rt; lists.seats[0].as_slice(), [2, 3, 4].as_slice());
+            assert_eq!(rt; lists.seats[1].is_empty(), true);
+            assert_eq!(rt; lists.seats[2].is_empty(), true);
+        }
+        Err(_) => return fail("not settled"),
+    }
+    Ok(())
+}
+
+#[test]
 fn boards_are_refused_for_their_size(rt: HostRuntime) -> Result<(), Fail> {
     for (thieves, room, want) in [(16, 1, None), (17, 1, Some(20)), (2, 1 << 60, Some(17))] {
         let refused = match Board::new(rt.alloc(), thieves, room) {

@@ -264,6 +264,10 @@ given: %(EMPTY) :: 1 echo x > f;;1 echo x > f;;1 cat f
 
 given: %(EMPTY) :: 1 false;;1 if test $? = 0; then echo ok; else echo bad; fi
 - rounds: 1 :: 0 16 :: 1 => 1 jobs: 1 taken up, 0 unused, 0 wrong, 0 given up, executed 2 guess
+
+given: %(EMPTY) :: 2 echo p > /tmp/k%(;;1 cat /tmp/k*999)
+- rounds: 1 :: 3 :: 64 => 936 jobs: 936 taken up, 0 unused, 0 wrong, 0 given up, executed 2 place 3
+  place 4 place 5 place 6 place 7 place 8 place 9 place
 "##;
 
 /// A recording that begins at line 2: which edits are refused, and at which number the repaired
