@@ -26,11 +26,10 @@
 //!
 //! # The crates of tests
 //!
-//! `retro_tests`, `retro_run_tests`, `retro_program_tests`, `retro_history_tests` and
-//! `retro_repair_tests` use this crate; nothing else does. They have nothing but tests, which use
+//! Only crates whose names end in `_tests` use this crate. They have nothing but tests, which use
 //! public items alone. What rows want comes from the profile of the shell, the formats, the limits
-//! and the definitions, never from the program's own output. Each crate has tables, a function that
-//! makes the call of a row (`rows.rt`), and tests that go over the rows of the tables.
+//! and the definitions, never from the program's own output. Most of them have tables, a function
+//! that makes the call of a row (`rows.rt`), and tests that go over the rows of the tables.
 #![tactic(auto)]
 
 mod cells;
