@@ -2,6 +2,7 @@
 use Rattle.std.proofs.Common.{◌≡◌, ◌∙◌, ℕ, ◌<◌, ◌==◌, Bool, true, false, not, List, [], ◌∷◌, ◌++◌}
 use Rattle.std.proofs.Common.{map, cond, nat_lt, Option, None, Some, Ok, Err, IsTrue, refl, ap, sym}
 use Rattle.std.proofs.Common.{subst, arith}
+use Rattle.std.specs.Prelude.{IsOk}
 use Rattle.std.specs.FinMap as map_of
 use Rattle.std.specs.Option.{is_some, option_or}
 use Rattle.std.specs.Ordering.{nat_cmp}
@@ -198,6 +199,13 @@ pub edit_missing : (n : ℕ) (edits : List Edit) (script : ScriptValue)
     → None ≡ least (twice_edited edits) → Some n ≡ least (not_lines (has_line script) edits)
     → edit edits script ≡ Err (NoSuchLine n)
 edit_missing n edits script twice missing = tested_by None (Some n) edits script twice missing
+
+-- no edit is refused, so only memory can be missing
+pub edit_accepted : (edits : List Edit) (script : ScriptValue)
+    → None ≡ least (twice_edited edits) → None ≡ least (not_lines (has_line script) edits)
+    → IsOk (edit edits script)
+edit_accepted edits script twice missing =
+    subst IsOk (sym (tested_by None None edits script twice missing)) refl
 
 pub edit_ok : (m : map_of.FinMap nat_cmp Edit) (edits : List Edit) (script : ScriptValue)
     (lines : List ScriptLine)

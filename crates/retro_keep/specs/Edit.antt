@@ -1,10 +1,9 @@
 -- Edits of lines: a line is left out, or its text is replaced.
 use Rattle.std.specs.Prelude.{◌≡◌, ℕ, ◌≤◌, ◌<◌, Bool, true, false, not, ◌==◌, List, [], ◌∷◌, map}
 use Rattle.std.specs.Prelude.{filter, Option, Some, None, Result, Ok, Err, if◌then◌else◌, nat_lt, ⊤}
-use Rattle.std.specs.Prelude.{◌&&◌}
+use Rattle.std.specs.Prelude.{◌&&◌, IsOk}
 use Rattle.std.specs.List.{flat_map, list_any}
 use Rattle.retro_tree.specs.Order.{text_eq}
-use Rattle.retro_tree.specs.OutOfMemory.{UnlessOutOfMemory}
 use Rattle.retro_keep.specs.Script.{ScriptValue, number_of}
 use Rattle.retro_keep.specs.declared.edit.Edit.{Edit}
 use Rattle.retro_keep.specs.declared.edit.Edit.TheVariants.{Cancel, Replace}
@@ -122,15 +121,13 @@ unfoldable pub edit : List Edit → ScriptValue → Result ScriptValue EditRefus
 edit edits script =
     unless_refused (script_edits_tested (has_line script) edits) (edited_script (edit_of edits) script)
 
--- what a fault says of the edits, or None if memory ran out
-abbrev pub refused : EditFault → Option (Result ScriptValue EditRefusal)
-refused (faults.TwoEdits n) = Some (Err (TwoEdits n))
-refused (faults.NoSuchLine n) = Some (Err (NoSuchLine n))
-refused faults.NoMem = None
-
--- the result is the edited script or the refusal that a definition says
+-- The result is the edited script or the refusal that a definition says. Memory runs out only if no
+-- edit is refused.
 abbrev pub IsEdited : Result ScriptValue EditFault → Result ScriptValue EditRefusal → Type 0
-IsEdited result meant = UnlessOutOfMemory Ok refused result meant
+IsEdited (Ok script) meant = meant ≡ Ok script
+IsEdited (Err (faults.TwoEdits n)) meant = meant ≡ Err (TwoEdits n)
+IsEdited (Err (faults.NoSuchLine n)) meant = meant ≡ Err (NoSuchLine n)
+IsEdited (Err faults.NoMem) meant = IsOk meant
 
 -- ---- for searches
 

@@ -156,8 +156,8 @@ impl Script {
     }
 
     /// Returns the script with edited lines, or the first refusal: of the least number that two
-    /// different edits name, and then of the least number that no line has. The edits are tested
-    /// before any memory is allocated.
+    /// different edits name, and then of the least number that no line has. `NoMem` only if no edit
+    /// is refused, since the edits are tested before any memory is allocated.
     pub fn edit(self, alloc: Global, edits: &[Edit]) -> Result<Script, EditFault>
         ensures { IsEdited result (edit edits.now self) }
     {
