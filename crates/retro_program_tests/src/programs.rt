@@ -167,6 +167,32 @@ pub fn push_lines(alloc: Global, script: &mut String, lines: &[String]) -> Resul
     Ok(())
 }
 
+/// Returns a script of so many lines of session 1 with the same text, over an empty tree.
+fn script_of_many(alloc: Global, count: &str, line: &str) -> Result<String, Fail> {
+    let mut lines = Vec::new(alloc);
+    for _ in 0..count.parse::<u32>()? {
+        lines.push(text(alloc, line)?)?;
+    }
+    let mut script = text(
+        alloc,
+        r#"{"script":1,"tree":[],"sessions":[[1,"/",0,[]]],"lines":["#,
+    )?;
+    push_lines(alloc, &mut script, lines.as_slice())?;
+    script.push_str("]}")?;
+    Ok(script)
+}
+
+/// Does as [`run_in_turn`], on a script of so many lines with the same text.
+pub fn run_on_many<T: Threads + Sync + AllocGlobal>(
+    rt: &T,
+    words: &[String],
+    last: &str,
+    (count, line): (&str, &str),
+) -> Result<String, Fail> {
+    let script = script_of_many(rt.alloc(), count, line)?;
+    run_in_turn(rt, words, last, script.as_str())
+}
+
 /// Returns the script of session 1's lines, over a tree with more entries.
 fn script_of(alloc: Global, entries: &str, lines: &[String]) -> Result<String, NoMem> {
     let mut script = format!(in alloc; "{BEFORE_ENTRIES}{entries}{AFTER_ENTRIES}")?;

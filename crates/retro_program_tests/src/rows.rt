@@ -2,7 +2,7 @@
 use crate::documents::{edited, log, log_fronts, logged, note, script, script_part, written};
 use crate::forged_table::FORGED_LOGS;
 use crate::log_tables::{LOG_LINES, LOGS, NOTES};
-use crate::programs::{run, run_in_turn, run_with_each, shell};
+use crate::programs::{run, run_in_turn, run_on_many, run_with_each, shell};
 use crate::repair_tables::{OPTIONS, REPAIRS, REPLACED};
 use crate::tables::{DOCUMENTS, PROGRAMS, SHELL};
 use crate::trim_table::TRIMS;
@@ -37,6 +37,7 @@ fn called<T: Threads + Sync + AllocGlobal>(
         ("shell", [entries, lines @ ..]) => shell(rt, entries, lines),
         ("run", [words, input]) => run(rt, words, input),
         ("in turn", [words @ .., last, input]) => run_in_turn(rt, words, last, input),
+        ("many", [words @ .., last, count, line]) => run_on_many(rt, words, last, (count, line)),
         ("with each", [words, further @ .., script]) => run_with_each(rt, words, further, script),
         _ => Ok(document_called(rt.alloc(), call, given)?),
     }

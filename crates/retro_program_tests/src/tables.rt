@@ -272,6 +272,8 @@ run: retro check :: LOG => 0 yes
 run: retro check :: ALTERED => 4 no
 run: retro check :: FORGED => 4 no
 run: retro check :: EMPTY_LOG => 0 yes
+in turn: retro record :: retro check :: MARKET => 0 yes
+many: retro record :: retro check :: 1000 :: echo a > f; cat f => 0 yes
 run: retro check --cancel 1 :: LOG => 1 retro: refused 31
 run: retro check :: PAIR => 1 retro: refused 14
 run: retro check :: {"log":3,"tree":[],"sessions":[],"lines":[]} => 1 retro: refused 16
@@ -299,6 +301,22 @@ const READERS: &str = concat!(
     r#"[4,1,"cat /tmp/k"],[5,1,"grep -F p /tmp/k"]]}"#,
 );
 
+/// The script of a market: three people, of whom the third is an intruder.
+const MARKET: &str = concat!(
+    r#"{"script":1,"tree":[["/etc"],["/etc/motd","57656c636f6d650a"],["/home"],["/home/alice"],"#,
+    r#"["/home/bob"],["/srv"],["/srv/prices","6170706c6520330a7065617220340a"],["/tmp"]],"#,
+    r#""sessions":[[1,"/home/alice",0,[]],[2,"/home/bob",0,[]],[3,"/tmp",0,[]]],"lines":["#,
+    r#"[1,1,"cat /etc/motd"],[2,1,"echo plum 5 >> /srv/prices"],"#,
+    r#"[3,3,"echo apple 1 > /srv/prices"],[4,2,"cat /srv/prices > report; cat report"],"#,
+    r#"[5,1,"echo remember the pears > notes"],[6,3,"echo Bob: see /tmp/offer >> /etc/motd"],"#,
+    r#"[7,2,"cat /etc/motd"],[8,2,"echo fig 7 >> /srv/prices"],"#,
+    r#"[9,3,"echo free apples > /tmp/offer"],[10,2,"cat /tmp/offer"],[11,1,"cat /srv/prices"],"#,
+    r#"[12,1,"echo order more figs >> notes"],[13,3,"> /home/alice/notes"],[14,1,"cat notes"],"#,
+    r#"[15,1,"echo call Bob >> notes; cat notes"],[16,2,"cat report /srv/prices > /srv/summary"],"#,
+    r#"[17,1,"cat /srv/summary"],[18,3,"cat /home/bob/report"],[19,2,"cat none; echo looked"],"#,
+    r#"[20,1,"cat /etc/motd notes"]]}"#,
+);
+
 /// Returns the input with a name. Any other text is itself.
 pub fn input_named(name: &str) -> &str {
     match name {
@@ -312,6 +330,7 @@ pub fn input_named(name: &str) -> &str {
         ),
         "SHARED" => SHARED,
         "READERS" => READERS,
+        "MARKET" => MARKET,
         "EMPTY_LOG" => r#"{"log":1,"tree":[],"sessions":[],"lines":[]}"#,
         "LOG" => concat!(
             r#"{"lines":[[1,1,"echo a > f",[["cwd","/"],["canwrite","/f",0,"yes"],"#,
