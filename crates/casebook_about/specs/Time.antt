@@ -31,8 +31,8 @@ second_in text =
     or_else (instant_in text)
     (or_else (instant_in (text ++ codes "Z")) (instant_in (text ++ codes " 00:00Z")))
 
--- The last second of the time that a text names. In UTC a date lasts a day, a time of day without minutes an hour, and
--- one without seconds a minute. Another time lasts a second.
+-- The last second of the time that a text names. In UTC a date lasts a day, a time of day without
+-- minutes an hour, and one without seconds a minute. Another time lasts a second.
 unfoldable pub last_second_in : List ℕ → Option ℤ
 last_second_in text =
     or_else (instant_in (text ++ codes " 23:59:59Z"))

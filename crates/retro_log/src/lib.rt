@@ -32,9 +32,10 @@
 //!   where it is made; answers aren't compared with the states.
 //! - `read_script_line`, `read_log_line` and `line_number` return one line, or the number of one,
 //!   or its refusal, in the same way.
-//! - `write_log` returns the log of a recording in version 2, byte for byte [`text`], and reading
-//!   it gives that recording again, if it is the recording of a script or was read itself, and no
-//!   name of a path or of a listing has NUL [`again`].
+//! - `write_log` returns the log of a recording in version 2, byte for byte [`text`]. Reading it
+//!   gives that recording again, if its notes keep the limits of files and of values, and no name
+//!   of a path or of a listing has NUL [`again`]. The notes of a recording of a script keep the
+//!   limits, and so do those of a recording that was read itself [`fits`].
 //! - If `check` returns true, the recording is one of the script that its lines are.
 #![tactic(auto)]
 
