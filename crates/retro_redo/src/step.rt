@@ -10,7 +10,7 @@ pub enum Step {
     Cancel,
     /// The line is kept as recorded.
     Keep,
-    /// The line is replaced by this new run of it.
+    /// The line gets this new run.
     Take(Run),
 }
 
