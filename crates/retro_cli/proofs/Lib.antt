@@ -4,4 +4,5 @@ pub mod NumberLemmas
 pub mod ReplayLemmas
 pub mod RefusalLemmas
 pub mod RunLemmas
+pub mod FitLemmas
 pub mod TrimLemmas

@@ -1,7 +1,7 @@
 -- What the program does: the first refusal of a command line and an input, the texts that answer a
 -- request, and what a run leaves. Each command adds a row to `request_refusal` and to `Answered`.
 use Rattle.std.specs.Prelude.{◌≡◌, ℕ, List, Option, Some, None, IsSome, IsOk, Result, Ok, Err, codes, option_map}
-use Rattle.std.specs.Prelude.{if◌then◌else◌, nat_lt, not}
+use Rattle.std.specs.Prelude.{if◌then◌else◌, nat_lt, not, true}
 use Rattle.std.specs.Result.{result_err}
 use Rattle.std.specs.Io.KnownBytes.{Appends}
 use Rattle.retro_tree.specs.declared.state.State.{State}
@@ -24,6 +24,7 @@ use Rattle.retro_rounds.specs.Refusals.{are_cuts}
 use Rattle.retro_rounds.specs.declared.request.TheConstants.{MAX_WORKERS}
 use Rattle.retro_log.specs.Document.{script_in, log_in}
 use Rattle.retro_log.specs.LogText.{log_text}
+use Rattle.retro_json.specs.NoNul.{recording_without_nul}
 use Rattle.retro_json.specs.Numbers.{refusal_number}
 use Rattle.retro_json.specs.declared.fault.Refusal.{Refusal}
 use Rattle.retro_cli.specs.Output.{AppendsPart}
@@ -64,6 +65,10 @@ replay_answer edits input = replay_document edits (script_in input)
 
 -- ---- the log of a script, and the answer to whether a log is a recording
 
+-- a text is read as a recording, unless a name in it has a NUL
+abbrev pub IsReadAgain : RecordingValue → Text → Type 0
+IsReadAgain recording text = recording_without_nul recording ≡ true → log_in text ≡ Ok recording
+
 -- a text is the log of a recording, from line 1 on, of the script that the input is
 pub record IsLogOf (input text : Text) : Type 0 where
   pub script : ScriptValue
@@ -72,6 +77,7 @@ pub record IsLogOf (input text : Text) : Type 0 where
   pub recorded : IsRecordingOf script recording
   pub begins : recording.from ≡ 1
   pub is_log : text ≡ log_text recording
+  pub again : IsReadAgain recording text
 
 -- the input is the log of a recording of its lines
 pub record IsRecordedLog (input : Text) : Type 0 where
@@ -106,10 +112,12 @@ abbrev pub IsRepairReport : List Edit → Text → Text → Type 0
 IsRepairReport edits input text =
     (repair : Repair) × IsRepairOf edits input repair × (text ≡ repair_text repair)
 
--- the text is the log of the repaired recording
-abbrev pub IsRepairedLog : List Edit → Text → Text → Type 0
-IsRepairedLog edits input text =
-    (repair : Repair) × IsRepairOf edits input repair × (text ≡ log_text repair.recording)
+-- the text is the log of the repaired recording, of any log
+pub record IsRepairedLog (edits : List Edit) (input text : Text) : Type 0 where
+  pub repair : Repair
+  pub is_repair : IsRepairOf edits input repair
+  pub is_log : text ≡ log_text repair.recording
+  pub again : IsReadAgain repair.recording text
 
 -- ---- the log that begins at a number
 
@@ -126,6 +134,13 @@ trim_document number (Err refusal) = Err (refusal_number refusal)
 -- the trimmed log, or the number of the first refusal: of the document, then of the number
 unfoldable pub trim_answer : ℕ → Text → Result Text ℕ
 trim_answer number input = trim_document number (log_in input)
+
+-- the text is the trimmed log of the log in the input, which may be forged
+pub record IsTrimmedLog (number : ℕ) (input text : Text) : Type 0 where
+  pub recording : RecordingValue
+  pub is_log : log_in input ≡ Ok recording
+  pub is_answer : trim_answer number input ≡ Ok text
+  pub again : IsReadAgain (trimmed number recording) text
 
 -- ---- refusals
 
@@ -172,7 +187,7 @@ Answered record_script input exit text = (exit ≡ exits.Done) × IsLogOf input 
 Answered check_log input exit text = IsVerdict input exit text
 Answered (repair options) input exit text = (exit ≡ exits.Done) × IsRepairReport options.edits input text
 Answered (relog options) input exit text = (exit ≡ exits.Done) × IsRepairedLog options.edits input text
-Answered (trim number) input exit text = (exit ≡ exits.Done) × (trim_answer number input ≡ Ok text)
+Answered (trim number) input exit text = (exit ≡ exits.Done) × IsTrimmedLog number input text
 
 -- the answer to words about an input, of which nothing is refused
 pub record Answers (words : List Text) (input : Text) (exit : Exit) (text : Text) : Type 0 where

@@ -2,7 +2,7 @@
 ghost use Rattle.std.specs.Prelude.{◌≡◌, None, Ok, IfOk, IfErr, OnOk};
 ghost use Rattle.retro_cli.specs.Exit.{exit_of};
 ghost use Rattle.retro_cli.specs.Program.{Answered, IsLogOf, IsRepairReport, IsRepairedLog};
-ghost use Rattle.retro_cli.specs.Program.{IsVerdict, document_refusal, repair_refusal};
+ghost use Rattle.retro_cli.specs.Program.{IsTrimmedLog, IsVerdict, document_refusal, repair_refusal};
 ghost use Rattle.retro_cli.specs.Program.{replay_answer, request_refusal, trim_answer};
 ghost use Rattle.retro_cli.specs.inner.Repaired.{IsAcceptedRepair};
 ghost use Rattle.retro_cli.specs.inner.Stop.{Refuses, ReturnsAs};
@@ -124,7 +124,8 @@ fn relog_input<T: Threads + Sync + AllocGlobal>(
 /// Returns the log of the lines from a number on, over the recorded state before them.
 #[tactic(auto, using(crate::proofs::TrimLemmas::trim_gives), unfolding(crate::specs::Program::trim_answer))]
 fn trim_input(alloc: Global, number: u32, input: Vec<u8>) -> Result<Vec<u8>, Stop>
-    ensures { ReturnsAs (λ text. text.items) result (trim_answer number input.items) }
+    ensures answer { ReturnsAs (λ text. text.items) result (trim_answer number input.items) }
+    ensures again { IfOk result (λ text. IsTrimmedLog number input.items text.items) }
 {
     let recording = read_log(alloc, &input)?;
     drop(input);

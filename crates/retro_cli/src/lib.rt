@@ -27,6 +27,9 @@
 //!   keeps the number at which the log begins.
 //! - For input bytes that are a log, `trim` writes exactly the log of the lines from a number on
 //!   over the recorded state before them, unless the log begins later [`runs`, by `trim_answer`].
+//! - What `record`, `relog` and `trim` write is read again as the same recording, unless a name in
+//!   it has a NUL. This holds of forged logs too. So what a later run does with it is what it does
+//!   with that recording [`runs`, by `again` of `IsLogOf`, `IsRepairedLog` and `IsTrimmedLog`].
 //! - After `Refused` its number is that of the first refusal; after `WriteFailed` a part of the
 //!   answer from its start, maybe nothing, but not all of it, was written [`runs`]. After
 //!   `Refused`, `OutOfMemory` and `ReadFailed` nothing was written [`unwritten`]. Bad words lead to
