@@ -52,10 +52,12 @@
 //!   nothing edits it and its notes hold, `fits` whether the notes of a run do, `redo` returns a
 //!   run of the line's new text whose notes hold [`new_run`, `holds`], and `step` settles it in one
 //!   of the ways that its contract allows [`may`, `ok`], or, if allocation fails, leaves all
-//!   unchanged [`err`]. `settle` chooses the step [`one`], and says how: only a stale line gets a
-//!   new run, and the notes of a kept one hold [`how`]. The new run is a guess, if the caller has
-//!   one whose notes hold. The notes of an unmet line that nothing edits hold in the repaired
-//!   state, if the recording is one of its lines [`holds` of `is_met`]. `skip_unmet` keeps exactly
+//!   unchanged [`err`]. `settle` chooses the step, and its answer says which one it was and why, for
+//!   any recording: a cancelled line runs no text; a kept one isn't edited, and its notes hold if
+//!   the recording is one of its lines; and only a stale line gets a new run, which is the guess if
+//!   it is taken up, and another one if there is no guess or its notes don't hold [by
+//!   `IsOneSettled`]. The notes of an unmet line that nothing edits hold in the repaired state, if
+//!   the recording is one of its lines [`holds` of `is_met`]. `skip_unmet` keeps exactly
 //!   the lines before the next one that is edited or met, and an overlay that was exact is so
 //!   before each of them (`specs/Skipping.antt`) [`next`, `ok`, `err`]. `stops_until` returns the
 //!   numbers of the lines up to an index that are edited or use a cell in which the states differ

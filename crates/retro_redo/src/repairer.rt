@@ -4,6 +4,7 @@ ghost use Rattle.std.specs.Prelude.{IfOk, IsSome, IsTrue, MatchBool, None, OnErr
 ghost use Rattle.std.specs.Prelude.{false, ℕ};
 ghost use Rattle.retro_tree.specs.Exact.{IsExact};
 ghost use Rattle.retro_tree.specs.Notes.{Holds};
+ghost use Rattle.retro_shell.specs.Runs.{RunValue};
 ghost use Rattle.retro_keep.specs.Edit.{edit_of};
 ghost use Rattle.retro_keep.specs.Recording.{IsRecordingOf, number_in, script_in};
 ghost use Rattle.retro_keep.specs.declared.noted.Noted.{Noted as NotedValue};
@@ -17,9 +18,10 @@ ghost use Rattle.retro_redo.specs.Progress.{recorded_now, repaired_now};
 ghost use Rattle.retro_redo.specs.Repair.{IsRepair};
 ghost use Rattle.retro_redo.specs.Settled.{IsSettled};
 ghost use Rattle.retro_redo.specs.Skipping.{IsSkip};
-ghost use Rattle.retro_redo.specs.Settling.{IsGuessOf, IsNewRun, IsOneMore, IsSettlement, IsStale};
+ghost use Rattle.retro_redo.specs.Settling.{IsGuessOf, IsOneSettled, IsStale};
 ghost use Rattle.retro_redo.specs.SoFar.{AreStatesOfRuns};
 ghost use Rattle.retro_redo.specs.declared.repair_fault.RepairFault.TheVariants as faults;
+ghost use Rattle.retro_redo.specs.declared.step.Step.TheVariants.{Take};
 
 use crate::gate::Gate;
 use crate::ground::Ground;
@@ -229,9 +231,7 @@ impl<'h, 'a> Repairer<'h, 'a> {
         requires next { next_number self.old ≡ Some number }
         requires guess { (l : ℕ × NotedValue) → next_line self.old ≡ Some l
             → IsGuessOf (edit_in self.old) l guess }
-        ensures one { OnOk result (IsOneMore self.old self.new) }
-        ensures how { (l : ℕ × NotedValue) → next_line self.old ≡ Some l
-            → IfOk result (λ how. IsSettlement self.old l how) }
+        ensures { IfOk result (IsOneSettled self.old guess self.new) }
     {
         if self.is_cancelled(number) {
             self.step(alloc, number, Step::Cancel)?;
@@ -264,18 +264,30 @@ impl<'h, 'a> Repairer<'h, 'a> {
             (repaired_now self.old) }
         requires guess { (l : ℕ × NotedValue) → next_line self.old ≡ Some l
             → IsGuessOf (edit_in self.old) l guess }
-        ensures one { OnOk result (IsOneMore self.old self.new) }
-        ensures how { IfOk result IsNewRun }
+        ensures { IfOk result (IsOneSettled self.old guess self.new) }
     {
         if let Some(run) = guess {
             if self.fits(alloc, number, &run)? {
                 self.step(alloc, number, Step::Take(run))?;
                 return Ok(Settlement::TakenUp);
             }
+            self.settle_again(alloc, number, gate)?;
+            return Ok(Settlement::Redone);
         }
+        self.settle_again(alloc, number, gate)?;
+        Ok(Settlement::Redone)
+    }
+
+    /// Settles the next line, which is stale, by a run in the repaired state.
+    fn settle_again<G: Gate>(&mut self, alloc: Global, number: u32, gate: &G) -> Result<(), NoMem>
+        requires next { next_number self.old ≡ Some number }
+        requires stale { (l : ℕ × NotedValue) → next_line self.old ≡ Some l → IsStale self.old l }
+        ensures { OnOk result ((run : RunValue) × (self.new
+            ≡ record self.old { choices = self.old.choices ++ Take run ∷ [] })) }
+    {
         let run = self.redo(alloc, number, gate)?;
         self.step(alloc, number, Step::Take(run))?;
-        Ok(Settlement::Redone)
+        Ok(())
     }
 
     /// Keeps the next lines that are neither edited nor met, and returns the number of the line

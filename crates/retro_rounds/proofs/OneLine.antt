@@ -1,9 +1,11 @@
 -- One line is settled.
 use Rattle.std.proofs.Common.{◌≡◌, ◌∙◌, inl, inr, ℕ, zero, suc, ◌+◌, ◌-◌, ◌≤◌, ◌<◌, List, [], ◌∷◌}
-use Rattle.std.proofs.Common.{◌++◌, length, take, drop, Some, option_map, refl, sym, ap, arith}
-use Rattle.std.proofs.Common.{subst}
+use Rattle.std.proofs.Common.{◌++◌, length, take, drop, Option, Some, option_map, refl, sym, ap, arith}
+use Rattle.std.proofs.Common.{Bool, true, false, subst}
 use Rattle.std.specs.List.{AllByRecursion}
-use Rattle.std.specs.Option.{IsSome}
+use Rattle.std.specs.Option.{IsSome, is_some}
+use Rattle.std.proofs.lemmas.Bool.{false≢true}
+use Rattle.retro_shell.specs.Runs.{RunValue}
 use Rattle.retro_keep.specs.Recorded.{recorded_before}
 use Rattle.retro_keep.specs.Recording.{IsWellFormed, number_in}
 use Rattle.retro_redo.specs.Meetings.{lines_until}
@@ -11,7 +13,9 @@ use Rattle.retro_redo.specs.Moments.{Moment, text_now}
 use Rattle.retro_redo.specs.Picks.{PicksBy}
 use Rattle.retro_redo.specs.Progress.{ProgressValue, edit_in, next_line, next_number, recorded_now, repaired_now}
 use Rattle.retro_redo.specs.Progress.{settled_now}
-use Rattle.retro_redo.specs.Settling.{IsOneMore}
+use Rattle.retro_redo.specs.Settling.{IsOneMore, IsSettlement}
+use Rattle.retro_redo.specs.declared.settlement.Settlement.{Settlement}
+use Rattle.retro_redo.specs.declared.settlement.Settlement.TheVariants.{Cancelled, Kept, TakenUp, Redone}
 use Rattle.retro_redo.specs.declared.step.Step.{Step}
 use Rattle.retro_redo.specs.declared.tally.Tally.{Tally}
 use Rattle.retro_redo.proofs.Before.{before_next}
@@ -24,7 +28,7 @@ use Rattle.retro_rounds.specs.Tally.{spent}
 use Rattle.retro_rounds.specs.inner.Attempts.{IsAttempt, IsOther, numbers_of}
 use Rattle.retro_rounds.specs.inner.Places.{Place, after_line}
 use Rattle.retro_rounds.specs.inner.Rounds.{IsCounted, IsCountedBy, IsJobLine, IsJobOf, IsOwn}
-use Rattle.retro_rounds.specs.inner.Rounds.{IsSpentOn}
+use Rattle.retro_rounds.specs.inner.Rounds.{IsSpentOn, counted}
 use Rattle.retro_rounds.specs.declared.attempt.Attempt.{Attempt}
 use Rattle.retro_rounds.specs.declared.pieces.Pieces.{Pieces}
 use Rattle.retro_rounds.specs.declared.rounds.Rounds.{Rounds}
@@ -35,6 +39,34 @@ use Rattle.retro_rounds.proofs.Picked.{all_front, picks_all}
 use Rattle.retro_rounds.proofs.Shown.{all_above}
 use Rattle.retro_rounds.proofs.Underway.{IsReady, IsUnderway, start_next}
 use Rattle.retro_rounds.proofs.Stops.{number_line}
+
+-- a job that was counted by how its line was settled ended without use, or in another way
+spent_by : (p : ProgressValue) (guess : Option RunValue) (step : Step) (how : Settlement) (was_made : Bool)
+    (t u : Tally) → u ≡ counted how was_made t
+    → ((l : Line) → next_line p ≡ Some l → IsSettlement p l guess step how)
+    → IsSpentOn p t u
+spent_by p guess step Cancelled was_made t u is settled =
+    inl (is, λ l next runs own. absurd (false≢true (subst IsSome (settled l next).1 runs)))
+spent_by p guess step Kept was_made t u is settled =
+    inl (is, λ l next runs own. ((settled l next).1, (settled l next).2 own))
+spent_by p guess step TakenUp was_made t u is settled =
+    let sum = ap spent is in
+    inr (
+      (ap (λ (x : Tally). x.jobs) is, ap (λ (x : Tally). x.unused) is, omega (arith, sum)),
+      λ l next runs own. (settled l next).1,
+    )
+spent_by p guess step Redone true t u is settled =
+    let sum = ap spent is in
+    inr (
+      (ap (λ (x : Tally). x.jobs) is, ap (λ (x : Tally). x.unused) is, omega (arith, sum)),
+      λ l next runs own. (settled l next).1,
+    )
+spent_by p guess step Redone false t u is settled =
+    let sum = ap spent is in
+    inr (
+      (ap (λ (x : Tally). x.jobs) is, ap (λ (x : Tally). x.unused) is, omega (arith, sum)),
+      λ l next runs own. (settled l next).1,
+    )
 
 -- `end` is the index of the first line after the current piece, `rest` has the numbers of lines of the
 -- pieces after it, and `waiting` are the attempts that wait.
@@ -217,16 +249,18 @@ module _ (cuts : List ℕ) (p : ProgressValue) (old new : Rounds) (number : ℕ)
           (other_job (edit_in p) cuts (IsOwn p.recording) (settled_now p) is.left is.start is.rest_now m is.jobs
           old.tally.unused is.counted (job_here h.0) (λ own. on.1 l here (runs h.0) own))
 
-  settled_by : IsCountedBy p number old new → Result
-  settled_by (inl h) = unattempted h.0 h.1 h.2
-  settled_by (inr h) = attempted_now h.0 h.1 h.2 h.3
+  settled_by : (q : ProgressValue) → IsCountedBy p q number old new → Result
+  settled_by q (inl h) = unattempted h.0 h.1 h.2
+  settled_by q (inr h) =
+      attempted_now h.0 h.1 h.2
+      (spent_by p h.0.run h.4.0 h.3 (is_some h.0.run) old.tally new.tally h.5 h.4.3)
 
 pub settled_next : (cuts : List ℕ) (p q : ProgressValue) (old new : Rounds) (number : ℕ)
     → IsReady cuts p old.pieces.end old.pieces.cuts.now old.attempts.queue.items old.tally → IsWellFormed p.recording
-    → next_number p ≡ Some number → IsOneMore p q → IsCounted p number old new
+    → next_number p ≡ Some number → IsOneMore p q → IsCounted p q number old new
     → IsUnderway cuts q new.pieces.end new.pieces.cuts.now new.attempts.queue.items new.tally
 settled_next cuts p q old new number is well next one counted =
     let found = number_line (next_line p) number next in
     subst (λ (x : ProgressValue × Pieces). IsUnderway cuts x.0 x.1.end x.1.cuts.now new.attempts.queue.items new.tally)
     (λ i. (sym one.1 i, sym counted.pieces i))
-    (settled_by cuts p old new number one.0 is well found.0 found.1 found.2 counted.by)
+    (settled_by cuts p old new number one.0 is well found.0 found.1 found.2 q counted.by)

@@ -10,8 +10,8 @@ ghost use Rattle.retro_redo.specs.Repair.{no_guesses};
 ghost use Rattle.retro_rounds.specs.Refusals.{are_cuts};
 ghost use Rattle.retro_rounds.specs.Tally.{spent};
 ghost use Rattle.retro_rounds.specs.inner.Attempts.{IsAttempt, numbers_of};
-ghost use Rattle.retro_rounds.specs.inner.Rounds.{IsAdvanced, IsCounted, IsJobNow, IsOneSpent};
-ghost use Rattle.retro_rounds.specs.inner.Rounds.{IsPassed, is_unused};
+ghost use Rattle.retro_rounds.specs.inner.Rounds.{IsAdvanced, IsCounted, IsJobNow, IsPassed};
+ghost use Rattle.retro_rounds.specs.inner.Rounds.{counted};
 
 use crate::attempt::Attempt;
 use crate::attempts::Attempts;
@@ -106,7 +106,8 @@ impl<'c> Rounds<'c> {
         requires sum { self.old.tally.jobs
             ≡ spent self.old.tally + length self.old.attempts.queue.items }
         ensures one { OnOk result (IsOneMore repairer.old repairer.new) }
-        ensures counted { OnOk result (IsCounted repairer.old number self.old self.new) }
+        ensures counted { OnOk result
+            (IsCounted repairer.old repairer.new number self.old self.new) }
     {
         // For the prover: the contract of `lines` says that the recording is well formed.
         let _ = repairer.ground().recording().lines();
@@ -144,7 +145,7 @@ impl<'c> Rounds<'c> {
 /// gave a guess.
 fn count(tally: &mut Tally, how: Settlement, was_made: bool)
     requires { spent tally.old < tally.old.jobs }
-    ensures { IsOneSpent (is_unused how) tally.old tally.new }
+    ensures { tally.new ≡ counted how was_made tally.old }
 {
     match how {
         Settlement::Cancelled | Settlement::Kept => tally.unused += 1,

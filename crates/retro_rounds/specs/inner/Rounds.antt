@@ -1,6 +1,6 @@
 -- What the rounds of a repair come to.
 use Rattle.std.specs.Prelude.{◌≡◌, ◌⊎◌, ◌+◌, ◌-◌, ◌<◌, ◌≤◌, ℕ, suc, Bool, true, false}
-use Rattle.std.specs.Prelude.{List, ◌∷◌, ◌++◌, length, Option, None, Some, IsSome}
+use Rattle.std.specs.Prelude.{List, ◌∷◌, ◌++◌, length, Option, None, Some, IsSome, is_some}
 use Rattle.std.specs.List.{AllByRecursion}
 use Rattle.retro_tree.specs.Notes.{Holds}
 use Rattle.retro_tree.specs.declared.state.State.{State}
@@ -12,6 +12,7 @@ use Rattle.retro_redo.specs.Meetings.{lines_until}
 use Rattle.retro_redo.specs.Moments.{IsStaleBy, text_now}
 use Rattle.retro_redo.specs.Picks.{PicksBy}
 use Rattle.retro_redo.specs.Progress.{ProgressValue, edit_in, next_line, recorded_now, repaired_now, settled_now}
+use Rattle.retro_redo.specs.Settling.{IsOneSettled}
 use Rattle.retro_redo.specs.declared.settlement.Settlement.{Settlement}
 use Rattle.retro_redo.specs.declared.settlement.Settlement.TheVariants.{Cancelled, Kept, TakenUp, Redone}
 use Rattle.retro_redo.specs.declared.tally.Tally.{Tally}
@@ -77,12 +78,14 @@ IsAdvanced p old new =
 
 -- ---- a line is settled
 
--- whether the guess of a line that was settled so is of no use, since the line wasn't run again
-abbrev pub is_unused : Settlement → Bool
-is_unused Cancelled = true
-is_unused Kept = true
-is_unused TakenUp = false
-is_unused Redone = false
+-- One more job ended, at a line that was settled so. `was_made` says whether there was a guess: a
+-- line that was run again had a wrong guess, or its job was given up.
+abbrev pub counted : Settlement → Bool → Tally → Tally
+counted Cancelled was_made t = record t { unused = t.unused + 1 }
+counted Kept was_made t = record t { unused = t.unused + 1 }
+counted TakenUp was_made t = record t { taken_up = t.taken_up + 1 }
+counted Redone true t = record t { wrong = t.wrong + 1 }
+counted Redone false t = record t { given_up = t.given_up + 1 }
 
 -- one more job ended, without use or not
 abbrev pub IsOneSpent : Bool → Tally → Tally → Type 0
@@ -99,18 +102,19 @@ IsSpentOn p t u =
     (IsOneSpent true t u × OnNext p (λ l. (edit_in p l.0 ≡ None) × Holds l.1.notes (repaired_now p)))
     ⊎ (IsOneSpent false t u × OnNext p (λ l. IsStaleBy (edit_in p l.0) l.1.notes (repaired_now p)))
 
--- The attempt at the next line was taken and counted, or there was none.
-abbrev pub IsCountedBy : ProgressValue → ℕ → Rounds → Rounds → Type 0
-IsCountedBy p n old new =
+-- The attempt at the next line was taken and counted by how the line was settled with it, or there
+-- was none.
+abbrev pub IsCountedBy : ProgressValue → ProgressValue → ℕ → Rounds → Rounds → Type 0
+IsCountedBy p q n old new =
     ((new.attempts.queue.items ≡ old.attempts.queue.items) × IsOther n old.attempts.queue.items
     × (new.tally ≡ old.tally))
     ⊎ ((a : Attempt) × (old.attempts.queue.items ≡ a ∷ new.attempts.queue.items) × (a.number ≡ n)
-    × IsSpentOn p old.tally new.tally)
+    × (how : Settlement) × IsOneSettled p a.run q how × (new.tally ≡ counted how (is_some a.run) old.tally))
 
 -- the same, in the same piece
-pub record IsCounted (p : ProgressValue) (n : ℕ) (old new : Rounds) : Type 0 where
+pub record IsCounted (p q : ProgressValue) (n : ℕ) (old new : Rounds) : Type 0 where
   pub pieces : new.pieces ≡ old.pieces
-  pub by : IsCountedBy p n old new
+  pub by : IsCountedBy p q n old new
 
 -- ---- all lines are settled
 

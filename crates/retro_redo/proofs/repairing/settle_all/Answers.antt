@@ -15,19 +15,21 @@ loop-repairer-init g c = record {
 
 pub loop-repairer-smaller : goal.loop-repairer-smaller
 loop-repairer-smaller g c =
+    let one = c.in_ok-settle.ensures in
     fewer_left c.loop-repairer.repairer c.skip_unmet.new.self c.settle.new.self c.in-Some.number
-    c.in_ok-number.ensures.ok c.in_ok-settle.ensures.one (sym c.in_ok-number.ensures.next ∙ c.in-Some.is)
+    c.in_ok-number.ensures.ok (one.0, one.1, one.2)
+    (sym c.in_ok-number.ensures.next ∙ c.in-Some.is)
 
 pub loop-repairer-preserved : goal.loop-repairer-preserved
 loop-repairer-preserved g c =
     let skip = c.in_ok-number.ensures.ok in
-    let one = c.in_ok-settle.ensures.one in
+    let one = c.in_ok-settle.ensures in
     record {
       recording = ap (λ (x : ProgressValue). x.recording) one.1 ∙ skip.recording
           ∙ c.loop-repairer.invariant.recording;
       edits = λ n. ap (λ (x : ProgressValue). edit_in x n) one.1 ∙ ap (λ (m : EditMap). finmap.get m n) skip.edits
           ∙ c.loop-repairer.invariant.edits n;
-      met = taken_next c.skip_unmet.new.self c.settle.new.self one
+      met = taken_next c.skip_unmet.new.self c.settle.new.self (one.0, one.1, one.2)
           (taken_skipped c.loop-repairer.repairer c.skip_unmet.new.self skip c.loop-repairer.invariant.met);
     }
 

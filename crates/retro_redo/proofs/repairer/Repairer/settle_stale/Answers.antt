@@ -1,6 +1,7 @@
-use Rattle.std.proofs.Common.{subst}
+use Rattle.std.proofs.Common.{refl, subst, sym}
 use Rattle.retro_redo.specs.Progress.{edit_in}
-use Rattle.retro_redo.specs.Settling.{IsGuessOf}
+use Rattle.retro_redo.specs.Settling.{IsGuessOf, IsTakenUp}
+use Rattle.retro_redo.specs.declared.step.Step.TheVariants.{Take}
 use Rattle.retro_redo.proofs.repairer.Repairer.settle_stale.Goals as goal
 
 pub step-requires-clause-may : goal.step-requires-clause-may
@@ -11,6 +12,11 @@ step-requires-clause-may g c =
       c.in_ok-fits.ensures.0 c.if-branch.true,
     )
 
-pub step-requires-2-clause-may : goal.step-requires-2-clause-may
-step-requires-2-clause-may g c =
-    λ l next. (c.requires.stale l next, c.in_ok-run.ensures.new_run l next, c.in_ok-run.ensures.holds)
+pub returns-then-branch : goal.returns-then-branch
+returns-then-branch g c =
+    let run = c.in-Some.run' in (
+      Take run,
+      c.in_ok-step.ensures.ok,
+      c.requires.met,
+      λ l next. (subst (λ guess. IsTakenUp guess (Take run)) (sym c.in-Some.is) refl, c.requires.stale l next),
+    )
