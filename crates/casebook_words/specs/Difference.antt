@@ -1,7 +1,7 @@
--- How two answers to a query differ, in words: of two texts the first line that differs, of two
--- listings the first name that one lacks, and else both answers.
-use Rattle.std.specs.Prelude.{◌≡◌, ◌≢◌, ℕ, ◌+◌, ◌-◌, ◌≤◌, Bool, true, false, not, ◌||◌, List, ◌++◌}
-use Rattle.std.specs.Prelude.{Option, Some, None, is_some, option_and_then, codes, decimal, take}
+-- How two answers to a query differ, in words: of two texts the first line that differs, or which of
+-- them a newline ends, of two listings the first name that one lacks, and else both answers.
+use Rattle.std.specs.Prelude.{◌≡◌, ◌≢◌, ℕ, ◌==◌, ◌+◌, ◌-◌, ◌≤◌, Bool, true, false, not, ◌||◌, List, ◌++◌}
+use Rattle.std.specs.Prelude.{Option, Some, None, is_some, length, option_and_then, codes, decimal, take}
 use Rattle.std.specs.Prelude.{if◌then◌else◌}
 use Rattle.std.specs.List.{common_prefix_len, find, list_any, slice_get}
 use Rattle.casebook_text.specs.SafeLine.{word_bytes}
@@ -10,7 +10,7 @@ use Rattle.retro_tree.specs.declared.answer.Answer.{Answer}
 use Rattle.retro_tree.specs.declared.answer.Answer.TheVariants as answers
 use Rattle.retro_tree.specs.declared.node.Node.TheVariants as nodes
 use Rattle.casebook_words.specs.Cut.{cut_words}
-use Rattle.casebook_words.specs.Lines.{texts_in}
+use Rattle.casebook_words.specs.Lines.{newline, texts_in}
 use Rattle.casebook_words.specs.Words.{answer_words, value_limit}
 
 -- ---- texts
@@ -83,6 +83,24 @@ side_words false = codes ": missing / there"
 unfoldable pub name_difference_words : NameDifference → List ℕ
 name_difference_words d = codes ", name " ++ word_bytes d.name ++ side_words d.is_old
 
+-- ---- last newlines
+
+abbrev pub is_newline : Option ℕ → Bool
+is_newline None = false
+is_newline (Some byte) = byte == newline
+
+-- whether a newline ends a text
+abbrev pub has_last_newline : List ℕ → Bool
+has_last_newline text = is_newline (slice_get text (length text - 1))
+
+-- of texts with the same lines: whether it is the old one that has a last newline, which the other
+-- lacks, or None if they are the same
+unfoldable pub newline_between : List ℕ → List ℕ → Option Bool
+newline_between old new = if text_eq old new then None else Some (has_last_newline old)
+
+unfoldable pub newline_words : Bool → List ℕ
+newline_words is_old = codes " last newline" ++ side_words is_old
+
 -- ---- answers
 
 -- the bytes of a file, if that is the answer
@@ -104,14 +122,26 @@ unfoldable pub name_difference : Answer → Answer → Option NameDifference
 name_difference old new =
     option_and_then (λ one. option_and_then (first_name one) (listing_in new)) (listing_in old)
 
+unfoldable pub newline_difference : Answer → Answer → Option Bool
+newline_difference old new =
+    option_and_then (λ one. option_and_then (newline_between one) (file_in new)) (file_in old)
+
 unfoldable pub both_words : Answer → Answer → List ℕ
 both_words old new = codes ": " ++ answer_words old ++ codes " / " ++ answer_words new
 
-abbrev pub words_of : Option Difference → Option NameDifference → List ℕ → List ℕ
-words_of (Some line) name both = line_difference_words line
-words_of None (Some name) both = name_difference_words name
-words_of None None both = both
+abbrev pub other_words_of : Option Bool → Option NameDifference → List ℕ → List ℕ
+other_words_of (Some is_old) name both = newline_words is_old
+other_words_of None (Some name) both = name_difference_words name
+other_words_of None None both = both
+
+-- how answers differ of which no line differs
+unfoldable pub other_words : Answer → Answer → List ℕ
+other_words old new =
+    other_words_of (newline_difference old new) (name_difference old new) (both_words old new)
+
+abbrev pub words_of : Option Difference → List ℕ → List ℕ
+words_of (Some line) other = line_difference_words line
+words_of None other = other
 
 unfoldable pub difference_words : Answer → Answer → List ℕ
-difference_words old new =
-    words_of (line_difference old new) (name_difference old new) (both_words old new)
+difference_words old new = words_of (line_difference old new) (other_words old new)

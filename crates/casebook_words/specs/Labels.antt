@@ -21,8 +21,12 @@ abbrev pub name_or : ℕ → Option (List ℕ) → List ℕ
 name_or session None = decimal session
 name_or session (Some name) = word_bytes name
 
+-- the name of a session as it was given, or None if it has none
+abbrev pub name_in : ℕ → Labels → Option (List ℕ)
+name_in session labels = map.get labels.names session
+
 abbrev pub name_words : ℕ → Labels → List ℕ
-name_words session labels = name_or session (map.get labels.names session)
+name_words session labels = name_or session (name_in session labels)
 
 -- a time, or nothing
 abbrev pub time_or_none : Option (List ℕ) → List ℕ

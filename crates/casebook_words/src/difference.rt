@@ -2,9 +2,12 @@
 ghost use Rattle.std.specs.Prelude.{◌≡◌, ◌++◌, OnOk, ◌||◌, is_some, option_map};
 ghost use Rattle.casebook_words.specs.Lines.{texts_in};
 ghost use Rattle.casebook_words.specs.Difference.{both_words, difference_words, file_in};
-ghost use Rattle.casebook_words.specs.Difference.{first_difference, line_difference};
+ghost use Rattle.casebook_words.specs.Difference.{first_difference, has_last_newline};
+ghost use Rattle.casebook_words.specs.Difference.{line_difference};
 ghost use Rattle.casebook_words.specs.Difference.{line_difference_words, line_words, listing_in};
-ghost use Rattle.casebook_words.specs.Difference.{name_difference, name_difference_words, side_words};
+ghost use Rattle.casebook_words.specs.Difference.{name_difference, name_difference_words};
+ghost use Rattle.casebook_words.specs.Difference.{newline_between, newline_difference};
+ghost use Rattle.casebook_words.specs.Difference.{newline_words, other_words, side_words};
 ghost use Rattle.casebook_words.specs.inner.Differences.{line_value, name_value};
 
 use crate::NoMem;
@@ -149,6 +152,49 @@ fn push_name_difference(
     push_sides(line, found.is_old)
 }
 
+/// Returns whether a newline ends a text.
+fn has_last_newline(text: &[u8]) -> bool
+    ensures { result ≡ has_last_newline text.now }
+{
+    match text.last() {
+        Some(byte) => *byte == b'\n',
+        None => false,
+    }
+}
+
+/// Returns whether it is the old one of two texts with the same lines that has a last newline, which
+/// the other lacks, or `None` if they are the same.
+#[tactic(auto, unfolding(crate::specs::Difference::newline_between))]
+fn newline_between(old: &[u8], new: &[u8]) -> Option<bool>
+    ensures { result ≡ newline_between old.now new.now }
+{
+    if old == new {
+        return None;
+    }
+    Some(has_last_newline(old))
+}
+
+/// Returns which of two answers has a last newline that the other lacks, if both are files with the
+/// same lines.
+#[tactic(auto, unfolding(crate::specs::Difference::newline_difference))]
+fn newline_difference(old: &Answer, new: &Answer) -> Option<bool>
+    ensures { result ≡ newline_difference old.now new.now }
+{
+    let one = file_in(old)?;
+    let two = file_in(new)?;
+    newline_between(one, two)
+}
+
+/// Appends which of two texts has a last newline.
+#[tactic(auto, unfolding(crate::specs::Difference::newline_words))]
+fn push_newline(line: &mut SafeLine, is_old: bool) -> Result<(), NoMem>
+    ensures { OnOk result (line.new ≡ line.old ++ newline_words is_old) }
+{
+    line.push_ascii(" last newline")?;
+    push_sides(line, is_old)?;
+    Ok(())
+}
+
 /// Appends both answers in words.
 #[tactic(auto, unfolding(crate::specs::Difference::both_words))]
 fn push_both(alloc: Global, line: &mut SafeLine, old: &Answer, new: &Answer) -> Result<(), NoMem>
@@ -160,8 +206,22 @@ fn push_both(alloc: Global, line: &mut SafeLine, old: &Answer, new: &Answer) -> 
     push_answer(alloc, line, new)
 }
 
-/// Appends how two answers to a query differ: of two texts the first line that differs, of two
-/// listings the first name that one lacks, and else both answers.
+/// Appends how two answers to a query differ of which no line differs.
+#[tactic(auto, unfolding(crate::specs::Difference::other_words))]
+fn push_other(alloc: Global, line: &mut SafeLine, old: &Answer, new: &Answer) -> Result<(), NoMem>
+    ensures { OnOk result (line.new ≡ line.old ++ other_words old.now new.now) }
+{
+    if let Some(is_old) = newline_difference(old, new) {
+        return push_newline(line, is_old);
+    }
+    match name_difference(old, new) {
+        Some(found) => push_name_difference(alloc, line, &found),
+        None => push_both(alloc, line, old, new),
+    }
+}
+
+/// Appends how two answers to a query differ: of two texts the first line that differs, or which of
+/// them a newline ends, of two listings the first name that one lacks, and else both answers.
 #[tactic(auto, unfolding(crate::specs::Difference::difference_words))]
 pub fn push_difference(
     alloc: Global,
@@ -173,9 +233,6 @@ pub fn push_difference(
 {
     match line_difference(old, new) {
         Some(found) => push_line_difference(alloc, line, &found),
-        None => match name_difference(old, new) {
-            Some(found) => push_name_difference(alloc, line, &found),
-            None => push_both(alloc, line, old, new),
-        },
+        None => push_other(alloc, line, old, new),
     }
 }

@@ -1,6 +1,8 @@
 //! What sessions and lines are called.
 ghost use Rattle.std.specs.Prelude.{◌≡◌, IfOk, OnErr, OnOk, string_bytes};
-ghost use Rattle.casebook_words.specs.Labels.{named, name_words, no_labels, time_words, timed};
+ghost use Rattle.std.specs.Option.{option_copied};
+ghost use Rattle.casebook_words.specs.Labels.{name_in, name_words, named, no_labels, time_words};
+ghost use Rattle.casebook_words.specs.Labels.{timed};
 
 use crate::NoMem;
 use crate::label_map::LabelMap;
@@ -41,6 +43,14 @@ impl Labels {
         ensures err { OnErr result (self.new ≡ self.old) }
     {
         self.times.insert(number, Text::of(time))
+    }
+
+    /// Returns the name of a session as it was given, or `None` if it has none. It may have
+    /// characters that aren't harmless on a terminal.
+    pub fn name_in(&self, session: u32) -> Option<&Text>
+        ensures { option_copied result ≡ name_in session self.now }
+    {
+        self.names.get(session)
     }
 
     /// Returns the name of a session, or its number if it has none. Spaces in a name are shown by
