@@ -1,4 +1,4 @@
--- Causes: the lines at which two recordings change the cells of a query otherwise.
+-- Causes: the lines at which two recordings change the cells of a query differently.
 use Rattle.std.specs.Prelude.{◌≡◌, ◌==◌, ◌<◌, ℕ, List, [], ◌∷◌, Option, Some, None, if◌then◌else◌}
 use Rattle.std.specs.List.{filter}
 use Rattle.retro_tree.specs.Ask.{supports}
@@ -33,7 +33,7 @@ abbrev pub IsAlike : Ask → RecordingValue → RecordingValue → ℕ → Type 
 IsAlike q one two n = changes_at q n one ≡ changes_at q n two
 
 -- The cause of what a query answers before a line: the last line before it that changes the cells of
--- the query otherwise in one recording than in another.
+-- the query differently in one recording than in another.
 pub record IsCause (q : Ask) (n : ℕ) (one two : RecordingValue) (m : ℕ) : Type 0 where
   pub earlier : m < n
   pub otherwise : ¬ (IsAlike q one two m)

@@ -1,4 +1,4 @@
-//! What lines change otherwise in one recording than in another.
+//! What lines change differently in one recording than in another.
 ghost use Rattle.std.specs.Prelude.{◌≡◌, ◌≢◌, ◌<◌, ℕ, List, None, IfOk, IfSome, IsSome};
 ghost use Rattle.retro_tree.specs.Ask.{answer};
 ghost use Rattle.retro_tree.specs.Notes.{after};
@@ -14,7 +14,7 @@ use retro_tree::{Ask, NoMem};
 use std::alloc::Global;
 use std::marker::Model;
 
-/// Two recordings, and what their lines change otherwise in one than in the other.
+/// Two recordings, and what their lines change differently in one than in the other.
 ///
 /// Making it takes one pass over the notes of each recording. It keeps of each line that makes
 /// other changes in one recording than in the other what the line changes.
@@ -59,9 +59,9 @@ impl<'a> Differences<'a> {
     }
 
     /// Returns the cause of what a query answers before the line with a number: the last line
-    /// before it that changes the cells of the query otherwise in one recording than in the other.
-    /// Returns `None` if all lines before it change these cells alike. A line that one of the
-    /// recordings doesn't have changes nothing there.
+    /// before it that changes the cells of the query differently in one recording than in the
+    /// other. Returns `None` if all lines before it change these cells alike. A line that one of
+    /// the recordings doesn't have changes nothing there.
     ///
     /// If the recordings begin with the same state, and the query has another answer before the
     /// line in one than in the other, there is a cause.

@@ -1,4 +1,4 @@
-//! The lines that change something otherwise in one recording than in another.
+//! The lines that change something differently in one recording than in another.
 ghost use Rattle.std.specs.Prelude.{◌≡◌, [], ℕ, IfOk, OnOk, true};
 ghost use Rattle.retro_tree.specs.Change.{cell_of};
 ghost use Rattle.retro_tree.specs.Path.{PathValue};

@@ -2,7 +2,7 @@
 //!
 //! [`changed_paths`] names the paths in which two trees differ. [`has_another_result`] compares two
 //! runs of a line. [`first_failing_note`] says where the notes of a line part with a state.
-//! [`Differences::cause_of`] names the line that made a query answer otherwise. [`leaks`] and
+//! [`Differences::cause_of`] names the line that changed the answer to a query. [`leaks`] and
 //! [`tellings`] separate the compensations of a repair.
 //!
 //! Nothing is repaired here: everything is read from a repair and from recordings.
@@ -21,7 +21,7 @@
 //!   Otherwise it returns an index: the notes before it hold, and the note there is a query that
 //!   has another answer in the state after their changes [`some`].
 //! - `Differences::of` returns two recordings: it is the two of them in contracts. `cause_of`
-//!   returns the last line before a number that changes the cells of a query otherwise in one of
+//!   returns the last line before a number that changes the cells of a query differently in one of
 //!   them than in the other [`some`], or `None` if there is none [`none`]. If the recordings begin
 //!   with the same state and the query has another answer before the line, there is a cause
 //!   [`exists`]. So each line that an exact repair runs again, though its text isn't replaced, has

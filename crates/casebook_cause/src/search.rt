@@ -10,8 +10,8 @@ use crate::place::Place;
 use retro_keep::Recording;
 use retro_tree::{Ask, NoMem};
 
-/// A search for the last line before another one that changes the cells of a query otherwise in one
-/// recording than in another.
+/// A search for the last line before another one that changes the cells of a query differently in
+/// one recording than in another.
 #[derive(Drop)]
 pub(crate) struct Search<'a> {
     /// One recording.

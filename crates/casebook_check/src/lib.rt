@@ -1,8 +1,8 @@
-//! Whether a log is a recording of its own lines, and if not, where it first isn't one.
+//! Whether a log is as its own lines run, and if not, where it first isn't.
 //!
-//! [`first_unlike`] runs the lines of a log one by one until one of them notes or prints otherwise
-//! than the log says. [`unlike_lines`] says so in words: the first note that differs, as the log
-//! has it and as the line notes it, or what the line printed.
+//! [`first_unlike`] runs the lines of a log one by one until one of them notes or prints something
+//! else than the log says. [`unlike_lines`] shows that in words: the first note that differs, as
+//! the log has it and as the line notes it, or what the line printed.
 //!
 //! If allocation fails, calls return `NoMem`.
 //!
@@ -10,7 +10,8 @@
 //!
 //! - `first_unlike` returns the first line of a log that isn't as noted, with its run [`some`]: the
 //!   lines before it are recorded as they run, and the run, in the state that they leave, has other
-//!   notes or another output than the log (`specs/Unlike.antt`). If it returns `None`, the log is a
+//!   notes or another output than the log (`specs/Unlike.antt`). A recording may have other notes
+//!   than a run, so this doesn't say that the log isn't one. If it returns `None`, the log is a
 //!   recording of its own lines [`none`].
 //! - `first_difference` returns the index of the first note that two lists don't have alike, or
 //!   `None` exactly if they are the same.

@@ -13,8 +13,8 @@ use retro_shell::{Run, apply_notes, run_line};
 use retro_tree::State;
 use std::alloc::Global;
 
-/// Returns the first line of a log that notes or prints otherwise than the log says, or `None` if
-/// there is none. Then the log is a recording of its own lines.
+/// Returns the first line of a log that notes or prints something else than the log says, or `None`
+/// if there is none. Then the log is a recording of its own lines.
 pub fn first_unlike(alloc: Global, recording: &Recording) -> Result<Option<Unlike>, NoMem>
     ensures none { IfOk result (λ found. found ≡ None
         → IsRecordingOf (script_in recording.now) recording.now) }

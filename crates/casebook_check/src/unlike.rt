@@ -1,7 +1,7 @@
 //! Lines that aren't as a log notes them.
 use retro_shell::Run;
 
-/// A line that notes or prints otherwise than a log says.
+/// A line that notes or prints something else than a log says.
 #[derive(Drop)]
 pub struct Unlike {
     /// The line's number.

@@ -1,7 +1,7 @@
 -- The document nests few arrays and objects, so its text can be read back.
-use Rattle.std.proofs.Common.{◌≡◌, ℕ, ◌≤◌, List, [], ◌∷◌, Bool, true, false, Option, Some, None}
-use Rattle.std.proofs.Common.{arith, cond, map, refl}
-use Rattle.serde_json.specs.Data.{Data, null, string, depth, items_depth}
+use Rattle.std.proofs.Common.{◌≡◌, ℕ, ◌≤◌, List, [], ◌∷◌, Bool, Option, Some, None, arith}
+use Rattle.std.proofs.Common.{map, refl}
+use Rattle.serde_json.specs.Data.{Data, depth, items_depth}
 use Rattle.serde_json.specs.Read.{max_depth}
 use Rattle.serde_json.specs.View.{items_of}
 use Rattle.retro_json.specs.Values.{number_data}
@@ -17,30 +17,31 @@ use Rattle.casebook_view.specs.declared.leak.Leak.{Leak}
 use Rattle.casebook_view.specs.declared.reason.Reason.{Reason}
 use Rattle.casebook_view.specs.declared.subject.Subject.{Subject}
 use Rattle.casebook_view.specs.declared.subject.Subject.TheVariants.{At, Directory, Variable}
-use Rattle.casebook_view.specs.declared.subject.Subject.TheVariants.{Status, Text}
+use Rattle.casebook_view.specs.declared.subject.Subject.TheVariants.{Status, Text, Again}
 use Rattle.casebook_view.specs.declared.summary.Summary.{Summary}
 use Rattle.casebook_words.specs.declared.labels.Labels.{Labels}
 use Rattle.casebook_screen.specs.declared.restoration.Restoration.{Restoration}
 use Rattle.casebook_json.specs.Causes.{effect_data}
 use Rattle.casebook_json.specs.Counts.{counts_data}
 use Rattle.casebook_json.specs.Leaked.{leak_data}
-use Rattle.casebook_json.specs.Lines.{line_data, line_with_reason, origin_in}
+use Rattle.casebook_json.specs.Lines.{line_data, line_with_reason, origin_in, why_or_null}
 use Rattle.casebook_json.specs.Restore.{added_in, removed_in, restoration_data}
 use Rattle.casebook_json.specs.Summary.{summary_data, summary_with}
 use Rattle.casebook_json.specs.Tell.{group_data, subject_path, subject_variable}
 use Rattle.casebook_json.specs.Unknown.{unknown_data}
-use Rattle.casebook_json.specs.Values.{number_or_null, path_data, user_data}
+use Rattle.casebook_words.specs.Labels.{name_in}
+use Rattle.casebook_json.specs.Values.{name_or_null, number_or_null, path_data, user_data}
 
 number_depth : (n : Option ℕ) → depth (number_or_null n) ≡ 0
 number_depth None = refl
 number_depth (Some n) = refl
 
 user_depth : (labels : Labels) (session : ℕ) → depth (user_data labels session) ≡ 0
-user_depth labels session = by_test _ _
+user_depth labels session = by_name (name_in session labels)
   where
-    by_test : (same : Bool) (name : List ℕ) → depth (cond same null (string name)) ≡ 0
-    by_test true name = refl
-    by_test false name = refl
+    by_name : (name : Option (List ℕ)) → depth (name_or_null name) ≡ 0
+    by_name None = refl
+    by_name (Some name) = refl
 
 path_depth : (subject : Subject) → depth (subject_path subject) ≡ 0
 path_depth (At path) = refl
@@ -48,6 +49,7 @@ path_depth Directory = refl
 path_depth (Variable name) = refl
 path_depth Status = refl
 path_depth Text = refl
+path_depth Again = refl
 
 variable_depth : (subject : Subject) → depth (subject_variable subject) ≡ 0
 variable_depth (At path) = refl
@@ -55,6 +57,7 @@ variable_depth Directory = refl
 variable_depth (Variable name) = refl
 variable_depth Status = refl
 variable_depth Text = refl
+variable_depth Again = refl
 
 -- an array nests one more than its items
 items_low : {X : Type 0} (f : X → Data) (n : ℕ) → ((x : X) → depth (f x) ≤ n) → (xs : List X)
@@ -88,6 +91,10 @@ effect_low effect =
     let a = items_low path_data 0 (λ p. omega arith) effect.wrote in
     omega (arith, a)
 
+why_depth : (reason : Option Reason) → depth (why_or_null reason) ≡ 0
+why_depth None = refl
+why_depth (Some reason) = refl
+
 reasoned_low : (session : ℕ) (reason : Option Reason) (line : ℕ × Fate)
     → depth (line_with_reason session reason line) ≤ 1
 unfolding line_with_reason
@@ -95,7 +102,8 @@ reasoned_low session reason line =
     let a = number_depth (cause_in reason) in
     let b = number_depth (failing_in reason) in
     let c = number_depth (origin_in reason) in
-    omega (arith, a, b, c)
+    let d = why_depth reason in
+    omega (arith, a, b, c, d)
 
 line_low : (r : RecordingValue) (reasons : List Reason) (line : ℕ × Fate)
     → depth (line_data r reasons line) ≤ 1

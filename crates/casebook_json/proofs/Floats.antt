@@ -1,6 +1,5 @@
 -- The document has no float, so its text is determined.
-use Rattle.std.proofs.Common.{◌≡◌, ℕ, List, Bool, true, false, Option, Some, None, refl, cond}
-use Rattle.serde_json.specs.Data.{null, string}
+use Rattle.std.proofs.Common.{◌≡◌, ℕ, List, Bool, false, Option, Some, None, refl}
 use Rattle.serde_json.specs.Written.{has_float}
 use Rattle.retro_json.proofs.Floats.{array_float}
 use Rattle.retro_json.specs.Values.{number_data}
@@ -16,30 +15,31 @@ use Rattle.casebook_view.specs.declared.leak.Leak.{Leak}
 use Rattle.casebook_view.specs.declared.reason.Reason.{Reason}
 use Rattle.casebook_view.specs.declared.subject.Subject.{Subject}
 use Rattle.casebook_view.specs.declared.subject.Subject.TheVariants.{At, Directory, Variable}
-use Rattle.casebook_view.specs.declared.subject.Subject.TheVariants.{Status, Text}
+use Rattle.casebook_view.specs.declared.subject.Subject.TheVariants.{Status, Text, Again}
 use Rattle.casebook_view.specs.declared.summary.Summary.{Summary}
 use Rattle.casebook_words.specs.declared.labels.Labels.{Labels}
 use Rattle.casebook_screen.specs.declared.restoration.Restoration.{Restoration}
 use Rattle.casebook_json.specs.Causes.{effect_data}
 use Rattle.casebook_json.specs.Counts.{counts_data}
 use Rattle.casebook_json.specs.Leaked.{leak_data}
-use Rattle.casebook_json.specs.Lines.{line_data, line_with_reason, origin_in}
+use Rattle.casebook_json.specs.Lines.{line_data, line_with_reason, origin_in, why_or_null}
 use Rattle.casebook_json.specs.Restore.{added_in, removed_in, restoration_data}
 use Rattle.casebook_json.specs.Summary.{summary_data, summary_with}
 use Rattle.casebook_json.specs.Tell.{group_data, subject_path, subject_variable}
 use Rattle.casebook_json.specs.Unknown.{unknown_data}
-use Rattle.casebook_json.specs.Values.{number_or_null, path_data, user_data}
+use Rattle.casebook_words.specs.Labels.{name_in}
+use Rattle.casebook_json.specs.Values.{name_or_null, number_or_null, path_data, user_data}
 
 number_float : (n : Option ℕ) → has_float (number_or_null n) ≡ false
 number_float None = refl
 number_float (Some n) = refl
 
 user_float : (labels : Labels) (session : ℕ) → has_float (user_data labels session) ≡ false
-user_float labels session = by_test _ _
+user_float labels session = by_name (name_in session labels)
   where
-    by_test : (same : Bool) (name : List ℕ) → has_float (cond same null (string name)) ≡ false
-    by_test true name = refl
-    by_test false name = refl
+    by_name : (name : Option (List ℕ)) → has_float (name_or_null name) ≡ false
+    by_name None = refl
+    by_name (Some name) = refl
 
 path_float : (subject : Subject) → has_float (subject_path subject) ≡ false
 path_float (At path) = refl
@@ -47,6 +47,7 @@ path_float Directory = refl
 path_float (Variable name) = refl
 path_float Status = refl
 path_float Text = refl
+path_float Again = refl
 
 variable_float : (subject : Subject) → has_float (subject_variable subject) ≡ false
 variable_float (At path) = refl
@@ -54,6 +55,7 @@ variable_float Directory = refl
 variable_float (Variable name) = refl
 variable_float Status = refl
 variable_float Text = refl
+variable_float Again = refl
 
 restoration_float : (r : Restoration) → has_float (restoration_data r) ≡ false
 unfolding restoration_data
@@ -76,6 +78,10 @@ effect_float : (effect : EffectValue) → has_float (effect_data effect) ≡ fal
 unfolding effect_data
 effect_float effect = rw (array_float path_data (λ p. refl) effect.wrote) refl
 
+why_float : (reason : Option Reason) → has_float (why_or_null reason) ≡ false
+why_float None = refl
+why_float (Some reason) = refl
+
 reasoned_float : (session : ℕ) (reason : Option Reason) (line : ℕ × Fate)
     → has_float (line_with_reason session reason line) ≡ false
 unfolding line_with_reason
@@ -83,6 +89,7 @@ reasoned_float session reason line = rw (
   number_float (cause_in reason),
   number_float (failing_in reason),
   number_float (origin_in reason),
+  why_float reason,
 ) refl
 
 line_float : (r : RecordingValue) (reasons : List Reason) (line : ℕ × Fate)

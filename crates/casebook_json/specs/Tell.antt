@@ -5,7 +5,7 @@ use Rattle.retro_json.specs.Values.{array_of, number_data}
 use Rattle.casebook_view.specs.Groups.{GroupValue}
 use Rattle.casebook_view.specs.declared.subject.Subject.{Subject}
 use Rattle.casebook_view.specs.declared.subject.Subject.TheVariants.{At, Directory, Variable}
-use Rattle.casebook_view.specs.declared.subject.Subject.TheVariants.{Status, Text}
+use Rattle.casebook_view.specs.declared.subject.Subject.TheVariants.{Status, Text, Again}
 use Rattle.casebook_words.specs.declared.labels.Labels.{Labels}
 use Rattle.casebook_json.specs.Values.{path_data, user_data}
 
@@ -15,6 +15,7 @@ subject_name Directory = codes "directory"
 subject_name (Variable name) = codes "variable"
 subject_name Status = codes "status"
 subject_name Text = codes "text"
+subject_name Again = codes "again"
 
 -- the path or the variable that a subject is, or null if it is none
 abbrev pub subject_path : Subject → Data

@@ -22,6 +22,7 @@ fn subject_name(subject: &Subject) -> &'static str
         Subject::Variable(_) => "variable",
         Subject::Status => "status",
         Subject::Text => "text",
+        Subject::Again => "again",
     }
 }
 

@@ -7,10 +7,11 @@ ghost use Rattle.retro_keep.specs.Script.{rises_from};
 ghost use Rattle.casebook_view.specs.Fates.{session_in};
 ghost use Rattle.casebook_view.specs.Reasons.{cause_in, failing_in, number_in, reason_at};
 ghost use Rattle.casebook_json.specs.Lines.{fate_name, line_data, line_with_reason, origin_in};
+ghost use Rattle.casebook_json.specs.Lines.{why_name, why_or_null};
 
 use crate::NoMem;
 use crate::value::number_or_null;
-use casebook_view::{Fate, Reason};
+use casebook_view::{Fate, Reason, Why};
 use retro_keep::Recording;
 use serde_json::{Value, json};
 use std::alloc::Global;
@@ -64,7 +65,7 @@ fn failing_in(reason: Option<Reason>) -> Option<u64>
     ensures { result ≡ failing_in reason }
 {
     match reason {
-        Some(reason) => reason.failing.map(|index| index as u64),
+        Some(reason) => reason.why.failing().map(|index| index as u64),
         None => None,
     }
 }
@@ -79,6 +80,27 @@ fn origin_in(reason: Option<Reason>) -> Option<u64>
     }
 }
 
+/// Returns the name of why a line is run again.
+fn why_name(why: Why) -> &'static str
+    ensures { result.now ≡ why_name why }
+{
+    match why {
+        Why::Replaced => "replaced",
+        Why::Query(_) => "query",
+        Why::RunAgain => "again",
+    }
+}
+
+/// Returns the name of why a line is run again as a JSON string, or null if it isn't.
+fn why_or_null(alloc: Global, reason: Option<Reason>) -> Result<Value, NoMem>
+    ensures { IfOk result (λ v. view v ≡ why_or_null reason) }
+{
+    match reason {
+        Some(reason) => Value::try_from_str(alloc, why_name(reason.why)),
+        None => Ok(Value::Null),
+    }
+}
+
 /// Returns the JSON value of a line that is run again for this reason, if there is one.
 #[tactic(auto, unfolding(crate::specs::Lines::line_with_reason))]
 fn line_with_reason(
@@ -89,13 +111,15 @@ fn line_with_reason(
 ) -> Result<Value, NoMem>
     ensures { IfOk result (λ v. view v ≡ line_with_reason session reason line) }
 {
+    let why = why_or_null(alloc, reason)?;
     json!(in alloc; {
         "because_of": number_or_null(cause_in(reason)),
         "fate": fate_name(line.1),
         "line": line.0,
         "note": number_or_null(failing_in(reason)),
         "origin": number_or_null(origin_in(reason)),
-        "session": session
+        "session": session,
+        "why": why
     })
 }
 

@@ -1,11 +1,10 @@
 //! JSON values of paths, users and numbers.
-ghost use Rattle.std.specs.Prelude.{◌≡◌, IfOk, decimal, map};
+ghost use Rattle.std.specs.Prelude.{◌≡◌, IfOk, map};
 ghost use Rattle.serde_json.specs.View.{view};
 ghost use Rattle.retro_json.specs.Values.{number_data};
-ghost use Rattle.casebook_json.specs.Values.{number_or_null, path_data, user_data, user_or_null};
+ghost use Rattle.casebook_json.specs.Values.{number_or_null, path_data, user_data};
 
 use crate::NoMem;
-use casebook_text::SafeLine;
 use casebook_words::Labels;
 use retro_tree::Path;
 use serde_json::Value;
@@ -32,32 +31,14 @@ pub(crate) fn path_values(alloc: Global, paths: &[Path]) -> Result<Vec<Value>, N
     Ok(values)
 }
 
-/// Returns a number in decimal.
-fn digits_of(alloc: Global, number: u32) -> Result<SafeLine, NoMem>
-    ensures { IfOk result (λ digits. digits ≡ decimal number) }
-{
-    let mut digits = SafeLine::new(alloc);
-    digits.push_number(alloc, u64::from(number))?;
-    Ok(digits)
-}
-
-/// Returns a name as a JSON string, or null if it is the same as these digits.
-fn user_or_null(alloc: Global, name: &SafeLine, digits: &SafeLine) -> Result<Value, NoMem>
-    ensures { IfOk result (λ v. view v ≡ user_or_null name.now digits.now) }
-{
-    if name.as_str() == digits.as_str() {
-        return Ok(Value::Null);
-    }
-    Value::try_from_str(alloc, name.as_str())
-}
-
-/// Returns the name of a session as a JSON string, or null if the session is shown by its number.
+/// Returns the name of a session as a JSON string, as it was given, or null if it has none.
 pub(crate) fn user_value(alloc: Global, labels: &Labels, session: u32) -> Result<Value, NoMem>
     ensures { IfOk result (λ v. view v ≡ user_data labels.now session) }
 {
-    let name = labels.name_of(alloc, session)?;
-    let digits = digits_of(alloc, session)?;
-    user_or_null(alloc, &name, &digits)
+    match labels.name_in(session) {
+        Some(name) => Value::try_from_str(alloc, name.as_str()),
+        None => Ok(Value::Null),
+    }
 }
 
 /// Returns the JSON values of numbers, in order.

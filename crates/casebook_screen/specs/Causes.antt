@@ -48,7 +48,7 @@ effect_text r unknown effect =
 
 unfoldable pub effects_head : List ℕ
 effects_head =
-    codes "CAUSES  what each cancelled line led to: lines with another result, "
+    codes "CAUSES  what each edited line led to: lines with another result, "
     ++ codes "run again alike, paths it wrote"
 
 -- the same, given the lines that aren't understood

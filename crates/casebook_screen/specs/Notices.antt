@@ -5,7 +5,7 @@ use Rattle.casebook_text.specs.SafeLine.{ellipsis, word_bytes}
 use Rattle.casebook_view.specs.Groups.{GroupValue, group_value}
 use Rattle.casebook_view.specs.declared.group.Group.{Group}
 use Rattle.casebook_view.specs.declared.subject.Subject.{Subject}
-use Rattle.casebook_view.specs.declared.subject.Subject.TheVariants.{At, Directory, Variable, Status, Text}
+use Rattle.casebook_view.specs.declared.subject.Subject.TheVariants.{At, Directory, Variable, Status, Text, Again}
 use Rattle.casebook_words.specs.Labels.{name_words}
 use Rattle.casebook_words.specs.Words.{count_words, path_words}
 use Rattle.casebook_words.specs.declared.labels.Labels.{Labels}
@@ -27,6 +27,7 @@ subject_words Directory = codes "the directory"
 subject_words (Variable name) = codes "the variable " ++ word_bytes name
 subject_words Status = codes "the status"
 subject_words Text = codes "a replaced line"
+subject_words Again = codes "run again with all others"
 
 abbrev pub number_piece : ℕ → List ℕ
 number_piece n = codes " " ++ decimal n
@@ -50,21 +51,18 @@ is_session None n = false
 is_session (Some m) n = m == n
 
 -- how many groups have another session than the group before them
-abbrev pub people_after : Option ℕ → List Group → ℕ
-people_after last [] = zero
-people_after last (g ∷ groups) =
-    (if is_session last g.session then zero else suc zero) + people_after (Some g.session) groups
-
--- how many people there are: '1 person', '2 people'
-unfoldable pub people_words : ℕ → List ℕ
-people_words people = decimal people ++ (if people == 1 then codes " person" else codes " people")
+abbrev pub sessions_after : Option ℕ → List Group → ℕ
+sessions_after last [] = zero
+sessions_after last (g ∷ groups) =
+    (if is_session last g.session then zero else suc zero) + sessions_after (Some g.session) groups
 
 unfoldable pub notices_head : ℕ → ℕ → List ℕ
-notices_head people screens =
-    codes "TELL  " ++ people_words people ++ codes " about " ++ count_words (codes "screen") screens
+notices_head sessions screens =
+    codes "TELL  " ++ count_words (codes "session") sessions ++ codes " about "
+    ++ count_words (codes "screen") screens
 
--- an empty line, how many people are told and about how many screens, and each group
+-- an empty line, how many sessions are told and about how many screens, and each group
 abbrev pub notice_lines : Labels → ℕ → ℕ → List Group → List (List ℕ)
 notice_lines labels width screens groups =
-    [] ∷ notices_head (people_after None groups) screens
+    [] ∷ notices_head (sessions_after None groups) screens
     ∷ map (λ group. group_text labels width (group_value group)) groups

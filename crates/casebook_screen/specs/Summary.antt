@@ -26,10 +26,12 @@ use Rattle.casebook_screen.specs.declared.restoration.Restoration.{Restoration}
 abbrev pub sessions_in : List (ℕ × Noted) → List ℕ
 sessions_in lines = fold (λ sessions line. insert_key nat_cmp sessions line.1.sid) [] lines
 
--- from one time to another, if the first is known
+-- from one time to another; a time that isn't known is left out
 abbrev pub span_words : List ℕ → List ℕ → List ℕ
-span_words [] end = []
-span_words (b ∷ begin) end = codes ", " ++ (b ∷ begin) ++ codes " to " ++ end
+span_words [] [] = []
+span_words [] (e ∷ end) = codes ", until " ++ (e ∷ end)
+span_words (b ∷ begin) [] = codes ", from " ++ (b ∷ begin)
+span_words (b ∷ begin) (e ∷ end) = codes ", " ++ (b ∷ begin) ++ codes " to " ++ (e ∷ end)
 
 -- the times of two lines
 abbrev pub times_words : Labels → Option (ℕ × Noted) → Option (ℕ × Noted) → List ℕ
@@ -51,7 +53,7 @@ head_text r labels fates =
 
 unfoldable pub basis_text : Bool → List ℕ
 basis_text true = codes "Played in Retro's shell. Whether the machine did the same isn't known."
-basis_text false = codes "The log isn't a recording of its lines: all below is what its notes say."
+basis_text false = codes "The log isn't as its lines run: what was recorded is only what its notes say."
 
 -- what the log holds, what it rests on, and an empty line
 abbrev pub head_lines : RecordingValue → Labels → List (ℕ × Fate) → Bool → List (List ℕ)

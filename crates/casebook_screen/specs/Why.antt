@@ -11,6 +11,8 @@ use Rattle.casebook_view.specs.declared.fate.Fate.{Fate}
 use Rattle.casebook_view.specs.declared.fate.Fate.TheVariants.{Changed}
 use Rattle.casebook_view.specs.declared.reason.Reason.{Reason}
 use Rattle.casebook_view.specs.declared.summary.Summary.{Summary}
+use Rattle.casebook_view.specs.declared.why.Why.{Why}
+use Rattle.casebook_view.specs.declared.why.Why.TheVariants.{Replaced, Query, RunAgain}
 use Rattle.casebook_words.specs.Difference.{difference_words}
 use Rattle.casebook_words.specs.Words.{query_words}
 use Rattle.casebook_words.specs.declared.labels.Labels.{Labels}
@@ -34,16 +36,25 @@ abbrev pub chain_words : List ℕ → List ℕ
 chain_words [] = []
 chain_words (n ∷ numbers) = causes_words n numbers
 
+abbrev pub again_words : List ℕ
+again_words = codes "run again with all others"
+
 -- the query that fails, and how its answers differ
 unfoldable pub failing_words : Option AnswersValue → List ℕ
-failing_words None = codes "its text is replaced"
+failing_words None = again_words
 failing_words (Some found) = query_words found.ask ++ difference_words found.recorded found.repaired
 
--- the first query of a line that has another answer in the repaired run, and the chain of lines that
--- it comes from
+-- why a line is run again: its text is replaced; or a query fails, with both its answers; or all
+-- lines are run again
+unfoldable pub why_words : Why → Option AnswersValue → List ℕ
+why_words Replaced found = codes "its text is replaced"
+why_words (Query i) found = failing_words found
+why_words RunAgain found = again_words
+
+-- why a line is run again, and the chain of lines that it comes from
 unfoldable pub reason_text : RecordingValue → Repair → List Reason → Reason → List ℕ
 reason_text r repair reasons reason =
-    indent ++ failing_words (answers_of r repair reason)
+    indent ++ why_words reason.why (answers_of r repair reason)
     ++ chain_words (chain_from (length reasons) reasons reason.number)
 
 -- ---- lines

@@ -102,12 +102,12 @@ fn effects_head(alloc: Global) -> Result<SafeLine, NoMem>
     ensures { IfOk result (λ line. line ≡ effects_head) }
 {
     let mut line = SafeLine::new(alloc);
-    line.push_ascii("CAUSES  what each cancelled line led to: lines with another result, ")?;
+    line.push_ascii("CAUSES  what each edited line led to: lines with another result, ")?;
     line.push_ascii("run again alike, paths it wrote")?;
     Ok(line)
 }
 
-/// Appends a line for each line that led to others.
+/// Appends a line for each edited line.
 fn push_effects(
     alloc: Global,
     lines: &mut Vec<SafeLine>,

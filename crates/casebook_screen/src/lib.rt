@@ -4,7 +4,7 @@
 //!
 //! [`summary_lines`] shows a [`Sheet`], which says what a repair would do: which lines aren't
 //! understood, how many lines have which fate, what is to be restored (by [`to_restore`]), whom to
-//! tell about what, which cancelled lines showed something, and what each cancelled line led to.
+//! tell about what, which cancelled lines showed something, and what each edited line led to.
 //!
 //! [`why_lines`] says why lines are run again, [`diff_lines`] shows what changes as unified diffs,
 //! and [`detail_lines`] shows one line in full.
@@ -27,8 +27,9 @@
 //! - `summary_lines` returns the lines that `specs/Summary.antt` defines for a summary, for what is
 //!   to be restored and for the groups of lines to tell about that it is given: an equation.
 //! - `why_lines` returns the lines that `specs/Why.antt` defines: two for each line that is run
-//!   again with another result, with the query that fails, both its answers and the chain of
-//!   causes. It is an equation if the fates and the reasons of the summary are in order of lines.
+//!   again with another result, with the chain of causes, and with the query that fails and both
+//!   its answers, or that its text is replaced, or that it is run again with all others. It is an
+//!   equation if the fates and the reasons of the summary are in order of lines.
 //! - `diff_lines` returns a unified diff for each path with a file before or after, and one for
 //!   each output that differs, in order [by `AreDiffs`]. The lines marked ` ` and `-` are the old
 //!   text, and those marked ` ` and `+` the new one; each head counts the lines of its part;

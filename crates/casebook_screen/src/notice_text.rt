@@ -3,7 +3,7 @@ ghost use Rattle.std.specs.Prelude.{◌≡◌, ◌++◌, IfOk, None, OnOk, flat_
 ghost use Rattle.casebook_view.specs.Groups.{group_value};
 ghost use Rattle.casebook_screen.specs.Notices.{first_numbers, group_text};
 ghost use Rattle.casebook_screen.specs.Notices.{is_session, notice_lines, notices_head};
-ghost use Rattle.casebook_screen.specs.Notices.{number_piece, people_after, people_words, subject_words};
+ghost use Rattle.casebook_screen.specs.Notices.{number_piece, sessions_after, subject_words};
 
 use crate::NoMem;
 use crate::layout::{indented, number_column, push_padded};
@@ -25,7 +25,7 @@ const TIMES_WIDTH: usize = 2;
 /// How many numbers of lines are shown.
 const NUMBERS_SHOWN: usize = 8;
 
-/// Returns what a query is about, in words.
+/// Returns what lines are told about, in words.
 #[tactic(auto, unfolding(crate::specs::Notices::subject_words))]
 fn subject_line(alloc: Global, subject: &Subject) -> Result<SafeLine, NoMem>
     ensures { IfOk result (λ line. line ≡ subject_words subject.now) }
@@ -40,6 +40,7 @@ fn subject_line(alloc: Global, subject: &Subject) -> Result<SafeLine, NoMem>
         }
         Subject::Status => line.push_ascii("the status")?,
         Subject::Text => line.push_ascii("a replaced line")?,
+        Subject::Again => line.push_ascii("run again with all others")?,
     }
     Ok(line)
 }
@@ -101,41 +102,28 @@ fn is_session(last: Option<u32>, session: u32) -> bool
 }
 
 /// Returns how many groups have another session than the group before them.
-fn count_people(groups: &[Group]) -> usize
-    ensures { result ≡ people_after None groups.now }
+fn count_sessions(groups: &[Group]) -> usize
+    ensures { result ≡ sessions_after None groups.now }
 {
-    let mut people = 0_usize;
+    let mut sessions = 0_usize;
     let mut last = None;
     for group in groups {
         if !is_session(last, group.session) {
-            people += 1;
+            sessions += 1;
         }
         last = Some(group.session);
     }
-    people
+    sessions
 }
 
-/// Appends how many people there are.
-#[tactic(auto, unfolding(crate::specs::Notices::people_words))]
-fn push_people(alloc: Global, line: &mut SafeLine, people: usize) -> Result<(), NoMem>
-    ensures { OnOk result (line.new ≡ line.old ++ people_words people) }
-{
-    line.push_number(alloc, people as u64)?;
-    if people == 1 {
-        line.push_ascii(" person")
-    } else {
-        line.push_ascii(" people")
-    }
-}
-
-/// Returns how many people are told, and about how many screens.
+/// Returns how many sessions are told, and about how many screens.
 #[tactic(auto, unfolding(crate::specs::Notices::notices_head))]
-fn notices_head(alloc: Global, people: usize, screens: usize) -> Result<SafeLine, NoMem>
-    ensures { IfOk result (λ line. line ≡ notices_head people screens) }
+fn notices_head(alloc: Global, sessions: usize, screens: usize) -> Result<SafeLine, NoMem>
+    ensures { IfOk result (λ line. line ≡ notices_head sessions screens) }
 {
     let mut line = SafeLine::new(alloc);
     line.push_ascii("TELL  ")?;
-    push_people(alloc, &mut line, people)?;
+    push_count(alloc, &mut line, sessions, "session")?;
     line.push_ascii(" about ")?;
     push_count(alloc, &mut line, screens, "screen")?;
     Ok(line)
@@ -158,7 +146,7 @@ fn push_groups(
     Ok(())
 }
 
-/// Returns whom to tell about what: an empty line, how many people and screens, and each group.
+/// Returns whom to tell about what: an empty line, how many sessions and screens, and each group.
 pub(crate) fn notice_lines(
     alloc: Global,
     names: Names<'_>,
@@ -170,7 +158,7 @@ pub(crate) fn notice_lines(
 {
     let mut lines = Vec::new(alloc);
     lines.push(SafeLine::new(alloc))?;
-    lines.push(notices_head(alloc, count_people(groups), screens)?)?;
+    lines.push(notices_head(alloc, count_sessions(groups), screens)?)?;
     push_groups(alloc, &mut lines, names, groups)?;
     Ok(lines)
 }

@@ -72,7 +72,7 @@ fn lone_file(bytes: &Bytes) -> Option<Extent>
     }
 }
 
-/// Returns how much is to be restored of a path, unless it is lines.
+/// Returns what comes, goes or changes at a path, or `None` if that is lines of a file.
 fn kind_of(before: Option<&Entry>, after: Option<&Entry>) -> Option<Extent>
     ensures { result ≡ kind_of (option_copied before.entry) (option_copied after.entry) }
 {

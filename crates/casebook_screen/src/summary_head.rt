@@ -1,5 +1,5 @@
 //! What a log holds, as a terminal shows it.
-ghost use Rattle.std.specs.Prelude.{◌≡◌, ◌++◌, IfOk, OnOk, length};
+ghost use Rattle.std.specs.Prelude.{◌≡◌, ◌++◌, [], IfOk, OnOk, length};
 ghost use Rattle.std.specs.Option.{option_copied};
 ghost use Rattle.casebook_screen.specs.Summary.{basis_text, head_lines, head_text, period_words};
 ghost use Rattle.casebook_screen.specs.Summary.{sessions_in, span_words, times_words};
@@ -24,12 +24,27 @@ fn count_sessions(alloc: Global, lines: &[(u32, Noted)]) -> Result<usize, NoMem>
     Ok(sessions.len())
 }
 
-/// Appends from when to when lines were typed, if the first time is known.
+/// Appends until when lines were typed, if that is known.
+fn push_end(line: &mut SafeLine, end: &SafeLine) -> Result<(), NoMem>
+    ensures { OnOk result (line.new ≡ line.old ++ span_words [] end.now) }
+{
+    if end.as_str().is_empty() {
+        return Ok(());
+    }
+    line.push_ascii(", until ")?;
+    line.push_line(end)
+}
+
+/// Appends from when to when lines were typed, as far as that is known.
 fn push_span(line: &mut SafeLine, begin: &SafeLine, end: &SafeLine) -> Result<(), NoMem>
     ensures { OnOk result (line.new ≡ line.old ++ span_words begin.now end.now) }
 {
     if begin.as_str().is_empty() {
-        return Ok(());
+        return push_end(line, end);
+    }
+    if end.as_str().is_empty() {
+        line.push_ascii(", from ")?;
+        return line.push_line(begin);
     }
     line.push_ascii(", ")?;
     line.push_line(begin)?;
@@ -100,7 +115,7 @@ fn basis_line(alloc: Global, is_recording: bool) -> Result<SafeLine, NoMem>
         line.push_ascii("Played in Retro's shell. Whether the machine did the same isn't known.")?;
     } else {
         line.push_ascii(
-            "The log isn't a recording of its lines: all below is what its notes say.",
+            "The log isn't as its lines run: what was recorded is only what its notes say.",
         )?;
     }
     Ok(line)

@@ -28,13 +28,13 @@ pub struct Sheet<'a> {
     pub restorations: &'a [Restoration],
     /// The summary's notices, by session and subject.
     pub groups: &'a [Group],
-    /// Whether the log is a recording of its own lines.
+    /// Whether the log is as its lines run. If not, the screen says so.
     pub is_recording: bool,
 }
 
 /// Returns a summary as the lines that a terminal shows: what the log holds, which lines aren't
 /// understood, how many lines have which fate, what is to be restored, whom to tell about what,
-/// which cancelled lines showed something, and what each cancelled line led to.
+/// which cancelled lines showed something, and what each edited line led to.
 pub fn summary_lines(
     alloc: Global,
     sheet: Sheet<'_>,

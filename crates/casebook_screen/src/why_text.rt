@@ -7,7 +7,7 @@ ghost use Rattle.casebook_view.specs.Fates.{session_in};
 ghost use Rattle.casebook_view.specs.OtherAnswers.{answers_of};
 ghost use Rattle.casebook_view.specs.Reasons.{number_in};
 ghost use Rattle.casebook_screen.specs.Why.{causes_words, chain_words, earlier_words, failing_words};
-ghost use Rattle.casebook_screen.specs.Why.{reason_text, why_head, why_lines, why_title};
+ghost use Rattle.casebook_screen.specs.Why.{reason_text, why_head, why_lines, why_title, why_words};
 ghost use Rattle.casebook_screen.specs.Why.{has_other_result, lines_of_why};
 
 use crate::NoMem;
@@ -16,7 +16,7 @@ use crate::line_text::{line_head, push_text};
 use crate::names::Names;
 use crate::row_text::INDENT;
 use casebook_text::SafeLine;
-use casebook_view::{Case, Fate, Reason, Summary, answers_of, chain};
+use casebook_view::{Case, Fate, Reason, Summary, Why, answers_of, chain};
 use casebook_words::{push_difference, push_query};
 use retro_keep::Recording;
 use std::alloc::Global;
@@ -64,7 +64,7 @@ fn push_chain(alloc: Global, line: &mut SafeLine, numbers: &[u32]) -> Result<(),
     }
 }
 
-/// Appends the query that fails by a reason, with both answers, or that no query fails.
+/// Appends the query that fails by a reason, with both answers, or that all lines are run again.
 #[tactic(auto, unfolding(crate::specs::Why::failing_words))]
 fn push_failing(
     alloc: Global,
@@ -80,12 +80,29 @@ fn push_failing(
             push_query(alloc, line, found.ask)?;
             push_difference(alloc, line, found.recorded, &found.repaired)
         }
-        None => line.push_ascii("its text is replaced"),
+        None => line.push_ascii("run again with all others"),
     }
 }
 
-/// Returns why a line is run again: the first query that has another answer, both answers, and the
-/// chain of lines that it comes from.
+/// Appends why a line is run again.
+#[tactic(auto, unfolding(crate::specs::Why::why_words))]
+fn push_reason(
+    alloc: Global,
+    line: &mut SafeLine,
+    explainer: Explainer<'_, '_>,
+    reason: &Reason,
+) -> Result<(), NoMem>
+    ensures { OnOk result (line.new ≡ line.old ++ why_words reason.now.why (answers_of
+        explainer.entry.case.now.recording explainer.entry.case.now.repair reason.now)) }
+{
+    match reason.why {
+        Why::Replaced => line.push_ascii("its text is replaced"),
+        Why::Query(_) => push_failing(alloc, line, explainer, reason),
+        Why::RunAgain => line.push_ascii("run again with all others"),
+    }
+}
+
+/// Returns why a line is run again, and the chain of lines that it comes from.
 #[tactic(auto, unfolding(crate::specs::Why::reason_text))]
 pub(crate) fn reason_line(
     alloc: Global,
@@ -98,7 +115,7 @@ pub(crate) fn reason_line(
 {
     let causes = chain(alloc, explainer.summary.reasons.as_slice(), reason.number)?;
     let mut line = indented(alloc, INDENT)?;
-    push_failing(alloc, &mut line, explainer, reason)?;
+    push_reason(alloc, &mut line, explainer, reason)?;
     push_chain(alloc, &mut line, causes.as_slice())?;
     Ok(line)
 }

@@ -24,7 +24,7 @@ use Rattle.casebook_view.specs.Summaries.{line_told}
 use Rattle.casebook_view.specs.declared.group_lines.GroupLines.{GroupLines}
 use Rattle.casebook_view.specs.declared.notice.Notice.{Notice}
 use Rattle.casebook_view.specs.declared.subject.Subject.{Subject}
-use Rattle.casebook_view.specs.declared.subject.Subject.TheVariants.{At, Directory, Variable, Status, Text}
+use Rattle.casebook_view.specs.declared.subject.Subject.TheVariants.{At, Directory, Variable, Status, Text, Again}
 use Rattle.casebook_view.specs.inner.GroupLines.{AddsOne, AreGathered, Key, RiseFrom, key_cmp, key_of, lines_of, subject_cmp}
 use Rattle.casebook_view.specs.inner.GroupLines.{subject_total}
 
@@ -36,26 +36,37 @@ same_subject (At p) Directory = refl
 same_subject (At p) (Variable y) = refl
 same_subject (At p) Status = refl
 same_subject (At p) Text = refl
+same_subject (At p) Again = refl
 same_subject Directory (At q) = refl
 same_subject Directory Directory = refl
 same_subject Directory (Variable y) = refl
 same_subject Directory Status = refl
 same_subject Directory Text = refl
+same_subject Directory Again = refl
 same_subject (Variable x) (At q) = refl
 same_subject (Variable x) Directory = refl
 same_subject (Variable x) (Variable y) = sym (text_ties x y)
 same_subject (Variable x) Status = refl
 same_subject (Variable x) Text = refl
+same_subject (Variable x) Again = refl
 same_subject Status (At q) = refl
 same_subject Status Directory = refl
 same_subject Status (Variable y) = refl
 same_subject Status Status = refl
 same_subject Status Text = refl
+same_subject Status Again = refl
 same_subject Text (At q) = refl
 same_subject Text Directory = refl
 same_subject Text (Variable y) = refl
 same_subject Text Status = refl
 same_subject Text Text = refl
+same_subject Text Again = refl
+same_subject Again (At q) = refl
+same_subject Again Directory = refl
+same_subject Again (Variable y) = refl
+same_subject Again Status = refl
+same_subject Again Text = refl
+same_subject Again Again = refl
 
 subject_exact : IsAntisymmetric subject_cmp
 subject_exact (At p) (At q) e = ap At (path_exact p q e)
@@ -63,26 +74,37 @@ subject_exact (At p) Directory e = cc
 subject_exact (At p) (Variable y) e = cc
 subject_exact (At p) Status e = cc
 subject_exact (At p) Text e = cc
+subject_exact (At p) Again e = cc
 subject_exact Directory (At q) e = cc
 subject_exact Directory Directory e = refl
 subject_exact Directory (Variable y) e = cc
 subject_exact Directory Status e = cc
 subject_exact Directory Text e = cc
+subject_exact Directory Again e = cc
 subject_exact (Variable x) (At q) e = cc
 subject_exact (Variable x) Directory e = cc
 subject_exact (Variable x) (Variable y) e = ap Variable (text_exact x y e)
 subject_exact (Variable x) Status e = cc
 subject_exact (Variable x) Text e = cc
+subject_exact (Variable x) Again e = cc
 subject_exact Status (At q) e = cc
 subject_exact Status Directory e = cc
 subject_exact Status (Variable y) e = cc
 subject_exact Status Status e = refl
 subject_exact Status Text e = cc
+subject_exact Status Again e = cc
 subject_exact Text (At q) e = cc
 subject_exact Text Directory e = cc
 subject_exact Text (Variable y) e = cc
 subject_exact Text Status e = cc
 subject_exact Text Text e = refl
+subject_exact Text Again e = cc
+subject_exact Again (At q) e = cc
+subject_exact Again Directory e = cc
+subject_exact Again (Variable y) e = cc
+subject_exact Again Status e = cc
+subject_exact Again Text e = cc
+subject_exact Again Again e = refl
 
 key_total : IsTotalOrder key_cmp
 key_total = then_total (on_total (λ (k : Key). k.0) nat_cmp_total) (on_total (λ (k : Key). k.1) subject_total)

@@ -3,25 +3,27 @@ use Rattle.std.proofs.Common.{◌≡◌, ℕ, suc, List, [], ◌∷◌, ◌++◌
 use Rattle.std.proofs.Common.{Some, None}
 use Rattle.std.proofs.lemmas.List.{append-nil, append_assoc}
 use Rattle.retro_keep.specs.Recording.{RecordingValue}
+use Rattle.retro_keep.specs.declared.edit.Edit.{Edit}
 use Rattle.retro_redo.specs.declared.repair.Repair.{Repair}
 use Rattle.casebook_view.specs.Reasons.{AreReasonsAfter, IsNextReason, cause_in, chain_by, chain_from, reason_at}
 use Rattle.casebook_view.specs.declared.reason.Reason.{Reason}
 
 -- one more reason after those so far
-after_more : (r : RecordingValue) (repair : Repair) (earlier xs : List Reason) (x : Reason)
-    → AreReasonsAfter r repair earlier xs → IsNextReason r repair (earlier ++ xs) x
-    → AreReasonsAfter r repair earlier (xs ++ x ∷ [])
-after_more r repair earlier [] x all next =
-    (subst (λ e. IsNextReason r repair e x) (append-nil earlier) next, tt)
-after_more r repair earlier (y ∷ ys) x all next = (
+after_more : (edits : List Edit) (r : RecordingValue) (repair : Repair) (earlier xs : List Reason) (x : Reason)
+    → AreReasonsAfter edits r repair earlier xs → IsNextReason edits r repair (earlier ++ xs) x
+    → AreReasonsAfter edits r repair earlier (xs ++ x ∷ [])
+after_more edits r repair earlier [] x all next =
+    (subst (λ e. IsNextReason edits r repair e x) (append-nil earlier) next, tt)
+after_more edits r repair earlier (y ∷ ys) x all next = (
   all.0,
-  after_more r repair (earlier ++ y ∷ []) ys x all.1
-      (subst (λ e. IsNextReason r repair e x) (sym (append_assoc earlier (y ∷ []) ys)) next),
+  after_more edits r repair (earlier ++ y ∷ []) ys x all.1
+      (subst (λ e. IsNextReason edits r repair e x) (sym (append_assoc earlier (y ∷ []) ys)) next),
 )
 
-pub one_more : (r : RecordingValue) (repair : Repair) (xs : List Reason) (x : Reason)
-    → AreReasonsAfter r repair [] xs → IsNextReason r repair xs x → AreReasonsAfter r repair [] (xs ++ x ∷ [])
-one_more r repair xs x all next = after_more r repair [] xs x all next
+pub one_more : (edits : List Edit) (r : RecordingValue) (repair : Repair) (xs : List Reason) (x : Reason)
+    → AreReasonsAfter edits r repair [] xs → IsNextReason edits r repair xs x
+    → AreReasonsAfter edits r repair [] (xs ++ x ∷ [])
+one_more edits r repair xs x all next = after_more edits r repair [] xs x all next
 
 -- ---- chains
 

@@ -12,6 +12,8 @@ use Rattle.casebook_view.specs.declared.effect.Effect.{Effect}
 use Rattle.casebook_view.specs.declared.fate.Fate.{Fate}
 use Rattle.casebook_view.specs.declared.fate.Fate.TheVariants.{Cancelled, Changed, Alike, Kept, Untouched}
 use Rattle.casebook_view.specs.declared.reason.Reason.{Reason}
+use Rattle.casebook_view.specs.declared.why.Why.{Why}
+use Rattle.casebook_view.specs.declared.why.Why.TheVariants.{Replaced, Query, RunAgain}
 
 -- what an effect says
 pub record EffectValue : Type 0 where
@@ -38,23 +40,33 @@ abbrev pub is_led_to : List Reason → ℕ → Fate → ℕ × Fate → Bool
 is_led_to reasons n fate line =
     not (line.0 == n) && (fate_eq line.1 fate && ends_at n (reason_at line.0 reasons))
 
--- Whether chains of causes end at a line with a fate: it is cancelled, or it is run again and its own
--- chain ends at itself, since its text is replaced.
+abbrev pub is_replacing : Why → Bool
+is_replacing Replaced = true
+is_replacing (Query i) = false
+is_replacing RunAgain = false
+
+-- whether a reason is that an edit replaces the line's text
+abbrev pub has_replaced : Option Reason → Bool
+has_replaced None = false
+has_replaced (Some reason) = is_replacing reason.why
+
+-- Whether a line with a fate is an edited one: it is cancelled, or it is run again since its text is
+-- replaced.
 abbrev pub is_origin_by : Fate → Bool → Bool
-is_origin_by Cancelled own = true
-is_origin_by Changed own = own
-is_origin_by Alike own = own
-is_origin_by Kept own = false
-is_origin_by Untouched own = false
+is_origin_by Cancelled replaced = true
+is_origin_by Changed replaced = replaced
+is_origin_by Alike replaced = replaced
+is_origin_by Kept replaced = false
+is_origin_by Untouched replaced = false
 
 abbrev pub is_origin : List Reason → ℕ × Fate → Bool
-is_origin reasons line = is_origin_by line.1 (ends_at line.0 (reason_at line.0 reasons))
+is_origin reasons line = is_origin_by line.1 (has_replaced (reason_at line.0 reasons))
 
 -- the paths that the line with a number wrote
 abbrev pub paths_written : RecordingValue → ℕ → List PathValue
 paths_written r n = first_of_each path_eq (filter_map path_written (notes_at n r))
 
--- how many lines have a fate, and chains of causes that end at the line with a number
+-- how many other lines have a fate, and chains of causes that end at the line with a number
 abbrev pub count_led : List Reason → List (ℕ × Fate) → ℕ → Fate → ℕ
 count_led reasons fates n fate = length (filter (is_led_to reasons n fate) fates)
 
@@ -66,7 +78,7 @@ effect_of r reasons fates n = record {
   wrote = paths_written r n;
 }
 
--- the effects of the lines at which chains of causes end, in order
+-- the effects of the cancelled and replaced lines, in order
 abbrev pub effects_of : RecordingValue → List Reason → List (ℕ × Fate) → List EffectValue
 effects_of r reasons fates =
     map (λ line. effect_of r reasons fates line.0) (filter (is_origin reasons) fates)

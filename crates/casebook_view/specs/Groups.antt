@@ -6,7 +6,7 @@ use Rattle.retro_tree.specs.Order.{path_eq, text_eq}
 use Rattle.casebook_view.specs.Summaries.{line_told}
 use Rattle.casebook_view.specs.declared.notice.Notice.{Notice}
 use Rattle.casebook_view.specs.declared.subject.Subject.{Subject}
-use Rattle.casebook_view.specs.declared.subject.Subject.TheVariants.{At, Directory, Variable, Status, Text}
+use Rattle.casebook_view.specs.declared.subject.Subject.TheVariants.{At, Directory, Variable, Status, Text, Again}
 use Rattle.casebook_view.specs.declared.group.Group.{Group}
 
 -- what a group says
@@ -24,6 +24,7 @@ subject_eq Directory Directory = true
 subject_eq (Variable x) (Variable y) = text_eq x y
 subject_eq Status Status = true
 subject_eq Text Text = true
+subject_eq Again Again = true
 subject_eq _ _ = false
 
 -- whether two lines are told to the same session about the same subject

@@ -10,7 +10,7 @@ use Rattle.retro_tree.specs.declared.state.State.{State}
 use Rattle.retro_keep.specs.Recorded.{recorded_before}
 use Rattle.retro_keep.specs.Recording.{RecordingValue}
 use Rattle.retro_redo.specs.declared.repair.Repair.{Repair}
-use Rattle.casebook_view.specs.Reasons.{notes_at}
+use Rattle.casebook_view.specs.Reasons.{failing_by, notes_at}
 use Rattle.casebook_view.specs.declared.other_answer.OtherAnswer.{OtherAnswer}
 use Rattle.casebook_view.specs.declared.reason.Reason.{Reason}
 
@@ -49,4 +49,5 @@ answers_at (Some i) notes s = answers_in i notes s
 -- the line, after the changes that the line made before the query
 abbrev pub answers_of : RecordingValue → Repair → Reason → Option AnswersValue
 answers_of r repair reason =
-    answers_at reason.failing (notes_at reason.number r) (recorded_before reason.number repair.recording)
+    answers_at (failing_by reason.why) (notes_at reason.number r)
+    (recorded_before reason.number repair.recording)

@@ -1,16 +1,19 @@
 -- What a summary names: lines that leaked, and lines to tell about.
 use Rattle.std.specs.Prelude.{ℕ, List, Option, Some, None, length}
 use Rattle.retro_tree.specs.declared.ask.Ask.{Ask}
+use Rattle.retro_tree.specs.declared.note.Note.{Note}
 use Rattle.retro_keep.specs.Recording.{RecordingValue, noted_at}
 use Rattle.retro_redo.specs.declared.compensation.Compensation.{Compensation}
 use Rattle.casebook_view.specs.Fates.{session_in}
-use Rattle.casebook_view.specs.Reasons.{failing_in, failing_query, notes_at, reason_at}
+use Rattle.casebook_view.specs.Reasons.{notes_at, query_at, reason_at}
 use Rattle.casebook_view.specs.Subjects.{subject_of}
 use Rattle.casebook_view.specs.declared.leak.Leak.{Leak}
 use Rattle.casebook_view.specs.declared.notice.Notice.{Notice}
 use Rattle.casebook_view.specs.declared.reason.Reason.{Reason}
 use Rattle.casebook_view.specs.declared.subject.Subject.{Subject}
-use Rattle.casebook_view.specs.declared.subject.Subject.TheVariants.{Text}
+use Rattle.casebook_view.specs.declared.subject.Subject.TheVariants.{Text, Again}
+use Rattle.casebook_view.specs.declared.why.Why.{Why}
+use Rattle.casebook_view.specs.declared.why.Why.TheVariants.{Replaced, Query, RunAgain}
 
 abbrev pub number_of : Compensation → ℕ
 number_of compensation = compensation.number
@@ -28,13 +31,24 @@ leak_for r c = record {
 abbrev pub line_told : Notice → ℕ
 line_told notice = notice.number
 
--- what a line's failing query is about; the line's text if no query fails
-abbrev pub subject_by : Option Ask → Subject
-subject_by None = Text
-subject_by (Some q) = subject_of q
+-- what a query is about, if there is one; else that the line is run again with all others
+abbrev pub subject_asked : Option Ask → Subject
+subject_asked None = Again
+subject_asked (Some q) = subject_of q
+
+-- What a line with these notes is told about, by why it is run again: what its failing query is
+-- about, its new text, or that it is run again with all others.
+abbrev pub subject_why : List Note → Why → Subject
+subject_why notes Replaced = Text
+subject_why notes (Query i) = subject_asked (query_at i notes)
+subject_why notes RunAgain = Again
+
+abbrev pub subject_by : List Note → Option Reason → Subject
+subject_by notes None = Again
+subject_by notes (Some reason) = subject_why notes reason.why
 
 abbrev pub line_subject : RecordingValue → List Reason → ℕ → Subject
-line_subject r reasons n = subject_by (failing_query (failing_in (reason_at n reasons)) (notes_at n r))
+line_subject r reasons n = subject_by (notes_at n r) (reason_at n reasons)
 
 -- what a compensation of a line that isn't cancelled says of it
 abbrev pub notice_for : RecordingValue → List Reason → Compensation → Notice

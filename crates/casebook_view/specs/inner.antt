@@ -2,5 +2,6 @@
 pub mod Cases
 pub mod GroupLines
 pub mod Names
+pub mod NewTexts
 pub mod Obstacles
 pub mod Origins

@@ -9,22 +9,24 @@ ghost use Rattle.casebook_view.specs.Reasons.{IsCauseOf};
 use crate::NoMem;
 use casebook_cause::Differences;
 use retro_history::{At, History};
-use retro_keep::{Noted, Recording};
+use retro_keep::{Edit, Noted, Recording};
 use retro_redo::Repair;
 use retro_tree::Ask;
 use std::alloc::Global;
 use std::marker::Model;
 
-/// A recording and a repair of it. Everything that is shown of a repair is read from these two.
+/// A recording, a repair of it, and the edits of that repair. Everything that is shown of a repair
+/// is read from these.
 ///
-/// A case borrows both, and keeps what their lines change otherwise and the history of the repaired
-/// recording. Making it takes one pass over the notes of each.
+/// A case borrows them, and keeps what the lines of both recordings change differently and the
+/// history of the repaired one. Making it takes one pass over the notes of each.
 #[derive(Drop)]
 pub struct Case<'a> {
     recording: &'a Recording,
     differences: Differences<'a>,
     repaired: History<'a>,
     repair: &'a Repair,
+    edits: &'a [Edit],
 }
 
 impl<'a> Model for Case<'a> {
@@ -34,27 +36,34 @@ impl<'a> Model for Case<'a> {
 
     ghost coded = { coded_case };
 
-    ghost view = { λ a. record { recording = a.recording.now; repair = a.repair.now } };
+    ghost view = { λ a. record {
+      recording = a.recording.now;
+      repair = a.repair.now;
+      edits = a.edits.now;
+    } };
 
     ghost invariant = { λ a.
         AreOfCase a.recording.now a.repair.now.recording a.differences a.repaired };
 }
 
 impl<'a> Case<'a> {
-    /// Returns a recording with a repair of it.
+    /// Returns a recording with a repair of it by these edits.
     pub fn of(
         alloc: Global,
         recording: &'a Recording,
         repair: &'a Repair,
+        edits: &'a [Edit],
     ) -> Result<Case<'a>, NoMem>
         ensures recording { IfOk result (λ case. case.recording ≡ recording.now) }
         ensures repair { IfOk result (λ case. case.repair ≡ repair.now) }
+        ensures edits { IfOk result (λ case. case.edits ≡ edits.now) }
     {
         Ok(Case {
             recording,
             differences: Differences::of(alloc, recording, &repair.recording)?,
             repaired: History::of(alloc, &repair.recording)?,
             repair,
+            edits,
         })
     }
 
@@ -72,8 +81,15 @@ impl<'a> Case<'a> {
         self.repair
     }
 
+    /// Returns the edits of the repair.
+    pub fn edits(&self) -> &'a [Edit]
+        ensures { result.now ≡ self.now.edits }
+    {
+        self.edits
+    }
+
     /// Returns the cause of what a query answers before the line with a number: the last line
-    /// before it that changes the cells of the query otherwise in the repaired recording. Returns
+    /// before it that changes the cells of the query differently in the repaired recording. Returns
     /// `None` if all lines before it change these cells alike.
     pub fn cause_of(&self, alloc: Global, number: u32, ask: &Ask) -> Result<Option<u32>, NoMem>
         ensures { IfOk result

@@ -1,7 +1,7 @@
-//! What cancelled lines led to.
+//! What cancelled and replaced lines led to.
 ghost use Rattle.std.specs.Prelude.{◌≡◌, ℕ, List, IfOk, IsTrue, map};
 ghost use Rattle.retro_keep.specs.Script.{rises_from};
-ghost use Rattle.casebook_view.specs.Effects.{effect_of, effect_value, effects_of, ends_at};
+ghost use Rattle.casebook_view.specs.Effects.{effect_of, effect_value, effects_of, has_replaced};
 ghost use Rattle.casebook_view.specs.Effects.{is_origin, paths_written};
 ghost use Rattle.casebook_view.specs.Reasons.{number_in, reason_at};
 ghost use Rattle.casebook_view.specs.declared.fate.Fate.{Fate as FateValue};
@@ -14,6 +14,7 @@ use crate::fate::Fate;
 use crate::note_paths::written_paths;
 use crate::origins::Origins;
 use crate::reason::{Reason, reason_of};
+use crate::why::Why;
 use retro_tree::Path;
 use std::alloc::Global;
 
@@ -31,26 +32,25 @@ pub struct Effect {
     pub wrote: Vec<Path>,
 }
 
-/// Returns whether the chain of causes of a line ends at another line.
-fn ends_at(reasons: &[Reason], number: u32, origin: u32) -> bool
+/// Returns whether a line is run again since an edit replaces its text.
+fn has_replaced(reasons: &[Reason], number: u32) -> bool
     ensures { IsTrue (rises_from 0 (map number_in reasons.now))
-        → result ≡ ends_at origin (reason_at number reasons.now) }
+        → result ≡ has_replaced (reason_at number reasons.now) }
 {
     match reason_of(reasons, number) {
-        Some(reason) => reason.origin == origin,
+        Some(reason) => matches!(reason.why, Why::Replaced),
         None => false,
     }
 }
 
-/// Returns whether a line is where chains of causes end: it is cancelled, or run again since its
-/// text is replaced.
+/// Returns whether a line is cancelled, or run again since an edit replaces its text.
 fn is_origin(reasons: &[Reason], line: &(u32, Fate)) -> bool
     ensures { IsTrue (rises_from 0 (map number_in reasons.now))
         → result ≡ is_origin reasons.now line.now }
 {
     match line.1 {
         Fate::Cancelled => true,
-        Fate::Changed | Fate::Alike => ends_at(reasons, line.0, line.0),
+        Fate::Changed | Fate::Alike => has_replaced(reasons, line.0),
         Fate::Kept | Fate::Untouched => false,
     }
 }
@@ -66,8 +66,8 @@ fn wrote(alloc: Global, case: &Case<'_>, number: u32) -> Result<Vec<Path>, NoMem
     }
 }
 
-/// Returns what a line led to. The contract says so of the reasons and fates whose chains end at
-/// these lines.
+/// Returns what a line led to, by where the chains of other lines end. The contract says this of all
+/// reasons and fates of which these are the ends.
 fn effect_of(
     alloc: Global,
     case: &Case<'_>,
@@ -87,7 +87,7 @@ fn effect_of(
     })
 }
 
-/// Returns what each line that is cancelled or replaced led to, in order. Takes time in proportion
+/// Returns what each cancelled or replaced line led to, in order. Takes time in proportion
 /// to the number of these lines times the number of lines that are run again.
 pub fn effects(
     alloc: Global,

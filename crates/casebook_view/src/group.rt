@@ -1,12 +1,13 @@
-//! Lines to tell about, by session and subject.
+//! Groups of lines to tell about.
 use crate::subject::Subject;
 
-/// Lines of a session that print something else in the repaired run, for the same reason.
+/// Lines of a session that print something else in the repaired run, and are told about the same
+/// subject.
 #[derive(Drop)]
 pub struct Group {
     /// The session that ran the lines.
     pub session: u32,
-    /// What the lines' first query is about that has another answer.
+    /// What the lines' first query is about that has another answer, if one has.
     pub subject: Subject,
     /// The numbers of the lines, in order.
     pub lines: Vec<u32>,

@@ -1,4 +1,4 @@
-//! Lines to tell about, by session and subject.
+//! How lines to tell about are put into groups.
 ghost use Rattle.std.specs.Prelude.{◌≡◌, ◌≤◌, List, IfOk, OnOk, length, map, nat_lt, not};
 ghost use Rattle.casebook_view.specs.Groups.{firsts, group_of, group_value, grouped, place_of};
 ghost use Rattle.casebook_view.specs.Groups.{placed};

@@ -5,15 +5,16 @@
 //!
 //! A [`Case`] is a recording with its repair, and a [`Summary`] says what the repair would do: the
 //! [`Fate`] of each line, the paths to restore, the [`Notice`]s to people, the [`Leak`]s, the
-//! [`Effect`] of each cancelled line, and the [`Reason`] for which each line is run again.
-//! [`answers_of`] returns both answers to the query that is the reason. [`grouped`] puts notices
-//! together by session and by what they are about.
+//! [`Effect`] of each cancelled or replaced line, and the [`Reason`] for which each line is run
+//! again. [`Why`] tells three reasons apart. [`answers_of`] returns both answers to a query that is
+//! the reason. [`grouped`] puts notices together by session and by what they are about.
 //!
 //! Lines of which Retro's shell knows nothing are named, with why they aren't understood. Their
 //! output is Retro's own, so it makes no notice and no leak. A path is doubtful if such a line
 //! wrote to it.
 //!
-//! Nothing is computed anew: everything is read from recordings and repairs.
+//! No line is run: everything is read from recordings and repairs. For it the lines of both
+//! recordings are compared, and the history of the repaired one is made.
 //!
 //! If allocation fails, calls return `NoMem`.
 //!
@@ -25,17 +26,19 @@
 //!   `specs/Filters.antt`), in order. A row names each path about which a note asks and each write
 //!   of a note, once, in the order in which they first occur (`row_of` of `specs/Rows.antt`).
 //!   Whether a file can be written counts only if it can't.
-//! - `Case::of` returns a recording with its repair: it is the two of them in contracts, and its
-//!   type keeps that its differences and its history are theirs. `Case::cause_of` returns the last
-//!   line before another one that changes otherwise what a query asks about, or says that there is
-//!   none [by `IsCauseOf`].
+//! - `Case::of` returns a recording with its repair and the edits: it is the three of them in
+//!   contracts, and its type keeps that its differences and its history are theirs.
+//!   `Case::cause_of` returns the last line before another one that changes differently what a
+//!   query asks about, or says that there is none [by `IsCauseOf`].
 //! - `fates` returns one fate for each verdict, in order [by `AreFates`]: a line that is run again
 //!   has another result exactly if its outputs or its changes differ.
-//! - `reasons` returns one reason for each line that is run again, in order [by `AreReasons`]. It
-//!   names the first recorded note that doesn't hold in the repaired state before the line, and the
-//!   last earlier line that changes otherwise what that note asks about, or says that there is
-//!   none. If the verdicts are in order of lines, a reason's origin is that of its cause, or the
-//!   cause itself if that isn't run again.
+//! - `reasons` returns one reason for each line that is run again, in order [by `AreReasons`]. It is
+//!   that an edit replaces the line's text, exactly if one does. Else it names the first recorded
+//!   note that doesn't hold in the repaired state before the line, and the last earlier line that
+//!   changes differently what that note asks about, or says that there is none. If all notes hold,
+//!   it is that the line is run again with all others. A line without a cause is its own origin. If
+//!   the verdicts are in order of lines, another line's origin is that of its cause, or the cause
+//!   itself if that isn't run again.
 //! - `answers_of` returns the query of a reason with the noted answer and with the answer in the
 //!   repaired state before the line, after the changes that the line made before the query.
 //! - `chain` follows causes, as many times as there are reasons at most.
@@ -47,8 +50,9 @@
 //! - `leaks_of` returns what the compensations of cancelled lines say, and `notices` what all
 //!   others say, but for lines that aren't understood: an equation each. So by
 //!   `leaks_and_tellings_are_all` each compensation of a line that is understood is in one of them.
-//! - `effects` returns the lines at which chains of causes end, in order. Of each it counts the
-//!   other lines that are run again and whose chains end there, and names the paths that it wrote.
+//! - `effects` returns the lines that are cancelled, and those that are run again since an edit
+//!   replaces their text, in order. Of each it counts the other lines that are run again and whose
+//!   chains of causes end there, and names the paths that it wrote.
 //! - `grouped` returns a group for each session and subject that notices have, in order of sessions
 //!   and then of first lines, with the numbers of all its lines in order: an equation
 //!   (`specs/Groups.antt`).
@@ -69,6 +73,7 @@ mod leak;
 mod line_row;
 mod line_rows;
 mod line_test;
+mod new_texts;
 mod note_paths;
 mod notice;
 mod obstacles;
@@ -82,6 +87,7 @@ mod restoration;
 mod subject;
 mod summary;
 mod unknown;
+mod why;
 
 pub use case::Case;
 pub use casebook_profile::{Obstacle, UnknownLine};
@@ -103,6 +109,7 @@ pub use restoration::restorations;
 pub use subject::Subject;
 pub use summary::Summary;
 pub use unknown::unknown_in;
+pub use why::Why;
 
 /// Allocation failed.
 pub use retro_tree::NoMem;

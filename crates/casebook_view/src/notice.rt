@@ -3,18 +3,22 @@ ghost use Rattle.std.specs.Prelude.{◌≡◌, IfOk, IsTrue, map};
 ghost use Rattle.std.specs.List.{filter};
 ghost use Rattle.retro_keep.specs.Script.{rises_from};
 ghost use Rattle.casebook_cause.specs.Compensations.{tellings};
-ghost use Rattle.casebook_view.specs.Reasons.{number_in};
+ghost use Rattle.std.specs.Option.{option_copied};
+ghost use Rattle.casebook_view.specs.Reasons.{notes_at, number_in};
 ghost use Rattle.casebook_view.specs.Summaries.{line_subject, line_told, notice_for, number_of};
+ghost use Rattle.casebook_view.specs.Summaries.{subject_asked, subject_why};
 ghost use Rattle.casebook_view.specs.Unknown.{is_understood};
 
 use crate::NoMem;
 use crate::case::Case;
 use crate::obstacles::Obstacles;
-use crate::reason::{Reason, failing_ask, failing_in};
+use crate::reason::{Reason, failing_ask, reason_of};
 use crate::subject::Subject;
+use crate::why::Why;
 use casebook_cause::tellings;
 use casebook_profile::UnknownLine;
 use retro_redo::Compensation;
+use retro_tree::Ask;
 use std::alloc::Global;
 
 /// A line that isn't cancelled and prints something else in the repaired run. Whoever saw what it
@@ -25,11 +29,33 @@ pub struct Notice {
     pub number: u32,
     /// The session that ran the line.
     pub session: u32,
-    /// What the line's first query is about that has another answer.
+    /// What the line's first query is about that has another answer, if one has.
     pub subject: Subject,
 }
 
-/// Returns what a line's first query with another answer is about.
+/// Returns what a query is about, or that the line is run again with all others if there is none.
+fn subject_asked(alloc: Global, ask: Option<&Ask>) -> Result<Subject, NoMem>
+    ensures { IfOk result (λ subject. subject ≡ subject_asked (option_copied ask.entry)) }
+{
+    match ask {
+        Some(ask) => Subject::of(alloc, ask),
+        None => Ok(Subject::Again),
+    }
+}
+
+/// Returns what a line is told about that is run again, by why it is.
+fn subject_why(alloc: Global, case: &Case<'_>, number: u32, why: Why) -> Result<Subject, NoMem>
+    ensures { IfOk result (λ subject.
+        subject ≡ subject_why (notes_at number case.now.recording) why) }
+{
+    match why {
+        Why::Replaced => Ok(Subject::Text),
+        Why::Query(index) => subject_asked(alloc, failing_ask(case, number, Some(index))),
+        Why::RunAgain => Ok(Subject::Again),
+    }
+}
+
+/// Returns what a line is told about.
 fn subject_of(
     alloc: Global,
     case: &Case<'_>,
@@ -39,10 +65,9 @@ fn subject_of(
     ensures { IsTrue (rises_from 0 (map number_in reasons.now)) → IfOk result (λ subject.
         subject ≡ line_subject case.now.recording reasons.now number) }
 {
-    let failing = failing_in(reasons, number);
-    match failing_ask(case, number, failing) {
-        Some(ask) => Subject::of(alloc, ask),
-        None => Ok(Subject::Text),
+    match reason_of(reasons, number) {
+        Some(reason) => subject_why(alloc, case, number, reason.why),
+        None => Ok(Subject::Again),
     }
 }
 

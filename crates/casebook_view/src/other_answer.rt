@@ -103,7 +103,7 @@ pub fn answers_of<'a>(
     ensures { IfOk result (λ found. option_map answers_value found
         ≡ answers_of case.now.recording case.now.repair reason.now) }
 {
-    let Some(index) = reason.failing else {
+    let Some(index) = reason.why.failing() else {
         return Ok(None);
     };
     match case.recorded(reason.number) {

@@ -1,16 +1,20 @@
 //! Why lines are run again.
-ghost use Rattle.std.specs.Prelude.{◌≡◌, ◌∷◌, ◌++◌, [], IfOk, IsTrue, OnOk, length, map};
+ghost use Rattle.std.specs.Prelude.{◌≡◌, ◌∷◌, ◌++◌, [], IfOk, IsTrue, List, OnOk, length, map};
 ghost use Rattle.std.specs.Option.{option_copied};
 ghost use Rattle.retro_keep.specs.Recorded.{recorded_before};
 ghost use Rattle.retro_keep.specs.Script.{rises_from};
 ghost use Rattle.casebook_view.specs.Reasons.{AreReasons, AreReasonsAfter, IsCauseOf, IsFailing};
-ghost use Rattle.casebook_view.specs.Reasons.{IsNextReason, redone_lines};
-ghost use Rattle.casebook_view.specs.Reasons.{cause_in, chain_from, failing_in, failing_query};
+ghost use Rattle.retro_keep.specs.declared.edit.Edit.{Edit as EditValue};
+ghost use Rattle.casebook_view.specs.Reasons.{IsNextReason, IsWhy, redone_lines};
+ghost use Rattle.casebook_view.specs.Reasons.{cause_in, chain_from, failing_query, has_new_text};
 ghost use Rattle.casebook_view.specs.Reasons.{notes_at, number_in, origin_by, query_at};
 ghost use Rattle.casebook_view.specs.Reasons.{reason_at};
+ghost use Rattle.casebook_view.specs.inner.NewTexts.{AreNewTexts};
 
 use crate::NoMem;
 use crate::case::Case;
+use crate::new_texts::NewTexts;
+use crate::why::Why;
 use casebook_cause::first_failing_note;
 use retro_keep::Noted;
 use retro_redo::Verdict;
@@ -22,12 +26,12 @@ use std::alloc::Global;
 pub struct Reason {
     /// The line's number.
     pub number: u32,
-    /// The index of its first note that doesn't hold in the repaired state before it, or `None` if
-    /// all hold. Then the line's text is replaced.
-    pub failing: Option<usize>,
-    /// The last line before it that changes otherwise what the failing query asks about.
+    /// Why it is run again.
+    pub why: Why,
+    /// The last line before it that changes differently what the failing query asks about, or
+    /// `None` if there is no such line or no query is the reason.
     pub cause: Option<u32>,
-    /// The line at which the chain of causes ends. It is cancelled, or its text is replaced.
+    /// The line at which the chain of causes ends: the line itself if it has no cause.
     pub origin: u32,
 }
 
@@ -49,17 +53,6 @@ pub(crate) fn reason_of(reasons: &[Reason], number: u32) -> Option<&Reason>
     match reasons.binary_search_by_key(&number, |reason| reason.number) {
         Ok(index) => Some(&reasons[index]),
         Err(_) => None,
-    }
-}
-
-/// Returns the index of the note of a line that fails, or `None` if none does.
-pub(crate) fn failing_in(reasons: &[Reason], number: u32) -> Option<usize>
-    ensures { IsTrue (rises_from 0 (map number_in reasons.now))
-        → result ≡ failing_in (reason_at number reasons.now) }
-{
-    match reason_of(reasons, number) {
-        Some(reason) => reason.failing,
-        None => None,
     }
 }
 
@@ -106,7 +99,23 @@ fn failing_note(alloc: Global, case: &Case<'_>, number: u32) -> Result<Option<us
     }
 }
 
-/// Returns the last line before a line that changes otherwise what a failing query asks about.
+/// Returns why a line is run again.
+fn why_of(alloc: Global, case: &Case<'_>, texts: &NewTexts, number: u32) -> Result<Why, NoMem>
+    ensures { (edits : List EditValue) → AreNewTexts edits texts.now
+        → IfOk result (IsWhy (has_new_text edits number)
+        (notes_at number case.now.recording)
+        (recorded_before number case.now.repair.recording)) }
+{
+    if texts.has(number) {
+        return Ok(Why::Replaced);
+    }
+    match failing_note(alloc, case, number)? {
+        Some(index) => Ok(Why::Query(index)),
+        None => Ok(Why::RunAgain),
+    }
+}
+
+/// Returns the last line before a line that changes differently what a failing query asks about.
 fn cause_at(
     alloc: Global,
     case: &Case<'_>,
@@ -126,18 +135,19 @@ fn cause_at(
 fn reason_for(
     alloc: Global,
     case: &Case<'_>,
+    texts: &NewTexts,
     earlier: &[Reason],
     number: u32,
 ) -> Result<Reason, NoMem>
     ensures number { IfOk result (λ reason. reason.number ≡ number) }
-    ensures next { IfOk result
-        (IsNextReason case.now.recording case.now.repair earlier.now) }
+    ensures next { (edits : List EditValue) → AreNewTexts edits texts.now
+        → IfOk result (IsNextReason edits case.now.recording case.now.repair earlier.now) }
 {
-    let failing = failing_note(alloc, case, number)?;
-    let cause = cause_at(alloc, case, number, failing)?;
+    let why = why_of(alloc, case, texts, number)?;
+    let cause = cause_at(alloc, case, number, why.failing())?;
     Ok(Reason {
         number,
-        failing,
+        why,
         cause,
         origin: origin_of(earlier, number, cause),
     })
@@ -148,18 +158,18 @@ fn reason_for(
 fn push_reason(
     alloc: Global,
     case: &Case<'_>,
+    texts: &NewTexts,
     reasons: &mut Vec<Reason>,
     line: (u32, Verdict),
 ) -> Result<(), NoMem>
     ensures lines { OnOk result (map number_in reasons.new.items
         ≡ map number_in reasons.old.items ++ redone_lines (line ∷ [])) }
-    ensures each { OnOk result
-        (AreReasonsAfter case.now.recording case.now.repair [] reasons.old.items
-        → AreReasonsAfter case.now.recording case.now.repair []
-        reasons.new.items) }
+    ensures each { (edits : List EditValue) → AreNewTexts edits texts.now → OnOk result
+        (AreReasonsAfter edits case.now.recording case.now.repair [] reasons.old.items
+        → AreReasonsAfter edits case.now.recording case.now.repair [] reasons.new.items) }
 {
     if let Verdict::Redone = line.1 {
-        let reason = reason_for(alloc, case, reasons.as_slice(), line.0)?;
+        let reason = reason_for(alloc, case, texts, reasons.as_slice(), line.0)?;
         reasons.push(reason)?;
     }
     Ok(())
@@ -168,11 +178,12 @@ fn push_reason(
 /// Returns why each line is run again that is, in order.
 pub fn reasons(alloc: Global, case: &Case<'_>) -> Result<Vec<Reason>, NoMem>
     ensures { IfOk result (λ found.
-        AreReasons case.now.recording case.now.repair found.items) }
+        AreReasons case.now.edits case.now.recording case.now.repair found.items) }
 {
+    let texts = NewTexts::of(alloc, case.edits())?;
     let mut reasons = Vec::new(alloc);
     for line in &case.repair().verdicts {
-        push_reason(alloc, case, &mut reasons, *line)?;
+        push_reason(alloc, case, &texts, &mut reasons, *line)?;
     }
     Ok(reasons)
 }

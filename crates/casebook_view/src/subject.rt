@@ -17,8 +17,10 @@ pub enum Subject {
     Variable(VarName),
     /// The session's status.
     Status,
-    /// No query: the line's own text is replaced.
+    /// No query: an edit replaces the line's text.
     Text,
+    /// No query: the line is run again with all others.
+    Again,
 }
 
 impl Subject {
@@ -47,6 +49,7 @@ impl Subject {
             Subject::Variable(name) => Ok(Subject::Variable(name.copy()?)),
             Subject::Status => Ok(Subject::Status),
             Subject::Text => Ok(Subject::Text),
+            Subject::Again => Ok(Subject::Again),
         }
     }
 }

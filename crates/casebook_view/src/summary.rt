@@ -71,7 +71,8 @@ impl Summary {
             AreFates case.now.recording case.now.repair
             case.now.repair.verdicts.items summary.fates.items) }
         ensures reasons { IfOk result (λ summary.
-            AreReasons case.now.recording case.now.repair summary.reasons.items) }
+            AreReasons case.now.edits case.now.recording case.now.repair
+            summary.reasons.items) }
         ensures restorations { IfOk result (λ summary. AreChangedPaths
             (last_state case.now.recording.lines case.now.recording.first).tree
             (repaired_state case.now.repair).tree summary.restorations.items) }

@@ -6,5 +6,5 @@ use Rattle.casebook_view.proofs.reason.reasons.Given as goal
 abbrev pub invariant-loop-line : goal.invariant-loop-line
 invariant-loop-line l = record {
   lines : map number_in l.reasons.items ≡ redone_lines (take l.line-index l.line-items);
-  each : AreReasonsAfter l.case.recording l.case.repair [] l.reasons.items;
+  each : AreReasonsAfter l.case.edits l.case.recording l.case.repair [] l.reasons.items;
 }
