@@ -1,20 +1,20 @@
--- The constants of the template.
-use Rattle.std.specs.Prelude.{ℕ, List, codes}
+-- The constants of the template. Each of them, and each tag with a number, begins and ends outside of
+-- tags, and what it begins of the style or of a script it ends.
+use Rattle.std.specs.Prelude.{ℕ, List, ◌++◌, codes, decimal}
 use Rattle.casebook_page.specs.declared.tag.Tag.{Tag}
 use Rattle.casebook_page.specs.declared.tag.Tag.TheVariants as tags
+use Rattle.casebook_page.specs.declared.number_tag.NumberTag.{NumberTag}
+use Rattle.casebook_page.specs.declared.number_tag.NumberTag.TheVariants as numbered
+use Rattle.casebook_page.specs.declared.row_class.RowClass.{RowClass}
+use Rattle.casebook_page.specs.declared.row_class.RowClass.TheVariants as classes
 use Rattle.casebook_page.specs.declared.script.TheConstants.{SCRIPT}
 use Rattle.casebook_page.specs.declared.style.TheConstants.{STYLE}
 
 unfoldable pub tag_text : Tag → List ℕ
 tag_text tags.Begin = codes "<!doctype html><html lang=en><meta charset=utf-8><meta name=viewport content=\"width=device-width\"><meta http-equiv=Content-Security-Policy content=\"default-src 'none'; style-src 'unsafe-inline'; script-src 'sha256-RecdBngLGHf2XbiOLeTrnCvwPvPErXDENIM4Du3o3Wg='\"><title>"
-tag_text tags.StyleStart = codes "</title><style>"
 tag_text tags.Style = STYLE.now
-tag_text tags.BodyStart = codes "</style><body style=\"--n:"
-tag_text tags.HeaderStart = codes "\"><header><h1>"
 tag_text tags.Header = codes "</h1><nav><a href=#cancelled>Cancelled</a><a href=#restore>Restore</a><a href=#tell>Tell</a><a href=#lines>Lines</a></nav><input id=q type=search placeholder=\"/ to search\" aria-label=\"search lines\" hidden><label title=\"dark\"><input type=checkbox id=dark>&#9680;</label></header><main>"
-tag_text tags.ScriptStart = codes "</main><footer>/ search, j and k go through lines, o opens, e opens all</footer><script>"
 tag_text tags.Script = SCRIPT.now
-tag_text tags.ScriptEnd = codes "</script></body></html>\n"
 tag_text tags.Lead = codes "<p class=lead>"
 tag_text tags.Paragraph = codes "<p>"
 tag_text tags.Small = codes "<p class=io>"
@@ -32,20 +32,8 @@ tag_text tags.SignDoubtful = codes " <i class=q title=\"written by a line that w
 tag_text tags.Map = codes "<div class=map>"
 tag_text tags.BlockEnd = codes "</div>"
 tag_text tags.Span = codes "<span>"
-tag_text tags.MapStart = codes "</span><svg viewBox=\"0 0 "
-tag_text tags.MapLabel = codes " 10\" preserveAspectRatio=none role=img aria-label=\"lines of "
-tag_text tags.TagEnd = codes "\">"
+tag_text tags.MapName = codes "</title>"
 tag_text tags.MapEnd = codes "</svg>"
-tag_text tags.TickUntouched = codes "<path class=u d=\"M"
-tag_text tags.TickCancelled = codes "<path class=c d=\"M"
-tag_text tags.TickChanged = codes "<path class=r d=\"M"
-tag_text tags.TickAlike = codes "<path class=s d=\"M"
-tag_text tags.TickKept = codes "<path class=k d=\"M"
-tag_text tags.TickEnd = codes ".5 0v10\"/></a>"
-tag_text tags.ShortTickEnd = codes ".5 3v4\"/>"
-tag_text tags.LinkStart = codes "<a href=\"#l"
-tag_text tags.LinkChanged = codes "<a class=r href=\"#l"
-tag_text tags.LinkAlike = codes "<a class=s href=\"#l"
 tag_text tags.LinkEnd = codes "</a>"
 tag_text tags.Key = codes "<form class=key>"
 tag_text tags.KeyCancelled = codes "<label class=c><input type=checkbox id=fc checked><i>&#10005;</i>"
@@ -65,9 +53,6 @@ tag_text tags.SectionEnd = codes "</section>"
 tag_text tags.Person = codes "<h3>"
 tag_text tags.PersonEnd = codes "</h3>"
 tag_text tags.Effect = codes "<details class=\"f c\"><summary><i>"
-tag_text tags.Bar = codes "<b class=bar style=\"--p:"
-tag_text tags.BarAlike = codes ";--q:"
-tag_text tags.BarEnd = codes "\"></b>"
 tag_text tags.Leak = codes "<mark>"
 tag_text tags.LeakEnd = codes "</mark>"
 tag_text tags.Modified = codes "<details class=\"f change\"><summary><i>M</i><code>"
@@ -99,22 +84,9 @@ tag_text tags.Saw = codes "<figure><figcaption>saw</figcaption><pre>\n"
 tag_text tags.WouldSee = codes "<figure><figcaption>would have seen</figcaption><pre>\n"
 tag_text tags.FigureEnd = codes "</pre></figure>"
 tag_text tags.Columns = codes "<div class=head><b></b><time></time>"
-tag_text tags.Column = codes "<span style=\"--i:"
 tag_text tags.SpanEnd = codes "</span>"
-tag_text tags.LineCancelled = codes " class=\"l c\"><summary><b>"
-tag_text tags.LineChanged = codes " class=\"l r\"><summary><b>"
-tag_text tags.LineTold = codes " class=\"l r w\"><summary><b>"
-tag_text tags.LineAlike = codes " class=\"l s\"><summary><b>"
-tag_text tags.LineKept = codes " class=\"l k\"><summary><b>"
-tag_text tags.LineUntouched = codes " class=\"l u\"><summary><b>"
 tag_text tags.LineTime = codes "</b> <time>"
 tag_text tags.LineName = codes "</time> <b class=who>"
-tag_text tags.LineColumn = codes "</b> <code style=\"--i:"
-tag_text tags.SignCancelled = codes "\" title=\"cancelled\"><i>&#10005;</i>"
-tag_text tags.SignChanged = codes "\" title=\"run again, another result\"><i>&#8635;</i>"
-tag_text tags.SignAlike = codes "\" title=\"run again, the same result\"><i>=</i>"
-tag_text tags.SignKept = codes "\" title=\"met, kept as recorded\"><i>&asymp;</i>"
-tag_text tags.SignUntouched = codes "\" title=\"untouched\"><i>&middot;</i>"
 tag_text tags.LineEnd = codes "</code></summary>"
 tag_text tags.Body = codes "<div class=b><p class=io>line "
 tag_text tags.BodyName = codes ", session <b class=who>"
@@ -122,3 +94,71 @@ tag_text tags.BodyNameEnd = codes "</b></p>"
 tag_text tags.Fold = codes "<details class=fold><summary>"
 tag_text tags.FoldEnd = codes "</summary>"
 tag_text tags.Arrow = codes " &larr; "
+
+-- ---- tags with a number
+
+-- what comes before the number
+unfoldable pub before_number : NumberTag → List ℕ
+before_number numbered.Body = codes "<body style=\"--n:"
+before_number numbered.Map = codes "</span><svg viewBox=\"0 0 "
+before_number numbered.TickUntouched = codes "<path class=u d=\"M"
+before_number numbered.TickCancelled = codes "<path class=c d=\"M"
+before_number numbered.TickChanged = codes "<path class=r d=\"M"
+before_number numbered.TickAlike = codes "<path class=s d=\"M"
+before_number numbered.TickKept = codes "<path class=k d=\"M"
+before_number numbered.Link = codes "<a href=\"#l"
+before_number numbered.LinkChanged = codes "<a class=r href=\"#l"
+before_number numbered.LinkAlike = codes "<a class=s href=\"#l"
+before_number numbered.Column = codes "<span style=\"--i:"
+before_number numbered.CodeCancelled = codes "</b> <code style=\"--i:"
+before_number numbered.CodeChanged = codes "</b> <code style=\"--i:"
+before_number numbered.CodeAlike = codes "</b> <code style=\"--i:"
+before_number numbered.CodeKept = codes "</b> <code style=\"--i:"
+before_number numbered.CodeUntouched = codes "</b> <code style=\"--i:"
+
+-- what comes after the number
+unfoldable pub after_number : NumberTag → List ℕ
+after_number numbered.Body = codes "\"><header><h1>"
+after_number numbered.Map = codes " 10\" preserveAspectRatio=none role=img><title>lines of "
+after_number numbered.TickUntouched = codes ".5 3v4\"/>"
+after_number numbered.TickCancelled = codes ".5 0v10\"/></a>"
+after_number numbered.TickChanged = codes ".5 0v10\"/></a>"
+after_number numbered.TickAlike = codes ".5 0v10\"/></a>"
+after_number numbered.TickKept = codes ".5 0v10\"/></a>"
+after_number numbered.Link = codes "\">"
+after_number numbered.LinkChanged = codes "\">"
+after_number numbered.LinkAlike = codes "\">"
+after_number numbered.Column = codes "\">"
+after_number numbered.CodeCancelled = codes "\" title=\"cancelled\"><i>&#10005;</i>"
+after_number numbered.CodeChanged = codes "\" title=\"run again, another result\"><i>&#8635;</i>"
+after_number numbered.CodeAlike = codes "\" title=\"run again, the same result\"><i>=</i>"
+after_number numbered.CodeKept = codes "\" title=\"met, kept as recorded\"><i>&asymp;</i>"
+after_number numbered.CodeUntouched = codes "\" title=\"untouched\"><i>&middot;</i>"
+
+abbrev pub number_text : NumberTag → ℕ → List ℕ
+number_text tag number = before_number tag ++ (decimal number ++ after_number tag)
+
+-- a bar, with how many percent of its lines have another result, and how many the same
+abbrev pub bar_text : ℕ → ℕ → List ℕ
+bar_text changed alike =
+    codes "<b class=bar style=\"--p:"
+    ++ (decimal changed ++ (codes ";--q:" ++ (decimal alike ++ codes "\"></b>")))
+
+-- ---- rows of lines
+
+unfoldable pub class_text : RowClass → List ℕ
+class_text classes.Cancelled = codes "c"
+class_text classes.Changed = codes "r"
+class_text classes.Told = codes "r w"
+class_text classes.Alike = codes "s"
+class_text classes.Kept = codes "k"
+class_text classes.Untouched = codes "u"
+
+-- the start of the row of the line with a number and a class of some names, up to the number that is
+-- shown
+abbrev pub row_start : ℕ → List ℕ → List ℕ
+row_start number names =
+    codes "<details id=l" ++ (decimal number ++ (codes " class=\"l " ++ (names ++ codes "\"><summary><b>")))
+
+abbrev pub row_text : ℕ → RowClass → List ℕ
+row_text number class = row_start number (class_text class)

@@ -1,4 +1,4 @@
-//! The section of cancelled lines: what each led to, and what it showed.
+//! The section of cancelled and replaced lines: what each led to, and what it showed.
 use crate::NoMem;
 use crate::contents::Contents;
 use crate::html::Html;
@@ -24,7 +24,7 @@ fn count_led(effect: &Effect) -> usize {
     effect.changed.saturating_add(effect.alike)
 }
 
-/// Returns how many lines the line led to that led to the most.
+/// Returns the greatest number of lines that one line led to.
 fn most_led(effects: &[Effect]) -> usize {
     let mut most = 0_usize;
     for effect in effects {
@@ -48,11 +48,9 @@ fn push_led(html: &mut Html, alloc: Global, effect: &Effect, most: usize) -> Res
     if count == 0 {
         return Ok(());
     }
-    html.fixed(Tag::Bar)?;
-    html.number(alloc, percent(effect.changed, most) as u64)?;
-    html.fixed(Tag::BarAlike)?;
-    html.number(alloc, percent(effect.alike, most) as u64)?;
-    html.fixed(Tag::BarEnd)?;
+    let changed = percent(effect.changed, most) as u64;
+    let alike = percent(effect.alike, most) as u64;
+    html.bar(alloc, changed, alike)?;
     html.count(alloc, count, "line")
 }
 

@@ -15,7 +15,7 @@ pub struct Contents<'a, 'r> {
     pub labels: &'a Labels,
     /// The title.
     pub title: &'a str,
-    /// Whether the log is a recording of its own lines.
+    /// Whether the log is as its lines run. If not, the page says so.
     pub is_recording: bool,
     /// Whether untouched lines have rows also if there are many lines.
     pub shows_all: bool,

@@ -1,6 +1,6 @@
 //! Pages of repairs.
 ghost use Rattle.std.specs.Prelude.{IfOk, string_bytes};
-ghost use Rattle.casebook_page.specs.Page.{IsHtml};
+ghost use Rattle.casebook_page.specs.Page.{IsPageText};
 ghost use Rattle.casebook_page.specs.Rows.{shows_untouched, written_lines};
 
 use crate::NoMem;
@@ -39,17 +39,15 @@ fn front(contents: Contents<'_, '_>, rows: &Rows<'_, '_>) -> Result<Html, NoMem>
 fn back(alloc: Global) -> Result<Html, NoMem> {
     let mut html = Html::new(alloc);
     html.fixed(Tag::LinesEnd)?;
-    html.fixed(Tag::ScriptStart)?;
     html.fixed(Tag::Script)?;
-    html.fixed(Tag::ScriptEnd)?;
     Ok(html)
 }
 
-/// Returns the page of a repair. It is made of constants of the template, of escaped texts, and of
-/// the starts of rows: one for each line, but for untouched lines if there are more than 5,000
-/// lines and not all are asked for.
+/// Returns the page of a repair. It begins with its policy, and is made of constants of the template,
+/// of numbers in their tags, of escaped texts, and of the starts of rows: one for each line, but for
+/// untouched lines if there are more than 5,000 lines and not all are asked for.
 pub fn page(alloc: Global, contents: Contents<'_, '_>) -> Result<String, NoMem>
-    ensures { IfOk result (λ text. IsHtml
+    ensures { IfOk result (λ text. IsPageText
         (written_lines (shows_untouched contents.entry.shows_all contents.entry.summary.now.fates.items)
         contents.entry.summary.now.fates.items) (string_bytes text)) }
 {
@@ -65,7 +63,7 @@ pub fn page(alloc: Global, contents: Contents<'_, '_>) -> Result<String, NoMem>
     };
     let front = front(contents, &rows)?;
     let back = back(alloc)?;
-    let sheet = Sheet::new(alloc).with_part(&front)?;
+    let sheet = Sheet::new(alloc)?.with_part(&front)?;
     let sheet = rows.with_all(sheet, lines)?;
     let sheet = sheet.with_part(&back)?;
     Ok(sheet.into_string())

@@ -2,6 +2,7 @@
 use crate::NoMem;
 use crate::contents::Contents;
 use crate::html::Html;
+use crate::number_tag::NumberTag;
 use crate::tag::Tag;
 use crate::unknown::push_unknown_link;
 use casebook_text::SafeLine;
@@ -9,8 +10,8 @@ use casebook_view::Fate;
 use std::alloc::Global;
 use std::collections::BTreeSet;
 
-/// Appends the page's head: the policy that forbids a network and all scripts but this one, the
-/// title and the style.
+/// Appends the rest of the page's head after its policy, which forbids a network and all scripts but
+/// this one: the title and the style. Then the header comes.
 pub(crate) fn push_head(
     html: &mut Html,
     alloc: Global,
@@ -19,13 +20,9 @@ pub(crate) fn push_head(
 ) -> Result<(), NoMem> {
     let mut line = SafeLine::new(alloc);
     line.push_bytes(alloc, title.as_bytes())?;
-    html.fixed(Tag::Begin)?;
     html.shown(alloc, &line)?;
-    html.fixed(Tag::StyleStart)?;
     html.fixed(Tag::Style)?;
-    html.fixed(Tag::BodyStart)?;
-    html.number(alloc, sessions as u64)?;
-    html.fixed(Tag::HeaderStart)?;
+    html.numbered(alloc, NumberTag::Body, sessions as u64)?;
     html.shown(alloc, &line)?;
     html.fixed(Tag::Header)
 }
@@ -37,7 +34,7 @@ fn count_fate(contents: Contents<'_, '_>, fate: Fate) -> usize {
 }
 
 /// Returns how many sessions ran lines that are told about.
-fn count_people(alloc: Global, contents: Contents<'_, '_>) -> Result<usize, NoMem> {
+fn count_told(alloc: Global, contents: Contents<'_, '_>) -> Result<usize, NoMem> {
     let mut sessions = BTreeSet::new(alloc);
     for notice in &contents.summary.notices {
         sessions.insert(notice.session)?;
@@ -45,16 +42,11 @@ fn count_people(alloc: Global, contents: Contents<'_, '_>) -> Result<usize, NoMe
     Ok(sessions.len())
 }
 
-/// Appends how many people would have seen something else, on how many screens.
-fn push_people(html: &mut Html, alloc: Global, contents: Contents<'_, '_>) -> Result<(), NoMem> {
-    let people = count_people(alloc, contents)?;
+/// Appends how many sessions would have seen something else, on how many screens.
+fn push_told(html: &mut Html, alloc: Global, contents: Contents<'_, '_>) -> Result<(), NoMem> {
+    let sessions = count_told(alloc, contents)?;
     html.fixed(Tag::Strong)?;
-    html.number(alloc, people as u64)?;
-    if people == 1 {
-        html.words(alloc, " person")?;
-    } else {
-        html.words(alloc, " people")?;
-    }
+    html.count(alloc, sessions, "session")?;
     html.fixed(Tag::StrongEnd)?;
     html.words(alloc, " would have seen something else on ")?;
     html.fixed(Tag::Strong)?;
@@ -81,7 +73,7 @@ fn push_rests(
     } else {
         html.words(
             alloc,
-            ". The log isn't a recording of its lines: all below is what its notes say.",
+            ". The log isn't as its lines run: what was recorded is only what its notes say.",
         )?;
     }
     push_unknown_link(html, alloc, contents)
@@ -103,7 +95,7 @@ pub(crate) fn push_lead(
     html.count(alloc, contents.summary.restorations.len(), "path")?;
     html.fixed(Tag::StrongEnd)?;
     html.words(alloc, " would differ and ")?;
-    push_people(html, alloc, contents)?;
+    push_told(html, alloc, contents)?;
     html.words(alloc, ". ")?;
     push_rests(html, alloc, contents, sessions)?;
     html.fixed(Tag::ParagraphEnd)

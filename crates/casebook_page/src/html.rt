@@ -7,9 +7,10 @@ ghost use Rattle.casebook_text.specs.SafeText.{is_printable, safe_text};
 ghost use Rattle.casebook_text.specs.declared.safe_text.Breaks.TheVariants.{Keep};
 ghost use Rattle.casebook_words.specs.Words.{count_words};
 ghost use Rattle.casebook_page.specs.Page.{IsHtml, is_safe_text};
-ghost use Rattle.casebook_page.specs.Template.{tag_text};
+ghost use Rattle.casebook_page.specs.Template.{bar_text, number_text, tag_text};
 
 use crate::NoMem;
+use crate::number_tag::NumberTag;
 use crate::tag::Tag;
 use casebook_text::{Breaks, SafeLine, escape, safe};
 use casebook_words::push_count;
@@ -58,6 +59,25 @@ impl Html {
         ensures err { OnErr result (self.new ≡ self.old) }
     {
         self.text.push_str(tag.as_str())
+    }
+
+    /// Appends a tag with a number in it.
+    pub fn numbered(&mut self, alloc: Global, tag: NumberTag, number: u64) -> Result<(), NoMem>
+        ensures ok { OnOk result (self.new ≡ self.old ++ number_text tag number) }
+        ensures err { OnErr result (self.new ≡ self.old) }
+    {
+        let (before, after) = (tag.before(), tag.after());
+        let text = format!(in alloc; "{before}{number}{after}")?;
+        self.text.push_str(text.as_str())
+    }
+
+    /// Appends a bar: how many percent of its lines have another result, and how many the same.
+    pub fn bar(&mut self, alloc: Global, changed: u64, alike: u64) -> Result<(), NoMem>
+        ensures ok { OnOk result (self.new ≡ self.old ++ bar_text changed alike) }
+        ensures err { OnErr result (self.new ≡ self.old) }
+    {
+        let text = format!(in alloc; "<b class=bar style=\"--p:{changed};--q:{alike}\"></b>")?;
+        self.text.push_str(text.as_str())
     }
 
     /// Appends another part.

@@ -4,7 +4,9 @@ ghost use Rattle.casebook_page.specs.Rows.{is_written, shows_untouched, written_
 
 use crate::NoMem;
 use crate::html::Html;
+use crate::number_tag::NumberTag;
 use crate::row::Rows;
+use crate::row_class::RowClass;
 use crate::sheet::Sheet;
 use crate::tag::Tag;
 use casebook_view::Fate;
@@ -68,7 +70,8 @@ impl Rows<'_, '_> {
             return Ok(sheet);
         }
         let rest = self.rest_of_row(line)?;
-        sheet.with_row(self.alloc, line.0, &rest)
+        let class = RowClass::of(line.1, self.contents.is_told(line.0));
+        sheet.with_row(self.alloc, line.0, class, &rest)
     }
 
     /// Appends the rows of lines.
@@ -168,9 +171,7 @@ impl Rows<'_, '_> {
         html.fixed(Tag::Lines)?;
         html.fixed(Tag::Columns)?;
         for (session, column) in self.columns {
-            html.fixed(Tag::Column)?;
-            html.number(self.alloc, u64::from(*column))?;
-            html.fixed(Tag::TagEnd)?;
+            html.numbered(self.alloc, NumberTag::Column, u64::from(*column))?;
             let name = self.contents.labels.name_of(self.alloc, *session)?;
             html.shown(self.alloc, &name)?;
             html.fixed(Tag::SpanEnd)?;

@@ -2,34 +2,29 @@
 use crate::NoMem;
 use crate::contents::Contents;
 use crate::html::Html;
-use crate::shown::push_link_start;
+use crate::number_tag::NumberTag;
 use crate::tag::Tag;
 use casebook_view::Fate;
 use std::alloc::Global;
 use std::collections::BTreeMap;
 
-/// Returns the start of the tick of a line.
-fn tick_of(fate: Fate) -> Tag {
+/// Returns the tick of a line.
+fn tick_of(fate: Fate) -> NumberTag {
     match fate {
-        Fate::Cancelled => Tag::TickCancelled,
-        Fate::Changed => Tag::TickChanged,
-        Fate::Alike => Tag::TickAlike,
-        Fate::Kept => Tag::TickKept,
-        Fate::Untouched => Tag::TickUntouched,
+        Fate::Cancelled => NumberTag::TickCancelled,
+        Fate::Changed => NumberTag::TickChanged,
+        Fate::Alike => NumberTag::TickAlike,
+        Fate::Kept => NumberTag::TickKept,
+        Fate::Untouched => NumberTag::TickUntouched,
     }
 }
 
 /// Appends a tick at the place of a line. An untouched line has a short one without a link.
 fn push_tick(html: &mut Html, alloc: Global, place: u64, line: (u32, Fate)) -> Result<(), NoMem> {
-    if line.1 == Fate::Untouched {
-        html.fixed(Tag::TickUntouched)?;
-        html.number(alloc, place)?;
-        return html.fixed(Tag::ShortTickEnd);
+    if line.1 != Fate::Untouched {
+        html.numbered(alloc, NumberTag::Link, u64::from(line.0))?;
     }
-    push_link_start(html, alloc, line.0)?;
-    html.fixed(tick_of(line.1))?;
-    html.number(alloc, place)?;
-    html.fixed(Tag::TickEnd)
+    html.numbered(alloc, tick_of(line.1), place)
 }
 
 /// Returns the sessions of all lines, in order.
@@ -70,11 +65,9 @@ fn push_session(
     let name = contents.labels.name_of(alloc, session)?;
     html.fixed(Tag::Span)?;
     html.shown(alloc, &name)?;
-    html.fixed(Tag::MapStart)?;
-    html.number(alloc, contents.summary.fates.len() as u64)?;
-    html.fixed(Tag::MapLabel)?;
+    html.numbered(alloc, NumberTag::Map, contents.summary.fates.len() as u64)?;
     html.shown(alloc, &name)?;
-    html.fixed(Tag::TagEnd)?;
+    html.fixed(Tag::MapName)?;
     push_ticks(html, alloc, contents, sessions, session)?;
     html.fixed(Tag::MapEnd)
 }

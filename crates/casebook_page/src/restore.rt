@@ -64,7 +64,7 @@ fn push_kind(
     }
 }
 
-/// Appends a link to the last line that writes otherwise to a path, if there is one.
+/// Appends a link to the last line that writes differently to a path, if there is one.
 fn push_writer(
     html: &mut Html,
     alloc: Global,
@@ -74,7 +74,7 @@ fn push_writer(
     let ask = Ask::Bytes(path.copy()?);
     if let Some(number) = contents.case.cause_of(alloc, u32::MAX, &ask)? {
         html.fixed(Tag::Small)?;
-        html.words(alloc, "last written otherwise by ")?;
+        html.words(alloc, "last written differently by ")?;
         push_link(html, alloc, number)?;
         html.fixed(Tag::ParagraphEnd)?;
     }

@@ -3,6 +3,7 @@ use crate::NoMem;
 use crate::contents::Contents;
 use crate::html::Html;
 use crate::merged::Merged;
+use crate::number_tag::NumberTag;
 use crate::pair::{push_output, push_pair};
 use crate::shown::{command_of, push_link, push_name, push_paths, push_shown_path};
 use crate::tag::Tag;
@@ -28,27 +29,14 @@ pub(crate) struct Rows<'a, 'r> {
     pub(crate) shows_untouched: bool,
 }
 
-/// Returns what comes after the address of a row. `is_told` says whether somebody saw another
-/// output than the repaired one.
-fn class_of(fate: Fate, is_told: bool) -> Tag {
+/// Returns the column and the sign of a line with a fate.
+fn code_of(fate: Fate) -> NumberTag {
     match fate {
-        Fate::Changed if is_told => Tag::LineTold,
-        Fate::Cancelled => Tag::LineCancelled,
-        Fate::Changed => Tag::LineChanged,
-        Fate::Alike => Tag::LineAlike,
-        Fate::Kept => Tag::LineKept,
-        Fate::Untouched => Tag::LineUntouched,
-    }
-}
-
-/// Returns the sign of a fate.
-fn sign_of(fate: Fate) -> Tag {
-    match fate {
-        Fate::Cancelled => Tag::SignCancelled,
-        Fate::Changed => Tag::SignChanged,
-        Fate::Alike => Tag::SignAlike,
-        Fate::Kept => Tag::SignKept,
-        Fate::Untouched => Tag::SignUntouched,
+        Fate::Cancelled => NumberTag::CodeCancelled,
+        Fate::Changed => NumberTag::CodeChanged,
+        Fate::Alike => NumberTag::CodeAlike,
+        Fate::Kept => NumberTag::CodeKept,
+        Fate::Untouched => NumberTag::CodeUntouched,
     }
 }
 
@@ -184,9 +172,8 @@ impl Rows<'_, '_> {
         html.shown(self.alloc, &time)?;
         html.fixed(Tag::LineName)?;
         push_name(html, self.alloc, self.contents, line.0)?;
-        html.fixed(Tag::LineColumn)?;
-        html.number(self.alloc, u64::from(self.column_of(line.0)))?;
-        html.fixed(sign_of(line.1))?;
+        let column = u64::from(self.column_of(line.0));
+        html.numbered(self.alloc, code_of(line.1), column)?;
         if self.contents.obstacle_of(line.0).is_some() {
             html.fixed(Tag::SignUnknown)?;
         }
@@ -198,7 +185,6 @@ impl Rows<'_, '_> {
     pub(crate) fn rest_of_row(&self, line: (u32, Fate)) -> Result<Html, NoMem> {
         let command = command_of(self.alloc, self.contents, line.0)?;
         let mut html = Html::new(self.alloc);
-        html.fixed(class_of(line.1, self.contents.is_told(line.0)))?;
         self.push_closed(&mut html, line, &command)?;
         self.push_body(&mut html, line.0, &command)?;
         html.fixed(Tag::DetailsEnd)?;

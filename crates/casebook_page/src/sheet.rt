@@ -1,13 +1,16 @@
 //! Pages, as they are written.
 ghost use Rattle.std.specs.Prelude.{◌≡◌, ◌++◌, ◌∷◌, [], IfOk, string_bytes};
-ghost use Rattle.casebook_page.specs.Page.{IsHtml, IsPage};
+ghost use Rattle.casebook_page.specs.Page.{IsPageText};
 
 use crate::NoMem;
 use crate::html::Html;
+use crate::row_class::RowClass;
+use crate::tag::Tag;
 use std::alloc::Global;
 use std::marker::Model;
 
-/// A page as far as it is written, and the numbers of the lines that have a row in it.
+/// A page as far as it is written, and the numbers of the lines that have a row in it. It begins with
+/// the policy.
 #[derive(Drop)]
 pub struct Sheet {
     text: String,
@@ -16,24 +19,25 @@ pub struct Sheet {
 
 impl Model for Sheet {
     ghost use Rattle.std.specs.Prelude.{string_bytes};
-    ghost use Rattle.casebook_page.specs.Page.{IsHtml, SheetValue};
+    ghost use Rattle.casebook_page.specs.Page.{IsPageText, SheetValue};
 
     ghost Value = { SheetValue };
 
     ghost view = { λ a. record { text = string_bytes a.text; rows = a.rows.items } };
 
-    ghost invariant = { λ a. IsHtml a.rows.items (string_bytes a.text) };
+    ghost invariant = { λ a. IsPageText a.rows.items (string_bytes a.text) };
 }
 
 impl Sheet {
-    /// Returns an empty page. Takes no memory.
-    pub fn new(alloc: Global) -> Sheet
-        ensures { result.rows ≡ [] }
+    /// Returns the start of a page, up to the text of its title.
+    pub fn new(alloc: Global) -> Result<Sheet, NoMem>
+        ensures { IfOk result (λ sheet. sheet.rows ≡ []) }
     {
-        Sheet {
-            text: String::new(alloc),
+        let text = String::from_str(alloc, Tag::Begin.as_str())?;
+        Ok(Sheet {
+            text,
             rows: Vec::new(alloc),
-        }
+        })
     }
 
     /// Appends a part without rows.
@@ -45,10 +49,17 @@ impl Sheet {
     }
 
     /// Appends the row of a line, whose start is followed by the rest of the row.
-    pub fn with_row(mut self, alloc: Global, number: u32, rest: &Html) -> Result<Sheet, NoMem>
+    pub fn with_row(
+        mut self,
+        alloc: Global,
+        number: u32,
+        class: RowClass,
+        rest: &Html,
+    ) -> Result<Sheet, NoMem>
         ensures { IfOk result (λ sheet. sheet.rows ≡ self.rows ++ number ∷ []) }
     {
-        let start = format!(in alloc; "<details id=l{number}")?;
+        let names = class.as_str();
+        let start = format!(in alloc; "<details id=l{number} class=\"l {names}\"><summary><b>")?;
         self.text.push_str(start.as_str())?;
         self.text.push_str(rest.as_str())?;
         self.rows.push(number)?;
@@ -57,8 +68,7 @@ impl Sheet {
 
     /// Returns the text.
     pub fn into_string(self) -> String
-        ensures rows { IsHtml self.rows (string_bytes result) }
-        ensures page { IsPage (string_bytes result) }
+        ensures { IsPageText self.rows (string_bytes result) }
     {
         self.text
     }

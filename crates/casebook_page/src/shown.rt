@@ -2,6 +2,7 @@
 use crate::NoMem;
 use crate::contents::Contents;
 use crate::html::Html;
+use crate::number_tag::NumberTag;
 use crate::tag::Tag;
 use casebook_text::SafeLine;
 use casebook_view::Fate;
@@ -9,16 +10,9 @@ use casebook_words::push_path;
 use retro_tree::Path;
 use std::alloc::Global;
 
-/// Appends the start of a link to the row of a line.
-pub(crate) fn push_link_start(html: &mut Html, alloc: Global, number: u32) -> Result<(), NoMem> {
-    html.fixed(Tag::LinkStart)?;
-    html.number(alloc, u64::from(number))?;
-    html.fixed(Tag::TagEnd)
-}
-
 /// Appends the number of a line as a link to its row.
 pub(crate) fn push_link(html: &mut Html, alloc: Global, number: u32) -> Result<(), NoMem> {
-    push_link_start(html, alloc, number)?;
+    html.numbered(alloc, NumberTag::Link, u64::from(number))?;
     html.number(alloc, u64::from(number))?;
     html.fixed(Tag::LinkEnd)
 }
@@ -33,11 +27,11 @@ pub(crate) fn push_links(html: &mut Html, alloc: Global, numbers: &[u32]) -> Res
 }
 
 /// Returns the start of a link to a line that has a fate.
-fn link_of(fate: Option<Fate>) -> Tag {
+fn link_of(fate: Option<Fate>) -> NumberTag {
     match fate {
-        Some(Fate::Changed) => Tag::LinkChanged,
-        Some(Fate::Alike) => Tag::LinkAlike,
-        _ => Tag::LinkStart,
+        Some(Fate::Changed) => NumberTag::LinkChanged,
+        Some(Fate::Alike) => NumberTag::LinkAlike,
+        _ => NumberTag::Link,
     }
 }
 
@@ -50,9 +44,8 @@ pub(crate) fn push_fated_links(
 ) -> Result<(), NoMem> {
     for number in numbers {
         html.words(alloc, " ")?;
-        html.fixed(link_of(contents.summary.fate_of(*number)))?;
-        html.number(alloc, u64::from(*number))?;
-        html.fixed(Tag::TagEnd)?;
+        let link = link_of(contents.summary.fate_of(*number));
+        html.numbered(alloc, link, u64::from(*number))?;
         html.number(alloc, u64::from(*number))?;
         html.fixed(Tag::LinkEnd)?;
     }

@@ -4,9 +4,9 @@
 //! wide screens each session has a column with its name above, and the name in a row is hidden from
 //! the eye alone: a screen reader reads it. Each page of a print begins with the title.
 
-/// The style, light and dark.
+/// The end of the title, and the style, light and dark.
 pub(crate) const STYLE: &str =
-    ":root{color-scheme:light dark;--bg:light-dark(#fcfcfa,#16181c);--fg:light-dark(#1c1e21,#dcdfe4);--dim:light-dark(#6b7078,#8b919b);--rule:light-dark(#e4e4df,#2a2e35);--card:light-dark(#fff,#1c1f24);
+    "</title><style>:root{color-scheme:light dark;--bg:light-dark(#fcfcfa,#16181c);--fg:light-dark(#1c1e21,#dcdfe4);--dim:light-dark(#6b7078,#8b919b);--rule:light-dark(#e4e4df,#2a2e35);--card:light-dark(#fff,#1c1f24);
 --c:light-dark(#c22f2f,#ff7b72);--r:light-dark(#b35900,#f0a04b);--s:light-dark(#a08a3c,#b9a55c);--k:light-dark(#2f6fb5,#79b4f2);--u:light-dark(#b9bcc2,#4b515b);--q:light-dark(#8b3fb0,#d19be8);--del:light-dark(#fbe3e1,#4a2224);--ins:light-dark(#dff2e1,#1d3b26)}
 :root:has(#dark:checked){color-scheme:dark}
 *{box-sizing:border-box}html{scroll-padding-top:6rem}body{margin:0;background:var(--bg);color:var(--fg);font:15px/1.5 system-ui,sans-serif}
@@ -45,4 +45,4 @@ footer{padding:2rem;text-align:center;color:var(--dim);font-size:13px}
 @media print{:root,:root:has(#dark:checked){color-scheme:light;--bg:#fff;--card:#fff;print-color-adjust:exact}body{display:table;table-layout:fixed;width:100%}header{display:table-header-group;position:static;break-inside:avoid}h1{padding-bottom:.3rem;margin-bottom:1rem;border-bottom:1px solid var(--rule)}main{display:table-row-group}
 nav,#q,header label,footer,.key input,.l.u,.fold{display:none}.key .u::after,.key label:has(input:not(:checked))::after{content:\", not printed\"}summary,figure,p{break-inside:avoid}h2,h3{break-after:avoid}pre{max-height:none}}
 @page{margin:15mm;@bottom-right{content:counter(page) \" / \" counter(pages);font:12px system-ui}}
-";
+</style>";

@@ -5,27 +5,18 @@ ghost use Rattle.casebook_page.specs.Template.{tag_text};
 use crate::script::SCRIPT;
 use crate::style::STYLE;
 
-/// A constant of the template.
+/// A constant of the template. Each begins and ends outside of tags, and what it begins of the style
+/// or of a script it ends.
 #[derive(Clone, Copy, Debug, PartialEq, Eq)]
 pub enum Tag {
-    /// The start of the page, with its policy, up to the title.
+    /// The start of the page, with its policy, up to the text of the title.
     Begin,
-    /// The start of the style.
-    StyleStart,
-    /// The style.
+    /// The end of the title, and the style.
     Style,
-    /// The start of the body, up to the number of sessions.
-    BodyStart,
-    /// The start of the header, up to the title.
-    HeaderStart,
-    /// The rest of the header.
+    /// The end of the header's title, and the rest of the header.
     Header,
-    /// The footer and the start of the script.
-    ScriptStart,
-    /// The script.
+    /// The footer, the script, and the end of the page.
     Script,
-    /// The end of the script and of the page.
-    ScriptEnd,
     /// A leading sentence.
     Lead,
     /// A paragraph.
@@ -60,34 +51,10 @@ pub enum Tag {
     BlockEnd,
     /// A span.
     Span,
-    /// The end of a span and the start of a row of the overview, up to its width.
-    MapStart,
-    /// What comes before the label of a row of the overview.
-    MapLabel,
-    /// The end of a tag whose last attribute is quoted.
-    TagEnd,
+    /// The end of the name of a row of the overview.
+    MapName,
     /// The end of a row of the overview.
     MapEnd,
-    /// The start of the tick of an untouched line, up to its place.
-    TickUntouched,
-    /// The start of the tick of a cancelled line.
-    TickCancelled,
-    /// The start of the tick of a line with another result.
-    TickChanged,
-    /// The start of the tick of a line with the same result.
-    TickAlike,
-    /// The start of the tick of a line that is kept.
-    TickKept,
-    /// The end of a tick with a link.
-    TickEnd,
-    /// The end of a tick without a link.
-    ShortTickEnd,
-    /// The start of a link to a line, up to its number.
-    LinkStart,
-    /// The start of a link to a line with another result.
-    LinkChanged,
-    /// The start of a link to a line with the same result.
-    LinkAlike,
     /// The end of a link.
     LinkEnd,
     /// The boxes that show and hide lines.
@@ -112,7 +79,7 @@ pub enum Tag {
     Restore,
     /// The end of a section's head.
     HeadEnd,
-    /// The head of the section of people.
+    /// The head of the section of whom to tell.
     Tell,
     /// The head of the section of lines.
     Lines,
@@ -120,18 +87,12 @@ pub enum Tag {
     LinesEnd,
     /// The end of a section.
     SectionEnd,
-    /// The head of a person's part.
+    /// The head of a session's part.
     Person,
     /// The end of that head.
     PersonEnd,
     /// The row of a cancelled line.
     Effect,
-    /// A bar of a line that led to others, up to how many percent have another result.
-    Bar,
-    /// What comes before how many percent have the same result.
-    BarAlike,
-    /// The end of a bar.
-    BarEnd,
     /// How much was seen.
     Leak,
     /// The end of that.
@@ -142,7 +103,7 @@ pub enum Tag {
     Added,
     /// The row of a path that goes.
     Removed,
-    /// The row of what a person is told about.
+    /// The row of what a session is told about.
     Subject,
     /// What comes after how often something was seen.
     Times,
@@ -194,38 +155,12 @@ pub enum Tag {
     FigureEnd,
     /// The heads of the columns.
     Columns,
-    /// The head of a column, up to its number.
-    Column,
     /// The end of a span.
     SpanEnd,
-    /// What comes after the address of a cancelled line.
-    LineCancelled,
-    /// What comes after the address of a line with another result.
-    LineChanged,
-    /// What comes after the address of a line with another result that somebody saw.
-    LineTold,
-    /// What comes after the address of a line with the same result.
-    LineAlike,
-    /// What comes after the address of a line that is kept.
-    LineKept,
-    /// What comes after the address of an untouched line.
-    LineUntouched,
     /// What comes before a line's time.
     LineTime,
     /// What comes before the name of a line's session.
     LineName,
-    /// What comes before a line's column.
-    LineColumn,
-    /// The sign of a cancelled line.
-    SignCancelled,
-    /// The sign of a line with another result.
-    SignChanged,
-    /// The sign of a line with the same result.
-    SignAlike,
-    /// The sign of a line that is kept.
-    SignKept,
-    /// The sign of an untouched line.
-    SignUntouched,
     /// The end of what the closed row of a line shows.
     LineEnd,
     /// What the row of a line has inside, up to the line's number.
@@ -251,16 +186,10 @@ impl Tag {
         match self {
             Tag::Begin =>
                 "<!doctype html><html lang=en><meta charset=utf-8><meta name=viewport content=\"width=device-width\"><meta http-equiv=Content-Security-Policy content=\"default-src 'none'; style-src 'unsafe-inline'; script-src 'sha256-RecdBngLGHf2XbiOLeTrnCvwPvPErXDENIM4Du3o3Wg='\"><title>",
-            Tag::StyleStart => "</title><style>",
             Tag::Style => STYLE,
-            Tag::BodyStart => "</style><body style=\"--n:",
-            Tag::HeaderStart => "\"><header><h1>",
             Tag::Header =>
                 "</h1><nav><a href=#cancelled>Cancelled</a><a href=#restore>Restore</a><a href=#tell>Tell</a><a href=#lines>Lines</a></nav><input id=q type=search placeholder=\"/ to search\" aria-label=\"search lines\" hidden><label title=\"dark\"><input type=checkbox id=dark>&#9680;</label></header><main>",
-            Tag::ScriptStart =>
-                "</main><footer>/ search, j and k go through lines, o opens, e opens all</footer><script>",
             Tag::Script => SCRIPT,
-            Tag::ScriptEnd => "</script></body></html>\n",
             Tag::Lead => "<p class=lead>",
             Tag::Paragraph => "<p>",
             Tag::Small => "<p class=io>",
@@ -279,20 +208,8 @@ impl Tag {
             Tag::Map => "<div class=map>",
             Tag::BlockEnd => "</div>",
             Tag::Span => "<span>",
-            Tag::MapStart => "</span><svg viewBox=\"0 0 ",
-            Tag::MapLabel => " 10\" preserveAspectRatio=none role=img aria-label=\"lines of ",
-            Tag::TagEnd => "\">",
+            Tag::MapName => "</title>",
             Tag::MapEnd => "</svg>",
-            Tag::TickUntouched => "<path class=u d=\"M",
-            Tag::TickCancelled => "<path class=c d=\"M",
-            Tag::TickChanged => "<path class=r d=\"M",
-            Tag::TickAlike => "<path class=s d=\"M",
-            Tag::TickKept => "<path class=k d=\"M",
-            Tag::TickEnd => ".5 0v10\"/></a>",
-            Tag::ShortTickEnd => ".5 3v4\"/>",
-            Tag::LinkStart => "<a href=\"#l",
-            Tag::LinkChanged => "<a class=r href=\"#l",
-            Tag::LinkAlike => "<a class=s href=\"#l",
             Tag::LinkEnd => "</a>",
             Tag::Key => "<form class=key>",
             Tag::KeyCancelled =>
@@ -317,9 +234,6 @@ impl Tag {
             Tag::Person => "<h3>",
             Tag::PersonEnd => "</h3>",
             Tag::Effect => "<details class=\"f c\"><summary><i>",
-            Tag::Bar => "<b class=bar style=\"--p:",
-            Tag::BarAlike => ";--q:",
-            Tag::BarEnd => "\"></b>",
             Tag::Leak => "<mark>",
             Tag::LeakEnd => "</mark>",
             Tag::Modified => "<details class=\"f change\"><summary><i>M</i><code>",
@@ -351,22 +265,9 @@ impl Tag {
             Tag::WouldSee => "<figure><figcaption>would have seen</figcaption><pre>\n",
             Tag::FigureEnd => "</pre></figure>",
             Tag::Columns => "<div class=head><b></b><time></time>",
-            Tag::Column => "<span style=\"--i:",
             Tag::SpanEnd => "</span>",
-            Tag::LineCancelled => " class=\"l c\"><summary><b>",
-            Tag::LineChanged => " class=\"l r\"><summary><b>",
-            Tag::LineTold => " class=\"l r w\"><summary><b>",
-            Tag::LineAlike => " class=\"l s\"><summary><b>",
-            Tag::LineKept => " class=\"l k\"><summary><b>",
-            Tag::LineUntouched => " class=\"l u\"><summary><b>",
             Tag::LineTime => "</b> <time>",
             Tag::LineName => "</time> <b class=who>",
-            Tag::LineColumn => "</b> <code style=\"--i:",
-            Tag::SignCancelled => "\" title=\"cancelled\"><i>&#10005;</i>",
-            Tag::SignChanged => "\" title=\"run again, another result\"><i>&#8635;</i>",
-            Tag::SignAlike => "\" title=\"run again, the same result\"><i>=</i>",
-            Tag::SignKept => "\" title=\"met, kept as recorded\"><i>&asymp;</i>",
-            Tag::SignUntouched => "\" title=\"untouched\"><i>&middot;</i>",
             Tag::LineEnd => "</code></summary>",
             Tag::Body => "<div class=b><p class=io>line ",
             Tag::BodyName => ", session <b class=who>",

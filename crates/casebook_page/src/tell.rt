@@ -1,4 +1,4 @@
-//! The section of people to tell.
+//! The section of whom to tell.
 use crate::NoMem;
 use crate::contents::Contents;
 use crate::html::Html;
@@ -23,6 +23,7 @@ fn push_subject(html: &mut Html, alloc: Global, subject: &Subject) -> Result<(),
         }
         Subject::Status => html.words(alloc, "the status"),
         Subject::Text => html.words(alloc, "a replaced line"),
+        Subject::Again => html.words(alloc, "run again with all others"),
     }
 }
 
@@ -85,8 +86,8 @@ fn push_group(
     html.fixed(Tag::DetailsEnd)
 }
 
-/// Appends the name of a person.
-fn push_person(
+/// Appends the name of a session.
+fn push_session(
     html: &mut Html,
     alloc: Global,
     contents: Contents<'_, '_>,
@@ -98,7 +99,7 @@ fn push_person(
     html.fixed(Tag::PersonEnd)
 }
 
-/// Appends the section of people to tell: by person, and by what the lines are about. No person and
+/// Appends the section of whom to tell: by session, and by what the lines are about. No session and
 /// no line is left out.
 pub(crate) fn push_tell(
     html: &mut Html,
@@ -110,7 +111,7 @@ pub(crate) fn push_tell(
     html.fixed(Tag::Tell)?;
     for group in &groups {
         if last != Some(group.session) {
-            push_person(html, alloc, contents, group.session)?;
+            push_session(html, alloc, contents, group.session)?;
         }
         last = Some(group.session);
         push_group(html, alloc, contents, group)?;
