@@ -1,5 +1,6 @@
 pub mod CallLemmas
 pub mod CheckLemmas
+pub mod HarmlessLemmas
 pub mod KindLemmas
 pub mod Known
 pub mod NamedLemmas

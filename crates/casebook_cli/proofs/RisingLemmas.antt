@@ -92,29 +92,30 @@ redone_rise low (v ∷ verdicts) rise =
         let less = ltb-true low v.0 over in
         from_lower low v.0 (redone_lines verdicts) (omega (arith, less)) rest
 
-rises : (r : RecordingValue) (repair : Repair) (summary : Summary) → VerdictsRise repair
-    → AreFates r repair repair.verdicts.items summary.fates.items → AreReasons r repair summary.reasons.items
+rises : (edits : List Edit) (r : RecordingValue) (repair : Repair) (summary : Summary) → VerdictsRise repair
+    → AreFates r repair repair.verdicts.items summary.fates.items → AreReasons edits r repair summary.reasons.items
     → Rise summary
-rises r repair summary verdicts fates reasons = (
+rises edits r repair summary verdicts fates reasons = (
   ap (rises_from 0) (fate_numbers r repair repair.verdicts.items summary.fates.items fates) ∙ verdicts,
   ap (rises_from 0) reasons.lines ∙ redone_rise 0 repair.verdicts.items verdicts,
 )
 
-pub whole_summary : {E : Type 0} (r : RecordingValue) (repair : Repair) (found : Result Summary E) → VerdictsRise repair
+pub whole_summary : {E : Type 0} (edits : List Edit) (r : RecordingValue) (repair : Repair) (found : Result Summary E)
+    → VerdictsRise repair
     → IfOk found (λ s. s.unknown.items ≡ unknown_in r repair.recording)
     → IfOk found (λ s. s.doubtful.items
     ≡ filter (is_doubtful r repair.recording s.unknown.items) (map path_in s.restorations.items))
     → IfOk found (λ s. AreFates r repair repair.verdicts.items s.fates.items)
-    → IfOk found (λ s. AreReasons r repair s.reasons.items)
+    → IfOk found (λ s. AreReasons edits r repair s.reasons.items)
     → IfOk found (λ s. AreChangedPaths (last_state r.lines r.first).tree (repaired_state repair).tree s.restorations.items)
     → IfOk found (λ s. IsTrue (rises_from 0 (map number_of s.reasons.items))
     → s.notices.items ≡ map (notice_for r s.reasons.items) (filter (is_understood s.unknown.items) (tellings repair)))
     → IfOk found (λ s. s.leaks.items ≡ map (leak_for r) (filter (is_understood s.unknown.items) (leaks repair)))
     → IfOk found (λ s. IsTrue (rises_from 0 (map number_of s.reasons.items))
     → map effect_value s.effects.items ≡ effects_of r s.reasons.items s.fates.items)
-    → IfOk found (IsSummary r repair)
-whole_summary r repair (Ok s) verdicts unknown doubtful fates reasons restorations notices leaked effects =
-    let both : Rise s = rises r repair s verdicts fates reasons in
+    → IfOk found (IsSummary edits r repair)
+whole_summary edits r repair (Ok s) verdicts unknown doubtful fates reasons restorations notices leaked effects =
+    let both : Rise s = rises edits r repair s verdicts fates reasons in
     record {
       fates = fates;
       reasons = reasons;
@@ -126,4 +127,4 @@ whole_summary r repair (Ok s) verdicts unknown doubtful fates reasons restoratio
       effects = effects both.1;
       rise = both;
     }
-whole_summary r repair (Err e) verdicts unknown doubtful fates reasons restorations notices leaked effects = tt
+whole_summary edits r repair (Err e) verdicts unknown doubtful fates reasons restorations notices leaked effects = tt

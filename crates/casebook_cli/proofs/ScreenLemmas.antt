@@ -1,6 +1,7 @@
 -- What a screen and a page show of the case that is asked for.
 use Rattle.std.proofs.Common.{◌≡◌, ℕ, Bool, List, Result, Ok, Err, IfOk, ap, subst, ◌∙◌}
 use Rattle.retro_keep.specs.Recording.{RecordingValue}
+use Rattle.retro_keep.specs.declared.edit.Edit.{Edit}
 use Rattle.retro_redo.specs.declared.repair.Repair.{Repair}
 use Rattle.casebook_json.specs.Summary.{summary_text}
 use Rattle.casebook_screen.specs.Summary.{summary_lines}
@@ -67,13 +68,17 @@ module _ (s : ScreenValue) (parts : Parts) {r : RecordingValue} {restorations : 
   json_of_sheet bytes (Ok text) h = record { parts = parts; are_parts = are_parts; is_text = h ∙ same_text }
   json_of_sheet bytes (Err e) h = tt
 
-module _ {r s : RecordingValue} {repair other : Repair} (is_recording : r ≡ s) (is_repair : repair ≡ other) where
+module _ {edits those : List Edit} {r s : RecordingValue} {repair other : Repair} (are_edits : edits ≡ those)
+    (is_recording : r ≡ s) (is_repair : repair ≡ other) where
   pub shown_same : (labels : Labels) (shown : Shown) (colours : Bool) (text : List ℕ)
-      → IsShownOf r repair labels shown colours text → IsShownOf s other labels shown colours text
+      → IsShownOf edits r repair labels shown colours text → IsShownOf those s other labels shown colours text
   shown_same labels shown colours text h =
-      subst (λ p. IsShownOf s p labels shown colours text) is_repair
-      (subst (λ o. IsShownOf o repair labels shown colours text) is_recording h)
+      subst (λ p. IsShownOf those s p labels shown colours text) is_repair
+      (subst (λ o. IsShownOf those o repair labels shown colours text) is_recording
+      (subst (λ es. IsShownOf es r repair labels shown colours text) are_edits h))
 
-  pub page_same : (all : Bool) (text : List ℕ) → IsPageOf r repair all text → IsPageOf s other all text
+  pub page_same : (all : Bool) (text : List ℕ) → IsPageOf edits r repair all text → IsPageOf those s other all text
   page_same all text h =
-      subst (λ p. IsPageOf s p all text) is_repair (subst (λ o. IsPageOf o repair all text) is_recording h)
+      subst (λ p. IsPageOf those s p all text) is_repair
+      (subst (λ o. IsPageOf those o repair all text) is_recording
+      (subst (λ es. IsPageOf es r repair all text) are_edits h))

@@ -1,14 +1,14 @@
 -- The answers to requests.
-use Rattle.std.specs.Prelude.{◌≡◌, ℕ, Bool, false, List, string_bytes}
+use Rattle.std.specs.Prelude.{◌≡◌, ℕ, Bool, false, IsTrue, List}
 use Rattle.casebook_cli.specs.Checks.{IsChecked}
 use Rattle.casebook_cli.specs.Documents.{AllDocuments}
+use Rattle.casebook_cli.specs.Harmless.{IsHarmless, is_plain}
 use Rattle.casebook_cli.specs.Inputs.{AreInputs, InputsValue}
 use Rattle.casebook_cli.specs.Lines.{AreLines}
 use Rattle.casebook_cli.specs.Pages.{IsPage}
 use Rattle.casebook_cli.specs.Repairs.{sources_of}
 use Rattle.casebook_cli.specs.Request.{Query, Request, ask, check, help, help_text, lines, page, show}
 use Rattle.casebook_cli.specs.Screens.{IsShown}
-use Rattle.casebook_cli.specs.declared.answer.Answer.{Answer}
 
 -- an answer: its text, and whether it says that what was asked about isn't in order
 pub record AnswerValue : Type 0 where
@@ -30,17 +30,14 @@ AnswersBy colours inputs (show request) answer = Says (IsShown colours inputs re
 AnswersBy colours inputs (page request) answer = Says (IsPage inputs request) answer
 AnswersBy colours inputs (check log) answer = IsChecked inputs.log answer.is_no answer.text
 
--- The answer to a question about the documents that it names.
+-- The answer to a question about the documents that it names. Plain text is harmless on a terminal,
+-- whatever is in the documents.
 pub record AnswersQuery (colours : Bool) (at : AllDocuments) (query : Query) (answer : AnswerValue) : Type 0 where
   pub inputs : InputsValue
   pub are_inputs : AreInputs at (sources_of query) inputs
   pub answers : AnswersBy colours inputs query answer
+  pub harmless : IsTrue (is_plain colours query) → IsHarmless answer.text
 
 abbrev pub Answers : Bool → AllDocuments → Request → AnswerValue → Type 0
 Answers colours at (help topic) answer = answer ≡ saying (help_text topic)
 Answers colours at (ask query) answer = AnswersQuery colours at query answer
-
--- ---- values of the code
-
-abbrev pub answer_view : Answer → AnswerValue
-answer_view answer = record { text = string_bytes answer.text; is_no = answer.is_no }

@@ -1,7 +1,11 @@
 -- Between which bounds the lines are that are shown: numbers of lines, or times.
-use Rattle.std.specs.Prelude.{ℕ, ℤ, int_le, Bool, true, ◌&&◌, ◌||◌, ◌==◌, List, Option, Some, None, is_some, option_and_then, option_map}
-use Rattle.std.specs.List.{filter, list_any}
-use Rattle.casebook_about.specs.Time.{second_in}
+use Rattle.std.specs.Prelude.{ℕ, ℤ, int_le, Bool, true, false, ◌&&◌, ◌||◌, List, fold}
+use Rattle.std.specs.Prelude.{Option, Some, None, is_some, option_and_then, option_map, unwrap_or}
+use Rattle.std.specs.FinMap as map
+use Rattle.std.specs.FinMap.{FinMap}
+use Rattle.std.specs.List.{filter}
+use Rattle.std.specs.Ordering.{nat_cmp}
+use Rattle.casebook_about.specs.Time.{last_second_in, second_in}
 use Rattle.casebook_text.specs.Numbers.{number_in}
 use Rattle.casebook_view.specs.Rows.{RowValue}
 use Rattle.casebook_cli.specs.declared.bound.Bound.{Bound}
@@ -25,6 +29,10 @@ number_or_time None second = option_map Second second
 unfoldable pub bound_in : List ℕ → Option Bound
 bound_in text = number_or_time (number_in text) (second_in text)
 
+-- the same as the last bound: of a time its last second
+unfoldable pub last_bound_in : List ℕ → Option Bound
+last_bound_in text = number_or_time (number_in text) (last_second_in text)
+
 -- ---- times of lines
 
 abbrev pub is_from : Option ℤ → ℤ → Bool
@@ -45,19 +53,23 @@ abbrev pub has_times : Bounds → Bool
 has_times bounds =
     is_some (option_and_then second_of bounds.from) || is_some (option_and_then second_of bounds.to)
 
--- whether a time is that of the line with a number, and between bounds
-abbrev pub is_time_of : Bounds → ℕ → ℕ × ℤ → Bool
-is_time_of bounds number time = (time.0 == number) && is_between bounds time.1
+-- whether lines were typed between bounds, by their numbers: of several times of a line the last one
+-- counts
+abbrev pub with_time : Bounds → FinMap nat_cmp Bool → ℕ × ℤ → FinMap nat_cmp Bool
+with_time bounds lines time = map.insert lines time.0 (is_between bounds time.1)
 
--- whether the line with a number was typed between bounds, by the times of lines
-abbrev pub is_typed : Bounds → List (ℕ × ℤ) → ℕ → Bool
-is_typed bounds times number = list_any (is_time_of bounds number) times
+abbrev pub typed_lines : Bounds → List (ℕ × ℤ) → FinMap nat_cmp Bool
+typed_lines bounds times = fold (with_time bounds) map.empty times
+
+-- whether the line with a number has a time, and was typed between the bounds
+abbrev pub is_typed : FinMap nat_cmp Bool → ℕ → Bool
+is_typed lines number = unwrap_or (map.get lines number) false
 
 abbrev pub row_of_number : (ℕ → Bool) → RowValue → Bool
 row_of_number has row = has row.number
 
 abbrev pub typed_if : Bool → Bounds → List (ℕ × ℤ) → List RowValue → List RowValue
-typed_if true bounds times rows = filter (row_of_number (is_typed bounds times)) rows
+typed_if true bounds times rows = filter (row_of_number (is_typed (typed_lines bounds times))) rows
 typed_if _ bounds times rows = rows
 
 -- the rows of lines that were typed between bounds: all, if no bound is a time

@@ -30,16 +30,16 @@ refused_line name words refusal place =
 abbrev pub counted_text : List ℕ → List ℕ → ℕ → List ℕ
 counted_text name words count = text_of_lines ((about name words ++ decimal count ++ codes " lines") ∷ [])
 
--- the log is no recording
+-- the log isn't as its lines run
 abbrev pub isnt_line : List ℕ → List ℕ
-isnt_line name = about name (codes "no recording of its lines. The first that isn't as noted:")
+isnt_line name = about name (codes "not as its lines run. The first that isn't as noted:")
 
 -- the lines that say how a line isn't as noted, if there is such a line
 abbrev pub AreUnlike : Option Noted → Unlike → List (List ℕ) → Type 0
 AreUnlike None unlike lines = lines ≡ []
 AreUnlike (Some noted) unlike lines = AreUnlikeLines no_labels unlike.number noted unlike.run lines
 
--- The text says that a log is no recording, and of one of its lines how it isn't as noted.
+-- The text says that a log isn't as its lines run, and of one of its lines how it isn't as noted.
 pub record IsUnlikeText (name : List ℕ) (r : RecordingValue) (unlike : Unlike) (text : List ℕ) : Type 0 where
   pub lines : List (List ℕ)
   pub are_unlike : AreUnlike (noted_at unlike.number r.lines) unlike lines
@@ -50,7 +50,7 @@ pub record SaysYes (name : List ℕ) (r : RecordingValue) (text : List ℕ) : Ty
   pub is_recording : IsRecordingOf (recordings.script_in r) r
   pub shown : text ≡ counted_text name (codes "a recording of its ") (length r.lines)
 
--- The answer says that a log is no recording, and how the first line that isn't as noted differs.
+-- The answer says that a log isn't as its lines run, and how the first line that isn't as noted differs.
 pub record SaysNo (name : List ℕ) (r : RecordingValue) (text : List ℕ) : Type 0 where
   pub unlike : Unlike
   pub first : IsFirstUnlike r unlike

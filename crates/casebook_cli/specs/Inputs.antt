@@ -1,9 +1,6 @@
 -- The documents that a question is about.
-use Rattle.std.specs.Prelude.{◌≡◌, ℕ, List, Option, Some, None, option_map}
+use Rattle.std.specs.Prelude.{◌≡◌, ℕ, List, Option, Some, None}
 use Rattle.casebook_cli.specs.Documents.{AllDocuments}
-use Rattle.casebook_cli.specs.declared.document.Document.{Document}
-use Rattle.casebook_cli.specs.declared.sources.Inputs.{Inputs}
-use Rattle.casebook_cli.specs.declared.sources.Sources.{Sources}
 
 -- a document: its name and its bytes
 pub record DocumentValue : Type 0 where
@@ -39,22 +36,3 @@ pub record AreInputs (at : AllDocuments) (sources : SourcesValue) (inputs : Inpu
   pub log : IsDocument at sources.log inputs.log
   pub list : IsDocumentIf at sources.list inputs.list
   pub about : IsDocumentIf at sources.about inputs.about
-
--- ---- values of the code
-
-abbrev pub document_view : Document → DocumentValue
-document_view document = record { name = document.name.now; bytes = document.bytes.items }
-
-abbrev pub sources_view : Sources → SourcesValue
-sources_view sources = record {
-  log = sources.log.now;
-  list = option_map (λ s. s.now) sources.list;
-  about = option_map (λ s. s.now) sources.about;
-}
-
-abbrev pub inputs_view : Inputs → InputsValue
-inputs_view inputs = record {
-  log = document_view inputs.log;
-  list = option_map document_view inputs.list;
-  about = option_map document_view inputs.about;
-}

@@ -4,6 +4,7 @@ pub mod Checks
 pub mod Colours
 pub mod Documents
 pub mod Exit
+pub mod Harmless
 pub mod Inputs
 pub mod Labels
 pub mod Lines
@@ -17,3 +18,4 @@ pub mod Request
 pub mod Screens
 pub mod Stops
 pub mod Words
+pub mod inner

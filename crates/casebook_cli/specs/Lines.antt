@@ -1,12 +1,13 @@
 -- What text answers a request for rows of lines.
 use Rattle.std.specs.Cmp.Lexicographic.{pointwise}
-use Rattle.std.specs.Prelude.{◌≡◌, ℕ, ◌==◌, ℤ, if◌then◌else◌, Bool, false, List, [], ◌∷◌, ◌++◌, nat_eq, Option, Some, None, Ok, chars, codes, decimal}
-use Rattle.std.specs.Prelude.{fold, length, map, max, option_map}
+use Rattle.std.specs.Prelude.{◌≡◌, ◌≢◌, ℕ, ◌==◌, if◌then◌else◌, Bool, true, false, List, [], ◌∷◌, ◌++◌, nat_eq, Option, Some, None, Ok, chars, decimal}
+use Rattle.std.specs.Prelude.{fold, length, map, max}
 use Rattle.std.specs.List.{filter, join_with_byte, list_any}
 use Rattle.regex.specs.Bytes.{IsReadFromSource, regex_config, regex_pattern, regex_source}
 use Rattle.regex.specs.Patterns.{Re}
 use Rattle.regex.specs.declared.bytes.regex.Regex.{Regex}
 use Rattle.regex_syntax.specs.Verdict.{default_config}
+use Rattle.regex_syntax.specs.declared.Config.{Config}
 use Rattle.retro_keep.specs.Recording.{RecordingValue}
 use Rattle.retro_keep.specs.declared.noted.Noted.{Noted}
 use Rattle.retro_log.specs.Document.{log_in}
@@ -14,8 +15,7 @@ use Rattle.casebook_text.specs.Lists.{comma}
 use Rattle.casebook_text.specs.SafeLine.{text_of_lines, text_of_rows}
 use Rattle.casebook_view.specs.Filters.{FiltersValue}
 use Rattle.casebook_view.specs.Rows.{RowValue, rows_of}
-use Rattle.casebook_view.specs.declared.line_test.LineTest.{LineTest}
-use Rattle.casebook_words.specs.Labels.{name_words}
+use Rattle.casebook_words.specs.Labels.{name_in, name_words}
 use Rattle.casebook_words.specs.declared.labels.Labels.{Labels}
 use Rattle.casebook_screen.specs.Fields.{fields_of}
 use Rattle.casebook_screen.specs.RowTexts.{lines_of_rows}
@@ -25,15 +25,19 @@ use Rattle.casebook_cli.specs.Labels.{AreLabels, times_in}
 use Rattle.casebook_cli.specs.Request.{LinesRequest, Test, of_sessions, test_view}
 use Rattle.casebook_cli.specs.declared.format.Format.{Format}
 use Rattle.casebook_cli.specs.declared.format.Format.TheVariants as formats
-use Rattle.casebook_cli.specs.declared.patterns.Patterns.{Patterns}
 
 -- ---- filters
+
+-- how regular expressions are read: ^ and $ are the ends of a line, and bytes need not be UTF-8
+abbrev pub pattern_config : Config
+pattern_config =
+    record default_config { flags = record (default_config.flags) { multi_line = true }; utf8 = false }
 
 -- A text is read as this regular expression.
 pub record IsPattern (text : List ℕ) (pattern : Re) : Type 0 where
   pub regex : Regex
   pub source : regex_source regex ≡ text
-  pub config : regex_config regex ≡ (record default_config { utf8 = false })
+  pub config : regex_config regex ≡ pattern_config
   pub read : IsReadFromSource regex
   pub is : regex_pattern regex ≡ pattern
 
@@ -44,9 +48,14 @@ AreRead None (Some pattern) = ⊥
 AreRead (Some text) None = ⊥
 AreRead (Some text) (Some pattern) = IsPattern text pattern
 
--- the sessions of lines that are shown with a name
+-- a name as it was given, or the number of the session if it has none
+abbrev pub name_or_number : ℕ → Option (List ℕ) → List ℕ
+name_or_number session None = decimal session
+name_or_number session (Some name) = name
+
+-- whether a session has a name, or has none and this is its number
 abbrev pub is_named : Labels → List ℕ → ℕ → Bool
-is_named labels name session = pointwise nat_eq (name_words session labels) name
+is_named labels name session = pointwise nat_eq (name_or_number session (name_in session labels)) name
 
 abbrev pub session_of_line : ℕ × Noted → ℕ
 session_of_line line = line.1.sid
@@ -59,27 +68,24 @@ with_number numbers n = if list_any (λ m. m == n) numbers then numbers else num
 abbrev pub sessions_named : Labels → List (ℕ × Noted) → List ℕ → List ℕ
 sessions_named labels lines name = fold with_number [] (filter (is_named labels name) (map session_of_line lines))
 
--- the test that a session is shown with a name, if one is given
+-- the test that a session has a name, if one is given
 abbrev pub user_tests : Labels → List (ℕ × Noted) → Option (List ℕ) → List Test
 user_tests labels lines None = []
 user_tests labels lines (Some name) = of_sessions (sessions_named labels lines name) ∷ []
+
+-- one of some lines is of a session with a name, if one is given
+abbrev pub HasUser : Labels → List (ℕ × Noted) → Option (List ℕ) → Type 0
+HasUser labels lines None = Unit {0}
+HasUser labels lines (Some name) = sessions_named labels lines name ≢ []
 
 -- The filters that a request asks for, of some lines with their names.
 pub record AreFilters (request : LinesRequest) (labels : Labels) (lines : List (ℕ × Noted)) (filters : FiltersValue)
     : Type 0 where
   pub tests : map test_view filters.tests ≡ request.tests ++ user_tests labels lines request.user
+  pub user : HasUser labels lines request.user
   pub text : AreRead request.text filters.text
   pub shown : AreRead request.shown filters.shown
   pub unknown : filters.is_unknown ≡ request.is_unknown
-
--- the filters of tests and patterns of the code
-abbrev pub filters_by : List LineTest → Patterns → Bool → FiltersValue
-filters_by tests patterns is_unknown = record {
-  tests = tests;
-  text = option_map regex_pattern patterns.text;
-  shown = option_map regex_pattern patterns.shown;
-  is_unknown = is_unknown;
-}
 
 -- ---- rows as text
 
@@ -101,21 +107,13 @@ abbrev pub row_number : RowValue → ℕ
 row_number row = row.number
 
 abbrev pub numbers_text : List RowValue → List ℕ
-numbers_text rows = join_with_byte comma (map decimal (map row_number rows)) ++ codes "\n"
+numbers_text rows = text_of_lines (join_with_byte comma (map decimal (map row_number rows)) ∷ [])
 
 -- rows in a format
 abbrev pub rows_text : Format → Labels → ℕ → List RowValue → List ℕ
 rows_text formats.Text labels width rows = shown_text labels width rows
 rows_text formats.Tsv labels width rows = table_text labels rows
 rows_text formats.Numbers labels width rows = numbers_text rows
-
--- The rows are those of the lines of a recording that pass the tests of a request, in which patterns are found, that
--- aren't understood if only such lines are asked for, and that were typed between its bounds.
-pub record AreAskedRows (request : LinesRequest) (labels : Labels) (times : List (ℕ × ℤ)) (r : RecordingValue)
-    (patterns : Patterns) (rows : List RowValue) : Type 0 where
-  pub tests : List LineTest
-  pub are_tests : map test_view tests ≡ request.tests ++ user_tests labels r.lines request.user
-  pub are_rows : rows ≡ typed request.bounds times (rows_of (filters_by tests patterns request.is_unknown) r)
 
 -- ---- the answer
 

@@ -29,6 +29,7 @@ problem_words problems.NotText = codes "a word of the command line isn't UTF-8"
 problem_words problems.Words = codes "these words are no command with its options; see casebook help"
 problem_words problems.Topic = codes "there is no help on this; see casebook help"
 problem_words problems.NoLog = codes "no LOG is given; see casebook help"
+problem_words problems.InputTwice = codes "- is standard input, which can be named once"
 problem_words problems.NoList = codes "no --cancel LIST is given; see casebook help show"
 problem_words problems.Replace = codes "--replace: not a list like [[4,\"cat f\"]]"
 problem_words problems.Workers = codes "--workers: not a number"
@@ -145,6 +146,7 @@ about_message name fault = said_of name (about_words fault) ++ about_place fault
 unfoldable pub stop_message : Stop → List ℕ
 stop_message (stops.BadWords problem) = said (problem_words problem)
 stop_message (stops.BadPattern searched) = said (searched_words searched)
+stop_message stops.NoUser = said (codes "--user: no line is of a session with this name")
 stop_message (stops.BadLog name refusal) = log_message name.now refusal
 stop_message (stops.BadText name) = said_of name.now (codes "not UTF-8")
 stop_message (stops.BadAbout name fault) = about_message name.now fault

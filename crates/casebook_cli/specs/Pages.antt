@@ -1,8 +1,9 @@
 -- The page of a repair.
 use Rattle.std.specs.Prelude.{ℕ, Bool, List}
 use Rattle.retro_keep.specs.Recording.{RecordingValue}
+use Rattle.retro_keep.specs.declared.edit.Edit.{Edit}
 use Rattle.retro_redo.specs.declared.repair.Repair.{Repair}
-use Rattle.casebook_page.specs.Page.{IsHtml}
+use Rattle.casebook_page.specs.Page.{IsPageText}
 use Rattle.casebook_page.specs.Rows.{shows_untouched, written_lines}
 use Rattle.casebook_view.specs.declared.summary.Summary.{Summary}
 use Rattle.casebook_cli.specs.Inputs.{InputsValue}
@@ -11,15 +12,16 @@ use Rattle.casebook_cli.specs.Request.{PageRequest}
 use Rattle.casebook_cli.specs.Screens.{IsSummary}
 use Rattle.casebook_cli.specs.declared.repairs.Asked.{Asked}
 
--- The text is a page with a row for each line of the recording, but for untouched lines if they are many and not
--- all are asked for.
-pub record IsPageOf (r : RecordingValue) (repair : Repair) (all : Bool) (text : List ℕ) : Type 0 where
+-- The text is a page with a row for each line of the recording, but for untouched lines if they are
+-- many and not all are asked for.
+pub record IsPageOf (edits : List Edit) (r : RecordingValue) (repair : Repair) (all : Bool) (text : List ℕ)
+    : Type 0 where
   pub summary : Summary
-  pub is_summary : IsSummary r repair summary
-  pub html : IsHtml (written_lines (shows_untouched all summary.fates.items) summary.fates.items) text
+  pub is_summary : IsSummary edits r repair summary
+  pub page : IsPageText (written_lines (shows_untouched all summary.fates.items) summary.fates.items) text
 
 -- The text is a page of the repair of the log that is asked for.
 pub record IsPage (inputs : InputsValue) (request : PageRequest) (text : List ℕ) : Type 0 where
   pub asked : Asked
   pub is_asked : IsAsked inputs request.repair asked
-  pub is_page : IsPageOf asked.recording asked.repair request.all text
+  pub is_page : IsPageOf asked.edits.items asked.recording asked.repair request.all text

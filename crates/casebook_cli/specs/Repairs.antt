@@ -10,15 +10,17 @@ use Rattle.retro_keep.specs.declared.noted.Noted.{Noted}
 use Rattle.retro_keep.specs.declared.edit.Edit.{Edit}
 use Rattle.retro_keep.specs.declared.edit.Edit.TheVariants.{Cancel}
 use Rattle.retro_log.specs.Document.{log_in}
+use Rattle.retro_redo.specs.Editing.{AreAccepted}
 use Rattle.retro_redo.specs.Repair.{IsRepair}
 use Rattle.retro_redo.specs.Settled.{AreSettled}
 use Rattle.retro_redo.specs.declared.repair.Repair.{Repair}
+use Rattle.retro_rounds.specs.Refusals.{IsAccepted}
 use Rattle.casebook_text.specs.ListFile.{list_of_file}
 use Rattle.casebook_text.specs.Item.{Line}
 use Rattle.casebook_text.specs.Lists.{lines_of_list}
 use Rattle.casebook_cli.specs.Inputs.{DocumentValue, InputsValue, SourcesValue}
 use Rattle.casebook_cli.specs.Labels.{AreLabels}
-use Rattle.casebook_cli.specs.Request.{Query, RepairRequest}
+use Rattle.casebook_cli.specs.Request.{Query, RepairRequest, RoundsValue}
 use Rattle.casebook_cli.specs.Request.{check, lines, page, show}
 use Rattle.casebook_cli.specs.declared.repairs.Asked.{Asked}
 
@@ -67,9 +69,17 @@ lines_in r = map line_of r.lines
 
 -- ---- repairs
 
--- The repair of a recording with its lines edited. It is exact if the recording is one of its lines.
--- For any log, also a forged one, it is what choices for its lines come to.
-pub record IsRepairBy (edits : List Edit) (r : RecordingValue) (repair : Repair) : Type 0 where
+-- nothing is refused of edits, nor of how they are made in parallel
+abbrev pub Accepts : Option RoundsValue → List Edit → RecordingValue → Type 0
+Accepts None edits r = AreAccepted edits r
+Accepts (Some rounds) edits r = IsAccepted rounds.workers rounds.cuts edits r
+
+-- The repair of a recording with its lines edited, of which nothing is refused. It is exact if the
+-- recording is one of its lines. For any log, also a forged one, it is what choices for its lines
+-- come to.
+pub record IsRepairBy (rounds : Option RoundsValue) (edits : List Edit) (r : RecordingValue) (repair : Repair)
+    : Type 0 where
+  pub accepted : Accepts rounds edits r
   pub is_repair : IsRecordingOf (recordings.script_in r) r → IsRepair (edit_of edits) r repair
   pub settled : AreSettled (edit_of edits) r repair
 
@@ -92,7 +102,6 @@ pub record IsAsked (inputs : InputsValue) (request : RepairRequest) (asked : Ask
   pub log : log_in inputs.log.bytes ≡ Ok asked.recording
   pub list : List ℕ
   pub is_list : IsListGiven request.cancel inputs.list list
-  pub edits : List Edit
-  pub are_edits : AreEdits list request.replacements asked.recording edits
-  pub is_repair : IsRepairBy edits asked.recording asked.repair
+  pub are_edits : AreEdits list request.replacements asked.recording asked.edits.items
+  pub is_repair : IsRepairBy request.rounds asked.edits.items asked.recording asked.repair
   pub labels : AreLabels inputs.about asked.labels

@@ -1,6 +1,6 @@
 -- What the words of the command line ask for.
 use Rattle.std.specs.Prelude.{ℕ, ◌-◌, ◌==◌, Bool, true, false, ◌&&◌, ◌||◌, List, [], ◌∷◌, ◌++◌, Option, Some, None, Result, Ok, Err, codes}
-use Rattle.std.specs.Prelude.{if◌then◌else◌, is_none, is_some, length, map, nat_eq, ok_or, option_and_then, option_map}
+use Rattle.std.specs.Prelude.{if◌then◌else◌, is_none, is_some, length, nat_eq, ok_or, option_and_then, option_map}
 use Rattle.std.specs.List.{slice_get}
 use Rattle.std.specs.Cmp.Lexicographic.{pointwise}
 use Rattle.clap.specs.Words.{Text, first_of}
@@ -8,14 +8,13 @@ use Rattle.retro_path.specs.Ascii.{slash}
 use Rattle.retro_path.specs.Resolving.{resolve}
 use Rattle.retro_path.specs.declared.resolving.Resolved.{Resolved}
 use Rattle.retro_path.specs.declared.resolving.Resolved.TheVariants.{Is, Empty, LongName}
-use Rattle.retro_tree.specs.OutOfMemory.{UnlessOutOfMemory}
 use Rattle.retro_json.specs.Replacements.{replacements_in}
 use Rattle.retro_keep.specs.declared.edit.Edit.{Edit}
 use Rattle.casebook_text.specs.Numbers.{number_in}
 use Rattle.casebook_view.specs.declared.line_test.LineTest.{LineTest}
 use Rattle.casebook_view.specs.declared.line_test.LineTest.TheVariants.{Sessions, From, To, Reads, Writes, Touches}
 use Rattle.casebook_view.specs.declared.path_test.PathTest.{PathTest}
-use Rattle.casebook_cli.specs.Bounds.{bound_in, has_times, line_of}
+use Rattle.casebook_cli.specs.Bounds.{bound_in, has_times, last_bound_in, line_of}
 use Rattle.casebook_cli.specs.Numbers.{numbers_in}
 use Rattle.casebook_cli.specs.Words.{Call, Named, bad, called, named_in, nothing}
 use Rattle.casebook_cli.specs.declared.bound.Bound.{Bound}
@@ -23,24 +22,13 @@ use Rattle.casebook_cli.specs.declared.bounds.Bounds.{Bounds}
 use Rattle.casebook_cli.specs.declared.format.Format.{Format}
 use Rattle.casebook_cli.specs.declared.format.Format.TheVariants as formats
 use Rattle.casebook_cli.specs.declared.help.TheConstants.{PROGRAM, LINES, SHOW, PAGE, CHECK, LISTS, DOCUMENTS, REFUSALS, PROFILE}
-use Rattle.casebook_cli.specs.declared.lines_request.LinesRequest.{LinesRequest as LinesCode}
 use Rattle.casebook_cli.specs.declared.problem.Problem.{Problem}
 use Rattle.casebook_cli.specs.declared.problem.Problem.TheVariants as problems
-use Rattle.casebook_cli.specs.declared.query.Query.{Query as QueryCode}
-use Rattle.casebook_cli.specs.declared.query.Query.TheVariants as queries
-use Rattle.casebook_cli.specs.declared.repair_request.PageRequest.{PageRequest as PageCode}
-use Rattle.casebook_cli.specs.declared.repair_request.RepairRequest.{RepairRequest as RepairCode}
-use Rattle.casebook_cli.specs.declared.repair_request.ShowRequest.{ShowRequest as ShowCode}
-use Rattle.casebook_cli.specs.declared.request.Request.{Request as RequestCode}
-use Rattle.casebook_cli.specs.declared.request.Request.TheVariants as requests
-use Rattle.casebook_cli.specs.declared.rounds.Rounds.{Rounds as RoundsCode}
 use Rattle.casebook_cli.specs.declared.shown.Extras.{Extras}
 use Rattle.casebook_cli.specs.declared.shown.Shown.{Shown}
 use Rattle.casebook_cli.specs.declared.shown.Shown.TheVariants as parts
 use Rattle.casebook_cli.specs.declared.topic.Topic.{Topic}
 use Rattle.casebook_cli.specs.declared.topic.Topic.TheVariants as topics
-use Rattle.casebook_cli.specs.declared.words.WordsFault.{WordsFault}
-use Rattle.casebook_cli.specs.declared.words.WordsFault.TheVariants as faults
 
 -- ---- requests
 
@@ -228,7 +216,7 @@ with_times bounds about = if has_times bounds && is_none about then Err problems
 abbrev pub bounds_given : Call → Result Bounds Problem
 bounds_given call = do
   from ← read_option problems.From bound_in (given (codes "from") call)
-  to ← read_option problems.To bound_in (given (codes "to") call)
+  to ← read_option problems.To last_bound_in (given (codes "to") call)
   with_times (bounds_with from to) (given (codes "about") call)
 
 -- the tests of paths
@@ -238,6 +226,23 @@ path_tests call = do
   writes ← read_option problems.Writes path_in (given (codes "writes") call)
   touches ← read_option problems.Touches path_in (given (codes "touches") call)
   Ok (of_paths reads writes touches)
+
+-- ---- standard input, which can be read once
+
+abbrev pub is_input : Option Text → Bool
+is_input None = false
+is_input (Some name) = is_text (codes "-") name
+
+-- whether more than one of a log, a list and a document with names and times is standard input
+abbrev pub is_input_twice : Text → Text → Option Text → Bool
+is_input_twice log list about =
+    let from_log = is_text (codes "-") log in
+    let from_list = is_text (codes "@-") list in
+    (from_log && from_list) || ((from_log || from_list) && is_input about)
+
+-- standard input isn't needed twice
+abbrev pub once : Text → Text → Option Text → Result (Unit {0}) Problem
+once log list about = if is_input_twice log list about then Err problems.InputTwice else Ok tt
 
 -- ---- formats
 
@@ -274,6 +279,7 @@ lines_request call = do
   bounds ← bounds_given call
   paths ← path_tests call
   format ← format_given (given (codes "format") call)
+  read ← once log [] (given (codes "about") call)
   Ok (lines_with log bounds (of_numbers session bounds ++ paths) call format)
 
 -- ---- repairs
@@ -327,6 +333,7 @@ repair_request call = do
   cancel ← cancel_given call
   replacements ← replacements_given (given (codes "replace") call)
   rounds ← rounds_given call
+  read ← once log cancel (given (codes "about") call)
   Ok (repair_with log cancel replacements rounds call)
 
 -- whether a repair is shown for programs
@@ -402,57 +409,3 @@ test_view (To n) = at_most n
 test_view (Reads test) = read_path test
 test_view (Writes test) = wrote_path test
 test_view (Touches test) = touched_path test
-
-abbrev pub lines_view : LinesCode → LinesRequest
-lines_view request = record {
-  log = request.log.now;
-  about = option_map (λ s. s.now) request.about;
-  user = option_map (λ s. s.now) request.user;
-  tests = map test_view request.tests.items;
-  bounds = request.bounds;
-  text = option_map (λ s. s.now) request.text;
-  shown = option_map (λ s. s.now) request.shown;
-  is_unknown = request.is_unknown;
-  format = request.format;
-}
-
-abbrev pub rounds_view : RoundsCode → RoundsValue
-rounds_view rounds = record { workers = rounds.workers; cuts = rounds.cuts.items }
-
-abbrev pub repair_view : RepairCode → RepairRequest
-repair_view request = record {
-  log = request.log.now;
-  cancel = request.cancel.now;
-  replacements = request.replacements.items;
-  rounds = option_map rounds_view request.rounds;
-  about = option_map (λ s. s.now) request.about;
-}
-
-abbrev pub show_view : ShowCode → ShowRequest
-show_view request = record { repair = repair_view request.repair; shown = request.shown }
-
-abbrev pub page_view : PageCode → PageRequest
-page_view request = record {
-  repair = repair_view request.repair;
-  title = option_map (λ s. s.now) request.title;
-  all = request.all;
-}
-
-abbrev pub query_view : QueryCode → Query
-query_view (queries.Lines request) = lines (lines_view request)
-query_view (queries.Show request) = show (show_view request)
-query_view (queries.Page request) = page (page_view request)
-query_view (queries.Check log) = check log.now
-
-abbrev pub request_view : RequestCode → Request
-request_view (requests.Help topic) = help topic
-request_view (requests.Ask query) = ask (query_view query)
-
--- what a fault says of the words: what is wrong with them, or None if memory ran out
-abbrev pub refused : {Y : Type 0} → WordsFault → Option (Result Y Problem)
-refused faults.NoMem = None
-refused (faults.Bad problem) = Some (Err problem)
-
--- the result is as defined, unless memory ran out
-abbrev pub Means : {X Y : Type 0} → (X → Y) → Result X WordsFault → Result Y Problem → Type 0
-Means view result meant = UnlessOutOfMemory (λ x. Ok (view x)) refused result meant

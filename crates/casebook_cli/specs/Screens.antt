@@ -4,6 +4,7 @@ use Rattle.std.specs.List.{filter}
 use Rattle.retro_keep.specs.Recording.{RecordingValue, IsRecordingOf, last_state, noted_at}
 use Rattle.retro_keep.specs.Recording as recordings
 use Rattle.retro_keep.specs.Script.{rises_from}
+use Rattle.retro_keep.specs.declared.edit.Edit.{Edit}
 use Rattle.retro_redo.specs.Repair.{repaired_state}
 use Rattle.retro_redo.specs.declared.repair.Repair.{Repair}
 use Rattle.casebook_cause.specs.ChangedPaths.{AreChangedPaths, path_in}
@@ -30,7 +31,6 @@ use Rattle.casebook_cli.specs.Request.{ShowRequest}
 use Rattle.casebook_cli.specs.declared.repairs.Asked.{Asked}
 use Rattle.casebook_cli.specs.Colours.{shown_lines}
 use Rattle.casebook_cli.specs.declared.screens.Parts.{Parts}
-use Rattle.casebook_cli.specs.declared.screens.Screen.{Screen}
 use Rattle.casebook_json.specs.Summary.{summary_text}
 use Rattle.casebook_cli.specs.declared.shown.Extras.{Extras}
 use Rattle.casebook_cli.specs.declared.shown.Shown.{Shown}
@@ -44,10 +44,10 @@ Rise summary =
     IsTrue (rises_from 0 (map (λ f. f.0) summary.fates.items))
     × IsTrue (rises_from 0 (map number_in summary.reasons.items))
 
--- What a repair would do.
-pub record IsSummary (r : RecordingValue) (repair : Repair) (summary : Summary) : Type 0 where
+-- What a repair by edits would do.
+pub record IsSummary (edits : List Edit) (r : RecordingValue) (repair : Repair) (summary : Summary) : Type 0 where
   pub fates : AreFates r repair repair.verdicts.items summary.fates.items
-  pub reasons : AreReasons r repair summary.reasons.items
+  pub reasons : AreReasons edits r repair summary.reasons.items
   pub restorations : AreChangedPaths (last_state r.lines r.first).tree (repaired_state repair).tree
       summary.restorations.items
   pub unknown : summary.unknown.items ≡ unknown_in r repair.recording
@@ -69,7 +69,8 @@ pub record ScreenValue : Type 0 where
   pub width : ℕ
   pub colours : Bool
 
--- What a summary shows beside what the repair would do. It says that the log is a recording only if it is one.
+-- What a summary shows beside what the repair would do. It says that the log is as its lines run only if it is a
+-- recording of them.
 pub record IsSheet (s : ScreenValue) (restorations : List Restoration) (groups : List Group) (is_recording : Bool)
     : Type 0 where
   pub are_restorations : AreRestorations (last_state s.recording.lines s.recording.first).tree
@@ -128,11 +129,11 @@ IsTextOf (parts.Summary extras) s text = IsScreenText extras s text
 IsTextOf (parts.Line number) s text = IsLineText number s text
 IsTextOf parts.Json s text = IsJson s text
 
--- The text shows a recording and its repair.
-pub record IsShownOf (r : RecordingValue) (repair : Repair) (labels : Labels) (shown : Shown) (colours : Bool)
-    (text : List ℕ) : Type 0 where
+-- The text shows a recording and its repair by edits.
+pub record IsShownOf (edits : List Edit) (r : RecordingValue) (repair : Repair) (labels : Labels) (shown : Shown)
+    (colours : Bool) (text : List ℕ) : Type 0 where
   pub summary : Summary
-  pub is_summary : IsSummary r repair summary
+  pub is_summary : IsSummary edits r repair summary
   pub is_text : IsTextOf shown (record {
     recording = r;
     repair = repair;
@@ -146,16 +147,4 @@ pub record IsShownOf (r : RecordingValue) (repair : Repair) (labels : Labels) (s
 pub record IsShown (colours : Bool) (inputs : InputsValue) (request : ShowRequest) (text : List ℕ) : Type 0 where
   pub asked : Asked
   pub is_asked : IsAsked inputs request.repair asked
-  pub is_shown : IsShownOf asked.recording asked.repair asked.labels request.shown colours text
-
--- ---- values of the code
-
-abbrev pub screen_view : Screen → ScreenValue
-screen_view screen = record {
-  recording = screen.case.now.recording;
-  repair = screen.case.now.repair;
-  summary = screen.summary.now;
-  labels = screen.names.labels.now;
-  width = screen.names.width;
-  colours = screen.colours;
-}
+  pub is_shown : IsShownOf asked.edits.items asked.recording asked.repair asked.labels request.shown colours text

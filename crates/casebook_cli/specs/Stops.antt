@@ -1,13 +1,13 @@
 -- Why there is no answer.
-use Rattle.std.specs.Prelude.{◌≡◌, ◌≢◌, ℕ, ℤ, false, List, Option, Some, None, Ok, Err}
+use Rattle.std.specs.Prelude.{◌≡◌, ◌≢◌, ℕ, ℤ, false, List, [], Option, Some, None, Ok, Err}
 use Rattle.std.specs.List.{slice_get}
 use Rattle.std.specs.Str.{IsUtf8}
 use Rattle.regex.specs.Sources.{IsRefusal as IsRefusedAs}
 use Rattle.regex.specs.declared.error.Error.{Error}
 use Rattle.regex.specs.declared.error.Error.TheVariants.{OutOfMemory}
-use Rattle.regex_syntax.specs.Verdict.{default_config}
 use Rattle.retro_keep.specs.Recording.{RecordingValue, noted_at}
 use Rattle.retro_keep.specs.declared.edit.Edit.{Edit}
+use Rattle.retro_keep.specs.declared.noted.Noted.{Noted}
 use Rattle.retro_log.specs.Document.{log_in}
 use Rattle.retro_redo.specs.Editing.{Refuses}
 use Rattle.retro_redo.specs.RepairFault.{fault_number}
@@ -17,9 +17,11 @@ use Rattle.retro_rounds.specs.Refusals.{IsRefusal}
 use Rattle.casebook_about.specs.About.{AboutView, about_in}
 use Rattle.casebook_text.specs.Item.{Line}
 use Rattle.casebook_text.specs.Lists.{lines_of_list}
+use Rattle.casebook_words.specs.declared.labels.Labels.{Labels}
 use Rattle.casebook_cli.specs.Documents.{AllDocuments}
 use Rattle.casebook_cli.specs.Inputs.{AreInputs, DocumentValue, InputsValue, SourcesValue}
-use Rattle.casebook_cli.specs.Labels.{IsAbout}
+use Rattle.casebook_cli.specs.Labels.{AreLabels, IsAbout}
+use Rattle.casebook_cli.specs.Lines.{pattern_config, sessions_named}
 use Rattle.casebook_cli.specs.Repairs.{AreEdits, IsAsked, IsListGiven, lines_in, sources_of}
 use Rattle.casebook_cli.specs.Request.{LinesRequest, Query, RepairRequest, Request, RoundsValue, ShowRequest, ask, check, help, lines, page, request_in, show}
 use Rattle.casebook_cli.specs.declared.repairs.Asked.{Asked}
@@ -93,7 +95,7 @@ pub record IsNoPattern (given : Option (List ℕ)) : Type 0 where
   pub is : given ≡ Some text
   pub error : Error
   pub memory : error ≢ OutOfMemory
-  pub refused : IsRefusedAs (record default_config { utf8 = false }) text error
+  pub refused : IsRefusedAs pattern_config text error
 
 -- a pattern is refused
 abbrev pub StopsPattern : Option (List ℕ) → Searched → Stop → Type 0
@@ -105,10 +107,19 @@ pub data StopsPatterns (request : LinesRequest) (stop : Stop) : Type 0 where
   no_text : StopsPattern request.text searched_in.Text stop → StopsPatterns request stop
   no_shown : StopsPattern request.shown searched_in.Shown stop → StopsPatterns request stop
 
+-- no line is of a session with the name that is given
+abbrev pub StopsUser : Labels → List (ℕ × Noted) → Option (List ℕ) → Stop → Type 0
+StopsUser labels known (Some name) stops.NoUser = sessions_named labels known name ≡ []
+StopsUser labels known user stops.OutOfMemory = Unit {0}
+StopsUser labels known user other = ⊥
+
 pub data StopsLines (inputs : InputsValue) (request : LinesRequest) (stop : Stop) : Type 0 where
   no_patterns : StopsPatterns request stop → StopsLines inputs request stop
   no_labels : StopsLabels inputs.about stop → StopsLines inputs request stop
   no_log : StopsLog inputs.log stop → StopsLines inputs request stop
+  no_user : (r : RecordingValue) (labels : Labels) → log_in inputs.log.bytes ≡ Ok r
+      → AreLabels inputs.about labels → StopsUser labels r.lines request.user stop
+      → StopsLines inputs request stop
   no_memory : stop ≡ stops.OutOfMemory → StopsLines inputs request stop
 
 -- ---- repairs

@@ -1,12 +1,13 @@
 //! Answers to requests.
-ghost use Rattle.std.specs.Prelude.{◌≡◌, IfOk, IfErr, IfSome, string_bytes};
-ghost use Rattle.casebook_cli.specs.Answers.{Answers, AnswersBy, AnswersQuery, answer_view, saying};
-ghost use Rattle.casebook_cli.specs.Inputs.{inputs_view};
+ghost use Rattle.std.specs.Prelude.{◌≡◌, IfOk, IfErr, IfSome, IsTrue, string_bytes};
+ghost use Rattle.casebook_cli.specs.Answers.{Answers, AnswersBy, AnswersQuery, saying};
+ghost use Rattle.casebook_cli.specs.Harmless.{IsHarmless, is_plain, is_plain_shown};
 ghost use Rattle.casebook_cli.specs.Pages.{IsPage};
-ghost use Rattle.casebook_cli.specs.Request.{help_text, page_view, query_view, repair_view};
-ghost use Rattle.casebook_cli.specs.Request.{request_view, show_view};
+ghost use Rattle.casebook_cli.specs.Request.{help_text};
 ghost use Rattle.casebook_cli.specs.Screens.{IsShown};
 ghost use Rattle.casebook_cli.specs.Stops.{Stops, StopsAsked, StopsBy, StopsQuery, StopsShow};
+ghost use Rattle.casebook_cli.specs.inner.Views.{answer_view, inputs_view, page_view, query_view};
+ghost use Rattle.casebook_cli.specs.inner.Views.{repair_view, request_view, show_view};
 
 use crate::NoMem;
 use crate::answer::Answer;
@@ -38,6 +39,8 @@ fn show_text<'a, R: Threads + Sync + AllocGlobal, P: Progress>(
 ) -> Result<String, Stop<'a>>
     ensures ok { IfOk result (λ text.
         IsShown colours (inputs_view inputs.now) (show_view request.entry) (string_bytes text)) }
+    ensures harmless { IfOk result (λ text. IsTrue (is_plain_shown colours request.entry.shown)
+        → IsHarmless (string_bytes text)) }
     ensures err { IfErr result (StopsShow (inputs_view inputs.now) (show_view request.entry)) }
 {
     let asked = asked_repair(rt, progress, inputs, request.repair)?;
@@ -71,6 +74,8 @@ fn answer_by<'a, R: Threads + Sync + AllocGlobal, P: Progress>(
 ) -> Result<Answer, Stop<'a>>
     ensures ok { IfOk result (λ answer. AnswersBy colours (inputs_view inputs.now)
         (query_view query.entry) (answer_view answer)) }
+    ensures harmless { IfOk result (λ answer. IsTrue (is_plain colours (query_view query.entry))
+        → IsHarmless (string_bytes answer.text)) }
     ensures err { IfErr result (StopsBy (inputs_view inputs.now) (query_view query.entry)) }
 {
     let text = match query {

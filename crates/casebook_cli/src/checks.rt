@@ -9,29 +9,22 @@ ghost use Rattle.casebook_cli.specs.Checks.{AreUnlike, IsChecked, IsCheckedAs, I
 ghost use Rattle.casebook_cli.specs.Checks.{IsCheckedScript, IsUnlikeText, counted_text};
 ghost use Rattle.casebook_cli.specs.Checks.{SaysWhere, is_for_script, refused_line};
 ghost use Rattle.casebook_place.specs.Place.{IsPlaceInLog, IsPlaceInScript};
-ghost use Rattle.casebook_cli.specs.Inputs.{document_view};
+ghost use Rattle.casebook_cli.specs.Harmless.{IsHarmless};
+ghost use Rattle.casebook_cli.specs.inner.Views.{document_view};
 
 use crate::NoMem;
 use crate::answer::Answer;
 use crate::document::Document;
 use crate::messages::{about, push_refusal};
+use crate::plain::{plain_line, plain_lines};
 use casebook_check::{Unlike, first_unlike, unlike_lines};
 use casebook_place::{Place, place_in_log, place_in_script, push_place};
-use casebook_text::{SafeLine, text_of_lines};
+use casebook_text::SafeLine;
 use casebook_words::Labels;
 use retro_keep::Recording;
 use retro_log::{LogFault, Refusal, read_log, read_script};
 use serde_json::Value;
 use std::alloc::Global;
-
-/// Returns a line as a text.
-fn text_of_line(alloc: Global, line: SafeLine) -> Result<String, NoMem>
-    ensures { IfOk result (λ text. string_bytes text ≡ text_of_lines (line ∷ [])) }
-{
-    let mut lines = Vec::new(alloc);
-    lines.push(line)?;
-    text_of_lines(alloc, lines.as_slice())
-}
 
 /// Returns that a document is refused, after words of what it isn't, and where.
 #[tactic(auto, unfolding(crate::specs::Checks::refused_line))]
@@ -46,13 +39,14 @@ fn refused(
     ensures text { IfOk result (λ answer. string_bytes answer.text
         ≡ text_of_lines (refused_line name.now words.now refusal place.now ∷ [])) }
     ensures no { IfOk result (λ answer. answer.is_no ≡ true) }
+    ensures harmless { IfOk result (λ answer. IsHarmless (string_bytes answer.text)) }
 {
     let mut line = about(alloc, name, words)?;
     push_refusal(alloc, &mut line, refusal)?;
     line.push_ascii(": ")?;
     push_place(alloc, &mut line, place)?;
     Ok(Answer {
-        text: text_of_line(alloc, line)?,
+        text: plain_line(alloc, line)?,
         is_no: true,
     })
 }
@@ -60,12 +54,14 @@ fn refused(
 /// Returns a text about a document, with a number of lines in it.
 fn counted_text(alloc: Global, name: &str, words: &str, count: usize) -> Result<String, NoMem>
     requires { IsTrue (list_all is_printable words.now) }
-    ensures { IfOk result (λ text. string_bytes text ≡ counted_text name.now words.now count) }
+    ensures value { IfOk result (λ text.
+        string_bytes text ≡ counted_text name.now words.now count) }
+    ensures harmless { IfOk result (λ text. IsHarmless (string_bytes text)) }
 {
     let mut line = about(alloc, name, words)?;
     line.push_number(alloc, count as u64)?;
     line.push_ascii(" lines")?;
-    text_of_line(alloc, line)
+    plain_line(alloc, line)
 }
 
 /// Returns how a line of a log isn't as noted, or no lines if the log has no such line.
@@ -90,22 +86,24 @@ fn unlike_text(
     recording: &Recording,
     unlike: &Unlike,
 ) -> Result<String, NoMem>
-    ensures { IfOk result (λ text.
+    ensures unlike { IfOk result (λ text.
         IsUnlikeText name.now recording.now unlike.now (string_bytes text)) }
+    ensures harmless { IfOk result (λ text. IsHarmless (string_bytes text)) }
 {
     let mut lines = Vec::new(alloc);
     lines.push(about(
         alloc,
         name,
-        "no recording of its lines. The first that isn't as noted:",
+        "not as its lines run. The first that isn't as noted:",
     )?)?;
     lines.append(&mut lines_of_unlike(alloc, recording, unlike)?)?;
-    text_of_lines(alloc, lines.as_slice())
+    plain_lines(alloc, lines.as_slice())
 }
 
 /// Returns whether a log is a recording of its lines.
 fn checked_log(alloc: Global, name: &str, recording: &Recording) -> Result<Answer, NoMem>
-    ensures { IfOk result (IsCheckedAs name.now recording.now) }
+    ensures checked { IfOk result (IsCheckedAs name.now recording.now) }
+    ensures harmless { IfOk result (λ answer. IsHarmless (string_bytes answer.text)) }
 {
     match first_unlike(alloc, recording)? {
         None => {
@@ -121,10 +119,11 @@ fn checked_log(alloc: Global, name: &str, recording: &Recording) -> Result<Answe
 
 /// Returns that a document isn't a log, and where.
 fn refused_log(alloc: Global, document: &Document<'_>, refusal: Refusal) -> Result<Answer, NoMem>
-    ensures { IfOk result (λ answer.
+    ensures place { IfOk result (λ answer.
         SaysWhere (IsPlaceInLog (document_view document.now).bytes refusal)
         (document_view document.now).name (codes "not a log: ") refusal answer.is_no
         (string_bytes answer.text)) }
+    ensures harmless { IfOk result (λ answer. IsHarmless (string_bytes answer.text)) }
 {
     let place = place_in_log(alloc, document.bytes.as_slice(), refusal)?;
     refused(alloc, document.name, "not a log: ", refusal, &place)
@@ -132,10 +131,11 @@ fn refused_log(alloc: Global, document: &Document<'_>, refusal: Refusal) -> Resu
 
 /// Returns that a document isn't a script, and where.
 fn refused_script(alloc: Global, document: &Document<'_>, refusal: Refusal) -> Result<Answer, NoMem>
-    ensures { IfOk result (λ answer.
+    ensures place { IfOk result (λ answer.
         SaysWhere (IsPlaceInScript (document_view document.now).bytes refusal)
         (document_view document.now).name (codes "not a script: ") refusal answer.is_no
         (string_bytes answer.text)) }
+    ensures harmless { IfOk result (λ answer. IsHarmless (string_bytes answer.text)) }
 {
     let place = place_in_script(alloc, document.bytes.as_slice(), refusal)?;
     refused(alloc, document.name, "not a script: ", refusal, &place)
@@ -143,8 +143,9 @@ fn refused_script(alloc: Global, document: &Document<'_>, refusal: Refusal) -> R
 
 /// Returns whether a document is a log and a recording of its lines.
 fn log_answer(alloc: Global, document: &Document<'_>) -> Result<Answer, NoMem>
-    ensures { IfOk result (λ answer. IsCheckedLog (document_view document.now)
+    ensures checked { IfOk result (λ answer. IsCheckedLog (document_view document.now)
         (log_in (document_view document.now).bytes) answer.is_no (string_bytes answer.text)) }
+    ensures harmless { IfOk result (λ answer. IsHarmless (string_bytes answer.text)) }
 {
     match read_log(alloc, document.bytes.as_slice()) {
         Ok(recording) => checked_log(alloc, document.name, &recording),
@@ -155,8 +156,9 @@ fn log_answer(alloc: Global, document: &Document<'_>) -> Result<Answer, NoMem>
 
 /// Returns whether a document is a script.
 fn script_answer(alloc: Global, document: &Document<'_>) -> Result<Answer, NoMem>
-    ensures { IfOk result (λ answer. IsCheckedScript (document_view document.now)
+    ensures checked { IfOk result (λ answer. IsCheckedScript (document_view document.now)
         (script_in (document_view document.now).bytes) answer.is_no (string_bytes answer.text)) }
+    ensures harmless { IfOk result (λ answer. IsHarmless (string_bytes answer.text)) }
 {
     match read_script(alloc, document.bytes.as_slice()) {
         Ok(script) => {
@@ -184,8 +186,9 @@ fn is_for_script(alloc: Global, bytes: &[u8]) -> Result<bool, NoMem>
 
 /// Returns whether a document is a recording of its lines, or a script.
 pub(crate) fn check_answer(alloc: Global, document: &Document<'_>) -> Result<Answer, NoMem>
-    ensures { IfOk result (λ answer. IsChecked (document_view document.now) answer.is_no
+    ensures checked { IfOk result (λ answer. IsChecked (document_view document.now) answer.is_no
         (string_bytes answer.text)) }
+    ensures harmless { IfOk result (λ answer. IsHarmless (string_bytes answer.text)) }
 {
     if is_for_script(alloc, document.bytes.as_slice())? {
         script_answer(alloc, document)

@@ -1,11 +1,13 @@
 //! Colours of a terminal: codes before and after a line (ECMA-48, Select Graphic Rendition).
-ghost use Rattle.std.specs.Prelude.{◌≡◌, ◌++◌, true, IfOk, OnOk, string_bytes};
+ghost use Rattle.std.specs.Prelude.{◌≡◌, ◌++◌, true, not, IfOk, IsTrue, OnOk, string_bytes};
 ghost use Rattle.casebook_cli.specs.Colours.{code_of, coloured_line, end_of, shown_lines, style_of};
 ghost use Rattle.casebook_cli.specs.Colours.{style_of_byte};
+ghost use Rattle.casebook_cli.specs.Harmless.{IsHarmless};
 
 use crate::NoMem;
+use crate::plain::plain_lines;
 use crate::style::Style;
-use casebook_text::{SafeLine, text_of_lines};
+use casebook_text::SafeLine;
 use std::alloc::Global;
 
 /// Returns how a line is shown that begins with this byte.
@@ -79,11 +81,13 @@ fn coloured_text(alloc: Global, lines: &[SafeLine]) -> Result<String, NoMem>
 
 /// Returns lines as a text, with a newline after each, and with colours if they are wanted.
 pub(crate) fn shown_lines(alloc: Global, lines: &[SafeLine], colours: bool) -> Result<String, NoMem>
-    ensures { IfOk result (λ text. string_bytes text ≡ shown_lines colours lines.now) }
+    ensures value { IfOk result (λ text. string_bytes text ≡ shown_lines colours lines.now) }
+    ensures harmless { IfOk result (λ text.
+        IsTrue (not colours) → IsHarmless (string_bytes text)) }
 {
     if colours {
         coloured_text(alloc, lines)
     } else {
-        text_of_lines(alloc, lines)
+        plain_lines(alloc, lines)
     }
 }

@@ -1,9 +1,10 @@
 //! The request that the words of the command line make.
 ghost use Rattle.std.specs.Prelude.{◌≡◌, map, option_map, string_bytes};
-ghost use Rattle.casebook_cli.specs.Request.{Means, command_request, query_in, query_view};
-ghost use Rattle.casebook_cli.specs.Request.{request_in, request_view, topic_asked, topic_in};
+ghost use Rattle.casebook_cli.specs.Request.{command_request, query_in};
+ghost use Rattle.casebook_cli.specs.Request.{request_in, topic_asked, topic_in};
 ghost use Rattle.casebook_cli.specs.Request.{topic_or_program};
 ghost use Rattle.casebook_cli.specs.Words.{call_view};
+ghost use Rattle.casebook_cli.specs.inner.Views.{Means, query_view, request_view};
 
 use crate::line_options::lines_request;
 use crate::options::{is_given, log_of};

@@ -59,7 +59,7 @@ From a log to an answer:
     TELL     the sessions whose lines printed what would have been different, by
              the path that it came from: their users were misled, so tell them
     LEAKED   the cancelled lines that showed something: the intruder saw this
-    CAUSES   what each cancelled line led to, and which paths it wrote
+    CAUSES   what each edited line led to, and which paths it wrote
 
     --why adds why each line with another result was run again, --diff how files
     and screens differ. One line in full, or all of it for a browser:
@@ -97,13 +97,14 @@ Shows the lines of a log, in order. With filters it shows the lines for which al
 of them hold. LOG is the name of a file, or - for standard input.
 
     --session S       session S ran the line
-    --user NAME       a session ran the line that is shown as NAME (see --about)
+    --user NAME       a session with this name ran the line (see --about)
     --from N          the line's number is at least N
     --to N            the line's number is at most N
     --from TIME       the line was typed at TIME or later (see --about)
     --to TIME         the line was typed at TIME or before
     --reads PATH      the line asked about PATH: read it, listed it, or tested
-                      whether it is there
+                      whether it is there. A listing counts for its directory
+                      alone.
     --writes PATH     the line wrote to PATH, made it or removed it
     --touches PATH    the line did one or the other
     --text REGEX      REGEX is found in the line
@@ -113,9 +114,10 @@ of them hold. LOG is the name of a file, or - for standard input.
     --about FILE      shows the names of users and the times of lines
 
 PATH begins with a slash. With a slash at the end, as /srv/shop/, it also means
-all paths below it. REGEX is a regular expression, as in `grep -E`. TIME is a date
-and a time of day, as '2025-05-06 10:30', or a date alone, which stands for its
-first second. Times are in UTC. A line of which no time is known passes no TIME.
+all paths below it. REGEX is a regular expression, as in `grep -E`: ^ and $ are the
+ends of a line. TIME is a date and a time of day, as '2025-05-06 10:30', or a date
+alone. With --to a time of day without seconds lasts a minute, and a date a day.
+Times are in UTC. A line of which no time is known passes no TIME.
 
     --format text     one to five rows a line: number, session and line, with ?
                       before a line that wasn't understood, and why; what it read;
@@ -126,7 +128,8 @@ first second. Times are in UTC. A line of which no time is known passes no TIME.
                       each path that it read, and +PATH, >PATH or -PATH for each
                       that it wrote
     --format numbers  the numbers, with commas between them: a list for
-                      `casebook show --cancel` and for `retro repair --cancel`
+                      `casebook show --cancel` and for `retro repair --cancel`.
+                      If no line passes, the list is empty, and cancels nothing.
 
 Bytes of the log that could do harm in a terminal are shown by their codes, as
 \u{27E8}U+001B\u{27E9} or \u{27E8}FF\u{27E9}.
@@ -232,14 +235,14 @@ Example:
 const CHECK: &str = "\
 casebook check DOCUMENT
 
-Says whether a log is a recording: whether running its lines one by one, from the
+Says whether a log is as its lines run: whether running them one by one, from the
 files that it begins with, gives the notes and outputs that it has. If not, it says
 which line is the first that isn't as noted, with what is noted and what the line
 does. If the document is no log and no script, it says why.
 
 Exit status: 0 a recording or a script, 4 another log, or neither log nor script.
 
-An answer about a log that is no recording is only what its notes say.
+If a log isn't as its lines run, what was recorded is only what its notes say.
 ";
 
 /// Help on lists of lines.

@@ -2,11 +2,11 @@
 ghost use Rattle.std.specs.Prelude.{◌≡◌, IfOk, IfErr, OnOk, map, option_map};
 ghost use Rattle.casebook_about.specs.About.{about_in, about_view};
 ghost use Rattle.casebook_about.specs.Rows.{time_view, user_view};
-ghost use Rattle.casebook_cli.specs.Inputs.{document_view};
 ghost use Rattle.casebook_cli.specs.Labels.{AreLabels, AreLabelsIn, AreTimesAdded, IsAbout};
 ghost use Rattle.casebook_cli.specs.Labels.{IsTimeAdded, times_in, times_of, with_users};
 ghost use Rattle.casebook_cli.specs.Stops.{AreBadTimes, IsBadTime, IsNoAbout, StopsAbout};
 ghost use Rattle.casebook_cli.specs.Stops.{StopsLabels};
+ghost use Rattle.casebook_cli.specs.inner.Views.{document_view};
 
 use crate::NoMem;
 use crate::document::Document;

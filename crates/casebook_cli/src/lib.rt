@@ -16,19 +16,25 @@
 //!   an equation (`request_in`), over `clap`'s definition of the command that they name.
 //! - `lines` is answered by the rows of exactly those lines of the log that pass the filters and
 //!   were typed between the bounds, in order, as text, as a table or as a list of numbers: an
-//!   equation [by `AreLines`]. A pattern is one that the text of its option is read as. A line was
-//!   typed between bounds if a row of the document with times says so.
+//!   equation [by `AreLines`]. A pattern is one that the text of its option is read as, with `^`
+//!   and `$` as the ends of a line. A line was typed between bounds if the last row that the
+//!   document with times has of it says so; a last bound without seconds is the last second of its
+//!   minute or of its day. A name that is of no line's session is refused [`no_user`].
 //! - `show` is answered by the summary of a repair of the log without the lines of the list, and
 //!   with other lines replaced, and on demand by why lines are run again and by diffs, or by one
 //!   line in full, or by the summary as JSON; `page` by the page of the same repair [by `IsShown`,
-//!   `IsPage`]. The repair is exact if the log is a recording of its lines, and otherwise what
+//!   `IsPage`]. Nothing is refused of its edits, nor of how lines are run ahead [`accepted` of
+//!   `IsRepairBy`]. The repair is exact if the log is a recording of its lines, and otherwise what
 //!   choices for its lines come to, whether lines are run ahead or not. The summary says that the
-//!   log is a recording only if it is one; that it never says no of a recording is only tested. The
-//!   numbers of the lines of which the summary speaks rise, so reasons, single lines and the JSON
-//!   are as the clauses of the crates below define them [`rise` of `IsSummary`].
+//!   log is as its lines run only if it is a recording of them; that it never says no of what
+//!   `retro record` wrote is only tested. The numbers of the lines of which the summary speaks rise,
+//!   so reasons, single lines and the JSON are as the clauses of the crates below define them
+//!   [`rise` of `IsSummary`].
 //! - With colours, each line of what `show` writes for people stands between two codes that its
-//!   first byte chooses (`specs/Colours.antt`), and everything else is the same. Nothing else that
-//!   is written for people has a control code but newlines and tabs.
+//!   first byte chooses (`specs/Colours.antt`), and everything else is the same. What `lines`,
+//!   `check` and, without colours, `show` write for people has no control code but newlines and
+//!   tabs, and each other character can be seen and leaves its neighbours as they are [`harmless`
+//!   of `AnswersQuery`].
 //! - `check` is answered, after `Done`, by a text that says that the document is a script, or that
 //!   it is the log of a recording of its lines, and only if it is one; or, after `No`, by the first
 //!   line that isn't as noted and how, or by why the document is refused [by `IsChecked`]. What has
@@ -70,6 +76,7 @@ mod output;
 mod pages;
 mod path_options;
 mod patterns;
+mod plain;
 mod problem;
 mod program;
 mod progress;
@@ -90,6 +97,7 @@ mod stop;
 mod style;
 mod topic;
 mod typed;
+mod typed_lines;
 mod words;
 
 pub use documents::{Documents, ReadFault};

@@ -1,9 +1,9 @@
 //! Lists of the lines to cancel.
 ghost use Rattle.std.specs.Prelude.{◌≡◌, Ok, IfOk, IfErr, map, option_map, string_bytes};
 ghost use Rattle.casebook_text.specs.Lists.{lines_of_list};
-ghost use Rattle.casebook_cli.specs.Inputs.{document_view};
 ghost use Rattle.casebook_cli.specs.Repairs.{IsListGiven, cancelled, line_of};
 ghost use Rattle.casebook_cli.specs.Stops.{IsNoText, StopsNumbers};
+ghost use Rattle.casebook_cli.specs.inner.Views.{document_view};
 
 use crate::NoMem;
 use crate::document::Document;

@@ -1,11 +1,13 @@
 //! The request of the command `lines`.
 ghost use Rattle.std.specs.Prelude.{◌≡◌, ◌++◌, IfOk, OnOk, map, option_map};
 ghost use Rattle.casebook_text.specs.Numbers.{number_in};
-ghost use Rattle.casebook_cli.specs.Bounds.{bound_in};
-ghost use Rattle.casebook_cli.specs.Request.{Means, bounds_given, format_given};
-ghost use Rattle.casebook_cli.specs.Request.{format_named, lines_request, lines_view, listed};
+ghost use Rattle.casebook_cli.specs.Bounds.{bound_in, last_bound_in};
+ghost use Rattle.casebook_cli.specs.Request.{bounds_given, format_given};
+ghost use Rattle.casebook_cli.specs.Request.{format_named, lines_request, listed};
 ghost use Rattle.casebook_cli.specs.Request.{of_numbers, of_session, read_option, test_view};
 ghost use Rattle.casebook_cli.specs.Words.{call_view};
+ghost use Rattle.casebook_cli.specs.inner.Views.{Means, lines_view};
+ghost use Rattle.casebook_cli.specs.declared.problem.Problem.TheVariants as problems;
 
 use crate::NoMem;
 use crate::bound::Bound;
@@ -13,7 +15,7 @@ use crate::bounds::{Bounds, line_of, second_of};
 use crate::format::Format;
 use crate::lines_request::LinesRequest;
 use crate::numbers::number_of;
-use crate::options::{is_given, log_of, number_option};
+use crate::options::{check_input, is_given, log_of, number_option};
 use crate::path_options::path_tests;
 use crate::problem::Problem;
 use crate::words::{CommandCall, WordsFault};
@@ -52,7 +54,7 @@ fn number_tests(alloc: Global, session: Option<u32>, bounds: Bounds) -> Result<V
     Ok(tests)
 }
 
-/// Returns the bound that a text is: the number of a line, or a time.
+/// Returns the first bound that a text is: the number of a line, or a time.
 #[tactic(auto, unfolding(crate::specs::Bounds::bound_in))]
 fn bound_of(alloc: Global, text: &str) -> Result<Option<Bound>, NoMem>
     ensures { IfOk result (λ bound. bound ≡ bound_in text.now) }
@@ -63,30 +65,52 @@ fn bound_of(alloc: Global, text: &str) -> Result<Option<Bound>, NoMem>
     Ok(casebook_about::second_of(alloc, text)?.map(Bound::Second))
 }
 
-/// Returns the bound of an option, if the option is given.
-fn bound_option(
-    alloc: Global,
-    text: Option<&str>,
-    problem: Problem,
-) -> Result<Option<Bound>, WordsFault>
+/// Returns the last bound that a text is: the number of a line, or the last second of a time.
+#[tactic(auto, unfolding(crate::specs::Bounds::last_bound_in))]
+fn last_bound_of(alloc: Global, text: &str) -> Result<Option<Bound>, NoMem>
+    ensures { IfOk result (λ bound. bound ≡ last_bound_in text.now) }
+{
+    if let Some(number) = number_of(text) {
+        return Ok(Some(Bound::Line(number)));
+    }
+    Ok(casebook_about::last_second_of(alloc, text)?.map(Bound::Second))
+}
+
+/// Returns the first bound, if its option is given.
+fn from_option(alloc: Global, text: Option<&str>) -> Result<Option<Bound>, WordsFault>
     ensures { Means (λ bound. bound) result
-        (read_option problem bound_in (option_map (λ s. s.now) text.entry)) }
+        (read_option problems.From bound_in (option_map (λ s. s.now) text.entry)) }
 {
     match text {
         None => Ok(None),
         Some(text) => match bound_of(alloc, text)? {
             Some(bound) => Ok(Some(bound)),
-            None => Err(WordsFault::Bad(problem)),
+            None => Err(WordsFault::Bad(Problem::From)),
         },
     }
 }
 
-/// Returns the bounds that a command is given, of which times need the times of lines.
+/// Returns the last bound, if its option is given.
+fn to_option(alloc: Global, text: Option<&str>) -> Result<Option<Bound>, WordsFault>
+    ensures { Means (λ bound. bound) result
+        (read_option problems.To last_bound_in (option_map (λ s. s.now) text.entry)) }
+{
+    match text {
+        None => Ok(None),
+        Some(text) => match last_bound_of(alloc, text)? {
+            Some(bound) => Ok(Some(bound)),
+            None => Err(WordsFault::Bad(Problem::To)),
+        },
+    }
+}
+
+/// Returns the bounds that a command is given. If one of them is a time, the times of lines must be
+/// given too.
 fn bounds_given(alloc: Global, call: &CommandCall<'_>) -> Result<Bounds, WordsFault>
     ensures { Means (λ bounds. bounds) result (bounds_given (call_view call.now)) }
 {
-    let from = bound_option(alloc, call.text_of("from"), Problem::From)?;
-    let to = bound_option(alloc, call.text_of("to"), Problem::To)?;
+    let from = from_option(alloc, call.text_of("from"))?;
+    let to = to_option(alloc, call.text_of("to"))?;
     let bounds = Bounds { from, to };
     if bounds.has_times() && call.text_of("about").is_none() {
         return Err(WordsFault::Bad(Problem::NoTimes));
@@ -130,10 +154,12 @@ pub(crate) fn lines_request<'a>(
     let mut tests = number_tests(alloc, session, bounds)?;
     let mut paths = path_tests(alloc, call)?;
     let format = format_of(call.text_of("format"))?;
+    let about = call.text_of("about");
+    check_input(log, "", about)?;
     tests.append(&mut paths)?;
     Ok(LinesRequest {
         log,
-        about: call.text_of("about"),
+        about,
         user: call.text_of("user"),
         tests,
         bounds,

@@ -1,12 +1,13 @@
 //! Answers to requests for rows of lines.
-ghost use Rattle.std.specs.Prelude.{◌≡◌, ◌++◌, IfOk, IfErr, OnOk, map, option_map, string_bytes};
+ghost use Rattle.std.specs.Prelude.{◌≡◌, ◌∷◌, ◌++◌, [], IfOk, IfErr, OnOk, map, option_map, string_bytes};
 ghost use Rattle.casebook_about.specs.Rows.{time_view};
 ghost use Rattle.casebook_view.specs.Rows.{row_value};
-ghost use Rattle.casebook_cli.specs.Inputs.{inputs_view};
-ghost use Rattle.casebook_cli.specs.Lines.{AreAskedRows, AreLines, sessions_named, user_tests};
-ghost use Rattle.casebook_cli.specs.Lines.{with_number};
-ghost use Rattle.casebook_cli.specs.Request.{lines_view, test_view};
-ghost use Rattle.casebook_cli.specs.Stops.{StopsLines};
+ghost use Rattle.casebook_cli.specs.Harmless.{IsHarmless};
+ghost use Rattle.casebook_cli.specs.Lines.{AreLines, HasUser, is_named};
+ghost use Rattle.casebook_cli.specs.Lines.{sessions_named, user_tests, with_number};
+ghost use Rattle.casebook_cli.specs.Request.{of_sessions, test_view};
+ghost use Rattle.casebook_cli.specs.Stops.{StopsLines, StopsUser};
+ghost use Rattle.casebook_cli.specs.inner.Views.{AreAskedRows, inputs_view, lines_view};
 
 use crate::NoMem;
 use crate::knowledge::Knowledge;
@@ -33,7 +34,17 @@ fn push_session(found: &mut Vec<u32>, session: u32) -> Result<(), NoMem>
     Ok(())
 }
 
-/// Returns the sessions of lines that are shown with a name, each once.
+/// Returns whether a session has a name, or has none and this is its number.
+fn is_named(alloc: Global, labels: &Labels, name: &str, session: u32) -> Result<bool, NoMem>
+    ensures { IfOk result (λ same. same ≡ is_named labels.now name.now session) }
+{
+    match labels.name_in(session) {
+        Some(known) => Ok(known.as_str() == name),
+        None => Ok(format!(in alloc; "{session}")?.as_str() == name),
+    }
+}
+
+/// Returns the sessions of lines that have a name, or that have none and this number, each once.
 fn sessions_named(
     alloc: Global,
     labels: &Labels,
@@ -44,41 +55,61 @@ fn sessions_named(
 {
     let mut found = Vec::new(alloc);
     for line in lines {
-        if labels.name_of(alloc, line.1.sid)?.as_str() == name {
+        if is_named(alloc, labels, name, line.1.sid)? {
             push_session(&mut found, line.1.sid)?;
         }
     }
     Ok(found)
 }
 
-/// Appends the test that a line is of a session that is shown with a name, if one is given.
-fn push_user(
+/// Appends the test that a line is of one of some sessions.
+fn push_sessions(tests: &mut Vec<LineTest>, sessions: Vec<u32>) -> Result<(), NoMem>
+    ensures { OnOk result (map test_view tests.new.items
+        ≡ map test_view tests.old.items ++ of_sessions sessions.items ∷ []) }
+{
+    tests.push(LineTest::Sessions(sessions))?;
+    Ok(())
+}
+
+/// Appends the test that a line is of a session with a name, if one is given.
+fn push_user<'a>(
     alloc: Global,
     tests: &mut Vec<LineTest>,
     labels: &Labels,
     lines: &[(u32, Noted)],
     user: Option<&str>,
-) -> Result<(), NoMem>
-    ensures { OnOk result (map test_view tests.new.items ≡ map test_view tests.old.items
+) -> Result<(), Stop<'a>>
+    ensures ok { OnOk result (map test_view tests.new.items ≡ map test_view tests.old.items
         ++ user_tests labels.now lines.now (option_map (λ s. s.now) user.entry)) }
+    ensures known { OnOk result
+        (HasUser labels.now lines.now (option_map (λ s. s.now) user.entry)) }
+    ensures err { IfErr result
+        (StopsUser labels.now lines.now (option_map (λ s. s.now) user.entry)) }
 {
-    if let Some(name) = user {
-        tests.push(LineTest::Sessions(sessions_named(alloc, labels, lines, name)?))?;
+    let Some(name) = user else {
+        return Ok(());
+    };
+    let sessions = sessions_named(alloc, labels, lines, name)?;
+    if sessions.is_empty() {
+        return Err(Stop::NoUser);
     }
+    push_sessions(tests, sessions)?;
     Ok(())
 }
 
 /// Returns the rows of the lines of a recording that are asked for.
-fn asked_rows<'r>(
+fn asked_rows<'r, 'a>(
     alloc: Global,
     recording: &'r Recording,
     known: &Knowledge,
     patterns: &Patterns,
     request: LinesRequest<'_>,
-) -> Result<Vec<LineRow<'r>>, NoMem>
-    ensures { IfOk result (λ rows. AreAskedRows (lines_view request.entry) known.now.labels
+) -> Result<Vec<LineRow<'r>>, Stop<'a>>
+    ensures ok { IfOk result (λ rows. AreAskedRows (lines_view request.entry) known.now.labels
         (map time_view known.now.times.items) recording.entry.now patterns.now
         (map row_value rows.items)) }
+    ensures err { IfErr result (StopsUser known.now.labels recording.entry.now.lines
+        (option_map (λ s. s.now) request.entry.user)) }
 {
     let mut tests = request.tests;
     push_user(
@@ -90,7 +121,7 @@ fn asked_rows<'r>(
     )?;
     let mut filters = patterns.filters(alloc, tests, request.is_unknown)?;
     let found = rows(alloc, recording, &mut filters)?;
-    typed_rows(alloc, found, known.times.as_slice(), request.bounds)
+    Ok(typed_rows(alloc, found, known.times.as_slice(), request.bounds)?)
 }
 
 /// Returns the rows of lines that are asked for, as text.
@@ -101,6 +132,7 @@ pub(crate) fn lines_text<'a>(
 ) -> Result<String, Stop<'a>>
     ensures ok { IfOk result (λ text.
         AreLines (inputs_view inputs.now) (lines_view request.entry) (string_bytes text)) }
+    ensures harmless { IfOk result (λ text. IsHarmless (string_bytes text)) }
     ensures err { IfErr result (StopsLines (inputs_view inputs.now) (lines_view request.entry)) }
 {
     let patterns = Patterns::of(alloc, &request)?;

@@ -29,6 +29,7 @@ fn problem_words(problem: Problem) -> &'static str
         Problem::Words => "these words are no command with its options; see casebook help",
         Problem::Topic => "there is no help on this; see casebook help",
         Problem::NoLog => "no LOG is given; see casebook help",
+        Problem::InputTwice => "- is standard input, which can be named once",
         Problem::NoList => "no --cancel LIST is given; see casebook help show",
         Problem::Replace => "--replace: not a list like [[4,\"cat f\"]]",
         Problem::Workers => "--workers: not a number",
@@ -300,6 +301,7 @@ fn stop_message(alloc: Global, stop: Stop<'_>) -> Result<SafeLine, NoMem>
     match stop {
         Stop::BadWords(problem) => told(alloc, problem_words(problem)),
         Stop::BadPattern(searched) => told(alloc, searched_words(searched)),
+        Stop::NoUser => told(alloc, "--user: no line is of a session with this name"),
         Stop::BadLog(name, refusal) => log_message(alloc, name, refusal),
         Stop::BadText(name) => told_of(alloc, name, "not UTF-8"),
         Stop::BadAbout(name, fault) => about_message(alloc, name, fault),

@@ -1,8 +1,10 @@
 //! What the words of the command line give a command.
 ghost use Rattle.std.specs.Prelude.{◌≡◌, option_map};
 ghost use Rattle.casebook_text.specs.Numbers.{number_in};
-ghost use Rattle.casebook_cli.specs.Request.{Means, is_given, log_given, read_option};
+ghost use Rattle.casebook_cli.specs.Request.{is_given, is_input_twice, log_given, once};
+ghost use Rattle.casebook_cli.specs.Request.{read_option};
 ghost use Rattle.casebook_cli.specs.Words.{call_view};
+ghost use Rattle.casebook_cli.specs.inner.Views.{Means};
 
 use crate::numbers::number_of;
 use crate::problem::Problem;
@@ -13,6 +15,30 @@ pub(crate) fn log_of<'a>(call: &CommandCall<'a>) -> Result<&'a str, WordsFault>
     ensures { Means (λ s. s.now) result (log_given (call_view call.now)) }
 {
     call.text_of("log").ok_or(WordsFault::Bad(Problem::NoLog))
+}
+
+/// Returns whether more than one of a log, a list and a document with names and times is standard
+/// input.
+fn is_input_twice(log: &str, list: &str, about: Option<&str>) -> bool
+    ensures { result ≡ is_input_twice log.now list.now (option_map (λ s. s.now) about.entry) }
+{
+    let from_log = log == "-";
+    let from_list = list == "@-";
+    let from_about = match about {
+        Some(about) => about == "-",
+        None => false,
+    };
+    (from_log && from_list) || ((from_log || from_list) && from_about)
+}
+
+/// Returns a request, unless it needs standard input twice.
+pub(crate) fn check_input(log: &str, list: &str, about: Option<&str>) -> Result<(), WordsFault>
+    ensures { Means (λ u. u) result (once log.now list.now (option_map (λ s. s.now) about.entry)) }
+{
+    if is_input_twice(log, list, about) {
+        return Err(WordsFault::Bad(Problem::InputTwice));
+    }
+    Ok(())
 }
 
 /// Returns the number of an option, if the option is given.

@@ -31,7 +31,8 @@ fn page_of_case<'x>(
 ) -> Result<String, NoMem>
     requires { VerdictsRise case.now.repair }
     ensures { IfOk result (λ text.
-        IsPageOf case.entry.now.recording case.entry.now.repair all (string_bytes text)) }
+        IsPageOf case.entry.now.edits case.entry.now.recording case.entry.now.repair all
+        (string_bytes text)) }
 {
     let summary = summary_of(alloc, case)?;
     let mut filters = no_filters(alloc);
@@ -58,7 +59,8 @@ pub(crate) fn page_text(
 ) -> Result<String, NoMem>
     requires { VerdictsRise asked.now.repair }
     ensures { IfOk result (λ text.
-        IsPageOf asked.now.recording asked.now.repair all (string_bytes text)) }
+        IsPageOf asked.now.edits.items asked.now.recording asked.now.repair all
+        (string_bytes text)) }
 {
     let case = asked.case(alloc)?;
     page_of_case(alloc, &case, &asked.labels, title, all)

@@ -2,17 +2,17 @@
 ghost use Rattle.std.specs.Prelude.{◌≡◌, Some, IfOk, IfErr, option_map};
 ghost use Rattle.regex.specs.Bytes.{matcher_pattern, regex_pattern};
 ghost use Rattle.casebook_view.specs.Filters.{filters_of};
-ghost use Rattle.casebook_cli.specs.Lines.{AreRead, IsPattern, filters_by};
-ghost use Rattle.casebook_cli.specs.Request.{lines_view};
+ghost use Rattle.casebook_cli.specs.Lines.{AreRead, IsPattern};
 ghost use Rattle.casebook_cli.specs.Stops.{StopsPattern, StopsPatterns};
+ghost use Rattle.casebook_cli.specs.inner.Views.{filters_by, lines_view};
 
 use crate::NoMem;
 use crate::lines_request::LinesRequest;
 use crate::searched::Searched;
 use crate::stop::Stop;
 use casebook_view::{Filters, LineTest};
-use regex::Error;
 use regex::bytes::{Matcher, Regex};
+use regex::{Error, RegexBuilder};
 use std::alloc::Global;
 
 /// The patterns of a request, if there are any.
@@ -24,12 +24,12 @@ pub(crate) struct Patterns {
     shown: Option<Regex>,
 }
 
-/// Returns the pattern that a text is.
+/// Returns the pattern that a text is, in which `^` and `$` are the ends of a line.
 fn pattern_of<'a>(alloc: Global, text: &str, searched: Searched) -> Result<Regex, Stop<'a>>
     ensures ok { IfOk result (λ pattern. IsPattern text.now (regex_pattern pattern)) }
     ensures err { IfErr result (StopsPattern (Some text.now) searched) }
 {
-    match Regex::new(alloc, text) {
+    match RegexBuilder::new(text).multi_line(true).build_bytes(alloc) {
         Ok(pattern) => Ok(pattern),
         Err(Error::OutOfMemory) => Err(Stop::OutOfMemory),
         Err(_) => Err(Stop::BadPattern(searched)),

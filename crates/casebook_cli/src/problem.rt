@@ -12,6 +12,8 @@ pub enum Problem {
     Topic,
     /// No log is named.
     NoLog,
+    /// Standard input is named as two documents.
+    InputTwice,
     /// No list of lines to cancel is given, and no lines to replace.
     NoList,
     /// The value of `--replace` isn't a list of numbers and texts.

@@ -1,11 +1,11 @@
 //! A run of the program.
 ghost use Rattle.std.specs.Prelude.{◌≡◌, ◌↔◌, true, false, Ok, IfOk, IfErr, IfSome, map};
 ghost use Rattle.std.specs.Prelude.{string_bytes};
-ghost use Rattle.casebook_cli.specs.Answers.{answer_view};
 ghost use Rattle.casebook_cli.specs.Exit.{writes_nothing};
 ghost use Rattle.casebook_cli.specs.Program.{AnswersWords, Ends, Runs};
-ghost use Rattle.casebook_cli.specs.Request.{request_in, request_view};
+ghost use Rattle.casebook_cli.specs.Request.{request_in};
 ghost use Rattle.casebook_cli.specs.Stops.{IsBadWords, StopsWords};
+ghost use Rattle.casebook_cli.specs.inner.Views.{answer_view, request_view};
 ghost use Rattle.casebook_cli.specs.declared.exit.Exit.TheVariants as exits;
 
 use crate::answer::Answer;

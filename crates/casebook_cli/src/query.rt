@@ -1,8 +1,7 @@
 //! Questions about documents.
 ghost use Rattle.std.specs.Prelude.{◌≡◌, option_map};
-ghost use Rattle.casebook_cli.specs.Inputs.{sources_view};
 ghost use Rattle.casebook_cli.specs.Repairs.{document_named, repair_sources, sources_of};
-ghost use Rattle.casebook_cli.specs.Request.{query_view, repair_view};
+ghost use Rattle.casebook_cli.specs.inner.Views.{query_view, repair_view, sources_view};
 
 use crate::lines_request::LinesRequest;
 use crate::repair_request::{PageRequest, RepairRequest, ShowRequest};

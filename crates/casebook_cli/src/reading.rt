@@ -1,8 +1,8 @@
 //! Reading the documents that a request names.
 ghost use Rattle.std.specs.Prelude.{IfOk, IfErr, IfSome, option_map};
 ghost use Rattle.casebook_cli.specs.Inputs.{AreInputs, IsDocument, IsDocumentIf};
-ghost use Rattle.casebook_cli.specs.Inputs.{document_view, inputs_view, sources_view};
 ghost use Rattle.casebook_cli.specs.Stops.{IsUnread, IsUnreadIf, StopsReading};
+ghost use Rattle.casebook_cli.specs.inner.Views.{document_view, inputs_view, sources_view};
 
 use crate::document::Document;
 use crate::documents::{Documents, ReadFault};

@@ -1,8 +1,8 @@
 //! Recordings of logs.
 ghost use Rattle.std.specs.Prelude.{◌≡◌, Ok, IfOk, IfErr};
 ghost use Rattle.retro_log.specs.Document.{log_in};
-ghost use Rattle.casebook_cli.specs.Inputs.{document_view};
 ghost use Rattle.casebook_cli.specs.Stops.{StopsLog};
+ghost use Rattle.casebook_cli.specs.inner.Views.{document_view};
 
 use crate::document::Document;
 use crate::stop::Stop;

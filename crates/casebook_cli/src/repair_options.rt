@@ -1,16 +1,18 @@
 //! The requests of commands about repairs.
 ghost use Rattle.std.specs.Prelude.{◌≡◌, IfOk, option_map};
 ghost use Rattle.casebook_cli.specs.Numbers.{numbers_in};
-ghost use Rattle.casebook_cli.specs.Request.{Means, cancel_given, page_request, page_view};
-ghost use Rattle.casebook_cli.specs.Request.{read_option, repair_request, repair_view};
-ghost use Rattle.casebook_cli.specs.Request.{replacements_given, rounds_given, rounds_view};
-ghost use Rattle.casebook_cli.specs.Request.{rounds_with, show_format, show_request, show_view};
+ghost use Rattle.casebook_cli.specs.Request.{cancel_given, page_request};
+ghost use Rattle.casebook_cli.specs.Request.{read_option, repair_request};
+ghost use Rattle.casebook_cli.specs.Request.{replacements_given, rounds_given};
+ghost use Rattle.casebook_cli.specs.Request.{rounds_with, show_format, show_request};
 ghost use Rattle.casebook_cli.specs.Request.{shown_as, shown_of};
 ghost use Rattle.casebook_cli.specs.Words.{call_view};
+ghost use Rattle.casebook_cli.specs.inner.Views.{Means, page_view, repair_view, rounds_view};
+ghost use Rattle.casebook_cli.specs.inner.Views.{show_view};
 
 use crate::NoMem;
 use crate::numbers::numbers_in;
-use crate::options::{is_given, log_of, number_option};
+use crate::options::{check_input, is_given, log_of, number_option};
 use crate::problem::Problem;
 use crate::repair_request::{PageRequest, RepairRequest, ShowRequest};
 use crate::rounds::Rounds;
@@ -108,6 +110,7 @@ fn repair_request<'a>(
     let replacements = replacements_of(alloc, call.text_of("replace"))?;
     let rounds = rounds_given(alloc, call)?;
     let about = call.text_of("about");
+    check_input(log, cancel, about)?;
     Ok(RepairRequest {
         log,
         cancel,

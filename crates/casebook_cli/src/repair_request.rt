@@ -3,7 +3,7 @@ use crate::rounds::Rounds;
 use crate::shown::Shown;
 use retro_keep::Edit;
 
-/// Which repair is asked for.
+/// A request for a repair.
 #[derive(Drop)]
 pub(crate) struct RepairRequest<'a> {
     /// The name of the log.
@@ -18,7 +18,7 @@ pub(crate) struct RepairRequest<'a> {
     pub(crate) about: Option<&'a str>,
 }
 
-/// What a terminal is to show of a repair.
+/// A request to show a repair on a terminal.
 #[derive(Drop)]
 pub(crate) struct ShowRequest<'a> {
     /// The repair.
@@ -27,7 +27,7 @@ pub(crate) struct ShowRequest<'a> {
     pub(crate) shown: Shown,
 }
 
-/// The page of which repair is asked for.
+/// A request for the page of a repair.
 #[derive(Drop)]
 pub(crate) struct PageRequest<'a> {
     /// The repair.

@@ -1,11 +1,10 @@
 //! Repairs that are asked for.
 ghost use Rattle.std.specs.Prelude.{◌≡◌, IfOk, IfErr, option_map};
-ghost use Rattle.casebook_cli.specs.Inputs.{inputs_view};
 ghost use Rattle.casebook_cli.specs.Repairs.{AreEdits, IsAsked, IsRepairBy, VerdictsRise};
 ghost use Rattle.casebook_cli.specs.Repairs.{lines_in};
-ghost use Rattle.casebook_cli.specs.Request.{repair_view, rounds_view};
 ghost use Rattle.casebook_cli.specs.Screens.{IsSummary};
 ghost use Rattle.casebook_cli.specs.Stops.{IsRefused, StopsAsked, StopsNumbers, StopsRepair};
+ghost use Rattle.casebook_cli.specs.inner.Views.{inputs_view, repair_view, rounds_view};
 
 use crate::NoMem;
 use crate::labels::labels_of;
@@ -29,8 +28,10 @@ use std::thread::Threads;
 pub(crate) struct Asked {
     /// The recording of the log.
     pub(crate) recording: Recording,
-    /// Its repair without the lines of the list.
+    /// Its repair by the edits, as it is asked for.
     pub(crate) repair: Repair,
+    /// The edits: the lines of the list are left out, and others are replaced.
+    pub(crate) edits: Vec<Edit>,
     /// The names and times.
     pub(crate) labels: Labels,
 }
@@ -40,15 +41,16 @@ impl Asked {
     pub(crate) fn case(&self, alloc: Global) -> Result<Case<'_>, NoMem>
         ensures recording { IfOk result (λ case. case.recording ≡ self.now.recording) }
         ensures repair { IfOk result (λ case. case.repair ≡ self.now.repair) }
+        ensures edits { IfOk result (λ case. case.edits ≡ self.now.edits.items) }
     {
-        Case::of(alloc, &self.recording, &self.repair)
+        Case::of(alloc, &self.recording, &self.repair, self.edits.as_slice())
     }
 }
 
 /// Returns what a repair would do.
 pub(crate) fn summary_of(alloc: Global, case: &Case<'_>) -> Result<Summary, NoMem>
     requires { VerdictsRise case.now.repair }
-    ensures { IfOk result (IsSummary case.now.recording case.now.repair) }
+    ensures { IfOk result (IsSummary case.now.edits case.now.recording case.now.repair) }
 {
     Summary::of(alloc, case)
 }
@@ -71,7 +73,8 @@ fn repair_by<'a, R: Threads + Sync + AllocGlobal>(
     edits: &[Edit],
     rounds: &Option<Rounds>,
 ) -> Result<Repair, Stop<'a>>
-    ensures ok { IfOk result (IsRepairBy edits.now recording.now) }
+    ensures ok { IfOk result
+        (IsRepairBy (option_map rounds_view rounds.now) edits.now recording.now) }
     ensures err { IfErr result
         (StopsRepair (option_map rounds_view rounds.now) edits.now recording.now) }
 {
@@ -113,8 +116,8 @@ fn edits_of<'a>(
     Ok(edits)
 }
 
-/// Returns the repair of the log of some documents that is asked for. The list of the lines that it
-/// is without may be in one of the documents.
+/// Returns the repair of the log of some documents that is asked for. The list of the lines to leave
+/// out may be in one of the documents.
 pub(crate) fn asked_repair<'a, R: Threads + Sync + AllocGlobal, P: Progress>(
     rt: &R,
     progress: &P,
@@ -138,6 +141,7 @@ pub(crate) fn asked_repair<'a, R: Threads + Sync + AllocGlobal, P: Progress>(
     Ok(Asked {
         recording,
         repair,
+        edits,
         labels,
     })
 }

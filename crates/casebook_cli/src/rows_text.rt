@@ -1,13 +1,15 @@
 //! Rows of lines as text.
 ghost use Rattle.std.specs.Prelude.{◌≡◌, IfOk, map, string_bytes};
 ghost use Rattle.casebook_view.specs.Rows.{row_value};
+ghost use Rattle.casebook_cli.specs.Harmless.{IsHarmless};
 ghost use Rattle.casebook_cli.specs.Lines.{numbers_text, rows_text, shown_text, table_text};
 ghost use Rattle.casebook_cli.specs.Lines.{widest_name};
 
 use crate::NoMem;
 use crate::format::Format;
+use crate::plain::{plain_line, plain_lines, plain_rows};
 use casebook_screen::{row_lines, row_numbers, row_table};
-use casebook_text::{list_of_numbers, text_of_lines, text_of_rows};
+use casebook_text::list_of_numbers;
 use casebook_view::LineRow;
 use casebook_words::Labels;
 use retro_keep::Noted;
@@ -35,31 +37,33 @@ fn shown_text(
     labels: &Labels,
     width: usize,
 ) -> Result<String, NoMem>
-    ensures { IfOk result (λ text. string_bytes text
+    ensures value { IfOk result (λ text. string_bytes text
         ≡ shown_text labels.now width (map row_value rows.now)) }
+    ensures harmless { IfOk result (λ text. IsHarmless (string_bytes text)) }
 {
     let lines = row_lines(alloc, rows, labels, width)?;
-    text_of_lines(alloc, lines.as_slice())
+    plain_lines(alloc, lines.as_slice())
 }
 
 /// Returns rows as a table.
 #[tactic(auto, using(crate::proofs::RowLemmas::table_rows))]
 fn table_text(alloc: Global, rows: &[LineRow<'_>], labels: &Labels) -> Result<String, NoMem>
-    ensures { IfOk result (λ text. string_bytes text
+    ensures value { IfOk result (λ text. string_bytes text
         ≡ table_text labels.now (map row_value rows.now)) }
+    ensures harmless { IfOk result (λ text. IsHarmless (string_bytes text)) }
 {
     let table = row_table(alloc, rows, labels)?;
-    text_of_rows(alloc, table.as_slice())
+    plain_rows(alloc, table.as_slice())
 }
 
 /// Returns the numbers of rows as a list in one line.
 fn numbers_text(alloc: Global, rows: &[LineRow<'_>]) -> Result<String, NoMem>
-    ensures { IfOk result (λ text. string_bytes text ≡ numbers_text (map row_value rows.now)) }
+    ensures value { IfOk result (λ text.
+        string_bytes text ≡ numbers_text (map row_value rows.now)) }
+    ensures harmless { IfOk result (λ text. IsHarmless (string_bytes text)) }
 {
     let numbers = row_numbers(alloc, rows)?;
-    let mut list = list_of_numbers(alloc, numbers.as_slice())?;
-    list.push('\n')?;
-    Ok(list)
+    plain_line(alloc, list_of_numbers(alloc, numbers.as_slice())?)
 }
 
 /// Returns rows in a format. `width` is that of the column of names.
@@ -70,8 +74,9 @@ pub(crate) fn rows_text(
     width: usize,
     format: Format,
 ) -> Result<String, NoMem>
-    ensures { IfOk result (λ text. string_bytes text
+    ensures value { IfOk result (λ text. string_bytes text
         ≡ rows_text format labels.now width (map row_value rows.now)) }
+    ensures harmless { IfOk result (λ text. IsHarmless (string_bytes text)) }
 {
     match format {
         Format::Text => shown_text(alloc, rows, labels, width),

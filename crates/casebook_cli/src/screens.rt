@@ -1,10 +1,12 @@
 //! What is shown of repairs.
-ghost use Rattle.std.specs.Prelude.{◌≡◌, IfOk, IfErr, string_bytes};
+ghost use Rattle.std.specs.Prelude.{◌≡◌, IfOk, IfErr, IsTrue, not, string_bytes};
+ghost use Rattle.casebook_cli.specs.Harmless.{IsHarmless, is_plain_shown};
 ghost use Rattle.casebook_cli.specs.Repairs.{VerdictsRise};
 ghost use Rattle.casebook_cli.specs.Screens.{AreDiffLines, AreParts, AreSummaryLines, AreWhyLines};
 ghost use Rattle.casebook_cli.specs.Screens.{IsJson, IsLineText, IsScreenText, IsShownOf, IsTextOf};
-ghost use Rattle.casebook_cli.specs.Screens.{Rise, screen_view};
+ghost use Rattle.casebook_cli.specs.Screens.{Rise};
 ghost use Rattle.casebook_cli.specs.Stops.{IsNoLine, StopsShown};
+ghost use Rattle.casebook_cli.specs.inner.Views.{screen_view};
 
 use crate::NoMem;
 use crate::colours::shown_lines;
@@ -42,7 +44,7 @@ struct Parts {
     restorations: Vec<Restoration>,
     /// Whom to tell about what.
     groups: Vec<Group>,
-    /// Whether the log is a recording of its lines.
+    /// Whether the log is as its lines run.
     is_recording: bool,
 }
 
@@ -116,8 +118,10 @@ impl Screen<'_, '_> {
     /// Returns the summary with what else is asked for.
     fn text(self, alloc: Global, extras: Extras) -> Result<String, NoMem>
         requires { Rise self.summary.now }
-        ensures { IfOk result (λ text.
+        ensures value { IfOk result (λ text.
             IsScreenText extras (screen_view self.entry) (string_bytes text)) }
+        ensures harmless { IfOk result (λ text.
+            IsTrue (not self.entry.colours) → IsHarmless (string_bytes text)) }
     {
         let mut lines = self.summary_lines(alloc)?;
         lines.append(&mut self.why_lines(alloc, extras.why)?)?;
@@ -130,6 +134,8 @@ impl Screen<'_, '_> {
         requires { Rise self.summary.now }
         ensures ok { IfOk result (λ text.
             IsLineText number (screen_view self.entry) (string_bytes text)) }
+        ensures harmless { IfOk result (λ text.
+            IsTrue (not self.entry.colours) → IsHarmless (string_bytes text)) }
         ensures err { IfErr result (IsNoLine number self.entry.case.now.recording) }
     {
         if self.case.recording().run_of(number).is_none() {
@@ -144,6 +150,8 @@ impl Screen<'_, '_> {
         requires { Rise self.summary.now }
         ensures ok { IfOk result (λ text.
             IsTextOf shown (screen_view self.entry) (string_bytes text)) }
+        ensures harmless { IfOk result (λ text. IsTrue (is_plain_shown self.entry.colours shown)
+            → IsHarmless (string_bytes text)) }
         ensures err { IfErr result (StopsShown shown self.entry.case.now.recording) }
     {
         match shown {
@@ -163,8 +171,10 @@ fn text_of_case<'a>(
     colours: bool,
 ) -> Result<String, Stop<'a>>
     requires { VerdictsRise case.now.repair }
-    ensures ok { IfOk result (λ text. IsShownOf case.now.recording case.now.repair labels.now
-        shown colours (string_bytes text)) }
+    ensures ok { IfOk result (λ text. IsShownOf case.now.edits case.now.recording
+        case.now.repair labels.now shown colours (string_bytes text)) }
+    ensures harmless { IfOk result (λ text. IsTrue (is_plain_shown colours shown)
+        → IsHarmless (string_bytes text)) }
     ensures err { IfErr result (StopsShown shown case.now.recording) }
 {
     let summary = summary_of(alloc, case)?;
@@ -186,8 +196,10 @@ pub(crate) fn shown_text<'a>(
     colours: bool,
 ) -> Result<String, Stop<'a>>
     requires { VerdictsRise asked.now.repair }
-    ensures ok { IfOk result (λ text. IsShownOf asked.now.recording asked.now.repair
-        asked.now.labels shown colours (string_bytes text)) }
+    ensures ok { IfOk result (λ text. IsShownOf asked.now.edits.items asked.now.recording
+        asked.now.repair asked.now.labels shown colours (string_bytes text)) }
+    ensures harmless { IfOk result (λ text. IsTrue (is_plain_shown colours shown)
+        → IsHarmless (string_bytes text)) }
     ensures err { IfErr result (StopsShown shown asked.now.recording) }
 {
     let case = asked.case(alloc)?;

@@ -17,6 +17,8 @@ pub enum Stop<'a> {
     BadWords(Problem),
     /// What an option gives isn't a regular expression, or is one that is too large.
     BadPattern(Searched),
+    /// No line is of a session with the name that is asked for.
+    NoUser,
     /// A document isn't a log.
     BadLog(&'a str, Refusal),
     /// A document that should be text isn't UTF-8.
@@ -54,6 +56,7 @@ impl Stop<'_> {
         match self {
             Stop::BadWords(_)
             | Stop::BadPattern(_)
+            | Stop::NoUser
             | Stop::BadLog(_, _)
             | Stop::BadText(_)
             | Stop::BadAbout(_, _)

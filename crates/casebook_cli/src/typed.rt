@@ -1,55 +1,29 @@
-//! When lines were typed.
-ghost use Rattle.std.specs.Prelude.{◌≡◌, ℕ, ◌||◌, IfOk, OnOk, map};
-ghost use Rattle.std.specs.BTreeMap.{is_at};
-ghost use Rattle.std.specs.List.{filter, list_any};
-ghost use Rattle.std.specs.Ordering.{nat_cmp};
+//! Rows of lines that were typed between bounds.
+ghost use Rattle.std.specs.Prelude.{◌≡◌, IfOk, map};
+ghost use Rattle.std.specs.List.{filter};
 ghost use Rattle.casebook_about.specs.Rows.{time_view};
 ghost use Rattle.casebook_view.specs.Rows.{row_value};
-ghost use Rattle.casebook_cli.specs.Bounds.{is_time_of, is_typed, row_of_number, typed};
+ghost use Rattle.casebook_cli.specs.Bounds.{is_typed, row_of_number, typed};
 
 use crate::NoMem;
 use crate::bounds::Bounds;
+use crate::typed_lines::TypedLines;
 use casebook_about::LineTime;
 use casebook_view::LineRow;
 use std::alloc::Global;
-use std::collections::BTreeSet;
 
-/// Adds the number of a line that was typed between bounds, by its time.
-fn add_typed(numbers: &mut BTreeSet<u32>, bounds: Bounds, time: LineTime) -> Result<(), NoMem>
-    ensures { OnOk result ((n : ℕ) → list_any (is_at (nat_cmp n)) numbers.new.keys
-        ≡ (list_any (is_at (nat_cmp n)) numbers.old.keys || is_time_of bounds n (time_view time))) }
-{
-    if bounds.contains(time.second) {
-        numbers.insert(time.number)?;
-    }
-    Ok(())
-}
-
-/// Returns the numbers of the lines that were typed between bounds.
-fn typed_numbers(alloc: Global, times: &[LineTime], bounds: Bounds) -> Result<BTreeSet<u32>, NoMem>
-    ensures { IfOk result (λ numbers. (n : ℕ) → list_any (is_at (nat_cmp n)) numbers.keys
-        ≡ is_typed bounds (map time_view times.now) n) }
-{
-    let mut numbers = BTreeSet::new(alloc);
-    for time in times {
-        add_typed(&mut numbers, bounds, *time)?;
-    }
-    Ok(numbers)
-}
-
-/// Returns the rows of lines with these numbers.
-fn rows_among<'r>(
+/// Returns the rows of these lines.
+fn rows_between<'r>(
     alloc: Global,
     rows: Vec<LineRow<'r>>,
-    numbers: &BTreeSet<u32>,
+    lines: &TypedLines,
 ) -> Result<Vec<LineRow<'r>>, NoMem>
     ensures { IfOk result (λ kept. map row_value kept.items
-        ≡ filter (row_of_number (λ n. list_any (is_at (nat_cmp n)) numbers.now.keys))
-        (map row_value rows.entry.items)) }
+        ≡ filter (row_of_number (is_typed lines.now)) (map row_value rows.entry.items)) }
 {
     let mut kept = Vec::new(alloc);
     for row in rows {
-        if numbers.contains(&row.number) {
+        if lines.contains(row.number) {
             kept.push(row)?;
         }
     }
@@ -70,6 +44,6 @@ pub(crate) fn typed_rows<'r>(
     if !bounds.has_times() {
         return Ok(rows);
     }
-    let numbers = typed_numbers(alloc, times, bounds)?;
-    rows_among(alloc, rows, &numbers)
+    let lines = TypedLines::of(alloc, times, bounds)?;
+    rows_between(alloc, rows, &lines)
 }

@@ -114,7 +114,7 @@ fn help_command<'a>(alloc: Global) -> Result<Command<'a>, NoMem>
     bare_command(alloc, "help")?.arg(word(alloc, "command"))
 }
 
-/// Returns the command that shows rows of lines, as far as its options of numbers.
+/// Returns the command that shows rows of lines, with its log and its options of numbers alone.
 fn lines_by_number<'a>(alloc: Global) -> Result<Command<'a>, NoMem>
     ensures shape { IfOk result (λ c.
         app_of c ≡ record { top = command (codes "lines") number_rules; subs = [] }) }
@@ -127,7 +127,7 @@ fn lines_by_number<'a>(alloc: Global) -> Result<Command<'a>, NoMem>
         .arg(option(alloc, "to"))
 }
 
-/// Returns the command that shows rows of lines, as far as its options of paths and of users.
+/// Adds the options of paths and of users to the command that shows rows of lines.
 fn lines_by_path<'a>(alloc: Global) -> Result<Command<'a>, NoMem>
     ensures shape { IfOk result (λ c.
         app_of c ≡ record { top = command (codes "lines") path_rules; subs = [] }) }
@@ -140,7 +140,7 @@ fn lines_by_path<'a>(alloc: Global) -> Result<Command<'a>, NoMem>
         .arg(option(alloc, "user"))
 }
 
-/// Returns the command that shows rows of lines, as far as its patterns.
+/// Adds the patterns to the command that shows rows of lines.
 fn lines_by_pattern<'a>(alloc: Global) -> Result<Command<'a>, NoMem>
     ensures shape { IfOk result (λ c.
         app_of c ≡ record { top = command (codes "lines") pattern_rules; subs = [] }) }
@@ -163,7 +163,7 @@ fn lines_command<'a>(alloc: Global) -> Result<Command<'a>, NoMem>
         .arg(flag(alloc, "unknown"))
 }
 
-/// Returns a command about a repair, as far as what is repaired how.
+/// Returns a command about a repair, with its log and its edits alone.
 fn edit_command<'a>(alloc: Global, name: &'a str) -> Result<Command<'a>, NoMem>
     ensures shape { IfOk result (λ c.
         app_of c ≡ record { top = command name.entry.now edit_rules; subs = [] }) }
@@ -176,7 +176,7 @@ fn edit_command<'a>(alloc: Global, name: &'a str) -> Result<Command<'a>, NoMem>
         .arg(option(alloc, "about"))
 }
 
-/// Returns a command about a repair, as far as the options that all of them have.
+/// Returns a command about a repair, with the options alone that all of them have.
 fn repair_command<'a>(alloc: Global, name: &'a str) -> Result<Command<'a>, NoMem>
     ensures shape { IfOk result (λ c.
         app_of c ≡ record { top = command name.entry.now repair_rules; subs = [] }) }

@@ -30,12 +30,12 @@ Every line was understood.
 RESTORE  0 change, 0 come back, 1 go
   D /f  +0 -1
 
-TELL  1 person about 1 screen
+TELL  1 session about 1 screen
   1 /f                                   1x  lines 2
 
 LEAKED  0 cancelled lines showed something
 
-CAUSES  what each cancelled line led to: lines with another result, run again alike, paths it wrote
+CAUSES  what each edited line led to: lines with another result, run again alike, paths it wrote
       1    1    0  echo fig > /f                                                 /f
 ";
 
@@ -70,11 +70,14 @@ fn lines_are_shown(rt: HostRuntime) -> Result<(), Fail> {
     hold(&rt, "lines ~[2J --format text", BOTH)?;
     hold(&rt, "lines log --session 1", SECOND)?;
     hold(&rt, "lines log --user 1", SECOND)?;
-    hold(&rt, "lines log --user ann", "")?;
     hold(&rt, "lines log --reads /f", SECOND)?;
     hold(&rt, "lines log --from 2 --to 2", SECOND)?;
-    hold(&rt, "lines log --text ^c.t --shown ^fig$", "")?;
-    hold(&rt, "lines log --text ^c.t --shown ^fig", SECOND)
+    hold(&rt, "lines log --text ^c.t --shown ^fig$", SECOND)?;
+    hold(&rt, "lines log --text ^c.t$ --shown ^fig$", "")?;
+    hold(&rt, "lines log --text ^c.t --shown ^ig", "")?;
+    hold(&rt, "lines later --shown ^plum$ --format numbers", "8\n")?;
+    hold(&rt, "lines later --shown g$ --format numbers", "8\n")?;
+    hold(&rt, "lines later --shown ^lum --format numbers", "\n")
 }
 
 #[test]

@@ -26,6 +26,11 @@ const ODD: &str = r#"{"from":1,"lines":[
 [1,1,"ls",[["setstatus",127]],"73683a206c733a206e6f7420666f756e640a"],[2,1,"echo a",[["setstatus",0]],"610a"]],
 "log":2,"sessions":[[1,"/",0,[]]],"tree":[]}"#;
 
+/// A log that begins at line 7, and has one line, which shows a file of two lines.
+const LATER: &str = r#"{"from":7,"lines":[
+[8,1,"cat /f",[["bytes","/f",["f","6669670a706c756d0a"]],["setstatus",0]],"6669670a706c756d0a"]],
+"log":2,"sessions":[[1,"/",0,[]]],"tree":[["/f","6669670a706c756d0a"]]}"#;
+
 /// The documents that there are.
 #[derive(Clone, Copy, Drop)]
 pub(crate) struct Memory;
@@ -39,6 +44,10 @@ fn bytes_of(name: &str) -> Option<&'static [u8]> {
         "about" => Some(
             br#"{"about":1,"sessions":[[1,"ann"],[2,"guest"]],"lines":[[1,1746528600],[2,1746528720]]}"#,
         ),
+        "later" => Some(LATER.as_bytes()),
+        "spaced" => Some(br#"{"about":1,"sessions":[[1,"Ann B"],[2,"guest"]]}"#),
+        "seconds" => Some(br#"{"about":1,"lines":[[1,1746528630],[2,1746528779]]}"#),
+        "twice" => Some(br#"{"about":1,"lines":[[1,1746528600],[1,1746528720]]}"#),
         "half" => Some(br#"{"about":1,"lines":[[2,1746528720]]}"#),
         "late" => Some(br#"{"about":1,"lines":[[2,999999999999999]]}"#),
         "rows" => Some(br#"{"about":1,"sessions":[[1,"ann"],["guest"]]}"#),

@@ -49,7 +49,7 @@ const CHECKED: [(&str, &str); 6] = [
     ("check log", "0 log: a recording of its 2 lines\n"),
     (
         "check forged",
-        "4 forged: no recording of its lines. The first that isn't as noted:
+        "4 forged: not as its lines run. The first that isn't as noted:
 line 2 of 1 isn't as noted: cat /f
     noted / run again: read /f line 1: plum / fig\n",
     ),
@@ -116,12 +116,39 @@ fn names_and_times_are_shown(rt: HostRuntime) -> Result<(), Fail> {
         "lines log --about about --user ann --format numbers",
         "2\n",
     )?;
+    hold_written(&rt, "lines log --user 1 --format numbers", "2\n")?;
     hold_written(
         &rt,
-        "lines log --about about --user 1 --format numbers",
-        "\n",
+        "lines log --about spaced --user Ann_B --format numbers",
+        "2\n",
     )
 }
+
+/// What session 1 saw in the log, and what it would have seen without its first line.
+const PAIR: &str = "<div class=pair><figure><figcaption>saw</figcaption><pre>
+<del>fig</del>
+</pre></figure><figure><figcaption>would have seen</figcaption><pre>
+<ins>cat: /f: No such file or directory</ins>
+</pre></figure></div>";
+
+/// Words that ask for a page, and a part of it.
+const PAGES: [(&str, &str); 6] = [
+    ("page log --cancel 1", "<h1>log</h1>"),
+    (
+        "page log --cancel 1 --title A<b> --all",
+        "<h1>A&lt;b&gt;</h1>",
+    ),
+    ("page log --cancel 1", PAIR),
+    (
+        "page log --cancel @list --about about",
+        "</b> <time>May 06 10:52</time> <b class=who>ann</b>",
+    ),
+    ("page log --cancel 1", "Played in Retro&#39;s shell. "),
+    (
+        "page forged --cancel 1",
+        "The log isn&#39;t as its lines run: what was recorded is only what its notes say.",
+    ),
+];
 
 /// Fails unless a page begins as pages do, and has a text.
 fn hold_page<T: Threads + Sync + AllocGlobal>(rt: &T, given: &str, part: &str) -> Result<(), Fail> {
@@ -135,13 +162,10 @@ fn hold_page<T: Threads + Sync + AllocGlobal>(rt: &T, given: &str, part: &str) -
 
 #[test]
 fn pages_are_written(rt: HostRuntime) -> Result<(), Fail> {
-    hold_page(&rt, "page log --cancel 1", "<h1>log</h1>")?;
-    hold_page(
-        &rt,
-        "page log --cancel 1 --title A<b> --all",
-        "<h1>A&lt;b&gt;</h1>",
-    )?;
-    hold_page(&rt, "page log --cancel @list --about about", "guest")
+    for (given, part) in PAGES {
+        hold_page(&rt, given, part)?;
+    }
+    Ok(())
 }
 
 #[test]

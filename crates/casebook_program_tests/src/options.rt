@@ -4,8 +4,9 @@ use std::alloc::AllocGlobal;
 use std::test::Fail;
 use std::thread::Threads;
 
-/// Options that name times, and the numbers of the lines that were typed then. Line 1 was typed at
-/// 10:50 and line 2 at 10:52.
+/// Options that name times, and the numbers of the lines that were typed then. By `about` line 1 was
+/// typed at 10:50 and line 2 at 10:52; by `seconds` at 10:50:30 and at 10:52:59. `twice` has two times
+/// of line 1, 10:50 and then 10:52.
 const TIMES: &str = "\
 --about about --from 2025-05-06_10:50 => 1,2
 --about about --from 2025-05-06_10:50:01 => 2
@@ -16,7 +17,19 @@ const TIMES: &str = "\
 --about about --from 2025-05-06T12:52+02:00 => 2
 --about about --from 1 --to 2025-05-06_10:51 => 1
 --about about --from 2 --to 2025-05-06_10:51 =>\u{20}
---about half --from 2025-01-01 => 2";
+--about half --from 2025-01-01 => 2
+--about seconds --to 2025-05-06_10:50 => 1
+--about seconds --to 2025-05-06T10:50 => 1
+--about seconds --to 2025-05-06_10:50:29 =>\u{20}
+--about seconds --to 2025-05-06_10:50:30 => 1
+--about seconds --to 2025-05-06_10:51 => 1
+--about seconds --from 2025-05-06_10:50 --to 2025-05-06_10:52 => 1,2
+--about seconds --from 2025-05-06_10:51 --to 2025-05-06_10:52:59 => 2
+--about seconds --to 2025-05-06_10:52:58 => 1
+--about seconds --from 2025-05-06 --to 2025-05-06 => 1,2
+--about seconds --to 2025-05-05 =>\u{20}
+--about twice --from 2025-05-06_10:52 => 1
+--about twice --to 2025-05-06_10:51 =>\u{20}";
 
 /// Words that show a repair, and a part of what they show.
 const PARTS: &str =
@@ -37,7 +50,7 @@ const ROUNDS: [&str; 4] = [
 
 /// The repair without line 1, for programs.
 const JSON: &str =
-    r#"{"causes":[{"alike":0,"changed":1,"line":1,"paths":["/f"]}],"counts":{"alike":0,"cancelled":1,"changed":1,"kept":0,"untouched":0},"doubtful":[],"leaked":[],"lines":[{"because_of":null,"fate":"cancelled","line":1,"note":null,"origin":null,"session":2},{"because_of":1,"fate":"changed","line":2,"note":0,"origin":1,"session":1}],"recording":true,"restore":[{"added":0,"change":"removed","extent":"lines","path":"/f","removed":1}],"show":1,"tell":[{"about":"path","lines":[2],"path":"/f","session":1,"user":null,"variable":null}],"unknown":[]}
+    r#"{"causes":[{"alike":0,"changed":1,"line":1,"paths":["/f"]}],"counts":{"alike":0,"cancelled":1,"changed":1,"kept":0,"untouched":0},"doubtful":[],"leaked":[],"lines":[{"because_of":null,"fate":"cancelled","line":1,"note":null,"origin":null,"session":2,"why":null},{"because_of":1,"fate":"changed","line":2,"note":0,"origin":1,"session":1,"why":"query"}],"recording":true,"restore":[{"added":0,"change":"removed","extent":"lines","path":"/f","removed":1}],"show":1,"tell":[{"about":"path","lines":[2],"path":"/f","session":1,"user":null,"variable":null}],"unknown":[]}
 "#;
 
 /// Lines of a repair on a terminal that has colours: a head, a line that goes, one that comes, and

@@ -3,8 +3,8 @@ use Rattle.casebook_place.specs.Place.{IsPlaceInScript}
 use Rattle.casebook_cli.proofs.CheckLemmas.{says_where}
 use Rattle.casebook_cli.proofs.checks.refused_script.Goals as goal
 
-pub returns : goal.returns
-returns c =
+pub returns-clause-place : goal.returns-clause-place
+returns-clause-place c =
     let document = c.args.document.now in
     let place = c.in_ok-place.place in
     says_where (IsPlaceInScript document.bytes.items c.args.refusal) document.name.now (codes "not a script: ") c.args.refusal

@@ -2,14 +2,17 @@ use Rattle.std.proofs.Common.{ap, map, refl, ◌∙◌}
 use Rattle.std.proofs.lemmas.Result.{err_from_is_err_and}
 use Rattle.casebook_view.specs.Rows.{row_value, rows_of}
 use Rattle.casebook_cli.specs.Bounds.{typed}
-use Rattle.casebook_cli.specs.Lines.{filters_by, rows_text, widest_name}
-use Rattle.casebook_cli.specs.Stops.{no_memory}
+use Rattle.casebook_cli.specs.Lines.{rows_text, widest_name}
+use Rattle.casebook_cli.specs.Stops.{no_memory, no_user}
+use Rattle.casebook_cli.specs.inner.Views.{filters_by}
 use Rattle.casebook_cli.proofs.lines_answer.lines_text.Goals as goal
 
 pub returns-in_err-found-clause-err : goal.returns-in_err-found-clause-err
 returns-in_err-found-clause-err c =
     let p = err_from_is_err_and c.from_residual-in_err-found.result c.from_residual-in_err-found.ensures.1 in
-    rw (p.1) (no_memory p.2)
+    rw (p.1, p.2)
+    (no_user c.in_ok-recording.recording c.in_ok-known.known.labels c.in_ok-recording.ensures.ok
+    c.in_ok-known.ensures.labels c.in_err-found.ensures.err)
 
 pub returns-in_err-width-clause-err : goal.returns-in_err-width-clause-err
 returns-in_err-width-clause-err c =
@@ -26,7 +29,7 @@ returns-clause-ok c =
     let request = c.args.request in
     let labels = c.in_ok-known.known.labels in
     let lines = c.in_ok-recording.recording.lines in
-    let filters = filters_by c.in_ok-found.ensures.tests c.in_ok-patterns.patterns request.is_unknown in
+    let filters = filters_by c.in_ok-found.ensures.ok.tests c.in_ok-patterns.patterns request.is_unknown in
     let found = c.in_ok-found.found.items in
     record {
       recording = c.in_ok-recording.recording;
@@ -35,17 +38,18 @@ returns-clause-ok c =
       are_labels = c.in_ok-known.ensures.labels;
       filters = filters;
       are_filters = record {
-        tests = c.in_ok-found.ensures.are_tests;
+        tests = c.in_ok-found.ensures.ok.are_tests;
+        user = c.in_ok-found.ensures.ok.user;
         text = c.in_ok-patterns.ensures.text;
         shown = c.in_ok-patterns.ensures.shown;
         unknown = refl;
       };
-      shown = c.in_ok-rows_text.ensures
+      shown = c.in_ok-rows_text.ensures.value
           ∙ ap (λ rs. rows_text request.format labels c.in_ok-width.width (map row_value rs)) c.as_slice.ensures.value
           ∙ ap (λ w. rows_text request.format labels w (map row_value found))
           (c.in_ok-width.ensures ∙ ap (widest_name labels) c.lines.ensures.value)
           ∙ ap (rows_text request.format labels (widest_name labels lines))
-          (c.in_ok-found.ensures.are_rows
+          (c.in_ok-found.ensures.ok.are_rows
           ∙ ap (λ times. typed request.bounds times (rows_of filters c.in_ok-recording.recording))
           c.in_ok-known.ensures.times);
     }

@@ -2,8 +2,8 @@ use Rattle.std.proofs.Common.{option_map, string_bytes, subst}
 use Rattle.std.proofs.lemmas.Result.{err_from_is_err_and}
 use Rattle.retro_keep.specs.Edit.{edit_of}
 use Rattle.casebook_cli.specs.Repairs.{AreEdits, IsRepairBy, lines_in}
-use Rattle.casebook_cli.specs.Request.{rounds_view}
 use Rattle.casebook_cli.specs.Stops.{StopsNumbers, StopsRepair, no_numbers, no_repair}
+use Rattle.casebook_cli.specs.inner.Views.{rounds_view}
 use Rattle.casebook_cli.proofs.RisingLemmas.{verdicts_rise}
 use Rattle.casebook_cli.proofs.repairs.asked_repair.Goals as goal
 
@@ -36,10 +36,10 @@ returns-clause-ok g c =
       log = c.in_ok-recording.ensures.ok;
       list = string_bytes c.in_ok-list.list;
       is_list = c.in_ok-list.ensures.ok;
-      edits = edits;
       are_edits = subst (λ list. AreEdits list c.args.request.replacements.items r edits) c.as_str.ensures.value
           c.in_ok-edits.ensures.ok;
-      is_repair = subst (λ es. IsRepairBy es r c.in_ok-repair.repair) c.as_slice.ensures.value c.in_ok-repair.ensures.ok;
+      is_repair = subst (λ es. IsRepairBy (option_map rounds_view c.args.request.rounds) es r c.in_ok-repair.repair)
+          c.as_slice.ensures.value c.in_ok-repair.ensures.ok;
       labels = c.in_ok-labels.ensures.ok;
     }
 

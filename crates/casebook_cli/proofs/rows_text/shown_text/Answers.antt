@@ -3,8 +3,8 @@ use Rattle.std.proofs.lemmas.Result.{IfOk-weaker}
 use Rattle.casebook_text.specs.SafeLine.{text_of_lines}
 use Rattle.casebook_cli.proofs.rows_text.shown_text.Goals as goal
 
-pub returns : goal.returns
-returns c =
-    IfOk-weaker c.text_of_lines.result _ _
+pub returns-clause-value : goal.returns-clause-value
+returns-clause-value c =
+    IfOk-weaker c.plain_lines.result _ _
     (λ text h. h ∙ ap text_of_lines (c.as_slice.ensures.value ∙ c.in_ok-lines.ensures))
-    c.text_of_lines.ensures.value
+    c.plain_lines.ensures.value

@@ -1,5 +1,5 @@
 use Rattle.std.proofs.Common.{string_bytes}
-use Rattle.casebook_cli.specs.Screens.{screen_view}
+use Rattle.casebook_cli.specs.inner.Views.{screen_view}
 use Rattle.casebook_cli.proofs.ScreenLemmas.{json_of_sheet}
 use Rattle.casebook_cli.proofs.screens.Screen.json.Goals as goal
 

@@ -1,5 +1,5 @@
 use Rattle.std.proofs.lemmas.Result.{IfOk-weaker}
-use Rattle.casebook_cli.specs.Screens.{screen_view}
+use Rattle.casebook_cli.specs.inner.Views.{screen_view}
 use Rattle.casebook_cli.proofs.ScreenLemmas.{lines_of_sheet}
 use Rattle.casebook_cli.proofs.screens.Screen.summary_lines.Goals as goal
 

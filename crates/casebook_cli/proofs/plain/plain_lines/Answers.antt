@@ -1,0 +1,7 @@
+use Rattle.std.proofs.Common.{string_bytes}
+use Rattle.casebook_cli.proofs.HarmlessLemmas.{harmless}
+use Rattle.casebook_cli.proofs.plain.plain_lines.Goals as goal
+
+pub returns-clause-harmless : goal.returns-clause-harmless
+returns-clause-harmless c =
+    harmless string_bytes c.text_of_lines.result c.text_of_lines.ensures.characters c.text_of_lines.ensures.bytes
