@@ -12,7 +12,7 @@ const ALL: [u32; 20] = [
 /// Parts of the page of the market with no line cancelled.
 const NOTHING: [(&str, usize); 8] = [
     ("Without the 0 cancelled lines, <strong>0 paths</strong>", 1),
-    ("<strong>0 people</strong>", 1),
+    ("<strong>0 sessions</strong>", 1),
     ("<small>0 change, 0 come back, 0 go</small>", 1),
     ("<p class=io>none</p>", 3),
     ("<details id=l", 20),
@@ -27,7 +27,7 @@ const EVERYTHING: [(&str, usize); 8] = [
         "Without the 20 cancelled lines, <strong>6 paths</strong>",
         1,
     ),
-    ("<strong>0 people</strong>", 1),
+    ("<strong>0 sessions</strong>", 1),
     ("<small>2 change, 0 come back, 4 go</small>", 1),
     ("<details id=l", 20),
     (" class=\"l c\">", 20),

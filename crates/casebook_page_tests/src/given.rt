@@ -32,13 +32,18 @@ fn recording_of(alloc: Global, script: &str) -> Result<Recording, Fail> {
     }
 }
 
-/// Returns the repair without some lines.
-fn repair_of(alloc: Global, recording: &Recording, cancelled: &[u32]) -> Result<Repair, Fail> {
+/// Returns the edits that cancel some lines.
+fn edits_of(alloc: Global, cancelled: &[u32]) -> Result<Vec<Edit>, Fail> {
     let mut edits = Vec::new(alloc);
     for number in cancelled {
         edits.push(Edit::Cancel(*number))?;
     }
-    match repair_alone(alloc, recording, edits.as_slice()) {
+    Ok(edits)
+}
+
+/// Returns the repair by edits.
+fn repair_of(alloc: Global, recording: &Recording, edits: &[Edit]) -> Result<Repair, Fail> {
+    match repair_alone(alloc, recording, edits) {
         Ok(repair) => Ok(repair),
         Err(_) => fail("the edits are refused"),
     }
@@ -79,7 +84,8 @@ fn page_of_case(alloc: Global, case: &Case<'_>, given: Given<'_>) -> Result<Stri
 /// Returns the page of a script with some lines cancelled.
 pub(crate) fn page_of(alloc: Global, given: Given<'_>) -> Result<String, Fail> {
     let recording = recording_of(alloc, given.script)?;
-    let repair = repair_of(alloc, &recording, given.cancelled)?;
-    let case = Case::of(alloc, &recording, &repair)?;
+    let edits = edits_of(alloc, given.cancelled)?;
+    let repair = repair_of(alloc, &recording, edits.as_slice())?;
+    let case = Case::of(alloc, &recording, &repair, edits.as_slice())?;
     page_of_case(alloc, &case, given)
 }

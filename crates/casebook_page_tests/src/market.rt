@@ -1,50 +1,9 @@
 //! The market: three people, of whom one is an intruder. What is wanted is the mock's.
 use crate::given::{Given, page_of};
 use crate::reading::{hold_counts, hold_rows};
+use retro_rows::MARKET;
 use std::alloc::Global;
 use std::test::Fail;
-
-/// The script of the market.
-pub(crate) const SCRIPT: &str = r#"{
-  "script": 1,
-  "tree": [
-    ["/etc"],
-    ["/etc/motd","57656c636f6d650a"],
-    ["/home"],
-    ["/home/alice"],
-    ["/home/bob"],
-    ["/srv"],
-    ["/srv/prices","6170706c6520330a7065617220340a"],
-    ["/tmp"]
-  ],
-  "sessions": [
-    [1,"/home/alice",0,[]],
-    [2,"/home/bob",0,[]],
-    [3,"/tmp",0,[]]
-  ],
-  "lines": [
-    [1,1,"cat /etc/motd"],
-    [2,1,"echo plum 5 >> /srv/prices"],
-    [3,3,"echo apple 1 > /srv/prices"],
-    [4,2,"cat /srv/prices > report; cat report"],
-    [5,1,"echo remember the pears > notes"],
-    [6,3,"echo Bob: see /tmp/offer >> /etc/motd"],
-    [7,2,"cat /etc/motd"],
-    [8,2,"echo fig 7 >> /srv/prices"],
-    [9,3,"echo free apples > /tmp/offer"],
-    [10,2,"cat /tmp/offer"],
-    [11,1,"cat /srv/prices"],
-    [12,1,"echo order more figs >> notes"],
-    [13,3,"> /home/alice/notes"],
-    [14,1,"cat notes"],
-    [15,1,"echo call Bob >> notes; cat notes"],
-    [16,2,"cat report /srv/prices > /srv/summary"],
-    [17,1,"cat /srv/summary"],
-    [18,3,"cat /home/bob/report"],
-    [19,2,"cat none; echo looked"],
-    [20,1,"cat /etc/motd notes"]
-  ]
-}"#;
 
 /// The intruder's lines.
 const CANCELLED: [u32; 5] = [3, 6, 9, 13, 18];
@@ -71,7 +30,7 @@ M /srv/summary apple 1 apple 3 6 more
 D /tmp/offer free apples
 ";
 
-/// The rows of what people are told.
+/// The rows of what sessions are told.
 const TELL_ROWS: &str = "\
 1&times; /srv/prices apple 1 apple 3 2 more
 2&times; /home/alice/notes remember the pears 1 more
@@ -116,7 +75,7 @@ const PARTS: [(&str, usize); 30] = [
         1,
     ),
     (
-        "<strong>2 people</strong> would have seen something else on <strong>8 screens</strong>. ",
+        "<strong>2 sessions</strong> would have seen something else on <strong>8 screens</strong>. ",
         1,
     ),
     (
@@ -166,7 +125,7 @@ const PARTS: [(&str, usize); 30] = [
 /// Returns the market without some of its lines.
 pub(crate) fn market(cancelled: &[u32]) -> Given<'_> {
     Given {
-        script: SCRIPT,
+        script: MARKET,
         cancelled,
         names: &NAMES,
         title: "The market",

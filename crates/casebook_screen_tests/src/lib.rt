@@ -1,37 +1,29 @@
 //! Tests of `casebook_screen`, `casebook_check` and `casebook_json`, over public items alone. What
 //! is wanted is written by hand, from the design of the program's output and from
 //! `docs/FORMATS.md`.
+//!
+//! A header has a log, the edits of its lines, names of sessions, times of lines, and whether the
+//! log is a recording. A row below it has a part of what is shown of the repair, a line that is
+//! shown in full, or a pointer into its document (RFC 6901), whose value is wanted as compact JSON.
 #![tactic(auto)]
 
 #[cfg(test)]
-mod detail;
-#[cfg(test)]
-mod diff;
-#[cfg(test)]
-mod documents;
-#[cfg(test)]
-mod edges;
+mod case_tables;
 #[cfg(test)]
 mod given;
 #[cfg(test)]
-mod hostile;
+mod line_tables;
 #[cfg(test)]
-mod json;
+mod lines;
 #[cfg(test)]
-mod kinds;
+mod logs;
 #[cfg(test)]
-mod market;
-#[cfg(test)]
-mod quoted;
-#[cfg(test)]
-mod repairs;
+mod market_table;
 #[cfg(test)]
 mod rows;
 #[cfg(test)]
-mod summary;
+mod show;
 #[cfg(test)]
-mod unknown;
+mod unknown_table;
 #[cfg(test)]
 mod unlike;
-#[cfg(test)]
-mod why;

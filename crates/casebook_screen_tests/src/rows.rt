@@ -1,218 +1,142 @@
-//! Tests of rows.
-use crate::given::{Named, compare, labels_of, recording_of};
-use crate::{hostile, market, unknown};
-use casebook_screen::{NoMem, row_lines, row_numbers, row_table};
-use casebook_text::{list_of_numbers, text_of_lines, text_of_rows};
-use casebook_view::{Filters, LineRow, LineTest, rows};
-use casebook_words::Labels;
-use retro_keep::Recording;
+//! The call that each row names, and the tests that make these calls.
+use crate::case_tables::{AGAIN, EDGES, FEW, KINDS, QUOTED};
+use crate::given::{edits_of, labels_of, recording_of, repair_of};
+use crate::line_tables::{FORGED, LINES};
+use crate::lines::lines;
+use crate::market_table::MARKET;
+use crate::show::Shown;
+use crate::unknown_table::UNKNOWN;
+use crate::unlike::unlike;
+use casebook_view::{Case, Summary};
+use retro_keep::{Edit, Recording};
+use retro_redo::Repair;
+use retro_rows::{fail, rows};
 use std::alloc::Global;
 use std::test::Fail;
 
-/// The width of the column of names.
-const WIDTH: usize = 7;
-
-/// How rows are shown.
-#[derive(Clone, Copy)]
-enum Form {
-    /// As a table.
-    Table,
-    /// As a terminal shows them.
-    Screen,
-    /// As a list of numbers.
-    Numbers,
-}
-
-/// Lines of a log from one number to another, and how they are shown.
+/// What a row asks of a repair.
 #[derive(Drop, Clone, Copy)]
-struct Row<'a> {
-    form: Form,
-    from: u32,
-    to: u32,
-    named: Named<'a>,
-    wanted: &'a str,
+struct Asked<'a> {
+    call: &'a str,
+    names: &'a str,
+    times: &'a str,
+    is_recording: bool,
+    of: &'a str,
 }
 
-/// Lines 15 and 16 of the market, as a table.
-const TABLE: &str = "15\t\t1\talice\techo call Bob >> notes; cat notes\tcall Bob⟨U+000A⟩\t\
-=/home/alice/notes\t>/home/alice/notes\n16\tMay 06 10:52\t2\t2\t\
-cat report /srv/prices > /srv/summary\t\t\
-=/home/bob/report\t=/srv/prices\t+/srv/summary\t>/srv/summary\n";
-
-/// The one name in the table.
-const ALICE: [(u32, &str); 1] = [(1, "alice")];
-
-/// The one time in the table.
-const TIME: [(u32, &str); 1] = [(16, "May 06 10:52")];
-
-/// The first lines of the market, as a terminal shows them.
-const SCREEN: &str = "    1 alice   cat /etc/motd
-        read  /etc/motd
-        shown 8 bytes: Welcome
-    2 alice   echo plum 5 >> /srv/prices
-        wrote >/srv/prices
-    3 mallory echo apple 1 > /srv/prices
-        wrote +/srv/prices >/srv/prices
-    4 bob     cat /srv/prices > report; cat report
-        read  /srv/prices /home/bob/report
-        wrote +/home/bob/report >/home/bob/report
-        shown 8 bytes: apple 1
-    5 alice   echo remember the pears > notes
-        wrote +/home/alice/notes >/home/alice/notes
-    6 mallory echo Bob: see /tmp/offer >> /etc/motd
-        wrote >/etc/motd
-    7 bob     cat /etc/motd
-        read  /etc/motd
-        shown 28 bytes: Welcome
-";
-
-/// Returns tests that the lines from one number to another pass.
-fn tests_of(alloc: Global, from: u32, to: u32) -> Result<Vec<LineTest>, NoMem> {
-    let mut tests = Vec::new(alloc);
-    tests.push(LineTest::From(from))?;
-    tests.push(LineTest::To(to))?;
-    Ok(tests)
-}
-
-/// Returns the rows of the lines from one number to another.
-fn rows_between(
-    alloc: Global,
-    recording: &Recording,
-    from: u32,
-    to: u32,
-) -> Result<Vec<LineRow<'_>>, NoMem> {
-    let mut filters = Filters {
-        tests: tests_of(alloc, from, to)?,
-        text: None,
-        shown: None,
-        is_unknown: false,
-    };
-    rows(alloc, recording, &mut filters)
-}
-
-/// Returns rows as the text of a table.
-fn table_text(alloc: Global, found: &[LineRow<'_>], labels: &Labels) -> Result<String, NoMem> {
-    let table = row_table(alloc, found, labels)?;
-    text_of_rows(alloc, table.as_slice())
-}
-
-/// Returns rows as the text that a terminal shows.
-fn screen_text(alloc: Global, found: &[LineRow<'_>], labels: &Labels) -> Result<String, NoMem> {
-    let lines = row_lines(alloc, found, labels, WIDTH)?;
-    text_of_lines(alloc, lines.as_slice())
-}
-
-/// Returns the numbers of rows as a list.
-fn list_text(alloc: Global, found: &[LineRow<'_>]) -> Result<String, NoMem> {
-    let numbers = row_numbers(alloc, found)?;
-    list_of_numbers(alloc, numbers.as_slice())
-}
-
-/// Returns rows as text.
-fn text_of(
-    alloc: Global,
-    found: &[LineRow<'_>],
-    labels: &Labels,
-    form: Form,
-) -> Result<String, NoMem> {
-    match form {
-        Form::Table => table_text(alloc, found, labels),
-        Form::Screen => screen_text(alloc, found, labels),
-        Form::Numbers => list_text(alloc, found),
+/// Returns the result of a call on what is shown, as text.
+fn told(alloc: Global, shown: Shown<'_, '_>, call: &str, of: &str) -> Result<String, Fail> {
+    match call {
+        "show" => Ok(shown.part(alloc, of)?),
+        "line" => shown.line(alloc, of),
+        "document" => shown.at(alloc, of),
+        _ => fail("no such call"),
     }
 }
 
-/// Returns what is shown of lines.
-fn row_text(alloc: Global, recording: &Recording, row: Row<'_>) -> Result<String, NoMem> {
-    let labels = labels_of(alloc, row.named)?;
-    let found = rows_between(alloc, recording, row.from, row.to)?;
-    text_of(alloc, found.as_slice(), &labels, row.form)
+/// Returns what a summary answers.
+fn of_summary(
+    alloc: Global,
+    case: &Case<'_>,
+    summary: &Summary,
+    asked: Asked<'_>,
+) -> Result<String, Fail> {
+    let labels = labels_of(alloc, asked.names, asked.times)?;
+    let shown = Shown {
+        case,
+        summary,
+        labels: &labels,
+        is_recording: asked.is_recording,
+    };
+    told(alloc, shown, asked.call, asked.of)
 }
 
-/// Compares what is shown of lines of a script.
-fn hold_row(alloc: Global, script: &str, row: Row<'_>) -> Result<(), Fail> {
-    let recording = recording_of(alloc, script)?;
-    let text = row_text(alloc, &recording, row)?;
-    compare(alloc, text.as_str(), row.wanted)
+/// Returns what a case answers.
+fn of_case(alloc: Global, case: &Case<'_>, asked: Asked<'_>) -> Result<String, Fail> {
+    let summary = Summary::of(alloc, case)?;
+    of_summary(alloc, case, &summary, asked)
+}
+
+/// Returns what the repair of a recording by edits answers.
+fn of_repair(
+    alloc: Global,
+    recording: &Recording,
+    edits: &[Edit],
+    repair: &Repair,
+    asked: Asked<'_>,
+) -> Result<String, Fail> {
+    let case = Case::of(alloc, recording, repair, edits)?;
+    of_case(alloc, &case, asked)
+}
+
+/// Returns what the repair of a log by the edits of a list answers.
+fn repaired(alloc: Global, log: &str, list: &str, asked: Asked<'_>) -> Result<String, Fail> {
+    let recording = recording_of(alloc, log)?;
+    let edits = edits_of(alloc, list)?;
+    let repair = repair_of(alloc, &recording, edits.as_slice())?;
+    of_repair(alloc, &recording, edits.as_slice(), &repair, asked)
+}
+
+/// Returns what is shown of the lines of a log from one number to another.
+fn listed(
+    alloc: Global,
+    call: &str,
+    log: &str,
+    (names, times): (&str, &str),
+    (from, to): (&str, &str),
+) -> Result<String, Fail> {
+    let between = (from.parse()?, to.parse()?);
+    let labels = labels_of(alloc, names, times)?;
+    let recording = recording_of(alloc, log)?;
+    Ok(lines(alloc, &recording, &labels, call, between)?)
+}
+
+/// Returns what is said of a log with a line changed.
+fn forged(alloc: Global, log: &str, names: &str, forgery: &str) -> Result<String, Fail> {
+    let labels = labels_of(alloc, names, "")?;
+    unlike(alloc, &labels, recording_of(alloc, log)?, forgery)
+}
+
+/// Returns the result of a call for these fields, as text.
+fn called(alloc: Global, call: &str, given: &[String]) -> Result<String, Fail> {
+    match (call, given) {
+        ("unlike", [log, names, forgery]) => forged(alloc, log, names, forgery),
+        ("table" | "screen" | "numbers", [log, names, times, from, to]) => {
+            listed(alloc, call, log, (names, times), (from, to))
+        }
+        (_, [log, edits, names, times, kind, of]) => {
+            let asked = Asked {
+                call,
+                names,
+                times,
+                is_recording: kind.as_str() == "recording",
+                of,
+            };
+            repaired(alloc, log, edits, asked)
+        }
+        _ => fail("no such call"),
+    }
+}
+
+/// Makes the calls of a table. Fails with the first row whose call returns something else than it
+/// wants.
+fn hold(alloc: Global, table: &str) -> Result<(), Fail> {
+    for row in &rows(alloc, table)? {
+        let returned = called(alloc, &row.call, &row.given)?;
+        row.compare(alloc, &returned)?;
+    }
+    Ok(())
 }
 
 #[test]
-fn rows_are_tabulated(rt: HostRuntime) -> Result<(), Fail> {
-    let row = Row {
-        form: Form::Table,
-        from: 15,
-        to: 16,
-        named: Named {
-            names: &ALICE,
-            times: &TIME,
-        },
-        wanted: TABLE,
-    };
-    hold_row(rt.alloc(), market::SCRIPT, row)
+fn the_market_is_shown(rt: HostRuntime) -> Result<(), Fail> {
+    hold(rt.alloc(), MARKET)
 }
 
 #[test]
-fn rows_are_shown(rt: HostRuntime) -> Result<(), Fail> {
-    let row = Row {
-        form: Form::Screen,
-        from: 1,
-        to: 7,
-        named: Named {
-            names: &market::NAMES,
-            times: &[],
-        },
-        wanted: SCREEN,
-    };
-    hold_row(rt.alloc(), market::SCRIPT, row)
-}
-
-#[test]
-fn rows_are_numbered(rt: HostRuntime) -> Result<(), Fail> {
-    let row = Row {
-        form: Form::Numbers,
-        from: 18,
-        to: 99,
-        named: Named {
-            names: &[],
-            times: &[],
-        },
-        wanted: "18,19,20",
-    };
-    hold_row(rt.alloc(), market::SCRIPT, row)
-}
-
-#[test]
-fn rows_are_harmless(rt: HostRuntime) -> Result<(), Fail> {
-    let row = Row {
-        form: Form::Table,
-        from: 1,
-        to: 2,
-        named: Named {
-            names: &hostile::NAMES,
-            times: &hostile::TIMES,
-        },
-        wanted: hostile::ROWS,
-    };
-    hold_row(rt.alloc(), hostile::SCRIPT, row)
-}
-
-/// Compares what is shown of lines that aren't all understood.
-fn hold_unknown(alloc: Global, form: Form, to: u32, wanted: &str) -> Result<(), Fail> {
-    let row = Row {
-        form,
-        from: 2,
-        to,
-        named: Named {
-            names: &unknown::NAMES,
-            times: &[],
-        },
-        wanted,
-    };
-    hold_row(alloc, unknown::SCRIPT, row)
-}
-
-#[test]
-fn rows_that_are_not_understood_are_shown(rt: HostRuntime) -> Result<(), Fail> {
-    hold_unknown(rt.alloc(), Form::Screen, 4, unknown::ROWS)?;
-    hold_unknown(rt.alloc(), Form::Table, 3, unknown::TABLE)
+fn other_logs_are_shown(rt: HostRuntime) -> Result<(), Fail> {
+    for table in [EDGES, KINDS, UNKNOWN, AGAIN, QUOTED, FEW, LINES, FORGED] {
+        hold(rt.alloc(), table)?;
+    }
+    Ok(())
 }

@@ -1,65 +1,75 @@
-//! Tests of diffs.
-use crate::rows::{compare, row};
-use casebook_text::{Mark, diff};
+//! Diffs and their parts.
+use casebook_text::{Mark, Span, diff, hunks};
 use std::alloc::{AllocError, Global};
-use std::test::Fail;
 
-/// Pairs of texts, whose lines are words, and their diffs. `~` is a text without lines. Removed
-/// lines come before added ones, as in a unified diff.
-const DIFFS: &str = "\
-a b c :: a b c => =a =b =c
-a b c :: a c => =a -b =c
-a c :: a b c => =a +b =c
-a b c :: a x c => =a -b +x =c
-a b c d :: b c d e => -a =b =c =d +e
-a b c :: x y c d => -a -b +x +y =c +d
-~ :: a b => +a +b
-a b :: ~ => -a -b
-~ :: ~ => ~";
+/// Returns the sign of a mark.
+pub fn sign(mark: Mark) -> char {
+    match mark {
+        Mark::Same => '=',
+        Mark::Removed => '-',
+        Mark::Added => '+',
+    }
+}
 
-/// Returns the lines of a text of a row.
-fn lines_of(alloc: Global, text: &str) -> Result<Vec<&str>, AllocError> {
-    if text == "~" {
+/// Returns the words of a text.
+fn words_of(alloc: Global, text: &str) -> Result<Vec<&str>, AllocError> {
+    if text.is_empty() {
         return Ok(Vec::new(alloc));
     }
     text.split(' ').collect(alloc)
 }
 
+/// Appends a text after a space, if it isn't the first one.
+fn push_after_space(out: &mut String, text: &str) -> Result<(), AllocError> {
+    if !out.is_empty() {
+        out.push(' ')?;
+    }
+    out.push_str(text)
+}
+
 /// Returns the lines of a diff with their marks.
-fn diff_text(alloc: Global, old: &[&str], new: &[&str]) -> Result<String, AllocError> {
-    let mut text = String::new(alloc);
-    for (mark, line) in &diff(alloc, old, new)? {
-        let sign = match mark {
-            Mark::Same => '=',
-            Mark::Removed => '-',
-            Mark::Added => '+',
-        };
-        if !text.is_empty() {
-            text.push(' ')?;
-        }
-        text.push(sign)?;
-        text.push_str(line)?;
+fn marked(alloc: Global, lines: &[(Mark, &str)]) -> Result<String, AllocError> {
+    let mut out = String::new(alloc);
+    for (mark, line) in lines {
+        push_after_space(
+            &mut out,
+            format!(in alloc; "{}{line}", sign(*mark))?.as_str(),
+        )?;
     }
-    if text.is_empty() {
-        text.push('~')?;
-    }
-    Ok(text)
+    Ok(out)
 }
 
-/// Makes the call of each row.
-fn hold_diffs(alloc: Global) -> Result<(), Fail> {
-    for line in DIFFS.lines() {
-        let (given, wanted) = row(line)?;
-        let (old, new) = given.split_once(" :: ").ok_or("a row has one text")?;
-        let old = lines_of(alloc, old)?;
-        let new = lines_of(alloc, new)?;
-        let returned = diff_text(alloc, old.as_slice(), new.as_slice())?;
-        compare(alloc, line, wanted, returned.as_str())?;
+/// Returns which lines of a text a part is about, as in the head of a unified diff.
+fn span_text(alloc: Global, sign: char, span: Span) -> Result<String, AllocError> {
+    let first = if span.count == 0 {
+        span.before
+    } else {
+        span.before.saturating_add(1)
+    };
+    if span.count == 1 {
+        return format!(in alloc; "{sign}{first}");
     }
-    Ok(())
+    let count = span.count;
+    format!(in alloc; "{sign}{first},{count}")
 }
 
-#[test]
-fn diffs_merge_texts(rt: HostRuntime) -> Result<(), Fail> {
-    hold_diffs(rt.alloc())
+/// Returns the heads of the parts of a diff, with one line of context.
+fn heads(alloc: Global, lines: &[(Mark, &str)]) -> Result<String, AllocError> {
+    let mut out = String::new(alloc);
+    for hunk in hunks(alloc, lines, 1)? {
+        push_after_space(&mut out, span_text(alloc, '-', hunk.old)?.as_str())?;
+        push_after_space(&mut out, span_text(alloc, '+', hunk.new)?.as_str())?;
+    }
+    Ok(out)
+}
+
+/// Returns the diff of two texts whose lines are words, or the heads of its parts.
+pub fn compared(alloc: Global, call: &str, old: &str, new: &str) -> Result<String, AllocError> {
+    let old = words_of(alloc, old)?;
+    let new = words_of(alloc, new)?;
+    let merged = diff(alloc, old.as_slice(), new.as_slice())?;
+    match call {
+        "hunks" => heads(alloc, merged.as_slice()),
+        _ => marked(alloc, merged.as_slice()),
+    }
 }

@@ -1,24 +1,29 @@
-//! Tests of the libraries of `casebook`, over public items alone.
+//! Tests of the libraries of `casebook` below views, over public items alone: safe texts, lists and
+//! diffs, words, about documents, places of faults, and the profile.
 //!
-//! A table is a text of rows `GIVEN => WANTED`, one a line. What rows want comes from the rules of
-//! display, of HTML, of lists and of documents, never from the program's own output.
+//! The tables are texts of rows, as `retro_rows` says. What rows want comes from the rules of
+//! display, of HTML, of lists and of documents, and is worked out by hand.
 #![tactic(auto)]
 
 #[cfg(test)]
-mod about;
-#[cfg(test)]
 mod diffs;
 #[cfg(test)]
-mod hunks;
+mod document_tables;
 #[cfg(test)]
-mod lists;
-#[cfg(test)]
-mod places;
+mod documents;
 #[cfg(test)]
 mod profile;
 #[cfg(test)]
+mod profile_table;
+#[cfg(test)]
 mod rows;
 #[cfg(test)]
-mod safe_lines;
+mod tables;
 #[cfg(test)]
-mod shown;
+mod texts;
+#[cfg(test)]
+mod values;
+#[cfg(test)]
+mod word_tables;
+#[cfg(test)]
+mod words;

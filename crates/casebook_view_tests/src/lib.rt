@@ -1,12 +1,24 @@
-//! Tests of `casebook_view`, over public items alone. What is wanted is written by hand, from the
-//! design of the program's output.
+//! Tests of `casebook_view` and `casebook_cause`, over public items alone. What is wanted is worked
+//! out by hand, from the design of the program's output.
 #![tactic(auto)]
 
 #[cfg(test)]
-mod lines;
+mod answers;
 #[cfg(test)]
-mod market;
+mod causes;
 #[cfg(test)]
-mod show;
+mod filters;
 #[cfg(test)]
-mod unknown;
+mod given;
+#[cfg(test)]
+mod listed;
+#[cfg(test)]
+mod parts;
+#[cfg(test)]
+mod rows;
+#[cfg(test)]
+mod tables;
+#[cfg(test)]
+mod trees;
+#[cfg(test)]
+mod words;

@@ -50,6 +50,8 @@ fn push_escaped(out: &mut String, part: &str) -> Result<(), RowError> {
         "NUL" => ("\0", "1"),
         "TAB" => ("\t", "1"),
         "CR" => ("\r", "1"),
+        "ESC" => ("\u{1b}", "1"),
+        "RLO" => ("\u{202e}", "1"),
         "BOM" => ("\u{feff}", "1"),
         "EMPTY" => ("", "1"),
         _ => escape.split_once('*').ok_or(RowError::BadEscape)?,

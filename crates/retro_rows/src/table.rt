@@ -1,4 +1,4 @@
-//! Tables of rows: lines with their continuations, and headers.
+//! Tables of rows: lines with their continuations and what they want, and headers.
 use crate::row::Row;
 use crate::row_error::RowError;
 use retro_path::NoMem;
@@ -14,12 +14,27 @@ fn push_continuation(line: &mut String, more: &str) -> Result<(), NoMem> {
     line.push_str(more)
 }
 
+/// Appends to a row a line of what it wants, with its newline. A space before the line isn't part
+/// of it.
+fn push_wanted(row: &mut String, line: &str) -> Result<(), NoMem> {
+    if row.ends_with(" =>") {
+        row.push(' ')?;
+    }
+    row.push_str(line.strip_prefix(' ').unwrap_or(line))?;
+    row.push_str("%(NL)")
+}
+
 /// Returns the lines of a table that aren't empty, each with its continuations.
 fn joined_lines(alloc: Global, table: &str) -> Result<Vec<String>, NoMem> {
     let mut joined: Vec<String> = Vec::new(alloc);
     for line in table.lines() {
-        match (line.strip_prefix("  "), joined.last_mut()) {
-            (Some(more), Some(above)) => push_continuation(above, more.trim_start_matches(' '))?,
+        match (
+            line.strip_prefix("  "),
+            line.strip_prefix('|'),
+            joined.last_mut(),
+        ) {
+            (Some(more), _, Some(above)) => push_continuation(above, more.trim_start_matches(' '))?,
+            (_, Some(wanted), Some(above)) => push_wanted(above, wanted)?,
             _ if line.is_empty() => {}
             _ => joined.push(String::from_str(alloc, line)?)?,
         }

@@ -30,7 +30,14 @@ given: alike\
   for all
 - fields: c => [alike, for all][c]
 
+same: a%(NL)%(EMPTY)  | b%(NL)%(NL)c%(NL) =>
+| a
+|   | b
+|
+|c
+
 codes: a%(NL)%(TAB)%(CR)%(NUL)%(EMPTY)b => 97 10 9 13 0 98
+codes: %(ESC)%(RLO) => 27 226 128 174
 codes: %(BOM) => 239 187 191
 codes: %(ab*2)%(c*0) => 97 98 97 98
 fields: %(%*1)(NL) :: %(=*1)> => [%(%*1)(NL)][%(=*1)>]

@@ -17,6 +17,7 @@ use std::test::Fail;
 fn text_called(alloc: Global, call: &str, given: &[String]) -> Result<String, NoMem> {
     match (call, given) {
         ("fields", given) => fields(alloc, given),
+        ("same", [given]) => text(alloc, given),
         ("codes", [text]) => codes(alloc, text),
         ("fault", [table]) => fault(alloc, table),
         ("relative", [text]) => relative(alloc, text),

@@ -1,0 +1,150 @@
+//! The parts of a summary as texts.
+use crate::words::{change_sign, fate_sign, obstacle_word, push_item, subject_text};
+use casebook_view::{Effect, Reason, Summary, Why, chain};
+use retro_rows::text;
+use retro_tree::NoMem;
+use std::alloc::Global;
+
+/// Returns what becomes of each line.
+fn fates(alloc: Global, summary: &Summary) -> Result<String, NoMem> {
+    let mut out = String::new(alloc);
+    for line in &summary.fates {
+        let item = format!(in alloc; "{}{}", line.0, fate_sign(line.1))?;
+        push_item(&mut out, " ", item.as_str())?;
+    }
+    Ok(out)
+}
+
+/// Returns the paths to restore.
+fn restorations(alloc: Global, summary: &Summary) -> Result<String, NoMem> {
+    let mut out = String::new(alloc);
+    for changed in &summary.restorations {
+        let sign = change_sign(changed.change);
+        let item = format!(in alloc; "{sign} {}", changed.path.as_str())?;
+        push_item(&mut out, ", ", item.as_str())?;
+    }
+    Ok(out)
+}
+
+/// Returns the doubtful paths.
+fn doubtful(alloc: Global, summary: &Summary) -> Result<String, NoMem> {
+    let mut out = String::new(alloc);
+    for path in &summary.doubtful {
+        push_item(&mut out, ", ", path.as_str())?;
+    }
+    Ok(out)
+}
+
+/// Returns the lines that aren't understood.
+fn unknown(alloc: Global, summary: &Summary) -> Result<String, NoMem> {
+    let mut out = String::new(alloc);
+    for line in &summary.unknown {
+        let item = format!(in alloc; "{} {}", line.number, obstacle_word(line.obstacle))?;
+        push_item(&mut out, ", ", item.as_str())?;
+    }
+    Ok(out)
+}
+
+/// Returns whom to tell: line, session, and what it is about.
+fn notices(alloc: Global, summary: &Summary) -> Result<String, NoMem> {
+    let mut out = String::new(alloc);
+    for notice in &summary.notices {
+        let about = subject_text(&notice.subject);
+        let item = format!(in alloc; "{} {} {about}", notice.number, notice.session)?;
+        push_item(&mut out, ", ", item.as_str())?;
+    }
+    Ok(out)
+}
+
+/// Returns what leaked: line, session, and how many bytes were shown.
+fn leaks(alloc: Global, summary: &Summary) -> Result<String, NoMem> {
+    let mut out = String::new(alloc);
+    for leak in &summary.leaks {
+        let item = format!(in alloc; "{} {} {}", leak.number, leak.session, leak.bytes)?;
+        push_item(&mut out, ", ", item.as_str())?;
+    }
+    Ok(out)
+}
+
+/// Returns an effect as text: the line, to how many lines with another result and with the same one
+/// it led, and the paths that it wrote.
+fn effect_text(alloc: Global, effect: &Effect) -> Result<String, NoMem> {
+    let mut out = format!(in alloc; "{} {} {}", effect.number, effect.changed, effect.alike)?;
+    for path in &effect.wrote {
+        push_item(&mut out, " ", path.as_str())?;
+    }
+    Ok(out)
+}
+
+/// Returns what each edited line led to.
+fn effects(alloc: Global, summary: &Summary) -> Result<String, NoMem> {
+    let mut out = String::new(alloc);
+    for effect in &summary.effects {
+        push_item(&mut out, ", ", effect_text(alloc, effect)?.as_str())?;
+    }
+    Ok(out)
+}
+
+/// Returns why a line is run again as text.
+fn why_text(alloc: Global, why: Why) -> Result<String, NoMem> {
+    match why {
+        Why::Replaced => text(alloc, "replaced"),
+        Why::Query(index) => format!(in alloc; "query {index}"),
+        Why::RunAgain => text(alloc, "again"),
+    }
+}
+
+/// Returns a reason as text: the line, why it is run again, its cause if it has one, and its
+/// origin.
+fn reason_text(alloc: Global, reason: &Reason) -> Result<String, NoMem> {
+    let why = why_text(alloc, reason.why)?;
+    match reason.cause {
+        Some(cause) => { format!(in alloc; "{} {why} of {cause} {}", reason.number, reason.origin) }
+        None => format!(in alloc; "{} {why} {}", reason.number, reason.origin),
+    }
+}
+
+/// Returns why lines are run again.
+fn reasons(alloc: Global, summary: &Summary) -> Result<String, NoMem> {
+    let mut out = String::new(alloc);
+    for reason in &summary.reasons {
+        push_item(&mut out, ", ", reason_text(alloc, reason)?.as_str())?;
+    }
+    Ok(out)
+}
+
+/// Returns a chain of causes as text.
+fn chain_text(alloc: Global, first: u32, causes: &[u32]) -> Result<String, NoMem> {
+    let mut out = format!(in alloc; "{first}")?;
+    for number in causes {
+        push_item(&mut out, " < ", format!(in alloc; "{number}")?.as_str())?;
+    }
+    Ok(out)
+}
+
+/// Returns the chains of causes of the lines that are run again.
+fn chains(alloc: Global, summary: &Summary) -> Result<String, NoMem> {
+    let mut out = String::new(alloc);
+    for reason in &summary.reasons {
+        let causes = chain(alloc, summary.reasons.as_slice(), reason.number)?;
+        let item = chain_text(alloc, reason.number, causes.as_slice())?;
+        push_item(&mut out, ", ", item.as_str())?;
+    }
+    Ok(out)
+}
+
+/// Returns the part of a summary with a name.
+pub fn part(alloc: Global, summary: &Summary, name: &str) -> Result<String, NoMem> {
+    match name {
+        "fates" => fates(alloc, summary),
+        "restore" => restorations(alloc, summary),
+        "doubtful" => doubtful(alloc, summary),
+        "unknown" => unknown(alloc, summary),
+        "tell" => notices(alloc, summary),
+        "leaked" => leaks(alloc, summary),
+        "causes" => effects(alloc, summary),
+        "reasons" => reasons(alloc, summary),
+        "chains" => chains(alloc, summary),
+        _ => text(alloc, "no such part"),
+    }
+}
