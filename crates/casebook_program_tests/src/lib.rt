@@ -3,14 +3,10 @@
 #![tactic(auto)]
 
 #[cfg(test)]
-mod answers;
-#[cfg(test)]
 mod memory;
 #[cfg(test)]
-mod more;
+mod rows;
 #[cfg(test)]
-mod options;
-#[cfg(test)]
-mod refusals;
+mod tables;
 #[cfg(test)]
 mod writers;

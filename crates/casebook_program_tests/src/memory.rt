@@ -76,8 +76,8 @@ impl Progress for Memory {
     fn begin(&self, _step: Step) {}
 }
 
-/// Returns the words of a command line. The program's name isn't among those that are given. `~`
-/// stands for an escape, and `_` for a space in a word.
+/// Returns the words of a command line. The program's name isn't among those that are given. `_`
+/// stands for a space in a word.
 pub(crate) fn words(alloc: Global, given: &str) -> Result<Vec<String>, NoMem> {
     let mut words = Vec::new(alloc);
     words.push(text(alloc, "casebook")?)?;
@@ -85,8 +85,7 @@ pub(crate) fn words(alloc: Global, given: &str) -> Result<Vec<String>, NoMem> {
         return Ok(words);
     }
     for word in given.split(' ') {
-        let word = word.replace(alloc, "~", "\u{1B}")?;
-        words.push(word.as_str().replace(alloc, "_", " ")?)?;
+        words.push(word.replace(alloc, "_", " ")?)?;
     }
     Ok(words)
 }
