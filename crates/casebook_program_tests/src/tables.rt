@@ -9,45 +9,17 @@ writes: lines log =>
 |         read  /f
 |         shown 4 bytes: fig
 
-writes: lines - =>
-|     1 2 echo fig > /f
-|         wrote +/f >/f
-|     2 1 cat /f
-|         read  /f
-|         shown 4 bytes: fig
-
-writes: lines %(ESC)[2J --format text =>
-|     1 2 echo fig > /f
-|         wrote +/f >/f
-|     2 1 cat /f
-|         read  /f
-|         shown 4 bytes: fig
-
+same: lines - :: lines log => yes
+same: lines %(ESC)[2J --format text :: lines log => yes
 writes: lines log --session 1 =>
 |     2 1 cat /f
 |         read  /f
 |         shown 4 bytes: fig
 
-writes: lines log --user 1 =>
-|     2 1 cat /f
-|         read  /f
-|         shown 4 bytes: fig
-
-writes: lines log --reads /f =>
-|     2 1 cat /f
-|         read  /f
-|         shown 4 bytes: fig
-
-writes: lines log --from 2 --to 2 =>
-|     2 1 cat /f
-|         read  /f
-|         shown 4 bytes: fig
-
-writes: lines log --text ^c.t --shown ^fig$ =>
-|     2 1 cat /f
-|         read  /f
-|         shown 4 bytes: fig
-
+same: lines log --user 1 :: lines log --session 1 => yes
+same: lines log --reads /f :: lines log --session 1 => yes
+same: lines log --from 2 --to 2 :: lines log --session 1 => yes
+same: lines log --text ^c.t --shown ^fig$ :: lines log --session 1 => yes
 writes: lines log --text ^c.t$ --shown ^fig$ => %(EMPTY)
 writes: lines log --text ^c.t --shown ^ig => %(EMPTY)
 writes: lines later --shown ^plum$ --format numbers => 8%(NL)
@@ -71,9 +43,9 @@ writes: lines log --about about =>
 |         shown 4 bytes: fig
 "##;
 
-/// Options that name times, and the numbers of the lines that were typed then. By `about` line 1 was
-/// typed at 10:50 and line 2 at 10:52; by `seconds` at 10:50:30 and at 10:52:59. `twice` has two times
-/// of line 1, 10:50 and then 10:52.
+/// Options that name times, and the numbers of the lines that were typed then. By `about` line 1
+/// was typed at 10:50 and line 2 at 10:52; by `seconds` at 10:50:30 and at 10:52:59. `twice` has two
+/// times of line 1, 10:50 and then 10:52.
 pub(crate) const TIMES: &str = r##"
 numbers: --about about --from 2025-05-06_10:50 => 1,2
 numbers: --about about --from 2025-05-06_10:50:01 => 2
@@ -124,52 +96,8 @@ writes: show log --cancel 1 =>
 | CAUSES  what each edited line led to: lines with another result, run again alike, paths it wrote
 |       1    1    0  echo fig > /f                                                 /f
 
-writes: show - --cancel @list =>
-| 2 lines of 2 sessions. 1 cancelled.
-| Played in Retro's shell. Whether the machine did the same isn't known.
-|
-| Every line was understood.
-|
-|       1 cancelled
-|       1 run again, another result
-|       0 run again, the same result
-|       0 met, kept as recorded
-|       0 untouched
-|
-| RESTORE  0 change, 0 come back, 1 go
-|   D /f  +0 -1
-|
-| TELL  1 session about 1 screen
-|   1 /f                                   1x  lines 2
-|
-| LEAKED  0 cancelled lines showed something
-|
-| CAUSES  what each edited line led to: lines with another result, run again alike, paths it wrote
-|       1    1    0  echo fig > /f                                                 /f
-
-writes: show log --cancel 1-2,-2 =>
-| 2 lines of 2 sessions. 1 cancelled.
-| Played in Retro's shell. Whether the machine did the same isn't known.
-|
-| Every line was understood.
-|
-|       1 cancelled
-|       1 run again, another result
-|       0 run again, the same result
-|       0 met, kept as recorded
-|       0 untouched
-|
-| RESTORE  0 change, 0 come back, 1 go
-|   D /f  +0 -1
-|
-| TELL  1 session about 1 screen
-|   1 /f                                   1x  lines 2
-|
-| LEAKED  0 cancelled lines showed something
-|
-| CAUSES  what each edited line led to: lines with another result, run again alike, paths it wrote
-|       1    1    0  echo fig > /f                                                 /f
-
+same: show - --cancel @list :: show log --cancel 1 => yes
+same: show log --cancel 1-2,-2 :: show log --cancel 1 => yes
 adds: show log --cancel 1 :: --why --diff =>
 |
 | WHY  lines run again with another result
@@ -232,7 +160,10 @@ pub(crate) const PAGES: &str = r##"
 page: page log --cancel 1 :: <h1>log</h1> => yes
 page: page log --cancel 1 --title A<b> --all :: <h1>A&lt;b&gt;</h1> => yes
 page: page log --cancel 1 :: <div
-  class=pair><figure><figcaption>saw</figcaption><pre>%(NL)<del>fig</del>%(NL)</pre></figure><figure><figcaption>would have seen</figcaption><pre>%(NL)<ins>cat: /f: No such file or directory</ins>%(NL)</pre></figure></div> => yes
+  class=pair><figure><figcaption>saw</figcaption><pre>%(NL)<del>fig</del>%(NL)</pre>\
+  </figure>\
+  <figure><figcaption>would have seen</figcaption><pre>\
+  %(NL)<ins>cat: /f: No such file or directory</ins>%(NL)</pre></figure></div> => yes
 page: page log --cancel @list --about about :: </b> <time>May 06 10:52</time> <b class=who>ann</b>
   => yes
 page: page log --cancel 1 :: Played in Retro&#39;s shell.  => yes
