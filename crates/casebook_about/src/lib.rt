@@ -18,8 +18,8 @@
 //!   (`specs/Time.antt`). That it is the text which people expect is only tested.
 //! - `second_of` returns the second of the instant that a text names as `jiff` reads it: with an
 //!   offset of its own, or in UTC, or as a date's first second in UTC (`specs/Time.antt`).
-//! - `last_second_of` returns the last second of such a time: in UTC a date lasts a day, a time of day
-//!   without minutes an hour, and one without seconds a minute (`specs/Time.antt`).
+//! - `last_second_of` returns the last second of such a time: in UTC a date lasts a day, a time of
+//!   day without minutes an hour, and one without seconds a minute (`specs/Time.antt`).
 #![tactic(auto)]
 
 mod about;

@@ -53,8 +53,8 @@ pub fn second_of(alloc: Global, text: &str) -> Result<Option<i64>, AllocError>
     }
 }
 
-/// Returns the last second of the time that a text names, as [`second_of`] reads it, or `None` if it
-/// names none. In UTC a date lasts a day, a time of day without minutes an hour, and one without
+/// Returns the last second of the time that a text names, as [`second_of`] reads it, or `None` if
+/// it names none. In UTC a date lasts a day, a time of day without minutes an hour, and one without
 /// seconds a minute. Another time lasts a second.
 #[tactic(auto, unfolding(crate::specs::Time::last_second_in))]
 pub fn last_second_of(alloc: Global, text: &str) -> Result<Option<i64>, AllocError>

@@ -5,12 +5,12 @@ use Rattle.std.specs.Bool.{if◌then◌else◌}
 use Rattle.retro_tree.specs.declared.ask.Ask.{Ask}
 use Rattle.retro_tree.proofs.Small.{none_some}
 use Rattle.retro_keep.specs.Edit.{edited, line_run, text_run}
-use Rattle.retro_keep.specs.Recording.{IsWellFormed, RecordingValue, noted_at, script_line}
+use Rattle.retro_keep.specs.Recording.{IsWellFormed, RecordingValue, noted_at, noted_of, script_line}
 use Rattle.retro_keep.specs.declared.edit.Edit.{Edit}
 use Rattle.retro_keep.specs.declared.noted.Noted.{Noted}
 use Rattle.retro_history.proofs.Chains.{Lines}
 use Rattle.retro_redo.specs.Moments.{text_now}
-use Rattle.retro_redo.specs.Progress.{line_chosen, lines_chosen, noted_of, verdict_of, verdicts_chosen}
+use Rattle.retro_redo.specs.Progress.{line_chosen, lines_chosen, verdict_of, verdicts_chosen}
 use Rattle.retro_redo.specs.Repair.{verdict_again, verdict_by}
 use Rattle.retro_redo.specs.Settled.{AreSettled, IsSettled, recording_chosen}
 use Rattle.retro_redo.specs.declared.repair.Repair.{Repair}

@@ -1,8 +1,6 @@
 //! Changes of the cells of a query, compared.
 ghost use Rattle.std.specs.Prelude.{◌≡◌, ◌↔◌, ◌∷◌, [], IsTrue, MatchOption};
 ghost use Rattle.std.specs.Option.{option_copied};
-ghost use Rattle.retro_tree.specs.Ask.{supports};
-ghost use Rattle.retro_tree.specs.Change.{cell_of};
 ghost use Rattle.casebook_cause.specs.Cause.{changes_for, notes_of};
 
 use retro_keep::Noted;
@@ -57,31 +55,7 @@ fn change_for<'a>(ask: &Ask, note: &'a Note) -> Option<&'a Change>
         (λ change. changes_for ask.now (note.now ∷ []) ≡ change.now ∷ []) }
 {
     match note {
-        Note::Made(change) if is_supported_by(ask, change) => Some(change),
+        Note::Made(change) if ask.depends_on(change.cell()) => Some(change),
         _ => None,
-    }
-}
-
-/// Returns whether the answer to a query can depend on the cell that a change writes.
-#[tactic(auto, unfolding(retro_tree::specs::Ask::supports))]
-fn is_supported_by(ask: &Ask, change: &Change) -> bool
-    ensures { result ≡ supports ask.now (cell_of change.now) }
-{
-    match (ask, change) {
-        (Ask::Kind(path) | Ask::Bytes(path), Change::Put(at, _) | Change::Grow(at, _)) => path
-            == at,
-        (Ask::Names(path), Change::Put(at, _) | Change::Grow(at, _)) => {
-            path == at || at.is_child_of(path)
-        }
-        (Ask::CanWrite(path, _), Change::Put(at, _) | Change::Grow(at, _)) => {
-            path == at || at.is_parent_of(path)
-        }
-        (Ask::User(_), Change::Put(at, _) | Change::Grow(at, _)) => at.is_passwd(),
-        (Ask::VarOf(asked, variable), Change::SetVar(sid, name, _)) => {
-            asked == sid && variable == name
-        }
-        (Ask::CwdOf(asked), Change::SetCwd(sid, _)) => asked == sid,
-        (Ask::StatusOf(asked), Change::SetStatus(sid, _)) => asked == sid,
-        _ => false,
     }
 }

@@ -10,7 +10,6 @@ ghost use Rattle.casebook_cause.specs.declared.place.Place.TheVariants as PlaceO
 use crate::alike::notes_of;
 use crate::another_result::makes_same_changes;
 use crate::place::Place;
-use retro_history::changed_cell;
 use retro_keep::{Noted, Recording};
 use retro_tree::{Change, NoMem, Note};
 use std::alloc::Global;
@@ -96,10 +95,11 @@ impl DifferingLines {
             → has_line number p self.new.lines.keys ≡ true) }
     {
         self.add_child(alloc, number, change)?;
-        self.add(Place::Cell(changed_cell(change)?), number)
+        self.add(Place::Cell(change.cell().to_cell()?), number)
     }
 
-    /// Adds a line at the children of the parent of the path that a change writes, if it writes one.
+    /// Adds a line at the children of the parent of the path that a change writes, if it writes
+    /// one.
     fn add_child(&mut self, alloc: Global, number: u32, change: &Change) -> Result<(), NoMem>
         ensures kept { (n : ℕ) (p : PlaceValue)
             → has_line n p self.old.lines.keys ≡ true → has_line n p self.new.lines.keys ≡ true }

@@ -49,9 +49,9 @@ pub fn failing_queries_have_another_answer()
         → answer q (after (take index notes) s) ≢ answer q (after (take index notes) t) }
 {}
 
-/// States that a cause, in a recording and in the recording of its repair, is a line that the repair
-/// cancels or runs again. It is earlier than what it causes, so each chain of causes ends at a line
-/// whose edit is given.
+/// States that a cause, in a recording and in the recording of its repair, is a line that the
+/// repair cancels or runs again. It is earlier than what it causes, so each chain of causes ends at
+/// a line whose edit is given.
 #[tactic(auto, using(crate::proofs::CauseVerdicts::cancelled_or_redone))]
 pub fn causes_are_cancelled_or_redone()
     ensures { (edit : ℕ → Option Edit) (r : RecordingValue) (repair : Repair) (q : Ask) (n m : ℕ)

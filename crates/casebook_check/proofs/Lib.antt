@@ -1,2 +1,1 @@
 pub mod NoteLists
-pub mod Lines

@@ -1,3 +1,2 @@
-pub mod Unlike
 pub mod Difference
 pub mod Texts

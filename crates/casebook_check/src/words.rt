@@ -3,16 +3,15 @@ ghost use Rattle.std.specs.Prelude.{◌≡◌, ◌++◌, IfOk, OnOk, Option, ℕ
 ghost use Rattle.std.specs.Cmp.Lexicographic.{pointwise};
 ghost use Rattle.std.specs.Option.{option_copied};
 ghost use Rattle.casebook_words.specs.Words.{query_words};
-ghost use Rattle.casebook_check.specs.Texts.{AreUnlikeLines, IsOtherwiseAt, asked_words, both_notes};
-ghost use Rattle.casebook_check.specs.Texts.{head_words, note_or_end, notes_words};
+ghost use Rattle.casebook_check.specs.Texts.{AreUnlikeLines, IsOtherwiseAt, asked_words};
+ghost use Rattle.casebook_check.specs.Texts.{both_notes, head_words, note_or_end, notes_words};
 ghost use Rattle.casebook_check.specs.Texts.{otherwise_words, outputs_words};
 
 use crate::NoMem;
 use crate::note_lists::first_difference;
-use crate::unlike::Unlike;
 use casebook_text::SafeLine;
 use casebook_words::{Labels, push_cut, push_difference, push_note, push_query};
-use retro_keep::Noted;
+use retro_keep::{Noted, Unlike};
 use retro_shell::Run;
 use retro_tree::{Answer, Ask, Bytes, Node, Note};
 use std::alloc::Global;

@@ -10,8 +10,8 @@ use Rattle.retro_keep.specs.declared.noted.Noted.{Noted}
 use Rattle.retro_keep.specs.Script.{ScriptValue}
 use Rattle.retro_log.specs.Document.{json_of, log_in, script_in}
 use Rattle.casebook_check.specs.Texts.{AreUnlikeLines}
-use Rattle.casebook_check.specs.Unlike.{IsFirstUnlike}
-use Rattle.casebook_check.specs.declared.unlike.Unlike.{Unlike}
+use Rattle.retro_keep.specs.Unlike.{IsFirstUnlike}
+use Rattle.retro_keep.specs.declared.unlike.Unlike.{Unlike}
 use Rattle.casebook_place.specs.Place.{IsPlaceInLog, IsPlaceInScript}
 use Rattle.casebook_place.specs.Words.{place_words}
 use Rattle.casebook_place.specs.declared.place.Place.{Place}

@@ -43,9 +43,9 @@ fn back(alloc: Global) -> Result<Html, NoMem> {
     Ok(html)
 }
 
-/// Returns the page of a repair. It begins with its policy, and is made of constants of the template,
-/// of numbers in their tags, of escaped texts, and of the starts of rows: one for each line, but for
-/// untouched lines if there are more than 5,000 lines and not all are asked for.
+/// Returns the page of a repair. It begins with its policy, and is made of constants of the
+/// template, of numbers in their tags, of escaped texts, and of the starts of rows: one for each
+/// line, but for untouched lines if there are more than 5,000 lines and not all are asked for.
 pub fn page(alloc: Global, contents: Contents<'_, '_>) -> Result<String, NoMem>
     ensures { IfOk result (λ text. IsPageText
         (written_lines (shows_untouched contents.entry.shows_all contents.entry.summary.now.fates.items)

@@ -10,8 +10,8 @@ use casebook_view::Fate;
 use std::alloc::Global;
 use std::collections::BTreeSet;
 
-/// Appends the rest of the page's head after its policy, which forbids a network and all scripts but
-/// this one: the title and the style. Then the header comes.
+/// Appends the rest of the page's head after its policy, which forbids a network and all scripts
+/// but this one: the title and the style. Then the header comes.
 pub(crate) fn push_head(
     html: &mut Html,
     alloc: Global,

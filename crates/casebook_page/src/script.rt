@@ -1,6 +1,7 @@
 //! The script of a page.
 
-/// The footer, the script and the end of the page. The script has search, and keys that go through the lines. A page can be read without it.
+/// The footer, the script and the end of the page. The script has search, and keys that go through
+/// the lines. A page can be read without it.
 pub(crate) const SCRIPT: &str =
     "</main><footer>/ search, j and k go through lines, o opens, e opens all</footer><script>const q=document.getElementById('q'),rows=[...document.querySelectorAll('.l')],hot=rows.filter(r=>!r.matches('.u'));let at=-1;q.hidden=false;
 q.oninput=()=>{const w=q.value.toLowerCase();for(const r of rows)r.style.display=!w||r.textContent.toLowerCase().includes(w)?'':'none';for(const f of document.querySelectorAll('.fold')){const any=[...f.querySelectorAll('.l')].some(r=>r.style.display!='none');f.style.display=any?'':'none';f.open=!!w&&any}};

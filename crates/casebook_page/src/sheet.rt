@@ -9,8 +9,8 @@ use crate::tag::Tag;
 use std::alloc::Global;
 use std::marker::Model;
 
-/// A page as far as it is written, and the numbers of the lines that have a row in it. It begins with
-/// the policy.
+/// A page as far as it is written, and the numbers of the lines that have a row in it. It begins
+/// with the policy.
 #[derive(Drop)]
 pub struct Sheet {
     text: String,

@@ -5,8 +5,8 @@ ghost use Rattle.casebook_page.specs.Template.{tag_text};
 use crate::script::SCRIPT;
 use crate::style::STYLE;
 
-/// A constant of the template. Each begins and ends outside of tags, and what it begins of the style
-/// or of a script it ends.
+/// A constant of the template. Each begins and ends outside of tags, and what it begins of the
+/// style or of a script it ends.
 #[derive(Clone, Copy, Debug, PartialEq, Eq)]
 pub enum Tag {
     /// The start of the page, with its policy, up to the text of the title.

@@ -65,8 +65,8 @@ const LINE_ROWS: &str = "\
 20 alice &#8635; cat /etc/motd notes
 ";
 
-/// Parts of the page, and how often each is in it. Alice has 9 lines, Bob 6 and Mallory 5, each with
-/// a name in the closed and in the open row, and Mallory's also among the cancelled ones.
+/// Parts of the page, and how often each is in it. Alice has 9 lines, Bob 6 and Mallory 5, each
+/// with a name in the closed and in the open row, and Mallory's also among the cancelled ones.
 const PARTS: [(&str, usize); 30] = [
     ("<title>The market</title>", 1),
     ("<h1>The market</h1>", 1),

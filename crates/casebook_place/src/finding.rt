@@ -102,8 +102,8 @@ fn place_in_list(
     }
 }
 
-/// Looks through the tree, the sessions and the lines of a document. Returns the first list, or item
-/// of one, that is refused for a given reason by itself.
+/// Looks through the tree, the sessions and the lines of a document. Returns the first list, or
+/// item of one, that is refused for a given reason by itself.
 fn place_in_lists(
     alloc: Global,
     kind: Kind,

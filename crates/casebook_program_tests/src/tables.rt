@@ -44,8 +44,8 @@ writes: lines log --about about =>
 "##;
 
 /// Options that name times, and the numbers of the lines that were typed then. By `about` line 1
-/// was typed at 10:50 and line 2 at 10:52; by `seconds` at 10:50:30 and at 10:52:59. `twice` has two
-/// times of line 1, 10:50 and then 10:52.
+/// was typed at 10:50 and line 2 at 10:52; by `seconds` at 10:50:30 and at 10:52:59. `twice` has
+/// two times of line 1, 10:50 and then 10:52.
 pub(crate) const TIMES: &str = r##"
 numbers: --about about --from 2025-05-06_10:50 => 1,2
 numbers: --about about --from 2025-05-06_10:50:01 => 2

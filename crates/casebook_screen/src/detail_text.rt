@@ -240,10 +240,9 @@ fn lines_of_detail(
 }
 
 /// Returns the line with a number in full: its text, why it isn't understood if it isn't, what
-/// becomes of it, why it is run again if it
-/// is, and then its notes in words and its output, as recorded and, if it is run again, as repaired.
-/// Returns nothing if no line has the number. The contract says so if the summary's reasons are in
-/// order of lines, as they are of a repair.
+/// becomes of it, why it is run again if it is, and then its notes in words and its output, as
+/// recorded and, if it is run again, as repaired. Returns nothing if no line has the number. The
+/// contract says so if the summary's reasons are in order of lines, as they are of a repair.
 pub fn detail_lines(
     alloc: Global,
     case: &Case<'_>,

@@ -168,8 +168,8 @@ fn push_doubts(alloc: Global, lines: &mut Vec<SafeLine>, doubtful: &[Path]) -> R
     Ok(())
 }
 
-/// Returns what is to be restored: an empty line, how many paths there are, and each of them, with a
-/// question mark before doubtful ones.
+/// Returns what is to be restored: an empty line, how many paths there are, and each of them, with
+/// a question mark before doubtful ones.
 pub(crate) fn restoration_lines(
     alloc: Global,
     doubtful: &[Path],

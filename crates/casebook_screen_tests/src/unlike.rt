@@ -1,8 +1,8 @@
 //! Which line of a log isn't as noted.
-use casebook_check::{NoMem, Unlike, first_unlike, unlike_lines};
+use casebook_check::{NoMem, unlike_lines};
 use casebook_text::text_of_lines;
 use casebook_words::Labels;
-use retro_keep::{Noted, Recording};
+use retro_keep::{Noted, Recording, Unlike, first_unlike};
 use retro_rows::{fail, text};
 use retro_tree::{Bytes, Notes};
 use std::alloc::Global;

@@ -66,8 +66,8 @@ fn wrote(alloc: Global, case: &Case<'_>, number: u32) -> Result<Vec<Path>, NoMem
     }
 }
 
-/// Returns what a line led to, by where the chains of other lines end. The contract says this of all
-/// reasons and fates of which these are the ends.
+/// Returns what a line led to, by where the chains of other lines end. The contract says this of
+/// all reasons and fates of which these are the ends.
 fn effect_of(
     alloc: Global,
     case: &Case<'_>,

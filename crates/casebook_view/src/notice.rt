@@ -90,9 +90,9 @@ fn notice_of(
     })
 }
 
-/// Returns whom to tell about what: a notice for each line that isn't cancelled and prints something
-/// else, in order, without those that aren't understood. What such a line printed is Retro's own,
-/// and nobody saw it.
+/// Returns whom to tell about what: a notice for each line that isn't cancelled and prints
+/// something else, in order, without those that aren't understood. What such a line printed is
+/// Retro's own, and nobody saw it.
 pub fn notices(
     alloc: Global,
     case: &Case<'_>,

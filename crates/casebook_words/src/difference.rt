@@ -162,8 +162,8 @@ fn has_last_newline(text: &[u8]) -> bool
     }
 }
 
-/// Returns whether it is the old one of two texts with the same lines that has a last newline, which
-/// the other lacks, or `None` if they are the same.
+/// Returns whether it is the old one of two texts with the same lines that has a last newline,
+/// which the other lacks, or `None` if they are the same.
 #[tactic(auto, unfolding(crate::specs::Difference::newline_between))]
 fn newline_between(old: &[u8], new: &[u8]) -> Option<bool>
     ensures { result ≡ newline_between old.now new.now }

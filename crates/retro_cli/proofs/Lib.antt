@@ -1,7 +1,6 @@
 pub mod Floats
 pub mod CallLemmas
 pub mod NumberLemmas
-pub mod ReplayLemmas
 pub mod RefusalLemmas
 pub mod RunLemmas
 pub mod FitLemmas

@@ -52,7 +52,6 @@ mod program;
 mod repair_options;
 mod repair_report;
 mod replacements;
-mod replay;
 mod report;
 mod stop;
 mod words;

@@ -7,7 +7,7 @@ use Rattle.retro_tree.specs.declared.value.Value.{Value}
 use Rattle.retro_tree.specs.declared.value.Value.TheVariants as values
 use Rattle.retro_tree.specs.declared.node.Node.TheVariants as nodes
 use Rattle.retro_tree.specs.Change.{value_grown}
-use Rattle.retro_effects.specs.declared.value_ref.ValueRef.{ValueRef}
+use Rattle.retro_tree.specs.declared.value_ref.ValueRef.{ValueRef}
 use Rattle.retro_history.specs.inner.Tracks.{TrackValue, version_grown}
 use Rattle.retro_history.specs.inner.Version.{place_value, version_value, IsWithin, EndsAt}
 use Rattle.retro_history.specs.inner.Version.{AreWithin, RangesFit}

@@ -18,7 +18,7 @@ use Rattle.retro_tree.specs.declared.value.Value.TheVariants as values
 use Rattle.retro_tree.specs.declared.overlay_entry.OverlayEntry.TheVariants as entries
 use Rattle.retro_tree.proofs.Small.{less, both_fst, both_snd, some_same, none_some}
 use Rattle.retro_tree.proofs.Skips.{entries_after, after_all, skipped, less_than}
-use Rattle.retro_effects.specs.ValueRef.{ref_value}
+use Rattle.retro_tree.specs.ValueRef.{ref_value}
 use Rattle.retro_history.specs.inner.History.{version_parts, version_ref_parts}
 use Rattle.retro_history.specs.inner.Tracks.{VersionValue, version_below}
 use Rattle.retro_history.specs.inner.TrackMarks.{is_child_cell, mark_of_value, mark_tracks}

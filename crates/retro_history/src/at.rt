@@ -11,13 +11,12 @@ ghost use Rattle.retro_tree.specs.User.{user_in};
 ghost use Rattle.retro_tree.specs.Path.{passwd};
 ghost use Rattle.retro_tree.specs.declared.node.Node.{Node as NodeValue};
 ghost use Rattle.retro_tree.specs.declared.value.Value.TheVariants.{Node as OfNode};
-ghost use Rattle.retro_effects.specs.ValueRef.{ref_value};
+ghost use Rattle.retro_tree.specs.ValueRef.{ref_value};
 
 use crate::history::History;
-use retro_effects::{Cells, ValueRef};
 use retro_tree::{
-    Answer, Ask, Bytes, Cell, FILE_LIMIT, Kind, Listing, NoMem, Node, Path, Permit, Text, User,
-    VarName, View, find_user,
+    Answer, Ask, Bytes, Cell, Cells, FILE_LIMIT, Kind, Listing, NoMem, Node, Path, Permit, Text,
+    User, ValueRef, VarName, View, find_user,
 };
 use std::alloc::Global;
 use std::marker::Model;

@@ -1,13 +1,12 @@
 //! The history of one cell.
 ghost use Rattle.std.specs.Prelude.{◌≡◌, OnOk};
-ghost use Rattle.retro_effects.specs.ValueRef.{ref_value};
+ghost use Rattle.retro_tree.specs.ValueRef.{ref_value};
 ghost use Rattle.retro_history.specs.inner.CellHistory.{history_used, new_history};
 
 use crate::line_use::LineUse;
 use crate::track::Track;
 use crate::uses::Uses;
-use retro_effects::ValueRef;
-use retro_tree::NoMem;
+use retro_tree::{NoMem, ValueRef};
 use std::alloc::Global;
 
 /// The versions of a cell, and the lines that write or read it.

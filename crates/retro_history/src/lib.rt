@@ -36,8 +36,8 @@
 //!   query whose answer can depend on it, and `listed_by` those that list a directory: each
 //!   exactly, in order (`specs/Index.antt`). `next_use` returns the least number above another of a
 //!   line that reads or changes a cell, or `None` if there is no such line, and `next_meeting` and
-//!   `next_meeting_in` that of a line that does so with one of some cells. `changed_cell` returns
-//!   the cell of a change. A listing reads the cell of each child, also of one that never existed.
+//!   `next_meeting_in` that of a line that does so with one of some cells. A listing reads the cell
+//!   of each child, also of one that never existed.
 #![tactic(auto)]
 
 mod at;
@@ -50,7 +50,6 @@ mod laws;
 mod line_cells;
 mod line_numbers;
 mod line_use;
-mod note_cells;
 mod path_lines;
 mod place;
 mod rising;
@@ -65,5 +64,4 @@ pub use history::History;
 pub use laws::{
     checkpoints_rise, recorded_states_follow_the_lines, versions_give_the_recorded_values,
 };
-pub use note_cells::changed_cell;
 pub use rolled::Rolled;

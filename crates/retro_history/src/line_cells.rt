@@ -1,12 +1,11 @@
 //! The cells that a line uses.
 ghost use Rattle.std.specs.Prelude.{◌≡◌, IfOk, OnOk};
 ghost use Rattle.std.specs.FinMap as map;
-ghost use Rattle.retro_history.specs.inner.LineUse.{cells_noted, with_change, with_query};
-ghost use Rattle.retro_history.specs.inner.LineUse.{with_read};
+ghost use Rattle.retro_history.specs.inner.LineUse.{cells_noted, queried_cell, with_change};
+ghost use Rattle.retro_history.specs.inner.LineUse.{with_query, with_read};
 
 use crate::line_use::LineUse;
-use crate::note_cells::{changed_cell, queried_cell};
-use retro_tree::{Ask, Cell, Change, NoMem, Note, Notes};
+use retro_tree::{Ask, Cell, Change, NoMem, Note, Notes, Path};
 use std::alloc::Global;
 use std::collections::BTreeMap;
 use std::collections::btree_map::Iter;
@@ -87,7 +86,7 @@ impl<'a> LineCells<'a> {
     fn add_change(&mut self, alloc: Global, number: u32, change: &'a Change) -> Result<(), NoMem>
         ensures { OnOk result (self.new ≡ with_change number change.now self.old) }
     {
-        let cell = changed_cell(change)?;
+        let cell = change.cell().to_cell()?;
         if let Some(used) = self.uses.get_mut(&cell) {
             return used.add_change(change);
         }
@@ -95,5 +94,22 @@ impl<'a> LineCells<'a> {
         used.add_change(change)?;
         self.uses.insert(cell, used)?;
         Ok(())
+    }
+}
+
+/// Returns the cell that a query is about. A query about a path is about the path's cell, also if
+/// its answer depends on other cells too. A query for a user is about the cell of the password
+/// file.
+fn queried_cell(alloc: Global, ask: &Ask) -> Result<Cell, NoMem>
+    ensures { IfOk result (λ cell. cell ≡ queried_cell ask.now) }
+{
+    match ask {
+        Ask::Kind(path) | Ask::Bytes(path) | Ask::Names(path) | Ask::CanWrite(path, _) => {
+            Ok(Cell::At(path.copy()?))
+        }
+        Ask::User(_) => Ok(Cell::At(Path::passwd(alloc)?)),
+        Ask::VarOf(sid, name) => Ok(Cell::Var(*sid, name.copy()?)),
+        Ask::CwdOf(sid) => Ok(Cell::Cwd(*sid)),
+        Ask::StatusOf(sid) => Ok(Cell::Status(*sid)),
     }
 }

@@ -3,8 +3,7 @@ ghost use Rattle.std.specs.Prelude.{◌≡◌, IfOk, OnErr, length, take};
 ghost use Rattle.retro_tree.specs.Change.{value_grown};
 ghost use Rattle.retro_history.specs.inner.Version.{EndsAt, place_value};
 
-use retro_effects::ValueRef;
-use retro_tree::NoMem;
+use retro_tree::{NoMem, ValueRef};
 
 /// Where the value of a version is stored.
 #[derive(Clone, Copy)]

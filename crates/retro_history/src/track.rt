@@ -1,7 +1,7 @@
 //! The versions of one cell.
 ghost use Rattle.std.specs.Prelude.{◌≡◌, ◌++◌, ◌∷◌, [], IfOk, OnOk, OnErr, map, nat_lt};
 ghost use Rattle.std.specs.Prelude.{option_map};
-ghost use Rattle.retro_effects.specs.ValueRef.{ref_value};
+ghost use Rattle.retro_tree.specs.ValueRef.{ref_value};
 ghost use Rattle.retro_history.specs.inner.Tracks.{RiseFrom, all_versions, checkpoint_numbers};
 ghost use Rattle.retro_history.specs.inner.Tracks.{new_track};
 ghost use Rattle.retro_history.specs.inner.Tracks.{track_changed, version_below, before_line};
@@ -13,8 +13,7 @@ ghost use Rattle.retro_history.specs.inner.History.{version_parts, version_ref_p
 use crate::place::Place;
 use crate::version::Version;
 use crate::version_ref::VersionRef;
-use retro_effects::ValueRef;
-use retro_tree::{Change, NoMem, Node};
+use retro_tree::{Change, NoMem, Node, ValueRef};
 use std::alloc::Global;
 use std::marker::Model;
 

@@ -6,7 +6,7 @@ ghost use Rattle.retro_history.specs.inner.History.{version_parts, version_ref_p
 
 use crate::place::Place;
 use crate::version_ref::VersionRef;
-use retro_effects::ValueRef;
+use retro_tree::ValueRef;
 
 /// The longest run of growths between two checkpoints. The growth after it makes a checkpoint.
 const GROWTH_LIMIT: u8 = 16;

@@ -1,5 +1,5 @@
 //! Borrowed versions.
-use retro_effects::ValueRef;
+use retro_tree::ValueRef;
 
 /// The value of a version, and the checkpoint to which it can be rolled back.
 #[derive(Clone, Copy)]

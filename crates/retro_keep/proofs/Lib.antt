@@ -5,5 +5,7 @@ pub mod Owning
 pub mod Parsing
 pub mod Parts
 pub mod Recorded
+pub mod Replays
 pub mod Searching
 pub mod Trim
+pub mod Unlikes

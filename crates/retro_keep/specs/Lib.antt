@@ -5,4 +5,5 @@ pub mod Recording
 pub mod Recorded
 pub mod Trim
 pub mod RecordingFault
+pub mod Unlike
 pub mod inner

@@ -33,6 +33,10 @@ number_in l = l.0
 abbrev pub sid_in : ℕ × Noted → ℕ
 sid_in l = l.1.sid
 
+-- what a recording keeps of a run
+abbrev pub noted_of : RunValue → Noted
+noted_of run = record { sid = run.sid; text = run.text; notes = run.notes; output = run.output }
+
 -- the state after the notes of all lines
 abbrev pub last_state : List (ℕ × Noted) → State → State
 last_state [] s = s

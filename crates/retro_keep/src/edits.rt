@@ -10,13 +10,46 @@ use std::alloc::Global;
 use std::collections::BTreeMap;
 use std::marker::Model;
 
-/// Edits of lines, by number: at most one of each line.
+/// A borrowed edit.
 #[derive(Drop)]
-pub struct Edits {
-    edits: BTreeMap<u32, Edit>,
+struct EditRef<'e> {
+    edit: &'e Edit,
 }
 
-impl Model for Edits {
+impl<'e> Model for EditRef<'e> {
+    ghost use Rattle.retro_keep.specs.inner.EditCode.{coded_edit};
+    ghost use Rattle.retro_keep.specs.declared.edit.Edit.{Edit};
+
+    ghost Value = { Edit };
+
+    ghost coded = { coded_edit };
+
+    ghost view = { λ a. a.edit.now };
+}
+
+impl<'e> EditRef<'e> {
+    /// Borrows an edit.
+    fn of(edit: &'e Edit) -> EditRef<'e>
+        ensures { result ≡ edit.now }
+    {
+        EditRef { edit }
+    }
+
+    /// Returns the edit.
+    fn get(&self) -> &'e Edit
+        ensures { result.now ≡ self.now }
+    {
+        self.edit
+    }
+}
+
+/// Edits of lines, by number: at most one of each line. They are borrowed from a list.
+#[derive(Drop)]
+pub struct Edits<'e> {
+    edits: BTreeMap<u32, EditRef<'e>>,
+}
+
+impl<'e> Model for Edits<'e> {
     ghost use Rattle.std.specs.FinMap as map_of;
     ghost use Rattle.std.specs.Ordering.{nat_cmp};
     ghost use Rattle.retro_keep.specs.inner.EditCode.{coded_edits};
@@ -29,9 +62,9 @@ impl Model for Edits {
     ghost view = { λ a. map_of.from_entries a.edits.entries };
 }
 
-impl Edits {
+impl<'e> Edits<'e> {
     /// Returns the first edit of each line that edits name.
-    pub fn of(alloc: Global, edits: &[Edit]) -> Result<Edits, NoMem>
+    pub fn of(alloc: Global, edits: &'e [Edit]) -> Result<Edits<'e>, NoMem>
         ensures { IfOk result (λ map. (n : ℕ) → map_of.get map n ≡ edit_of edits.now n) }
     {
         let mut first = Edits {
@@ -43,8 +76,8 @@ impl Edits {
         Ok(first)
     }
 
-    /// Adds a copy of an edit, unless its line has one.
-    fn add(&mut self, edit: &Edit) -> Result<(), NoMem>
+    /// Adds an edit, unless its line has one.
+    fn add(&mut self, edit: &'e Edit) -> Result<(), NoMem>
         ensures { OnOk result ((n : ℕ) → map_of.get self.new n
             ≡ option_or (map_of.get self.old n) (edit_of (edit.now ∷ []) n)) }
     {
@@ -52,15 +85,18 @@ impl Edits {
         if self.edits.contains_key(&number) {
             return Ok(());
         }
-        self.edits.insert(number, edit.copy()?)?;
+        self.edits.insert(number, EditRef::of(edit))?;
         Ok(())
     }
 
     /// Returns the edit of the line with a number, or `None` if it has none.
-    pub fn get(&self, number: u32) -> Option<&Edit>
+    pub fn get(&self, number: u32) -> Option<&'e Edit>
         ensures { option_copied result ≡ map_of.get self.now number }
     {
-        self.edits.get(&number)
+        match self.edits.get(&number) {
+            Some(edit) => Some(edit.get()),
+            None => None,
+        }
     }
 
     /// Returns the text that the line with a number runs in place of `text`: its new text if its

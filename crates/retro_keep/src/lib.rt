@@ -9,6 +9,10 @@
 //! them. [`Recording::new`] makes a recording of its parts, or refuses them.
 //! [`Recording::of_lawful`] also says why it refuses them.
 //!
+//! [`replay`] runs the lines of a script one by one and records nothing. [`check`] runs those of a
+//! recording, to tell whether each is as noted, and [`first_unlike`] finds the first one that
+//! isn't.
+//!
 //! A recording can begin at a later line than line 1: [`Recording::trim`] gives up the lines before
 //! a number, and keeps the state that they left. A [`TrimFault`] says why it can't.
 //!
@@ -38,6 +42,12 @@
 //!   first state and lines, each line's notes certify it and hold in the state before it, and the
 //!   line prints the noted output there. So its last state and its outputs are those of running the
 //!   lines one by one [`outcome`]. It begins at 1 [`begins`].
+//! - `replay` returns the last state and the outputs of running a script's lines one by one. If
+//!   `check` returns true, a recording is one of the script that its lines are. `first_unlike`
+//!   returns the first line that isn't as noted, with its run [`some`]: the lines before it are
+//!   recorded as they run, and the run, in the state that they leave, has other notes or another
+//!   output (`specs/Unlike.antt`). A recording may have other notes than a run, so this doesn't say
+//!   that it isn't one. If it returns `None`, the recording is one of its own lines [`none`].
 //! - A `Recording`'s type keeps that its first state is lawful, it begins at 1 or later, its
 //!   numbers rise and none is below the one at which it begins, each line's session exists and is
 //!   the only one that its notes name, each noted answer is of its query's kind, and each noted
@@ -64,10 +74,12 @@ mod numbered;
 mod recorder;
 mod recording;
 mod recording_fault;
+mod replaying;
 mod requirements;
 mod script;
 mod split;
 mod trim_fault;
+mod unlike;
 
 pub use edit::Edit;
 pub use edit_fault::{EditFault, EditRefusal};
@@ -77,5 +89,7 @@ pub use noted::Noted;
 pub use recorder::{keep, keep_alone};
 pub use recording::Recording;
 pub use recording_fault::RecordingFault;
+pub use replaying::replay;
 pub use script::{LinesFault, Script, ScriptFault, ScriptLine};
 pub use trim_fault::TrimFault;
+pub use unlike::{Unlike, check, first_unlike};

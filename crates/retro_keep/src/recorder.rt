@@ -52,14 +52,8 @@ impl Recorder {
             → HasRecorded (done ++ line.now ∷ []) first self.new.lines.items self.new.state) }
     {
         let run = run_parsed(alloc, &self.state, line.sid, parsed)?;
-        let (text, notes, output) = run.into_parts();
-        apply_notes(alloc, &notes, &mut self.state)?;
-        let noted = Noted {
-            sid: line.sid,
-            text,
-            notes,
-            output,
-        };
+        let noted = Noted::of(run);
+        apply_notes(alloc, &noted.notes, &mut self.state)?;
         self.lines.push((line.number, noted))?;
         Ok(())
     }

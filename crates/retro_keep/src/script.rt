@@ -181,7 +181,7 @@ impl Script {
 fn edit_lines(
     alloc: Global,
     lines: Vec<ScriptLine>,
-    edits: &Edits,
+    edits: &Edits<'_>,
 ) -> Result<Vec<ScriptLine>, NoMem>
     ensures { IfOk result (λ done. done.items ≡ edited (map_of.get edits.now) lines.items) }
 {
@@ -193,7 +193,7 @@ fn edit_lines(
 }
 
 /// Appends a line as it is edited, unless it is left out.
-fn push_edited(done: &mut Vec<ScriptLine>, line: ScriptLine, edits: &Edits) -> Result<(), NoMem>
+fn push_edited(done: &mut Vec<ScriptLine>, line: ScriptLine, edits: &Edits<'_>) -> Result<(), NoMem>
     ensures { OnOk result (done.new.items ≡ done.old.items
         ++ line_run line (text_run (map_of.get edits.now line.number) line.text)) }
 {

@@ -12,7 +12,8 @@
 //! [`read_script_line`], [`read_log_line`] and [`line_number`] read a single value of a document.
 //! They are for callers that look for the value for which a document is refused.
 //!
-//! [`check`] tests whether a recording is one of its own lines.
+//! [`check`] of `retro_keep`, which tests whether a recording is one of its own lines, is exported
+//! here too.
 //!
 //! Documents and reports are made of the JSON values of states and notes, which `retro_json` reads
 //! and writes. This crate exports those that reports need.
@@ -36,14 +37,12 @@
 //!   gives that recording again, if its notes keep the limits of files and of values, and no name
 //!   of a path or of a listing has NUL [`again`]. The notes of a recording of a script keep the
 //!   limits, and so do those of a recording that was read itself [`fits`].
-//! - If `check` returns true, the recording is one of the script that its lines are.
 #![tactic(auto)]
 
-mod checking;
 mod reading;
 mod writing;
 
-pub use checking::check;
 pub use reading::{line_number, read_log, read_log_line, read_script, read_script_line};
 pub use retro_json::{LogFault, Part, Refusal, hex_value, sessions_value, tree_value};
+pub use retro_keep::check;
 pub use writing::write_log;

@@ -122,8 +122,8 @@ fn replay<T: Threads + Sync + AllocGlobal, R: Read, W: Write>(
 /// What the program is run on: words, and an input.
 type Given<'a> = (&'a str, &'a str);
 
-/// Runs the program with a reader and a writer that fail at these calls. Returns the exit, how often
-/// each was called, and what was written.
+/// Runs the program with a reader and a writer that fail at these calls. Returns the exit, how
+/// often each was called, and what was written.
 fn run_edges<T: Threads + Sync + AllocGlobal>(
     rt: &T,
     (given, input): Given<'_>,

@@ -5,7 +5,7 @@ use Rattle.std.proofs.lemmas.Bool.{false≢true}
 use Rattle.retro_tree.specs.Notes.{AgreeOn, Holds}
 use Rattle.retro_tree.specs.declared.note.Note.{Note}
 use Rattle.retro_tree.specs.declared.state.State.{State}
-use Rattle.retro_effects.specs.Meeting.{Met}
+use Rattle.retro_difference.specs.Meeting.{Met}
 use Rattle.retro_keep.specs.Edit.{text_run}
 use Rattle.retro_keep.specs.declared.edit.Edit.{Edit}
 use Rattle.retro_keep.specs.declared.edit.Edit.TheVariants.{Cancel, Replace}

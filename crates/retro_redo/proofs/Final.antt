@@ -11,7 +11,7 @@ use Rattle.retro_tree.proofs.Small.{first_true, both_true}
 use Rattle.retro_shell.specs.Line.{line}
 use Rattle.retro_shell.specs.Runs.{IsRun}
 use Rattle.retro_keep.specs.Edit.{edited, line_run}
-use Rattle.retro_keep.specs.Recording.{AllRecorded, IsRecorded, run_value, script_line, sid_in}
+use Rattle.retro_keep.specs.Recording.{AllRecorded, IsRecorded, noted_of, run_value, script_line, sid_in}
 use Rattle.retro_keep.specs.Runs.{Output, after_line, outcome, with_output}
 use Rattle.retro_keep.specs.Script.{have_sessions}
 use Rattle.retro_keep.specs.declared.edit.Edit.{Edit}
@@ -21,7 +21,7 @@ use Rattle.retro_keep.proofs.Recorded.{known_after}
 use Rattle.retro_redo.specs.Moments.{AreVerdicts, IsStaleBy, IsVerdict, Moment, compensation, compensations, moments}
 use Rattle.retro_redo.specs.Moments.{new_text, next_repaired, output_of_run, printed_before, printed_now, state_of_run}
 use Rattle.retro_redo.specs.Moments.{text_now}
-use Rattle.retro_redo.specs.Progress.{Settles, chosen, compensations_chosen, noted_of, output_chosen}
+use Rattle.retro_redo.specs.Progress.{Settles, chosen, compensations_chosen, output_chosen}
 use Rattle.retro_redo.specs.Progress.{settled, verdict_of, verdicts_chosen}
 use Rattle.retro_redo.specs.Final.{IsFinal}
 use Rattle.retro_redo.specs.declared.compensation.Compensation.{Compensation}

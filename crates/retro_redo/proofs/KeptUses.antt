@@ -20,7 +20,7 @@ use Rattle.retro_tree.specs.declared.state.State.{State}
 use Rattle.retro_tree.specs.declared.value.Value.{Value}
 use Rattle.retro_tree.proofs.NoteLaws.{value_after, value_unchanged}
 use Rattle.retro_tree.proofs.Small.{both_true, first_true}
-use Rattle.retro_effects.specs.Meeting.{Met}
+use Rattle.retro_difference.specs.Meeting.{Met}
 use Rattle.retro_history.specs.Index.{next_use}
 use Rattle.retro_history.proofs.Lines.{RiseFrom}
 use Rattle.retro_keep.specs.declared.noted.Noted.{Noted}

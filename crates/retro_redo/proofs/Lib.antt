@@ -8,6 +8,7 @@ pub mod Choices
 pub mod Finishing
 pub mod Taking
 pub mod RunAgain
+pub mod NextLines
 pub mod Numbers
 pub mod Before
 pub mod InTurn

@@ -12,7 +12,7 @@ use Rattle.retro_tree.specs.Notes.{AgreeOn, after}
 use Rattle.retro_tree.specs.Overlay.{OverlayMap}
 use Rattle.retro_tree.specs.declared.cell.Cell.{Cell}
 use Rattle.retro_tree.specs.declared.state.State.{State}
-use Rattle.retro_effects.specs.Meeting.{Met}
+use Rattle.retro_difference.specs.Meeting.{Met}
 use Rattle.retro_history.proofs.Lines.{RiseFrom}
 use Rattle.retro_keep.specs.Recording.{IsWellFormed, RecordingValue}
 use Rattle.retro_redo.specs.inner.Keeping.{Keeps, KeepsUses}

@@ -13,7 +13,7 @@ use Rattle.retro_tree.specs.Exact.{IsExact}
 use Rattle.retro_tree.specs.Overlay.{OverlayMap}
 use Rattle.retro_tree.specs.declared.cell.Cell.{Cell}
 use Rattle.retro_tree.specs.declared.state.State.{State}
-use Rattle.retro_effects.specs.Meeting.{Met}
+use Rattle.retro_difference.specs.Meeting.{Met}
 use Rattle.retro_tree.proofs.Small.{and_true, or_first, or_last, some_same}
 use Rattle.retro_keep.specs.Edit.{is_among}
 use Rattle.retro_history.specs.Index.{meets, numbers_of}

@@ -6,7 +6,7 @@ use Rattle.retro_tree.specs.Notes.{after, AgreeOn, Holds}
 use Rattle.retro_tree.specs.Overlay.{OverlayMap}
 use Rattle.retro_tree.specs.declared.state.State.{State}
 use Rattle.retro_tree.proofs.NoteLaws.{holds_where_agreed}
-use Rattle.retro_effects.specs.Meeting.{Met}
+use Rattle.retro_difference.specs.Meeting.{Met}
 use Rattle.retro_keep.specs.Recording.{AllRecorded, IsRecordingOf, script_in}
 use Rattle.retro_keep.specs.declared.edit.Edit.{Edit}
 use Rattle.retro_redo.specs.inner.Keeping.{Keeps}

@@ -8,6 +8,7 @@ pub mod Repair
 pub mod Settled
 pub mod Ground
 pub mod Skipping
+pub mod NextLine
 pub mod SoFar
 pub mod Settling
 pub mod Meetings

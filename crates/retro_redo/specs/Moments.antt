@@ -11,7 +11,7 @@ use Rattle.retro_keep.specs.Edit.{text_run}
 use Rattle.retro_keep.specs.declared.edit.Edit.{Edit}
 use Rattle.retro_keep.specs.declared.edit.Edit.TheVariants.{Cancel, Replace}
 use Rattle.retro_keep.specs.declared.noted.Noted.{Noted}
-use Rattle.retro_effects.specs.Meeting.{Met}
+use Rattle.retro_difference.specs.Meeting.{Met}
 use Rattle.retro_redo.specs.Picks.{PicksBy}
 use Rattle.retro_redo.specs.declared.compensation.Compensation.{Compensation}
 use Rattle.retro_redo.specs.declared.verdict.Verdict.{Verdict}

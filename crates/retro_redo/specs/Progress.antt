@@ -6,7 +6,7 @@ use Rattle.retro_tree.specs.Notes.{after, AgreeOn, Holds}
 use Rattle.retro_tree.specs.declared.note.Note.{Note}
 use Rattle.retro_tree.specs.declared.state.State.{State}
 use Rattle.retro_shell.specs.Runs.{IsRun, RunValue}
-use Rattle.retro_keep.specs.Recording.{RecordingValue}
+use Rattle.retro_keep.specs.Recording.{RecordingValue, noted_of}
 use Rattle.retro_keep.specs.declared.edit.Edit.{Edit}
 use Rattle.retro_keep.specs.declared.noted.Noted.{Noted}
 use Rattle.retro_redo.specs.Editing.{EditMap}
@@ -123,9 +123,6 @@ abbrev pub by_choices : {A : Type 0} → (ℕ × Noted → Step → List A) → 
 by_choices f [] steps = []
 by_choices f (l ∷ lines) [] = []
 by_choices f (l ∷ lines) (step ∷ steps) = f l step ++ by_choices f lines steps
-
-abbrev pub noted_of : RunValue → Noted
-noted_of run = record { sid = run.sid; text = run.text; notes = run.notes; output = run.output }
 
 -- the lines of the repaired recording
 abbrev pub line_chosen : ℕ × Noted → Step → List (ℕ × Noted)

@@ -7,7 +7,7 @@ use Rattle.retro_tree.specs.Overlay.{OverlayMap}
 use Rattle.retro_tree.specs.declared.state.State.{State}
 use Rattle.retro_keep.specs.declared.edit.Edit.{Edit}
 use Rattle.retro_keep.specs.declared.noted.Noted.{Noted}
-use Rattle.retro_effects.specs.Meeting.{Met}
+use Rattle.retro_difference.specs.Meeting.{Met}
 use Rattle.retro_redo.specs.Progress.{ProgressValue, edit_in, recorded_now, repaired_now}
 use Rattle.retro_redo.specs.declared.step.Step.TheVariants.{Keep}
 

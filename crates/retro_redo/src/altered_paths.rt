@@ -10,7 +10,7 @@ ghost use Rattle.retro_redo.specs.inner.Altered.{keeps_near};
 
 use crate::step::Step;
 use retro_keep::Noted;
-use retro_tree::{Change, NoMem, Note, Notes, Path};
+use retro_tree::{NoMem, Note, Notes, Path};
 use std::alloc::Global;
 use std::collections::BTreeSet;
 use std::marker::Model;
@@ -166,8 +166,8 @@ fn changed_path(note: &Note) -> Option<&Path>
     ensures { option_copied result ≡ changed_path note.now }
 {
     match note {
-        Note::Made(Change::Put(path, _) | Change::Grow(path, _)) => Some(path),
-        _ => None,
+        Note::Made(change) => change.cell().path(),
+        Note::Asked(..) => None,
     }
 }
 

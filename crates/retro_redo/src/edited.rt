@@ -25,7 +25,7 @@ use std::alloc::Global;
 pub(crate) fn run_edited(
     alloc: Global,
     recording: &Recording,
-    edits: &Edits,
+    edits: &Edits<'_>,
     tally: Tally,
 ) -> Result<Repair, NoMem>
     ensures tally { IfOk result (λ repair. repair.tally ≡ tally) }
@@ -47,7 +47,11 @@ pub(crate) fn run_edited(
 }
 
 /// Runs the edited lines, and returns their recording. It begins at the same number as `recording`.
-fn record_edited(alloc: Global, recording: &Recording, edits: &Edits) -> Result<Recording, NoMem>
+fn record_edited(
+    alloc: Global,
+    recording: &Recording,
+    edits: &Edits<'_>,
+) -> Result<Recording, NoMem>
     ensures recording { IfOk result (λ again.
         IsRecordingOf (script_now (map_of.get edits.now) recording.now) again) }
     ensures begins { IfOk result (λ again. again.from ≡ recording.now.from) }
@@ -60,7 +64,7 @@ fn record_edited(alloc: Global, recording: &Recording, edits: &Edits) -> Result<
 }
 
 /// Returns the script of the edited lines.
-fn script_now(alloc: Global, recording: &Recording, edits: &Edits) -> Result<Script, NoMem>
+fn script_now(alloc: Global, recording: &Recording, edits: &Edits<'_>) -> Result<Script, NoMem>
     ensures { IfOk result (λ script.
         script ≡ script_now (map_of.get edits.now) recording.now) }
 {
@@ -75,7 +79,7 @@ fn script_now(alloc: Global, recording: &Recording, edits: &Edits) -> Result<Scr
 fn edited_lines(
     alloc: Global,
     lines: &[(u32, Noted)],
-    edits: &Edits,
+    edits: &Edits<'_>,
 ) -> Result<Vec<ScriptLine>, NoMem>
     ensures { IfOk result (λ found.
         found.items ≡ edited (map_of.get edits.now) (map script_line lines.now)) }
@@ -88,7 +92,11 @@ fn edited_lines(
 }
 
 /// Appends a line as it is edited, unless it is cancelled.
-fn push_edited(found: &mut Vec<ScriptLine>, line: &(u32, Noted), edits: &Edits) -> Result<(), NoMem>
+fn push_edited(
+    found: &mut Vec<ScriptLine>,
+    line: &(u32, Noted),
+    edits: &Edits<'_>,
+) -> Result<(), NoMem>
     ensures { OnOk result (found.new.items ≡ found.old.items
         ++ line_run (script_line line.now) (text_now (map_of.get edits.now) line.now)) }
 {
@@ -137,7 +145,7 @@ fn printed(again: &Recording, number: u32) -> &[u8]
 fn verdicts(
     alloc: Global,
     lines: &[(u32, Noted)],
-    edits: &Edits,
+    edits: &Edits<'_>,
 ) -> Result<Vec<(u32, Verdict)>, NoMem>
     ensures { IfOk result (λ verdicts.
         verdicts.items ≡ map (verdict_again (map_of.get edits.now)) lines.now) }
@@ -150,7 +158,7 @@ fn verdicts(
 }
 
 /// Returns the verdict on a line that is run again unless it is cancelled.
-fn verdict_again(line: &(u32, Noted), edits: &Edits) -> Verdict
+fn verdict_again(line: &(u32, Noted), edits: &Edits<'_>) -> Verdict
     ensures { result ≡ verdict_by (text_now (map_of.get edits.now) line.now) }
 {
     match edits.text_run(line.0, &line.1.text) {

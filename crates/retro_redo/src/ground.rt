@@ -4,11 +4,14 @@ ghost use Rattle.retro_tree.specs.Overlay.{Fits, Overlays};
 ghost use Rattle.retro_keep.specs.Recorded.{recorded_before};
 ghost use Rattle.retro_redo.specs.Ground.{shown_at};
 
-use crate::shown::Shown;
-use retro_history::History;
+use retro_difference::Combined;
+use retro_history::{At, History};
 use retro_keep::{Edits, Recording};
 use retro_tree::Overlay;
 use std::marker::Model;
+
+/// A view of a combined state: the overlay of a repair on the recorded state before a line.
+pub type Shown<'g, 'a> = Combined<'g, At<'g, 'a>>;
 
 /// What a repair lends for guesses, which are runs of lines ahead of their turns.
 ///
@@ -17,7 +20,7 @@ use std::marker::Model;
 #[derive(Drop)]
 pub struct Ground<'g, 'a> {
     recording: &'a Recording,
-    edits: &'g Edits,
+    edits: &'g Edits<'a>,
     history: &'g History<'a>,
     overlay: &'g Overlay,
 }
@@ -45,7 +48,7 @@ impl<'g, 'a> Ground<'g, 'a> {
     /// Returns the ground with the given recording, edits, history and overlay.
     pub(crate) fn new(
         recording: &'a Recording,
-        edits: &'g Edits,
+        edits: &'g Edits<'a>,
         history: &'g History<'a>,
         overlay: &'g Overlay,
     ) -> Ground<'g, 'a>
@@ -85,7 +88,7 @@ impl<'g, 'a> Ground<'g, 'a> {
     }
 
     /// Returns the edits.
-    pub fn edits(&self) -> &'g Edits
+    pub fn edits(&self) -> &'g Edits<'a>
         ensures { result.now ≡ self.now.edits }
     {
         self.edits
@@ -93,11 +96,12 @@ impl<'g, 'a> Ground<'g, 'a> {
 
     /// Returns a view of the combined state before the line with the given number: the overlay on
     /// the recorded state. No line needs to have the number. Takes no memory.
+    #[tactic(auto, using(retro_tree::proofs::Fitting::fits_overlays))]
     pub fn view(&self, number: u32) -> Shown<'g, 'a>
         ensures state { result ≡ shown_at number self.now }
         ensures overlays { Overlays self.now.overlay (recorded_before number self.now.recording)
             result }
     {
-        Shown::new(self.history.at(number), self.overlay)
+        Combined::new(self.history.at(number), self.overlay)
     }
 }

@@ -11,9 +11,11 @@
 //! line is run again, with its new text if it has one. Any other line that isn't cancelled is kept
 //! as recorded.
 //!
-//! Lines that are neither edited nor met are kept without being read: [`Repairer::skip_unmet`] goes
-//! to the next line that is edited or met. For each cell in which the states differ, the repair
-//! keeps the number of the next line that uses it, so it finds that line by its number.
+//! [`Repairer::next_line`] returns the next line with all that is known of it, a [`Line`], and
+//! [`Repairer::settle`] takes it. Lines that are neither edited nor met are kept without being
+//! read: [`Repairer::skip_unmet`] goes to the next line that is edited or met. For each cell in
+//! which the states differ, the repair keeps the number of the next line that uses it, so it finds
+//! that line by its number.
 //!
 //! A guess is a run of a line ahead of its turn. [`Repairer::ground`] lends what a guess needs. Its
 //! views are of combined states: the overlay on a recorded state.
@@ -26,7 +28,8 @@
 //! If allocation fails, calls return `NoMem`, or `OutOfMemory` if they have other refusals. Their
 //! arguments are then unchanged.
 //!
-//! Start reading at `repairing.rt`, then `repairer.rt` and `progress.rt`, then `outcome.rt`.
+//! Start reading at `repairing.rt`, then `repairer.rt` and `repairer/settling.rt`, then `steps.rt`
+//! and `outcome.rt`.
 //!
 //! # What is proved
 //!
@@ -48,23 +51,24 @@
 //!   of the first state. `overlay` returns exactly the cells in which it differs from the recorded
 //!   state before the next line [`exact`]. If the recording is one of its lines, these two states
 //!   are those of running the settled lines and of running them as they are edited [`runs`, by
-//!   `AreStatesOfRuns`]. `is_met` decides whether the next line is met [`met`], `equiv` whether
-//!   nothing edits it and its notes hold, `fits` whether the notes of a run do, `redo` returns a
-//!   run of the line's new text whose notes hold [`new_run`, `holds`], and `step` settles it in one
-//!   of the ways that its contract allows [`may`, `ok`], or, if allocation fails, leaves all
-//!   unchanged [`err`]. `settle` chooses the step, and its answer says which one it was and why, for
-//!   any recording: a cancelled line runs no text; a kept one isn't edited, and its notes hold if
-//!   the recording is one of its lines; and only a stale line gets a new run, which is the guess if
-//!   it is taken up, and another one if there is no guess or its notes don't hold [by
-//!   `IsOneSettled`]. The notes of an unmet line that nothing edits hold in the repaired state, if
-//!   the recording is one of its lines [`holds` of `is_met`]. `skip_unmet` keeps exactly
-//!   the lines before the next one that is edited or met, and an overlay that was exact is so
-//!   before each of them (`specs/Skipping.antt`) [`next`, `ok`, `err`]. `stops_until` returns the
-//!   numbers of the lines up to an index that are edited or use a cell in which the states differ
-//!   now. `ground` lends what guesses need: its view of any line is the recorded state combined
-//!   with the overlay [`state`, `overlays` of `Ground::view`], and of the next line the repaired
-//!   state [`shows`]. `finish` returns the repair [`repair`], and for any recording what the
-//!   choices come to, or all edited lines run again if they aren't well formed [`settled`].
+//!   `AreStatesOfRuns`]. `next_line` returns the next line with its number, its edit, and whether
+//!   it is met (`specs/NextLine.antt`). `is_met` decides whether the next line is met [`met`],
+//!   `equiv` whether nothing edits it and its notes hold, `fits` whether the notes of a run do,
+//!   `redo` returns a run of the line's new text whose notes hold [`new_run`, `holds`], and `step`
+//!   settles it in one of the ways that its contract allows [`may`, `ok`], or, if allocation fails,
+//!   leaves all unchanged [`err`]. `settle` chooses the step, and its answer says which one it was
+//!   and why, for any recording: a cancelled line runs no text; a kept one isn't edited, and its
+//!   notes hold if the recording is one of its lines; and only a stale line gets a new run, which
+//!   is the guess if it is taken up, and another one if there is no guess or its notes don't hold
+//!   [by `IsOneSettled`]. The notes of an unmet line that nothing edits hold in the repaired state,
+//!   if the recording is one of its lines [`holds` of `is_met`]. `skip_unmet` keeps exactly the
+//!   lines before the next one that is edited or met, and an overlay that was exact is so before
+//!   each of them (`specs/Skipping.antt`) [`next`, `ok`, `err`]. `stops_until` returns the numbers
+//!   of the lines up to an index that are edited or use a cell in which the states differ now.
+//!   `ground` lends what guesses need: its view of any line is the recorded state combined with the
+//!   overlay [`state`, `overlays` of `Ground::view`], and of the next line the repaired state
+//!   [`shows`]. `finish` returns the repair [`repair`], and for any recording what the choices come
+//!   to, or all edited lines run again if they aren't well formed [`settled`].
 //! - Two states have only one exact overlay (`exact_overlays_are_one`).
 //! - That choices which each line allows come to the run of the edited lines is a law
 //!   (`repairs_come_to_the_whole_run`), by one induction over the lines.
@@ -79,34 +83,34 @@ mod edited;
 mod gate;
 mod ground;
 mod laws;
+mod line;
 mod next_uses;
 mod outcome;
-mod progress;
 mod repair;
 mod repair_fault;
 mod repairer;
 mod repairing;
 mod settlement;
-mod shown;
 mod skipping;
 mod step;
+mod steps;
 mod stops;
 mod tally;
 mod verdict;
 
 pub use compensation::Compensation;
 pub use gate::{Gate, Quiet, Turn};
-pub use ground::Ground;
+pub use ground::{Ground, Shown};
 pub use laws::{
     exact_overlays_are_one, repairs_come_to_the_whole_run, repairs_in_turn_repair_both,
 };
-pub use progress::Progress;
+pub use line::Line;
 pub use repair::Repair;
 pub use repair_fault::RepairFault;
 pub use repairer::Repairer;
 pub use repairing::{repair_alone, repair_watched};
 pub use settlement::Settlement;
-pub use shown::Shown;
 pub use step::Step;
+pub use steps::Steps;
 pub use tally::Tally;
 pub use verdict::Verdict;

@@ -10,7 +10,7 @@ ghost use Rattle.retro_redo.specs.inner.NextUses.{first_number, has_cell, has_us
 ghost use Rattle.retro_redo.specs.inner.NextUses.{may_differ, starts_at};
 
 use crate::step::Step;
-use retro_history::{History, changed_cell};
+use retro_history::History;
 use retro_keep::Noted;
 use retro_tree::{Cell, NoMem, Note, Notes, Overlay};
 use std::alloc::Global;
@@ -141,8 +141,8 @@ impl NextUses {
         Ok(cells)
     }
 
-    /// Returns the cells whose next use has to be looked up after a line is settled by `step`.
-    /// `overlay` is the exact overlay before the line. The cells are:
+    /// Returns the cells whose next use has to be looked up after the line with the given number is
+    /// settled by `step`. `overlay` is the exact overlay before the line. The cells are:
     ///
     /// - those that the line uses and in which the states differ before it;
     /// - unless the line is kept, those that its recorded notes or its new run change. The states
@@ -153,20 +153,21 @@ impl NextUses {
         &self,
         alloc: Global,
         overlay: &Overlay,
-        line: &(u32, Noted),
+        number: u32,
+        noted: &Noted,
         step: &Step,
     ) -> Result<Vec<Cell>, NoMem>
         ensures used { IfOk result (λ cells. (c : CellValue)
-            → has_use line.now.0 c self.now ≡ true → map.contains_key overlay.now c ≡ true
+            → has_use number c self.now ≡ true → map.contains_key overlay.now c ≡ true
             → has_cell c cells.items ≡ true) }
         ensures changed { IfOk result (λ cells. (c : CellValue)
-            → may_differ step.now line.now.1 c ≡ true → has_cell c cells.items ≡ true) }
+            → may_differ step.now noted.now c ≡ true → has_cell c cells.items ≡ true) }
     {
-        let cells = self.cells_at(alloc, overlay, line.0)?;
+        let cells = self.cells_at(alloc, overlay, number)?;
         match step {
             Step::Keep => Ok(cells),
-            Step::Cancel => with_changed(cells, &line.1.notes),
-            Step::Take(run) => with_changed(with_changed(cells, &line.1.notes)?, run.notes()),
+            Step::Cancel => with_changed(cells, &noted.notes),
+            Step::Take(run) => with_changed(with_changed(cells, &noted.notes)?, run.notes()),
         }
     }
 
@@ -229,7 +230,7 @@ fn with_changed(cells: Vec<Cell>, notes: &Notes) -> Result<Vec<Cell>, NoMem>
     let mut all = cells;
     for note in notes.as_slice() {
         if let Note::Made(change) = note {
-            all.push(changed_cell(change)?)?;
+            all.push(change.cell().to_cell()?)?;
         }
     }
     Ok(all)

@@ -5,7 +5,7 @@ ghost use Rattle.retro_tree.specs.Commit.{committed};
 ghost use Rattle.retro_keep.specs.Recording.{IsWellFormed, last_state};
 ghost use Rattle.retro_keep.specs.declared.edit.Edit.{Edit};
 ghost use Rattle.retro_redo.specs.Progress.{Settles, compensations_chosen, line_chosen};
-ghost use Rattle.retro_redo.specs.Progress.{lines_chosen, noted_of, output_chosen};
+ghost use Rattle.retro_redo.specs.Progress.{lines_chosen, output_chosen};
 ghost use Rattle.retro_redo.specs.Progress.{repaired_after, verdict_of, verdicts_chosen};
 ghost use Rattle.retro_redo.specs.Settled.{recording_chosen};
 
@@ -14,7 +14,6 @@ use crate::compensation::{Compensation, compensate};
 use crate::step::Step;
 use crate::verdict::Verdict;
 use retro_keep::{Noted, Recording};
-use retro_shell::Run;
 use retro_tree::{NoMem, Overlay};
 use std::alloc::Global;
 
@@ -75,36 +74,10 @@ fn push_line(chosen: &mut Vec<(u32, Noted)>, line: &(u32, Noted), step: Step) ->
 {
     match step {
         Step::Cancel => {}
-        Step::Keep => chosen.push((line.0, copy_noted(&line.1)?))?,
-        Step::Take(run) => chosen.push((line.0, noted_of(run)))?,
+        Step::Keep => chosen.push((line.0, line.1.copy()?))?,
+        Step::Take(run) => chosen.push((line.0, Noted::of(run)))?,
     }
     Ok(())
-}
-
-/// Returns a copy, which shares the notes.
-fn copy_noted(noted: &Noted) -> Result<Noted, NoMem>
-    ensures { IfOk result (λ copy. copy ≡ noted.now) }
-{
-    Ok(Noted {
-        sid: noted.sid,
-        text: noted.text.copy()?,
-        notes: noted.notes.copy()?,
-        output: noted.output.copy()?,
-    })
-}
-
-/// Returns what a recording keeps of a run. Takes no memory.
-fn noted_of(run: Run) -> Noted
-    ensures { result ≡ noted_of run }
-{
-    let sid = run.sid();
-    let (text, notes, output) = run.into_parts();
-    Noted {
-        sid,
-        text,
-        notes,
-        output,
-    }
 }
 
 /// Returns each line's number with its verdict.

@@ -8,10 +8,10 @@ ghost use Rattle.retro_redo.specs.Repair.{IsRepair, no_guesses};
 ghost use Rattle.retro_redo.specs.Settled.{AreSettled};
 
 use crate::gate::{Gate, Quiet};
-use crate::progress::Progress;
 use crate::repair::Repair;
 use crate::repair_fault::RepairFault;
 use crate::repairer::Repairer;
+use crate::steps::Steps;
 use crate::tally::Tally;
 use retro_history::History;
 use retro_keep::{Edit, Recording};
@@ -76,9 +76,9 @@ pub fn repair_watched<G: Gate>(
 fn settle_all<'a, G: Gate>(
     alloc: Global,
     recording: &'a Recording,
-    edits: &[Edit],
+    edits: &'a [Edit],
     gate: &G,
-) -> Result<Progress<'a>, RepairFault>
+) -> Result<Steps<'a>, RepairFault>
     ensures recording { IfOk result (λ settled. settled.recording ≡ recording.now) }
     ensures edits { IfOk result (λ settled.
         (n : ℕ) → edit_in settled n ≡ edit_of edits.now n) }
@@ -90,8 +90,8 @@ fn settle_all<'a, G: Gate>(
     recording.test_edits(edits)?;
     let history = History::of(alloc, recording)?;
     let mut repairer = Repairer::new(alloc, recording, &history, edits)?;
-    while let Some(number) = repairer.skip_unmet()? {
-        repairer.settle(alloc, number, None, gate)?;
+    while let Some(line) = repairer.skip_unmet()? {
+        repairer.settle(alloc, line, None, gate)?;
     }
-    Ok(repairer.into_progress())
+    Ok(repairer.into_steps())
 }

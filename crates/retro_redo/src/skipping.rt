@@ -25,7 +25,7 @@ use retro_tree::NoMem;
 pub(crate) fn unmet_lines(
     recording: &Recording,
     from: usize,
-    edits: &Edits,
+    edits: &Edits<'_>,
     uses: &NextUses,
 ) -> usize
     requires { AreLines edits.now recording.now }

@@ -22,7 +22,7 @@ pub(crate) fn is_met_by(edit: Option<&Edit>, is_used: bool) -> bool
 
 /// Adds the edited numbers from `from` to `last`.
 pub(crate) fn add_edited(
-    edits: &Edits,
+    edits: &Edits<'_>,
     from: u32,
     last: u32,
     numbers: &mut BTreeSet<u32>,

@@ -104,11 +104,23 @@ fn by_steps(
     list: &str,
     given: &[String],
 ) -> Result<String, Fail> {
-    let history = History::of(alloc, recording)?;
     let edits = edits(alloc, list)?;
+    by_edits(alloc, recording, &edits, call, given)
+}
+
+/// Returns the result of a call on the repair of an edited recording that is made step by step, or
+/// its refusal.
+fn by_edits(
+    alloc: Global,
+    recording: &Recording,
+    edits: &[Edit],
+    call: &str,
+    given: &[String],
+) -> Result<String, Fail> {
+    let history = History::of(alloc, recording)?;
     stepped_or_refused(
         alloc,
-        Repairer::new(alloc, recording, &history, &edits),
+        Repairer::new(alloc, recording, &history, edits),
         call,
         given,
     )

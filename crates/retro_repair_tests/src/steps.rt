@@ -113,11 +113,11 @@ pub fn stops(alloc: Global, repairer: &mut Repairer<'_, '_>) -> Result<String, F
     let mut out = String::new(alloc);
     let count = repairer.ground().recording().lines().len();
     for _ in 0..count {
-        let Some(number) = repairer.skip_unmet()? else {
+        let Some(line) = repairer.skip_unmet()? else {
             break;
         };
-        push_stop(alloc, &mut out, number, repairer.settled_count())?;
-        settle(alloc, repairer, number)?;
+        push_stop(alloc, &mut out, line.number, repairer.settled_count())?;
+        settle(alloc, repairer, line.number)?;
     }
     let settled = repairer.settled_count();
     out.push_str(&format!(in alloc; "end after {settled}")?)?;

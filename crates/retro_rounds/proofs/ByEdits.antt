@@ -8,7 +8,7 @@ use Rattle.retro_tree.specs.declared.state.State.{State}
 use Rattle.retro_keep.specs.Edit.{text_run}
 use Rattle.retro_keep.specs.declared.edit.Edit.{Edit}
 use Rattle.retro_keep.specs.declared.edit.Edit.TheVariants.{Cancel, Replace}
-use Rattle.retro_effects.specs.Meeting.{Met}
+use Rattle.retro_difference.specs.Meeting.{Met}
 use Rattle.retro_redo.specs.Moments.{IsMetBy, IsStaleBy}
 
 module _ (notes : List Note) where

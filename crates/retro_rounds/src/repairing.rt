@@ -15,7 +15,7 @@ use crate::request::Request;
 use crate::rounds::Rounds;
 use retro_history::History;
 use retro_keep::{Edit, Recording};
-use retro_redo::{Gate, Progress, Repair, RepairFault, Repairer, Tally};
+use retro_redo::{Gate, Repair, RepairFault, Repairer, Steps, Tally};
 use std::alloc::Global;
 use std::thread::Threads;
 
@@ -79,7 +79,7 @@ fn settle_all<'a, R: Threads + Sync, G: Gate + Sync>(
     alloc: Global,
     request: &Request<'a>,
     gate: &G,
-) -> Result<(Progress<'a>, Tally), RepairFault>
+) -> Result<(Steps<'a>, Tally), RepairFault>
     requires cuts { are_cuts request.now.cuts.now ≡ true }
     requires accepted { AreAccepted request.now.edits.now request.now.recording.now }
     ensures recording { IfOk result (λ settled.
@@ -102,10 +102,10 @@ fn settle_all<'a, R: Threads + Sync, G: Gate + Sync>(
         rt,
         size: request.workers,
     };
-    while let Some(number) = repairer.skip_unmet()? {
-        rounds.pass_to(number);
+    while let Some(line) = repairer.skip_unmet()? {
+        rounds.pass_to(line.number);
         rounds.advance(&crew, alloc, &repairer, gate)?;
-        rounds.settle(alloc, &mut repairer, number, gate)?;
+        rounds.settle(alloc, &mut repairer, line, gate)?;
     }
-    Ok((repairer.into_progress(), rounds.finish()))
+    Ok((repairer.into_steps(), rounds.finish()))
 }

@@ -1,10 +1,11 @@
 //! The rounds of a repair.
-ghost use Rattle.std.specs.Prelude.{◌≡◌, ◌+◌, ◌<◌, ◌≤◌, [], true, IfOk, OnOk, Some, length};
+ghost use Rattle.std.specs.Prelude.{◌≡◌, ◌+◌, ◌<◌, ◌≤◌, [], true, IfOk, OnOk, length};
 ghost use Rattle.std.specs.List.{AllByRecursion};
 ghost use Rattle.retro_keep.specs.Recording.{number_in};
 ghost use Rattle.retro_redo.specs.Meetings.{lines_until};
 ghost use Rattle.retro_redo.specs.Picks.{PicksBy};
-ghost use Rattle.retro_redo.specs.Progress.{edit_in, next_number};
+ghost use Rattle.retro_redo.specs.NextLine.{IsNextLine};
+ghost use Rattle.retro_redo.specs.Progress.{edit_in};
 ghost use Rattle.retro_redo.specs.Settling.{IsOneMore};
 ghost use Rattle.retro_redo.specs.Repair.{no_guesses};
 ghost use Rattle.retro_rounds.specs.Refusals.{are_cuts};
@@ -20,7 +21,7 @@ use crate::guesses::guesses_of;
 use crate::jobs::in_order;
 use crate::pieces::Pieces;
 use retro_pool::make_jobs;
-use retro_redo::{Gate, Repairer, Settlement, Tally};
+use retro_redo::{Gate, Line, Repairer, Settlement, Tally};
 use retro_tree::NoMem;
 use std::alloc::Global;
 use std::thread::Threads;
@@ -91,15 +92,15 @@ impl<'c> Rounds<'c> {
         Ok(())
     }
 
-    /// Settles the next line, by the attempt at it if there is one.
-    pub(crate) fn settle<G: Gate>(
+    /// Settles the next line, `line`, by the attempt at it if there is one.
+    pub(crate) fn settle<'a, G: Gate>(
         &mut self,
         alloc: Global,
-        repairer: &mut Repairer<'_, '_>,
-        number: u32,
+        repairer: &mut Repairer<'_, 'a>,
+        line: Line<'a>,
         gate: &G,
     ) -> Result<(), NoMem>
-        requires next { next_number repairer.old ≡ Some number }
+        requires next { IsNextLine repairer.old line }
         requires attempts { AllByRecursion
             (IsAttempt (edit_in repairer.old) repairer.old.recording)
             self.old.attempts.queue.items }
@@ -107,17 +108,17 @@ impl<'c> Rounds<'c> {
             ≡ spent self.old.tally + length self.old.attempts.queue.items }
         ensures one { OnOk result (IsOneMore repairer.old repairer.new) }
         ensures counted { OnOk result
-            (IsCounted repairer.old repairer.new number self.old self.new) }
+            (IsCounted repairer.old repairer.new line.entry.number self.old self.new) }
     {
         // For the prover: the contract of `lines` says that the recording is well formed.
         let _ = repairer.ground().recording().lines();
-        match self.attempts.take(number) {
+        match self.attempts.take(line.number) {
             None => {
-                repairer.settle(alloc, number, None, gate)?;
+                repairer.settle(alloc, line, None, gate)?;
             }
             Some(attempt) => {
                 let was_made = attempt.run.is_some();
-                let how = repairer.settle(alloc, number, attempt.run, gate)?;
+                let how = repairer.settle(alloc, line, attempt.run, gate)?;
                 count(&mut self.tally, how, was_made);
             }
         }

@@ -45,8 +45,8 @@ impl Spans {
         Ok(Spans { spans })
     }
 
-    /// Returns spans of the same indices, in the order of their first ones, where none begins before
-    /// another's end.
+    /// Returns spans of the same indices, in the order of their first ones, where none begins
+    /// before another's end.
     #[tactic(auto, using(crate::proofs::Rising::sorted_alike))]
     pub(crate) fn merged(&self, alloc: Global) -> Result<Vec<Span>, NoMem>
         ensures alike { IfOk result (λ merged. SelectAlike self.now merged.items) }

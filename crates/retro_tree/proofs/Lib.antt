@@ -35,3 +35,4 @@ pub mod ExactOverlays
 pub mod Allowed
 pub mod Alike
 pub mod OverlayCalls
+pub mod Lending

@@ -14,6 +14,8 @@ pub mod Resolving
 pub mod CellOrder
 pub mod User
 pub mod Cell
+pub mod CellRef
+pub mod ValueRef
 pub mod Ask
 pub mod Change
 pub mod Notes

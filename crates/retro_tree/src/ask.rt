@@ -1,8 +1,10 @@
 //! Queries of a state.
 ghost use Rattle.std.specs.Prelude.{◌≡◌, ◌↔◌, IfOk, IsTrue};
 ghost use Rattle.retro_tree.specs.Ask.{supports};
+ghost use Rattle.retro_tree.specs.CellRef.{ref_cell};
 
 use crate::cell::Cell;
+use crate::cell_ref::CellRef;
 use retro_path::{NoMem, Path, Text, VarName};
 
 /// A query of a state. `State::answer` answers it.
@@ -54,21 +56,31 @@ impl Ask {
             _ => false,
         }
     }
+
+    /// Returns whether the answer can depend on a cell.
+    #[tactic(auto, unfolding(crate::specs::Ask::supports))]
+    pub fn depends_on(&self, cell: CellRef<'_>) -> bool
+        ensures { result ≡ supports self.now (ref_cell cell.entry) }
+    {
+        match (self, cell) {
+            (Ask::Kind(path) | Ask::Bytes(path), CellRef::At(at)) => path == at,
+            (Ask::Names(path), CellRef::At(at)) => path == at || at.is_child_of(path),
+            (Ask::CanWrite(path, _), CellRef::At(at)) => path == at || at.is_parent_of(path),
+            (Ask::User(_), CellRef::At(at)) => at.is_passwd(),
+            (Ask::VarOf(asked, variable), CellRef::Var(sid, name)) => {
+                *asked == sid && variable == name
+            }
+            (Ask::CwdOf(asked), CellRef::Cwd(sid)) => *asked == sid,
+            (Ask::StatusOf(asked), CellRef::Status(sid)) => *asked == sid,
+            _ => false,
+        }
+    }
 }
 
-/// Returns whether the answer to a query can depend on a cell.
-#[tactic(auto, unfolding(crate::specs::Ask::supports))]
+/// Returns whether the answer to a query can depend on a cell. [`Ask::depends_on`] tells the same
+/// of a borrowed cell.
 pub fn supports(ask: &Ask, cell: &Cell) -> bool
     ensures { result ≡ supports ask.now cell.now }
 {
-    match (ask, cell) {
-        (Ask::Kind(path) | Ask::Bytes(path), Cell::At(at)) => path == at,
-        (Ask::Names(path), Cell::At(at)) => path == at || at.is_child_of(path),
-        (Ask::CanWrite(path, _), Cell::At(at)) => path == at || at.is_parent_of(path),
-        (Ask::User(_), Cell::At(at)) => at.is_passwd(),
-        (Ask::VarOf(asked, variable), Cell::Var(sid, name)) => asked == sid && variable == name,
-        (Ask::CwdOf(asked), Cell::Cwd(sid)) => asked == sid,
-        (Ask::StatusOf(asked), Cell::Status(sid)) => asked == sid,
-        _ => false,
-    }
+    ask.depends_on(CellRef::of(cell))
 }

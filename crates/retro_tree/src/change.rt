@@ -1,7 +1,9 @@
 //! Changes of a state.
 ghost use Rattle.std.specs.Prelude.{◌≡◌, ◌↔◌, IfOk, IsTrue};
-ghost use Rattle.retro_tree.specs.Change.{has_its_session, grows_dir, may_make};
+ghost use Rattle.retro_tree.specs.Change.{cell_of, has_its_session, grows_dir, may_make};
+ghost use Rattle.retro_tree.specs.CellRef.{ref_cell};
 
+use crate::cell_ref::CellRef;
 use crate::node::Node;
 use crate::session::{VALUE_LIMIT, status_fits};
 use crate::state::State;
@@ -51,6 +53,18 @@ impl Change {
                 *sid == *other_sid && *x == *y
             }
             _ => false,
+        }
+    }
+
+    /// Returns the cell that the change writes.
+    pub fn cell(&self) -> CellRef<'_>
+        ensures { ref_cell result ≡ cell_of self.now }
+    {
+        match self {
+            Change::Put(path, _) | Change::Grow(path, _) => CellRef::At(path),
+            Change::SetVar(sid, name, _) => CellRef::Var(*sid, name),
+            Change::SetCwd(sid, _) => CellRef::Cwd(*sid),
+            Change::SetStatus(sid, _) => CellRef::Status(*sid),
         }
     }
 

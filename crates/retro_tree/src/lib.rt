@@ -8,6 +8,9 @@
 //! status of each session. A `Change` writes one cell. An `Ask` is a query. Its `Answer` depends
 //! only on the cells that `supports` names. A `View` answers queries about one state.
 //!
+//! A `CellRef` is a borrowed cell, and a `ValueRef` a borrowed value. `Cells` lends the values of
+//! one state.
+//!
 //! `Notes` are a trace of reads and writes with their values. An `Overlay` has entries for some
 //! cells and takes the other cells from a view. It answers queries about the combined state, takes
 //! changes, and commits to a state, all or nothing.
@@ -33,6 +36,8 @@
 //!   on the cells that `supports` tells (`answers_depend_on_cells`); states with equal cells and
 //!   sessions are equal (`cells_make_the_state`); a listing is sorted and has exactly the names of
 //!   the children (`listings_name_the_children`).
+//! - `Change::cell` gives the cell that a change writes, without a copy, and `Cells::get` borrows
+//!   the value of a cell in one state.
 //! - `State::is_lawful`, `State::validate` and `State::is_within_limits` are exact. `State::allows`
 //!   is true exactly if a change is lawful. In a lawful state that is exactly a test at the cell
 //!   and around it (`lawful_changes`), and writes that `State::permit` allows pass it, except at
@@ -55,6 +60,8 @@ mod answer;
 mod ask;
 mod cell;
 mod cell_laws;
+mod cell_ref;
+mod cells;
 mod change;
 mod combined;
 mod commit;
@@ -81,6 +88,7 @@ mod tree;
 mod undo;
 mod user;
 mod value;
+mod value_ref;
 mod vars;
 mod view;
 
@@ -91,6 +99,8 @@ pub use cell_laws::{
     answers_depend_on_cells, cells_make_the_state, changes_write_one_cell,
     listings_name_the_children,
 };
+pub use cell_ref::CellRef;
+pub use cells::Cells;
 pub use change::Change;
 pub use entry::{Entry, FILE_LIMIT};
 pub use kind::Kind;
@@ -123,6 +133,7 @@ pub use state::State;
 pub use tree::Tree;
 pub use user::{User, find_user};
 pub use value::Value;
+pub use value_ref::ValueRef;
 pub use vars::Vars;
 pub use view::View;
 

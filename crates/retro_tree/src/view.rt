@@ -22,3 +22,15 @@ pub trait View {
     fn children(&self, alloc: Global, path: &Path) -> Result<Listing, NoMem>
         ensures { IfOk result (λ names. names ≡ names_in path.now (state self.now).tree) };
 }
+
+impl<V: View> View for &V {
+    ghost state = { λ v. V.state v.now };
+
+    fn answer(&self, alloc: Global, ask: &Ask) -> Result<Answer, NoMem> {
+        (**self).answer(alloc, ask)
+    }
+
+    fn children(&self, alloc: Global, path: &Path) -> Result<Listing, NoMem> {
+        (**self).children(alloc, path)
+    }
+}

@@ -3,7 +3,7 @@ use Rattle.std.specs.Prelude.{ℕ}
 use Rattle.retro_tree.specs.Cell.{value}
 use Rattle.retro_tree.specs.declared.cell.Cell.{Cell}
 use Rattle.retro_tree.specs.declared.value.Value.{Value}
-use Rattle.retro_effects.specs.ValueRef.{ref_value}
+use Rattle.retro_tree.specs.ValueRef.{ref_value}
 use Rattle.retro_keep.specs.Recording.{RecordingValue}
 use Rattle.retro_keep.specs.Recorded.{lines_below}
 use Rattle.retro_history.specs.inner.Tracks.{VersionValue, current, whole_version}

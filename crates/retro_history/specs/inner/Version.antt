@@ -3,7 +3,7 @@ use Rattle.std.specs.Prelude.{◌≡◌, ℕ, ◌-◌, ◌≤◌, List, [], ◌�
 use Rattle.retro_tree.specs.declared.value.Value.{Value}
 use Rattle.retro_tree.specs.declared.value.Value.TheVariants as values
 use Rattle.retro_tree.specs.declared.node.Node.TheVariants as nodes
-use Rattle.retro_effects.specs.ValueRef.{ref_value}
+use Rattle.retro_tree.specs.ValueRef.{ref_value}
 use Rattle.retro_history.specs.inner.Tracks.{VersionValue}
 use Rattle.retro_history.specs.declared.place.Place.{Place}
 use Rattle.retro_history.specs.declared.place.Place.TheVariants.{Borrowed, Buffer}

@@ -89,8 +89,8 @@ fn names_fault(part: Part, names: &[&str]) -> Refusal
     }
 }
 
-/// Returns the path of these names, or why they are refused. `Path::of_names` tests the names. Only if
-/// it makes no path of them are they tested here, to find the refusal.
+/// Returns the path of these names, or why they are refused. `Path::of_names` tests the names. Only
+/// if it makes no path of them are they tested here, to find the refusal.
 fn path_of(alloc: Global, part: Part, names: &[&str]) -> Result<OrRefusal<Path>, NoMem>
     ensures { IfOk result (λ path. path ≡ path_of part (map (λ name. name.now) names.now)) }
 {

@@ -56,8 +56,8 @@ fn read_list(alloc: Global, value: &Value<'_>) -> Result<Vec<Edit>, LogFault>
     read_items(alloc, cells(Part::Document, value)?)
 }
 
-/// Reads the replacements that a text lists, in order. Refuses a text that isn't a JSON value, and a
-/// value that isn't a list of `[number,"text"]` with numbers of 32 bits.
+/// Reads the replacements that a text lists, in order. Refuses a text that isn't a JSON value, and
+/// a value that isn't a list of `[number,"text"]` with numbers of 32 bits.
 #[tactic(auto, unfolding(crate::specs::Replacements::replacements_read))]
 pub fn read_replacements(alloc: Global, json: &str) -> Result<Vec<Edit>, LogFault>
     ensures { ReadsAs (λ edits. edits.items) result (replacements_read json.now) }

@@ -19,9 +19,9 @@ use simdutf8::basic::from_utf8;
 use std::alloc::Global;
 
 /// Returns the recording of a lawful state, the line at which it begins, and lines. Refuses numbers
-/// that don't rise or a number below the beginning, then a session that doesn't exist, then a change
-/// that isn't lawful. The lines' notes must name their own session alone, and their answers must be
-/// of their queries' kinds.
+/// that don't rise or a number below the beginning, then a session that doesn't exist, then a
+/// change that isn't lawful. The lines' notes must name their own session alone, and their answers
+/// must be of their queries' kinds.
 fn recording_of(
     alloc: Global,
     first: State,

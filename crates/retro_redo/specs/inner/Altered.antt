@@ -3,8 +3,9 @@ use Rattle.std.specs.Prelude.{ℕ, Bool, ◌||◌, List, [], ◌++◌, Option, S
 use Rattle.std.specs.List.{filter_map, list_any}
 use Rattle.std.specs.BTreeMap.{is_at}
 use Rattle.retro_tree.specs.Order.{path_cmp}
+use Rattle.retro_tree.specs.CellRef.{path_in}
+use Rattle.retro_tree.specs.Change.{cell_of}
 use Rattle.retro_tree.specs.Path.{PathValue, below, parent_of}
-use Rattle.retro_tree.specs.declared.change.Change.TheVariants.{Put, Grow}
 use Rattle.retro_tree.specs.declared.note.Note.{Note}
 use Rattle.retro_tree.specs.declared.note.Note.TheVariants.{Made}
 use Rattle.retro_keep.specs.declared.noted.Noted.{Noted}
@@ -14,8 +15,7 @@ use Rattle.retro_redo.specs.declared.step.Step.TheVariants.{Cancel, Keep, Take}
 
 -- the path whose node a note changes
 abbrev pub changed_path : Note → Option PathValue
-changed_path (Made (Put p node)) = Some p
-changed_path (Made (Grow p bytes)) = Some p
+changed_path (Made change) = path_in (cell_of change)
 changed_path _ = None
 
 -- the paths whose nodes notes change

@@ -7,7 +7,7 @@ use Rattle.retro_tree.specs.declared.note.Note.TheVariants.{Made}
 use Rattle.retro_redo.specs.inner.NextUses.{has_cell}
 use Rattle.retro_redo.proofs.CellLoops.{change_done, no_change, note_at, pushed_old}
 use Rattle.retro_redo.proofs.next_uses.with_changed.Goals as goal
-use Rattle.retro_redo.proofs.next_uses.with_changed.Goals.{in-Made+in_ok-changed_cell+in_ok-push, in_default}
+use Rattle.retro_redo.proofs.next_uses.with_changed.Goals.{in-Made+in_ok-to_cell+in_ok-push, in_default}
 
 kept : (d : Cell) (note : Note) (notes rest : List Note) (cells : List Cell) → notes ≡ note ∷ rest
     → ((change : Change) → note ≡ Made change → ⊥) → (has_cell d cells ≡ true) ⊎ (changes notes d ≡ true)
@@ -25,13 +25,13 @@ loop-note-preserved c =
     c.as_slice-note-items.ensures
     (note_at c.as_slice-note-items.result.now i c.note-item.result c.loop-note-test.true c.note-item.is) in
     elim c.match-note.branch [
-      | in-Made+in_ok-changed_cell+in_ok-push w ↦ rw w.all-is (record {
+      | in-Made+in_ok-to_cell+in_ok-push w ↦ rw w.all-is (record {
         kept = λ d has.
             ap (has_cell d) w.in_ok-push.ensures.items
-            ∙ pushed_old d old w.in_ok-changed_cell.field-0 (c.loop-note.invariant.kept d has);
+            ∙ pushed_old d old w.in_ok-to_cell.field-0 (c.loop-note.invariant.kept d has);
         changed = λ d has.
-            change_done d w.in-Made.change (drop i notes) rest old w.push.new.self.items w.in_ok-changed_cell.field-0
-            (subst (λ (n : Note). drop i notes ≡ n ∷ rest) w.in-Made.is here) w.in_ok-changed_cell.ensures
+            change_done d w.in-Made.change (drop i notes) rest old w.push.new.self.items w.in_ok-to_cell.field-0
+            (subst (λ (n : Note). drop i notes ≡ n ∷ rest) w.in-Made.is here) (w.in_ok-to_cell.ensures ∙ w.cell.ensures)
             w.in_ok-push.ensures.items (c.loop-note.invariant.changed d has);
       })
       | in_default w ↦ rw w.all-is (record {

@@ -3,6 +3,7 @@ use Rattle.std.specs.FinMap as finmap
 use Rattle.retro_redo.specs.Editing.{EditMap}
 use Rattle.retro_redo.specs.Progress.{AreTakenNow, ProgressValue, edit_in}
 use Rattle.retro_redo.proofs.KeptLines.{fewer_left}
+use Rattle.retro_redo.proofs.NextLines.{number_found}
 use Rattle.retro_redo.proofs.Taking.{taken_first, taken_next, taken_skipped}
 use Rattle.retro_redo.proofs.repairing.settle_all.Goals as goal
 
@@ -16,13 +17,13 @@ loop-repairer-init g c = record {
 pub loop-repairer-smaller : goal.loop-repairer-smaller
 loop-repairer-smaller g c =
     let one = c.in_ok-settle.ensures in
-    fewer_left c.loop-repairer.repairer c.skip_unmet.new.self c.settle.new.self c.in-Some.number
-    c.in_ok-number.ensures.ok (one.0, one.1, one.2)
-    (sym c.in_ok-number.ensures.next ∙ c.in-Some.is)
+    fewer_left c.loop-repairer.repairer c.skip_unmet.new.self c.settle.new.self c.in-Some.line.number
+    c.in_ok-line.ensures.ok (one.0, one.1, one.2)
+    (number_found c.skip_unmet.new.self c.in_ok-line.field-0 c.in-Some.line c.in_ok-line.ensures.next c.in-Some.is)
 
 pub loop-repairer-preserved : goal.loop-repairer-preserved
 loop-repairer-preserved g c =
-    let skip = c.in_ok-number.ensures.ok in
+    let skip = c.in_ok-line.ensures.ok in
     let one = c.in_ok-settle.ensures in
     record {
       recording = ap (λ (x : ProgressValue). x.recording) one.1 ∙ skip.recording
@@ -35,6 +36,6 @@ loop-repairer-preserved g c =
 
 pub returns-clause-met : goal.returns-clause-met
 returns-clause-met g c =
-    subst AreTakenNow (sym c.into_progress.ensures)
-    (taken_skipped c.loop-repairer.repairer c.skip_unmet.new.self c.in_ok-number.ensures.ok
+    subst AreTakenNow (sym c.into_steps.ensures)
+    (taken_skipped c.loop-repairer.repairer c.skip_unmet.new.self c.in_ok-line.ensures.ok
     c.loop-repairer.invariant.met)

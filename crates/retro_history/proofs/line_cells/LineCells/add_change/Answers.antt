@@ -22,7 +22,7 @@ returns-in-Some c =
     (c.get_mut.follows.lender c.add_change.new.self).entries k d f c.in-Some.used.now c.add_change.new.self here is
     (wrote.3 (subst IsSome (sym here) refl)).0
     ∙ ap (λ m. update m k d f) c.self.view_is
-    ∙ ap (λ x. update c.args.self.now x d f) c.in_ok-cell.ensures) c.add_change.ensures.ok
+    ∙ ap (λ x. update c.args.self.now x d f) (c.in_ok-cell.ensures ∙ c.cell.ensures)) c.add_change.ensures.ok
 
 pub returns : goal.returns
 returns c =
@@ -39,4 +39,4 @@ returns c =
     c.add_change-2.new.self c.in_ok-insert.ensures.updates.0
     ∙ ap (λ m. map.insert m k c.add_change-2.new.self) same
     ∙ made_new cell_total cell_exact c.args.self.now k d f c.add_change-2.new.self absent made
-    ∙ ap (λ x. update c.args.self.now x d f) c.in_ok-cell.ensures
+    ∙ ap (λ x. update c.args.self.now x d f) (c.in_ok-cell.ensures ∙ c.cell.ensures)

@@ -24,9 +24,9 @@ returns c = λ n.
     let es = c.self.inside.edits.entries in
     ap (λ m. map_of.get m n)
     (made_insert nat_cmp_total nat_cmp-IsAntisymmetric es c.insert.new.self.entries k
-    c.in_ok-copy.field-0 c.in_ok-insert.ensures.updates.0
-    ∙ ap (λ m. map_of.insert m k c.in_ok-copy.field-0) c.self.view_is
-    ∙ (λ i. map_of.insert old (c.number-number.ensures i) (c.in_ok-copy.ensures i)))
+    c.of.result c.in_ok-insert.ensures.updates.0
+    ∙ ap (λ m. map_of.insert m k c.of.result) c.self.view_is
+    ∙ (λ i. map_of.insert old (c.number-number.ensures i) (c.of.ensures i)))
     ∙ edit_added old c.args.edit.now
     (ap (map_of.contains_key old) (sym c.number-number.ensures)
     ∙ ap is_some (ap (λ m. map_of.get m k) (sym c.self.view_is) ∙ get_made nat_cmp_total es k)

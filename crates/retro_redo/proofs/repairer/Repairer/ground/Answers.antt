@@ -1,14 +1,32 @@
-use Rattle.std.proofs.Common.{ap, ◌∙◌}
+use Rattle.std.proofs.Common.{ap, subst, sym, ◌∙◌}
 use Rattle.retro_tree.specs.Commit.{committed}
+use Rattle.retro_tree.specs.Exact.{IsExact}
+use Rattle.retro_tree.specs.Overlay.{OverlayMap}
+use Rattle.retro_tree.proofs.ExactOverlays.{exact_fits}
 use Rattle.retro_keep.specs.Recorded.{recorded_before}
-use Rattle.retro_redo.specs.Progress.{next_number, repaired_now}
+use Rattle.retro_redo.specs.Progress.{ProgressValue, recorded_now, repaired_now}
 use Rattle.retro_redo.proofs.Before.{before_next}
+use Rattle.retro_redo.proofs.Keeping.{repaired_is}
 use Rattle.retro_redo.proofs.repairer.Repairer.ground.Goals as goal
+
+pub new-requires-clause-fits : goal.new-requires-clause-fits
+new-requires-clause-fits c = exact_fits c.self.inside.overlay _ _ c.self.invariant.0.exact
+
+pub new-requires-clause-history : goal.new-requires-clause-history
+new-requires-clause-history c = c.self.invariant.2
+
+pub returns-clause-exact : goal.returns-clause-exact
+returns-clause-exact c =
+    subst (λ (o : OverlayMap). IsExact o (recorded_now c.args.self.now) (repaired_now c.args.self.now))
+    (sym c.new.ensures.overlay)
+    (subst (λ (p : ProgressValue). IsExact c.self.inside.overlay (recorded_now p) (repaired_now p)) c.self.view_is
+    c.self.invariant.0.exact)
 
 pub returns-clause-shows : goal.returns-clause-shows
 returns-clause-shows c =
     λ number next.
-    ap (λ r. committed c.ground.result.overlay (recorded_before number r)) c.ground.ensures.recording
-    ∙ ap (committed c.ground.result.overlay) (before_next c.self.inside.progress number c.line.ensures.well_formed
-    (ap next_number c.self.view_is ∙ next))
-    ∙ c.ground.ensures.shows ∙ ap repaired_now c.self.view_is
+    ap (λ r. committed c.new.result.overlay (recorded_before number r))
+    (c.new.ensures.recording ∙ ap (λ (p : ProgressValue). p.recording) c.self.view_is)
+    ∙ ap (committed c.new.result.overlay) (before_next c.args.self.now number c.noted_line.ensures.well_formed next)
+    ∙ ap (λ (o : OverlayMap). committed o (recorded_now c.args.self.now)) c.new.ensures.overlay
+    ∙ repaired_is c.args.self.now _ c.self.inside.overlay c.self.inside.met.items c.self.view_is c.self.invariant.0

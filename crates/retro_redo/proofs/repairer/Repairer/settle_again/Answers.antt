@@ -1,8 +1,8 @@
 use Rattle.retro_redo.proofs.repairer.Repairer.settle_again.Goals as goal
 
-pub step-requires-clause-may : goal.step-requires-clause-may
-step-requires-clause-may g c =
+pub take_step-requires-clause-may : goal.take_step-requires-clause-may
+take_step-requires-clause-may g c =
     λ l next. (c.requires.stale l next, c.in_ok-run.ensures.new_run l next, c.in_ok-run.ensures.holds)
 
 pub returns : goal.returns
-returns g c = (c.in_ok-run.run', c.in_ok-step.ensures.ok)
+returns g c = (c.in_ok-run.run', c.in_ok-take_step.ensures.ok)

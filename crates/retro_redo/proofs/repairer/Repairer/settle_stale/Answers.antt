@@ -4,8 +4,8 @@ use Rattle.retro_redo.specs.Settling.{IsGuessOf, IsTakenUp}
 use Rattle.retro_redo.specs.declared.step.Step.TheVariants.{Take}
 use Rattle.retro_redo.proofs.repairer.Repairer.settle_stale.Goals as goal
 
-pub step-requires-clause-may : goal.step-requires-clause-may
-step-requires-clause-may g c =
+pub take_step-requires-clause-may : goal.take_step-requires-clause-may
+take_step-requires-clause-may g c =
     λ l next. (
       c.requires.stale l next,
       subst (IsGuessOf (edit_in c.args.self.now) l) c.in-Some.is (c.requires.guess l next),
@@ -16,7 +16,7 @@ pub returns-then-branch : goal.returns-then-branch
 returns-then-branch g c =
     let run = c.in-Some.run' in (
       Take run,
-      c.in_ok-step.ensures.ok,
+      c.in_ok-take_step.ensures.ok,
       c.requires.met,
       λ l next. (subst (λ guess. IsTakenUp guess (Take run)) (sym c.in-Some.is) refl, c.requires.stale l next),
     )

@@ -1,0 +1,13 @@
+-- What the loop keeps.
+use Rattle.std.proofs.Common.{[]}
+use Rattle.retro_difference.specs.inner.Plan.{IsPlan, Covers, AreEntries}
+use Rattle.retro_difference.proofs.planner.Planner.plan_entries.Given as goal
+
+abbrev pub invariant-loop-cell : goal.invariant-loop-cell
+invariant-loop-cell g l = record {
+  plan : IsPlan l.self.overlay.now l.fn.effects l.fn.effects (g.C.Cells.state l.self.cells.now)
+      l.plan.writes l.plan.removals.items;
+  covers : Covers l.self.overlay.now l.fn.effects l.fn.effects (g.C.Cells.state l.self.cells.now)
+      l.plan.writes l.plan.removals.items [] l.cell-iterator;
+  found : AreEntries l.fn.effects l.cell-iterator;
+}

@@ -1,7 +1,0 @@
-use Rattle.retro_effects.proofs.Holding.{holds_in_repaired}
-use Rattle.retro_effects.proofs.combined.equiv.Goals as goal
-
-pub returns : goal.returns
-returns g c =
-    holds_in_repaired c.holds.result c.args.notes.now c.args.overlay.now (g.V.View.state c.args.view.now)
-    c.new-repaired.result c.holds.ensures c.new-repaired.ensures

@@ -1,3 +1,0 @@
-pub mod ValueRef
-pub mod Meeting
-pub mod inner
