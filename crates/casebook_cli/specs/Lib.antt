@@ -10,7 +10,6 @@ pub mod Labels
 pub mod Lines
 pub mod Messages
 pub mod Numbers
-pub mod Output
 pub mod Pages
 pub mod Program
 pub mod Repairs

@@ -72,7 +72,6 @@ mod lines_request;
 mod messages;
 mod numbers;
 mod options;
-mod output;
 mod pages;
 mod path_options;
 mod patterns;
@@ -102,12 +101,13 @@ mod words;
 
 pub use documents::{Documents, ReadFault};
 pub use exit::Exit;
-pub use output::Output;
 pub use problem::Problem;
 pub use program::run_with;
 pub use progress::{Progress, Step};
 pub use searched::Searched;
 pub use stop::Stop;
 
+/// What the answer is written to.
+pub use retro_edge::Output;
 /// Allocation failed.
 pub use retro_tree::NoMem;

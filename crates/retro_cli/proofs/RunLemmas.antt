@@ -2,7 +2,7 @@
 use Rattle.std.proofs.Common.{◌≡◌, List, Option, Some, None, IfSome, Ok, subst}
 use Rattle.std.specs.Io.KnownBytes.{Appends}
 use Rattle.retro_cli.specs.Exit.{exit_of}
-use Rattle.retro_cli.specs.Output.{AppendsPart}
+use Rattle.retro_edge.specs.Output.{AppendsPart}
 use Rattle.retro_cli.specs.Program.{Answered, Answers, Runs, Text, request_refusal}
 use Rattle.retro_cli.specs.Words.{Request, request_in}
 use Rattle.retro_cli.specs.declared.ending.Ending.{Ending}

@@ -1,7 +1,6 @@
 pub mod Exit
 pub mod Input
 pub mod Numbers
-pub mod Output
 pub mod Program
 pub mod RepairReport
 pub mod Report

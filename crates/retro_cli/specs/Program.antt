@@ -27,7 +27,7 @@ use Rattle.retro_log.specs.LogText.{log_text}
 use Rattle.retro_json.specs.NoNul.{recording_without_nul}
 use Rattle.retro_json.specs.Numbers.{refusal_number}
 use Rattle.retro_json.specs.declared.fault.Refusal.{Refusal}
-use Rattle.retro_cli.specs.Output.{AppendsPart}
+use Rattle.retro_edge.specs.Output.{AppendsPart}
 use Rattle.retro_cli.specs.Report.{replay_text}
 use Rattle.retro_cli.specs.RepairReport.{repair_text}
 use Rattle.retro_cli.specs.Words.{RepairOptions, Request, replay, record_script, check_log, repair, relog}

@@ -47,7 +47,6 @@ mod ending;
 mod exit;
 mod input;
 mod numbers;
-mod output;
 mod program;
 mod repair_options;
 mod repair_report;
@@ -58,6 +57,8 @@ mod words;
 
 pub use exit::Exit;
 pub use input::{Input, MOST_READS};
-pub use output::Output;
 pub use program::run_with;
 pub use stop::BAD_WORDS;
+
+/// What the answer is written to.
+pub use retro_edge::Output;

@@ -5,6 +5,7 @@ ghost use Rattle.retro_cli.specs.inner.Stop.{stop_of_words, stop_of_document, st
 ghost use Rattle.retro_cli.specs.inner.Stop.{stop_of_repair, stop_of_trim};
 
 use crate::words::WordsFault;
+use retro_edge::WriteFailed;
 use retro_keep::{EditFault, TrimFault};
 use retro_log::LogFault;
 use retro_redo::RepairFault;
@@ -40,6 +41,14 @@ impl From<NoMem> for Stop {
 
     fn from(_error: NoMem) -> Stop {
         Stop::NoMem
+    }
+}
+
+impl From<WriteFailed> for Stop {
+    ghost from_gives = { λ _ stop. stop ≡ stops.WriteFailed };
+
+    fn from(_error: WriteFailed) -> Stop {
+        Stop::WriteFailed
     }
 }
 

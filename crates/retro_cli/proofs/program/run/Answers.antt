@@ -1,7 +1,7 @@
 use Rattle.std.proofs.Common.{map, string_bytes, subst}
 use Rattle.std.proofs.lemmas.Result.{err_from_is_err_and}
 use Rattle.std.specs.Io.KnownBytes.{Appends}
-use Rattle.retro_cli.specs.Output.{AppendsPart}
+use Rattle.retro_edge.specs.Output.{AppendsPart}
 use Rattle.retro_cli.specs.Words.{request_view}
 use Rattle.retro_cli.proofs.RunLemmas.{ends_part, ends_whole}
 use Rattle.retro_cli.proofs.program.run.Goals as goal
@@ -11,7 +11,7 @@ returns-in_err-write_all-clause-runs g c =
     let p = err_from_is_err_and c.from_residual-in_err-write_all.result c.from_residual-in_err-write_all.ensures.1 in
     let old = g.W.Write.contents c.args.output.now.writer in
     let new = g.W.Write.contents c.write_all.new.self.writer in
-    rw (p.1, p.2, c.in_err-write_all.ensures.stop)
+    rw (p.1, p.2)
     (ends_part (map string_bytes c.args.words.now) (request_view c.in_ok-request.request) c.in_ok-text.ending
     (g.R.Read.remaining c.args.input.now.reader) c.in_ok-bytes.bytes.items c.in_ok-text.text.items old new
     c.in_ok-bytes.ensures.bytes c.in_ok-request.ensures c.in_ok-text.ensures.accepted c.in_ok-text.ensures.ok

@@ -1,12 +1,14 @@
 //! The program's output.
-ghost use Rattle.std.specs.Prelude.{◌≡◌, ◌<◌, ◌↔◌, true, false, length, IsNone, IfSome, IfErr};
-ghost use Rattle.std.specs.Prelude.{OnOk, OnErr, Err};
+ghost use Rattle.std.specs.Prelude.{◌≡◌, ◌<◌, ◌↔◌, true, false, length, IsNone, IfSome};
+ghost use Rattle.std.specs.Prelude.{OnOk, OnErr};
 ghost use Rattle.std.specs.Io.KnownBytes.{Appends, Keeps};
-ghost use Rattle.retro_cli.specs.Output.{AppendsPart, TakesPiece};
-ghost use Rattle.retro_cli.specs.declared.stop.Stop.TheVariants as stops;
+ghost use Rattle.retro_edge.specs.Output.{AppendsPart, TakesPiece};
 
-use crate::stop::Stop;
 use std::io::Write;
+
+/// A text couldn't be written whole.
+#[derive(Clone, Copy, Debug, PartialEq, Eq)]
+pub struct WriteFailed;
 
 /// A writer, and whether it failed. It isn't called again after a failure.
 #[derive(Debug, Drop)]
@@ -51,14 +53,13 @@ impl<W: Write> Output<W> {
         }
     }
 
-    /// Writes a text. Fails with `WriteFailed` if a call of `write` fails or takes no byte. A part
-    /// of the text's start, but not all of it, was then written.
-    pub(crate) fn write_all(&mut self, text: &[u8]) -> Result<(), Stop>
+    /// Writes a text. Fails if a call of `write` fails or takes no byte. A part of the text's start,
+    /// but not all of it, was then written.
+    pub fn write_all(&mut self, text: &[u8]) -> Result<(), WriteFailed>
         ensures whole { OnOk result
             (Appends (W.contents self.old.writer) (W.contents self.new.writer) text.now) }
         ensures part { OnErr result
             (AppendsPart (W.contents self.old.writer) (W.contents self.new.writer) text.now) }
-        ensures stop { IfErr result (λ stop. stop ≡ stops.WriteFailed) }
         ensures failed { OnErr result (self.new.has_failed ≡ true) }
         ensures ok { OnOk result (self.new.has_failed ≡ self.old.has_failed) }
     {
@@ -66,7 +67,7 @@ impl<W: Write> Output<W> {
         while at < text.len() {
             match self.write(&text[at..]) {
                 Some(n) => at += n,
-                None => return Err(Stop::WriteFailed),
+                None => return Err(WriteFailed),
             }
         }
         Ok(())
