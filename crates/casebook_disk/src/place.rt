@@ -1,0 +1,85 @@
+//! Places: the directories that paths are in, opened without following links.
+use casebook_folder::{NoMem, Obstacle};
+use retro_path::Path;
+use std::alloc::Global;
+use std::fs::{self, File, Metadata};
+use std::io::{self, ErrorKind};
+use std::os::fd::AsRawFd;
+use std::os::unix::fs::MetadataExt;
+
+/// Where a path leads.
+#[derive(Drop)]
+pub(crate) enum Place {
+    /// Its parent is this open directory.
+    In(File),
+    /// Its parent is missing, or is a file.
+    Missing,
+    /// Something above it is in the way.
+    Blocked(Obstacle),
+}
+
+/// Returns a name by which the system opens what is in an open directory.
+pub(crate) fn name_in(alloc: Global, dir: &File, name: &str) -> Result<String, NoMem> {
+    format!(in alloc; "/proc/self/fd/{}/{name}", dir.as_raw_fd())
+}
+
+/// Returns what is at a name without following a link, or `None` if nothing is there.
+pub(crate) fn look_at(rt: &HostRuntime, name: &str) -> io::Result<Option<Metadata>> {
+    match fs::symlink_metadata(rt, name) {
+        Ok(there) => Ok(Some(there)),
+        Err(error) if error.kind() == ErrorKind::NotFound => Ok(None),
+        Err(error) => Err(error),
+    }
+}
+
+/// Opens a directory in an open one, if it is a directory of the same file system and no link.
+pub(crate) fn open_in(
+    rt: &HostRuntime,
+    alloc: Global,
+    dir: &File,
+    name: &str,
+) -> io::Result<Place> {
+    let path = name_in(alloc, dir, name)?;
+    let Some(there) = look_at(rt, path.as_str())? else {
+        return Ok(Place::Missing);
+    };
+    if there.is_file() {
+        return Ok(Place::Missing);
+    }
+    if !there.is_dir() || there.dev() != dir.metadata()?.dev() {
+        return Ok(Place::Blocked(Obstacle::Above));
+    }
+    // The slash refuses a pipe or a device that is put there now, without opening it.
+    let with_slash = format!(in alloc; "{}/", path.as_str())?;
+    let below = fs::open(rt, with_slash.as_str())?;
+    let opened = below.metadata()?;
+    if opened.dev() == there.dev() && opened.ino() == there.ino() {
+        Ok(Place::In(below))
+    } else {
+        Ok(Place::Blocked(Obstacle::Changing))
+    }
+}
+
+/// Returns where a path leads from an open directory, and its last name. The root has none.
+pub(crate) fn place_of(
+    rt: &HostRuntime,
+    alloc: Global,
+    root: &File,
+    path: &Path,
+) -> io::Result<(Place, String)> {
+    let mut dir = root.try_clone()?;
+    let mut last = String::new(alloc);
+    for name in path.as_str().split('/') {
+        if name.is_empty() {
+            continue;
+        }
+        if !last.as_str().is_empty() {
+            match open_in(rt, alloc, &dir, last.as_str())? {
+                Place::In(below) => dir = below,
+                other => return Ok((other, last)),
+            }
+        }
+        last = String::from_str(alloc, name)?;
+    }
+    Ok((Place::In(dir), last))
+}

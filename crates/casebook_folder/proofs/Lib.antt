@@ -1,0 +1,12 @@
+pub mod Small
+pub mod Sames
+pub mod Effects
+pub mod Allowed
+pub mod Prefixes
+pub mod GoingOn
+pub mod Leftover
+pub mod Memories
+pub mod Orders
+pub mod Planned
+pub mod Touching
+pub mod Expected

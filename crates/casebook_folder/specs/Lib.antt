@@ -1,0 +1,11 @@
+pub mod Errors
+pub mod Found
+pub mod Steps
+pub mod Made
+pub mod Rows
+pub mod Moments
+pub mod Remaining
+pub mod Changes
+pub mod States
+pub mod Plans
+pub mod inner

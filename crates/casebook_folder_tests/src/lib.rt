@@ -1,0 +1,17 @@
+//! Tests of `casebook_folder` over a folder in memory, over public items alone.
+//!
+//! A tree and a folder are lists of a path each and what is there, as `texts.rt` reads them. What
+//! rows want is worked out by hand: from what a plan says of a path, and from what the folder holds
+//! before and after.
+#![tactic(auto)]
+
+#[cfg(test)]
+mod calls;
+#[cfg(test)]
+mod rows;
+#[cfg(test)]
+mod stops;
+#[cfg(test)]
+mod tables;
+#[cfg(test)]
+mod texts;
