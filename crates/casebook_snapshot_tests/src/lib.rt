@@ -1,0 +1,14 @@
+//! Tests of `casebook_snapshot` over a listing in memory, over public items alone.
+//!
+//! A folder is a list of a path each and what is there, as `texts.rt` reads them. What rows want is
+//! worked out by hand, from what a tree can hold and from the paths to skip.
+#![tactic(auto)]
+
+#[cfg(test)]
+mod calls;
+#[cfg(test)]
+mod rows;
+#[cfg(test)]
+mod tables;
+#[cfg(test)]
+mod texts;
