@@ -15,13 +15,13 @@ use Rattle.retro_tree.specs.Node.{file_limit, node_of, is_dir as is_dir_node}
 use Rattle.retro_tree.specs.declared.node.Node.{Node}
 use Rattle.retro_tree.specs.declared.node.Node.TheVariants as nodes
 use Rattle.casebook_folder.proofs.Small.{both_and, decided, first_and, last_and, none_some, not_true, some_same}
-use Rattle.casebook_snapshot.specs.Items.{Contents, is_missing, is_dir, held_of}
+use Rattle.casebook_snapshot.specs.Items.{Contents, is_missing, is_dir, row_for}
 use Rattle.casebook_snapshot.specs.Reasons.{first_reason, is_plain_name, item_reason, name_reason}
 use Rattle.casebook_snapshot.specs.Reasons.{path_reason, reason_by, reason_of}
 use Rattle.casebook_snapshot.specs.Kept.{is_entered, are_entered, is_open, kept}
 use Rattle.casebook_snapshot.specs.Snapshots.{HasRow, IsBelowSkipped, IsLawfulSnapshot, IsSkipped}
 use Rattle.casebook_snapshot.specs.Snapshots.{IsSnapshot, IsTreeLike, entry_of, may_hold, node_at, row_at}
-use Rattle.casebook_snapshot.specs.declared.item.Held.{Held}
+use Rattle.casebook_snapshot.specs.declared.item.Row.{Row}
 use Rattle.casebook_snapshot.specs.declared.item.Item.{Item}
 use Rattle.casebook_snapshot.specs.declared.item.Item.TheVariants.{Missing, Dir, File, Barred}
 use Rattle.casebook_snapshot.specs.declared.reason.Reason.{Reason}
@@ -148,16 +148,16 @@ module _ (f : Contents) (skip : List PathValue) where
   kept_node : PathValue → Node
   kept_node q = node_of (entry_of (kept f skip q))
 
-  dir_node : (x : Item) → is_dir x ≡ true → node_of (entry_of (held_of x)) ≡ nodes.Dir
+  dir_node : (x : Item) → is_dir x ≡ true → node_of (entry_of (row_for x)) ≡ nodes.Dir
   dir_node Missing e = absurd (false≢true e)
   dir_node (Dir a) e = refl
   dir_node (File b a) e = absurd (false≢true e)
   dir_node (Barred r) e = absurd (false≢true e)
 
   held_here : (q : PathValue) → is_open f skip (parent_of q) ≡ true → reason_of f skip q ≡ None
-      → kept f skip q ≡ held_of (f q)
+      → kept f skip q ≡ row_for (f q)
   held_here q o n =
-      ap (λ b. if b then held_of (f q) else None)
+      ap (λ b. if b then row_for (f q) else None)
       (both_and (is_open f skip (parent_of q)) (not (is_some (reason_of f skip q))) o (ap (λ x. not (is_some x)) n))
 
   open_node : is_dir (f []) ≡ true → (q : PathValue) → is_open f skip q ≡ true
@@ -219,7 +219,7 @@ module _ (f : Contents) (skip : List PathValue) where
       at_child (λ x. (x ≡ [] → ⊥) → reason_of f skip x ≡ None → item_reason (f x) ≡ None)
       (λ apart e. absurd (apart refl)) (λ p n apart e. item_clear p n e) q
 
-  law_held : (n : List ℕ) (r : PathValue) (x : Item) (h : Held) → held_of x ≡ Some h
+  law_held : (n : List ℕ) (r : PathValue) (x : Item) (h : Row) → row_for x ≡ Some h
       → may_exist (n ∷ r) ≡ true → item_reason x ≡ None
       → law_at (n ∷ r) (node_of (Some h.entry)) nodes.Dir ≡ true
   law_held n r Missing h e may small = absurd (none_some h e)
@@ -250,7 +250,7 @@ module _ (f : Contents) (skip : List PathValue) where
         ∙ ap (λ x. law_at q (node_of (entry_of (kept f skip q))) (node_of (entry_of x))) (i.rows (parent_of q))
         ∙ lawful_at i.root q
 
-    pub exact : (q : PathValue) (h : Held) → row_at s q ≡ Some h → held_of (f q) ≡ Some h
+    pub exact : (q : PathValue) (h : Row) → row_at s q ≡ Some h → row_for (f q) ≡ Some h
     exact q h row = (kept_parts f skip q h (sym (i.rows q) ∙ row)).held
 
     -- ---- rows and skipped paths are apart
@@ -290,9 +290,9 @@ module _ (f : Contents) (skip : List PathValue) where
           may_exists (f (p ++ n ∷ []))
           (has_below r (p ++ n ∷ []) m (subst (λ q. is_missing (f q) ≡ false) (sym (along p n (m ∷ r))) h))
 
-      row_of : (q : PathValue) (x : Item) (h : Held) → is_open f skip (parent_of q) ≡ true
-          → reason_of f skip q ≡ None → f q ≡ x → held_of x ≡ Some h → HasRow s q
-      row_of q x h o n e held = (h, i.rows q ∙ held_here q o n ∙ ap held_of e ∙ held)
+      row_of : (q : PathValue) (x : Item) (h : Row) → is_open f skip (parent_of q) ≡ true
+          → reason_of f skip q ≡ None → f q ≡ x → row_for x ≡ Some h → HasRow s q
+      row_of q x h o n e held = (h, i.rows q ∙ held_here q o n ∙ ap row_for e ∙ held)
 
       -- a path that ends at something else than a directory
       leaf : (ns p : PathValue) (n : List ℕ) (x : Item) → f (p ++ n ∷ []) ≡ x → is_dir x ≡ false

@@ -5,10 +5,10 @@ use Rattle.std.specs.Prelude.{is_some, if◌then◌else◌, ◌&&◌}
 use Rattle.std.proofs.lemmas.Bool.{false≢true}
 use Rattle.retro_path.specs.Path.{PathValue, parent_of}
 use Rattle.casebook_folder.proofs.Small.{first_and, last_and, both_and, decided, none_some}
-use Rattle.casebook_snapshot.specs.Items.{Contents, is_missing, is_dir, held_of}
+use Rattle.casebook_snapshot.specs.Items.{Contents, is_missing, is_dir, row_for}
 use Rattle.casebook_snapshot.specs.Reasons.{reason_of}
 use Rattle.casebook_snapshot.specs.Kept.{is_entered, are_entered, is_open, kept}
-use Rattle.casebook_snapshot.specs.declared.item.Held.{Held}
+use Rattle.casebook_snapshot.specs.declared.item.Row.{Row}
 use Rattle.casebook_snapshot.specs.declared.item.Item.{Item}
 use Rattle.casebook_snapshot.specs.declared.item.Item.TheVariants.{Missing, Dir, File, Barred}
 use Rattle.casebook_snapshot.proofs.Small.{along, parent_below, no_some, is_none}
@@ -19,7 +19,7 @@ dir_exists (Dir a) e = refl
 dir_exists (File b a) e = absurd (false≢true e)
 dir_exists (Barred r) e = absurd (false≢true e)
 
-pub held_exists : (x : Item) (h : Held) → held_of x ≡ Some h → is_missing x ≡ false
+pub held_exists : (x : Item) (h : Row) → row_for x ≡ Some h → is_missing x ≡ false
 held_exists Missing h e = absurd (none_some h e)
 held_exists (Dir a) h e = refl
 held_exists (File b a) h e = refl
@@ -94,24 +94,24 @@ module _ (f : Contents) (skip : List PathValue) where
       both_and (is_dir (f q)) (not (is_some (reason_of f skip q))) d (is_none (reason_of f skip q) n)
 
   -- what is kept at a path
-  pub record IsKept (q : PathValue) (h : Held) : Type 0 where
+  pub record IsKept (q : PathValue) (h : Row) : Type 0 where
     pub above : is_open f skip (parent_of q) ≡ true
     pub clear : reason_of f skip q ≡ None
-    pub held : held_of (f q) ≡ Some h
+    pub held : row_for (f q) ≡ Some h
 
-  pub kept_parts : (q : PathValue) (h : Held) → kept f skip q ≡ Some h → IsKept q h
+  pub kept_parts : (q : PathValue) (h : Row) → kept f skip q ≡ Some h → IsKept q h
   kept_parts q h e =
       elim (decided (is_open f skip (parent_of q) && not (is_some (reason_of f skip q)))) [
         | inl k ↦ record {
           above = first_and (is_open f skip (parent_of q)) (not (is_some (reason_of f skip q))) k;
           clear = no_some (reason_of f skip q) (last_and (is_open f skip (parent_of q)) (not (is_some (reason_of f skip q))) k);
-          held = sym (ap (λ b. if b then held_of (f q) else None) k) ∙ e;
+          held = sym (ap (λ b. if b then row_for (f q) else None) k) ∙ e;
         }
-        | inr k ↦ absurd (none_some h (sym (ap (λ b. if b then held_of (f q) else None) k) ∙ e))
+        | inr k ↦ absurd (none_some h (sym (ap (λ b. if b then row_for (f q) else None) k) ∙ e))
       ]
 
-  pub kept_by : (q : PathValue) (h : Held) → is_open f skip (parent_of q) ≡ true
-      → reason_of f skip q ≡ None → held_of (f q) ≡ Some h → kept f skip q ≡ Some h
+  pub kept_by : (q : PathValue) (h : Row) → is_open f skip (parent_of q) ≡ true
+      → reason_of f skip q ≡ None → row_for (f q) ≡ Some h → kept f skip q ≡ Some h
   kept_by q h a n e =
-      ap (λ b. if b then held_of (f q) else None)
+      ap (λ b. if b then row_for (f q) else None)
       (both_and (is_open f skip (parent_of q)) (not (is_some (reason_of f skip q))) a (is_none (reason_of f skip q) n)) ∙ e

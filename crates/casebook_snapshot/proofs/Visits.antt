@@ -3,7 +3,7 @@ use Rattle.std.proofs.Common.{◌≡◌, ℕ, refl, sym, ap, subst, ◌∙◌, L
 use Rattle.retro_path.specs.Path.{PathValue}
 use Rattle.retro_tree.specs.declared.entry.Entry.TheVariants as entries
 use Rattle.casebook_folder.specs.declared.attributes.Attributes.{Attributes}
-use Rattle.casebook_snapshot.specs.Items.{Contents, held_of}
+use Rattle.casebook_snapshot.specs.Items.{Contents, row_for}
 use Rattle.casebook_snapshot.specs.Reasons.{first_reason, item_reason, name_reason, path_reason}
 use Rattle.casebook_snapshot.specs.Reasons.{reason_by, reason_of}
 use Rattle.casebook_snapshot.specs.Children.{path_of, child_path, child_path_by, IsListing}
@@ -11,7 +11,7 @@ use Rattle.casebook_snapshot.specs.inner.Visits.{AreChildren}
 use Rattle.casebook_snapshot.specs.declared.child.Child.{Child}
 use Rattle.casebook_snapshot.specs.declared.child.ChildPath.{ChildPath}
 use Rattle.casebook_snapshot.specs.declared.child.ChildPath.TheVariants.{Is, Never}
-use Rattle.casebook_snapshot.specs.declared.item.Held.{Held}
+use Rattle.casebook_snapshot.specs.declared.item.Row.{Row}
 use Rattle.casebook_snapshot.specs.declared.item.Item.{Item}
 use Rattle.casebook_snapshot.specs.declared.item.Item.TheVariants.{Dir, File}
 use Rattle.casebook_snapshot.specs.declared.reason.Reason.{Reason}
@@ -72,9 +72,9 @@ module _ (f : Contents) (skip : List PathValue) (c : Child) (x : ChildPath) (is 
         ∙ ap item_reason (sym i_is) ∙ sym s_is
 
     -- what a visit says that keeps the child
-    abbrev pub IsKeep : PathValue → Held → List Child → Type 0
+    abbrev pub IsKeep : PathValue → Row → List Child → Type 0
     IsKeep q h cs =
-        (q ≡ path_of c) × ((reason_of f skip q ≡ None) × ((held_of (f q) ≡ Some h)
+        (q ≡ path_of c) × ((reason_of f skip q ≡ None) × ((row_for (f q) ≡ Some h)
         × AreChildren f q (f q) cs))
 
     module _ (o s : Option Reason) (i : Item) (o_is : o ≡ path_reason skip p) (o_none : o ≡ None)
@@ -93,7 +93,7 @@ module _ (f : Contents) (skip : List PathValue) (c : Child) (x : ChildPath) (is 
         (
           clear none,
           (
-            ap held_of (sym i_is ∙ file),
+            ap row_for (sym i_is ∙ file),
             subst (λ y. AreChildren f p y cs) (sym file ∙ i_is) empty,
           ),
         ),
@@ -106,7 +106,7 @@ module _ (f : Contents) (skip : List PathValue) (c : Child) (x : ChildPath) (is 
         (
           clear none,
           (
-            ap held_of (sym i_is ∙ dir),
+            ap row_for (sym i_is ∙ dir),
             subst (λ y. AreChildren f p y cs) (sym dir ∙ i_is) listing,
           ),
         ),

@@ -10,7 +10,7 @@ use Rattle.retro_path.specs.Order.{path_cmp}
 use Rattle.retro_path.specs.Path.{PathValue, parent_of}
 use Rattle.retro_tree.proofs.Below.{parent_of_append}
 use Rattle.casebook_folder.proofs.Small.{decided, none_some, some_same}
-use Rattle.casebook_snapshot.specs.Items.{Contents, is_missing, is_dir, held_of}
+use Rattle.casebook_snapshot.specs.Items.{Contents, is_missing, is_dir, row_for}
 use Rattle.casebook_snapshot.specs.Reasons.{reason_of}
 use Rattle.casebook_snapshot.specs.Children.{path_of, ArePresent, IsNamed, IsListing}
 use Rattle.casebook_snapshot.specs.Kept.{is_open, kept}
@@ -18,11 +18,11 @@ use Rattle.casebook_snapshot.specs.Snapshots.{IsIn, IsSkipped, IsSnapshot, row_a
 use Rattle.casebook_snapshot.specs.inner.Visits.{IsVisit, AreChildren}
 use Rattle.casebook_snapshot.specs.inner.Walks.{IsUnder, AreOpen, IsWalked, IsRowPut, IsTaken}
 use Rattle.casebook_snapshot.specs.declared.child.Child.{Child}
-use Rattle.casebook_snapshot.specs.declared.item.Held.{Held}
+use Rattle.casebook_snapshot.specs.declared.item.Row.{Row}
 use Rattle.casebook_snapshot.specs.declared.item.Item.{Item}
 use Rattle.casebook_snapshot.specs.declared.item.Item.TheVariants.{Missing, Dir, File, Barred}
 use Rattle.casebook_snapshot.specs.declared.reason.Reason.{Reason}
-use Rattle.casebook_snapshot.specs.declared.snapshot.Skipped.{Skipped}
+use Rattle.casebook_snapshot.specs.declared.snapshot.SkippedPath.{SkippedPath}
 use Rattle.casebook_snapshot.specs.declared.snapshot.Snapshot.{Snapshot}
 use Rattle.casebook_snapshot.specs.declared.visit.Visit.{Visit}
 use Rattle.casebook_snapshot.specs.declared.visit.Visit.TheVariants.{Gone, Skip, Keep}
@@ -50,16 +50,16 @@ under_parts (x ∷ xs) ys q (inl e) = inl (inl e)
 under_parts (x ∷ xs) ys q (inr h) =
     elim (under_parts xs ys q h) [ inl k ↦ inl (inr k) | inr k ↦ inr k ]
 
-in_front : (xs ys : List Skipped) (q : PathValue) (r : Reason) → IsIn xs q r → IsIn (xs ++ ys) q r
+in_front : (xs ys : List SkippedPath) (q : PathValue) (r : Reason) → IsIn xs q r → IsIn (xs ++ ys) q r
 in_front [] ys q r h = absurd h
 in_front (x ∷ xs) ys q r (inl e) = inl e
 in_front (x ∷ xs) ys q r (inr h) = inr (in_front xs ys q r h)
 
-in_back : (xs ys : List Skipped) (q : PathValue) (r : Reason) → IsIn ys q r → IsIn (xs ++ ys) q r
+in_back : (xs ys : List SkippedPath) (q : PathValue) (r : Reason) → IsIn ys q r → IsIn (xs ++ ys) q r
 in_back [] ys q r h = h
 in_back (x ∷ xs) ys q r h = inr (in_back xs ys q r h)
 
-in_parts : (xs ys : List Skipped) (q : PathValue) (r : Reason) → IsIn (xs ++ ys) q r
+in_parts : (xs ys : List SkippedPath) (q : PathValue) (r : Reason) → IsIn (xs ++ ys) q r
     → IsIn xs q r ⊎ IsIn ys q r
 in_parts [] ys q r h = inr h
 in_parts (x ∷ xs) ys q r (inl e) = inl (inl e)
@@ -120,8 +120,8 @@ module _ (f : Contents) (skip : List PathValue) where
 
   -- ---- the beginning
 
-  pub begins : (s : Snapshot) (cs : List Child) (h : Held) → is_dir (f []) ≡ true
-      → held_of (f []) ≡ Some h → IsListing f [] cs
+  pub begins : (s : Snapshot) (cs : List Child) (h : Row) → is_dir (f []) ≡ true
+      → row_for (f []) ≡ Some h → IsListing f [] cs
       → ((q : PathValue) → row_at s q ≡ cond (is_eq (path_cmp [] q)) (Some h) None)
       → s.skipped.items ≡ [] → IsWalked f skip s cs
   begins s cs h d e l rows none = record {
@@ -137,7 +137,7 @@ module _ (f : Contents) (skip : List PathValue) where
     reachable = present_open f skip [] cs refl l.sound;
   }
     where
-      found : (q : PathValue) (k : Held) → kept f skip q ≡ Some k → (row_at s q ≡ Some k) ⊎ IsUnder cs q
+      found : (q : PathValue) (k : Row) → kept f skip q ≡ Some k → (row_at s q ≡ Some k) ⊎ IsUnder cs q
       found [] k is = inl (rows [] ∙ ap (λ b. cond b (Some h) None) (tied_itself []) ∙ sym e ∙ is)
       found (n ∷ r) k is =
           let parts = kept_parts f skip (n ∷ r) k is in
@@ -208,7 +208,7 @@ module _ (f : Contents) (skip : List PathValue) where
       reachable = subst (AreOpen f skip) (sym left) rest_open;
     }
       where
-        one : Skipped
+        one : SkippedPath
         one = record { child = c; reason = r }
 
         not_below : (k : List ℕ) (x : PathValue) → is_open f skip (parent_of (path_of c ++ k ∷ x)) ≡ true → ⊥
@@ -216,12 +216,12 @@ module _ (f : Contents) (skip : List PathValue) where
             not_both (reason_of f skip (path_of c)) r
             (entered_none f skip (path_of c) (above_entered f skip c.parent c.name.items k x o)) why
 
-        no_row : (x q : PathValue) (h : Held) → q ≡ path_of c ++ x → IsKept f skip q h → ⊥
+        no_row : (x q : PathValue) (h : Row) → q ≡ path_of c ++ x → IsKept f skip q h → ⊥
         no_row [] q h e k =
             not_both (reason_of f skip q) r k.clear (ap (reason_of f skip) (e ∙ append-nil (path_of c)) ∙ why)
         no_row (n ∷ x) q h e k = not_below n x (subst (λ y. is_open f skip (parent_of y) ≡ true) e k.above)
 
-        complete : (q : PathValue) (h : Held) → kept f skip q ≡ Some h → (row_at t q ≡ Some h) ⊎ IsUnder m q
+        complete : (q : PathValue) (h : Row) → kept f skip q ≡ Some h → (row_at t q ≡ Some h) ⊎ IsUnder m q
         complete q h k = elim (w.complete q h k) [
           | inl is ↦ inl (rows q ∙ is)
           | inr u ↦ moved q u (λ x e. absurd (no_row x q h e (kept_parts f skip q h k)))
@@ -255,8 +255,8 @@ module _ (f : Contents) (skip : List PathValue) where
               (λ v. inr (subst (λ x. IsUnder x q) (sym left) v))
         ]
 
-    pub keeps : (p : PathValue) (h : Held) (cs : List Child) → p ≡ path_of c
-        → reason_of f skip p ≡ None → held_of (f p) ≡ Some h → AreChildren f p (f p) cs
+    pub keeps : (p : PathValue) (h : Row) (cs : List Child) → p ≡ path_of c
+        → reason_of f skip p ≡ None → row_for (f p) ≡ Some h → AreChildren f p (f p) cs
         → IsRowPut s t p h → m ≡ rest ++ cs → t.skipped.items ≡ s.skipped.items
         → IsWalked f skip t m
     keeps p h cs at clear held children rows left same = record {
@@ -275,7 +275,7 @@ module _ (f : Contents) (skip : List PathValue) where
         row_here q e =
             rows q ∙ ap (λ b. cond b (Some h) (row_at s q)) (subst (λ x. is_eq (path_cmp p x) ≡ true) e (tied_itself p))
 
-        sound : (q : PathValue) (k : Held) → row_at t q ≡ Some k → kept f skip q ≡ Some k
+        sound : (q : PathValue) (k : Row) → row_at t q ≡ Some k → kept f skip q ≡ Some k
         sound q k is = elim (decided (is_eq (path_cmp p q))) [
           | inl here ↦ subst (λ x. kept f skip x ≡ Some k) (tied_paths p q here)
               (here_kept ∙ sym (ap (λ b. cond b (Some h) (row_at s q)) here) ∙ sym (rows q) ∙ is)
@@ -312,7 +312,7 @@ module _ (f : Contents) (skip : List PathValue) where
         old_under : (q : PathValue) → IsUnder rest q → IsUnder m q
         old_under q u = subst (λ x. IsUnder x q) (sym left) (under_front rest cs q u)
 
-        row_or_under : (x q : PathValue) (k : Held) → q ≡ path_of c ++ x → kept f skip q ≡ Some k
+        row_or_under : (x q : PathValue) (k : Row) → q ≡ path_of c ++ x → kept f skip q ≡ Some k
             → (row_at t q ≡ Some k) ⊎ IsUnder m q
         row_or_under [] q k e is =
             let p_is = at ∙ sym (e ∙ append-nil (path_of c)) in
@@ -321,13 +321,13 @@ module _ (f : Contents) (skip : List PathValue) where
             let parts = kept_parts f skip q k is in
             inr (new_under q (below n x q e parts.above (held_exists (f q) k parts.held)))
 
-        row_stays : (q : PathValue) (k : Held) → kept f skip q ≡ Some k → row_at s q ≡ Some k → row_at t q ≡ Some k
+        row_stays : (q : PathValue) (k : Row) → kept f skip q ≡ Some k → row_at s q ≡ Some k → row_at t q ≡ Some k
         row_stays q k is old = elim (decided (is_eq (path_cmp p q))) [
           | inl here ↦ let p_is = tied_paths p q here in row_here q p_is ∙ sym here_kept ∙ ap (kept f skip) p_is ∙ is
           | inr there ↦ rows q ∙ ap (λ b. cond b (Some h) (row_at s q)) there ∙ old
         ]
 
-        complete : (q : PathValue) (k : Held) → kept f skip q ≡ Some k → (row_at t q ≡ Some k) ⊎ IsUnder m q
+        complete : (q : PathValue) (k : Row) → kept f skip q ≡ Some k → (row_at t q ≡ Some k) ⊎ IsUnder m q
         complete q k is = elim (w.complete q k is) [
           | inl old ↦ inl (row_stays q k is old)
           | inr u ↦ moved q u (λ x e. row_or_under x q k e is) (λ v. inr (old_under q v))
@@ -361,7 +361,7 @@ walks_on f skip c (Keep p h cs) a b w popped same walked visit taken =
     (subst (λ s. IsRowPut s w.snapshot p h) same taken.0) taken.1.0 (taken.1.1 ∙ ap (λ s. s.skipped.items) same)
 
 -- the row of the root, put into no rows
-pub first_row : (s : Snapshot) (p : PathValue) (h : Held) (es : List (PathValue × Held))
+pub first_row : (s : Snapshot) (p : PathValue) (h : Row) (es : List (PathValue × Row))
     → ((q : PathValue) → row_at s q ≡ cond (is_eq (path_cmp p q)) (Some h) (lookup (is_at (path_cmp q)) es))
     → es ≡ [] → p ≡ [] → (q : PathValue) → row_at s q ≡ cond (is_eq (path_cmp [] q)) (Some h) None
 first_row s p h es rows empty root q =

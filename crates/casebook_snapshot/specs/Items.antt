@@ -2,7 +2,7 @@
 use Rattle.std.specs.Prelude.{Bool, true, false, Option, Some, None}
 use Rattle.retro_path.specs.Path.{PathValue}
 use Rattle.retro_tree.specs.declared.entry.Entry.TheVariants as entries
-use Rattle.casebook_snapshot.specs.declared.item.Held.{Held}
+use Rattle.casebook_snapshot.specs.declared.item.Row.{Row}
 use Rattle.casebook_snapshot.specs.declared.item.Item.{Item}
 use Rattle.casebook_snapshot.specs.declared.item.Item.TheVariants.{Missing, Dir, File, Barred}
 
@@ -23,8 +23,8 @@ is_dir (File x a) = false
 is_dir (Barred r) = false
 
 -- the directory or file that is kept
-abbrev pub held_of : Item → Option Held
-held_of Missing = None
-held_of (Dir a) = Some (record { entry = entries.Dir; attributes = a })
-held_of (File x a) = Some (record { entry = entries.File x; attributes = a })
-held_of (Barred r) = None
+abbrev pub row_for : Item → Option Row
+row_for Missing = None
+row_for (Dir a) = Some (record { entry = entries.Dir; attributes = a })
+row_for (File x a) = Some (record { entry = entries.File x; attributes = a })
+row_for (Barred r) = None

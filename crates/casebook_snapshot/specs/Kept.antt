@@ -3,9 +3,9 @@
 use Rattle.std.specs.Prelude.{Bool, true, not, ◌&&◌, if◌then◌else◌, List, [], ◌∷◌, ◌++◌, Option}
 use Rattle.std.specs.Prelude.{None, is_some}
 use Rattle.retro_path.specs.Path.{PathValue, parent_of}
-use Rattle.casebook_snapshot.specs.Items.{Contents, is_dir, held_of}
+use Rattle.casebook_snapshot.specs.Items.{Contents, is_dir, row_for}
 use Rattle.casebook_snapshot.specs.Reasons.{reason_of}
-use Rattle.casebook_snapshot.specs.declared.item.Held.{Held}
+use Rattle.casebook_snapshot.specs.declared.item.Row.{Row}
 
 -- whether a path is a directory that no reason applies to
 abbrev pub is_entered : Contents → List PathValue → PathValue → Bool
@@ -22,7 +22,7 @@ abbrev pub is_open : Contents → List PathValue → PathValue → Bool
 is_open f skip q = are_entered f skip [] q
 
 -- what is kept at a path
-abbrev pub kept : Contents → List PathValue → PathValue → Option Held
+abbrev pub kept : Contents → List PathValue → PathValue → Option Row
 kept f skip q =
-    if is_open f skip (parent_of q) && not (is_some (reason_of f skip q)) then held_of (f q)
+    if is_open f skip (parent_of q) && not (is_some (reason_of f skip q)) then row_for (f q)
     else None

@@ -12,11 +12,11 @@ use Rattle.casebook_snapshot.specs.Items.{Contents, is_missing, is_dir}
 use Rattle.casebook_snapshot.specs.Reasons.{reason_of}
 use Rattle.casebook_snapshot.specs.Children.{path_of}
 use Rattle.casebook_snapshot.specs.Kept.{is_open, kept}
-use Rattle.casebook_snapshot.specs.declared.item.Held.{Held}
+use Rattle.casebook_snapshot.specs.declared.item.Row.{Row}
 use Rattle.casebook_snapshot.specs.declared.item.Item.{Item}
 use Rattle.casebook_snapshot.specs.declared.item.Item.TheVariants.{Missing, Dir, File, Barred}
 use Rattle.casebook_snapshot.specs.declared.reason.Reason.{Reason}
-use Rattle.casebook_snapshot.specs.declared.snapshot.Skipped.{Skipped}
+use Rattle.casebook_snapshot.specs.declared.snapshot.SkippedPath.{SkippedPath}
 use Rattle.casebook_snapshot.specs.declared.snapshot.Snapshot.{Snapshot}
 
 -- A path is skipped for a reason if the directories above it are kept, something is there, and the
@@ -28,7 +28,7 @@ pub record IsSkipped (f : Contents) (skip : List PathValue) (q : PathValue) (r :
   pub reason : reason_of f skip q ≡ Some r
 
 -- a path is listed with a reason
-abbrev pub IsIn : List Skipped → PathValue → Reason → Type 0
+abbrev pub IsIn : List SkippedPath → PathValue → Reason → Type 0
 IsIn [] q r = ⊥
 IsIn (s ∷ ss) q r = ((path_of s.child ≡ q) × (s.reason ≡ r)) ⊎ IsIn ss q r
 
@@ -40,7 +40,7 @@ pub record IsSnapshot (f : Contents) (skip : List PathValue) (s : Snapshot) : Ty
   pub skipped : (q : PathValue) (r : Reason) → IsIn s.skipped.items q r ↔ IsSkipped f skip q r
 
 -- the row of a path
-abbrev pub row_at : Snapshot → PathValue → Option Held
+abbrev pub row_at : Snapshot → PathValue → Option Row
 row_at s q = tree.get path_cmp s.rows q
 
 -- a path is at or below one that is skipped
@@ -53,7 +53,7 @@ pub record IsBelowSkipped (s : Snapshot) (q : PathValue) : Type 0 where
 
 -- a path has a row
 abbrev pub HasRow : Snapshot → PathValue → Type 0
-HasRow s q = (h : Held) × (row_at s q ≡ Some h)
+HasRow s q = (h : Row) × (row_at s q ≡ Some h)
 
 -- whether something can be in it: it is a directory, or isn't looked into
 abbrev pub may_hold : Item → Bool
@@ -67,7 +67,7 @@ abbrev pub IsTreeLike : Contents → Type 0
 IsTreeLike f =
     (p : PathValue) (n : List ℕ) → is_missing (f (p ++ n ∷ [])) ≡ false → may_hold (f p) ≡ true
 
-abbrev pub entry_of : Option Held → Option Entry
+abbrev pub entry_of : Option Row → Option Entry
 entry_of None = None
 entry_of (Some h) = Some h.entry
 

@@ -23,7 +23,7 @@ pub enum Item {
 
 /// A directory or file that is kept, with its mode and owner.
 #[derive(Drop)]
-pub struct Held {
+pub struct Row {
     /// The directory or file.
     pub entry: Entry,
     /// The mode and owner.

@@ -1,10 +1,10 @@
 //! Laws of snapshots, for the proofs of crates above.
 ghost use Rattle.std.specs.Prelude.{◌≡◌, ◌⊎◌, List, Some, false};
 ghost use Rattle.retro_path.specs.Path.{PathValue};
-ghost use Rattle.casebook_snapshot.specs.Items.{Contents, held_of, is_missing};
+ghost use Rattle.casebook_snapshot.specs.Items.{Contents, row_for, is_missing};
 ghost use Rattle.casebook_snapshot.specs.Snapshots.{HasRow, IsBelowSkipped, IsLawfulSnapshot};
 ghost use Rattle.casebook_snapshot.specs.Snapshots.{IsSnapshot, IsTreeLike, row_at};
-ghost use Rattle.casebook_snapshot.specs.declared.item.Held.{Held};
+ghost use Rattle.casebook_snapshot.specs.declared.item.Row.{Row};
 ghost use Rattle.casebook_snapshot.specs.declared.snapshot.Snapshot.{Snapshot};
 
 /// States that each path of a folder that holds something has a row, or is at or below a skipped
@@ -16,7 +16,7 @@ pub fn snapshots_are_complete()
     ensures apart { (f : Contents) (skip : List PathValue) (s : Snapshot) → IsSnapshot f skip s
         → (q : PathValue) → HasRow s q → IsBelowSkipped s q → ⊥ }
     ensures exact { (f : Contents) (skip : List PathValue) (s : Snapshot) → IsSnapshot f skip s
-        → (q : PathValue) (h : Held) → row_at s q ≡ Some h → held_of (f q) ≡ Some h }
+        → (q : PathValue) (h : Row) → row_at s q ≡ Some h → row_for (f q) ≡ Some h }
 {}
 
 /// States that the rows of a snapshot are those of a lawful tree.

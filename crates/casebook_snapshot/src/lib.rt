@@ -23,7 +23,7 @@
 //!   or at or below a skipped path, in exactly one of both (`snapshots_are_complete`).
 //! - The rows are those of a lawful tree (`snapshots_are_lawful`): the root and each parent is a
 //!   directory, nothing is at `/dev/null` or below it, names have at most 255 bytes, and files at
-//!   most 1,048,576. No name in a row has a NUL.
+//!   most 1,048,576. A name with a NUL isn't kept, by the definition of what is kept alone.
 //! - `NotADirectory` is returned only if the root isn't a directory.
 #![tactic(auto)]
 
@@ -40,12 +40,12 @@ mod walking;
 
 pub use child::Child;
 pub use error::SnapshotError;
-pub use item::{Held, Item};
+pub use item::{Item, Row};
 pub use laws::{snapshots_are_complete, snapshots_are_lawful};
 pub use listing::Listing;
 pub use memory::{Memory, MemoryEntry};
 pub use reason::Reason;
-pub use snapshot::{Skipped, Snapshot};
+pub use snapshot::{SkippedPath, Snapshot};
 pub use walking::walk;
 
 /// Allocation failed.

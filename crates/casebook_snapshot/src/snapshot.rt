@@ -1,13 +1,13 @@
 //! Snapshots.
 use crate::child::Child;
-use crate::item::Held;
+use crate::item::Row;
 use crate::reason::Reason;
 use retro_path::Path;
 use std::collections::BTreeMap;
 
 /// A path that is skipped. Nothing below it is looked at.
 #[derive(Drop)]
-pub struct Skipped {
+pub struct SkippedPath {
     /// The directory and the name.
     pub child: Child,
     /// The reason.
@@ -18,7 +18,7 @@ pub struct Skipped {
 #[derive(Drop)]
 pub struct Snapshot {
     /// The directories and files, by their paths. The root is one of them.
-    pub rows: BTreeMap<Path, Held>,
+    pub rows: BTreeMap<Path, Row>,
     /// What is skipped.
-    pub skipped: Vec<Skipped>,
+    pub skipped: Vec<SkippedPath>,
 }

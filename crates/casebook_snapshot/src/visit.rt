@@ -5,7 +5,7 @@ ghost use Rattle.casebook_snapshot.specs.inner.Visits.{IsVisit};
 
 use crate::child::{Child, ChildPath};
 use crate::error::SnapshotError;
-use crate::item::{Held, Item};
+use crate::item::{Item, Row};
 use crate::listing::Listing;
 use crate::reason::{Reason, path_reason};
 use retro_path::Path;
@@ -20,7 +20,7 @@ pub(crate) enum Visit {
     /// It is skipped.
     Skip(Reason),
     /// It is kept at this path, and these children of it are to be visited.
-    Keep(Path, Held, Vec<Child>),
+    Keep(Path, Row, Vec<Child>),
 }
 
 /// Looks at a child of a directory, and says what is to be done with it.
@@ -49,12 +49,12 @@ pub(crate) fn visit_child<L: Listing>(
         Item::Missing | Item::Barred(_) => Ok(Visit::Gone),
         Item::File(bytes, attributes) => {
             let entry = Entry::File(bytes);
-            Ok(Visit::Keep(path, Held { entry, attributes }, Vec::new(alloc)))
+            Ok(Visit::Keep(path, Row { entry, attributes }, Vec::new(alloc)))
         }
         Item::Dir(attributes) => {
             let children = listing.list(alloc, &path)?;
             let entry = Entry::Dir;
-            Ok(Visit::Keep(path, Held { entry, attributes }, children))
+            Ok(Visit::Keep(path, Row { entry, attributes }, children))
         }
     }
 }

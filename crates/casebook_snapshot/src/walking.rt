@@ -8,9 +8,9 @@ ghost use Rattle.casebook_snapshot.specs.declared.error.SnapshotError.TheVariant
 
 use crate::child::Child;
 use crate::error::SnapshotError;
-use crate::item::{Held, Item};
+use crate::item::{Item, Row};
 use crate::listing::Listing;
-use crate::snapshot::{Skipped, Snapshot};
+use crate::snapshot::{SkippedPath, Snapshot};
 use crate::visit::{Visit, visit_child};
 use retro_path::Path;
 use retro_tree::Entry;
@@ -34,7 +34,7 @@ impl Progress {
     {
         match visit {
             Visit::Gone => {}
-            Visit::Skip(reason) => self.snapshot.skipped.push(Skipped { child, reason })?,
+            Visit::Skip(reason) => self.snapshot.skipped.push(SkippedPath { child, reason })?,
             Visit::Keep(path, held, children) => {
                 let mut children = children;
                 self.left.append(&mut children)?;
@@ -59,7 +59,7 @@ fn begin<L: Listing>(alloc: Global, listing: &L, skip: &[Path]) -> Result<Progre
     let left = listing.list(alloc, &root)?;
     let entry = Entry::Dir;
     let mut rows = BTreeMap::new(alloc);
-    rows.insert(root, Held { entry, attributes })?;
+    rows.insert(root, Row { entry, attributes })?;
     let skipped = Vec::new(alloc);
     Ok(Progress {
         snapshot: Snapshot { rows, skipped },

@@ -5,7 +5,7 @@
 //! byte 255, which isn't UTF-8. `zeros 1024` is a file of so many zeros. The field `none` has no
 //! entries.
 use casebook_folder::Attributes;
-use casebook_snapshot::{Child, Held, Item, Memory, MemoryEntry, Reason, Skipped};
+use casebook_snapshot::{Child, Item, Memory, MemoryEntry, Reason, Row, SkippedPath};
 use retro_path::{Bytes, NoMem, Path};
 use retro_rows::{fail, path};
 use retro_tree::Entry;
@@ -115,7 +115,7 @@ fn name(path: &Path) -> &str {
 }
 
 /// Returns a row as a text.
-pub fn row_text(alloc: Global, path: &Path, held: &Held) -> Result<String, NoMem> {
+pub fn row_text(alloc: Global, path: &Path, held: &Row) -> Result<String, NoMem> {
     let a = held.attributes;
     let name = name(path);
     match &held.entry {
@@ -131,7 +131,7 @@ pub fn row_text(alloc: Global, path: &Path, held: &Held) -> Result<String, NoMem
 }
 
 /// Returns a skipped path as a text, with its name's bytes escaped.
-pub fn skipped_text(alloc: Global, skipped: &Skipped) -> Result<String, NoMem> {
+pub fn skipped_text(alloc: Global, skipped: &SkippedPath) -> Result<String, NoMem> {
     format!(in alloc;
         "{}/{} {:?}",
         skipped.child.parent.as_str(),

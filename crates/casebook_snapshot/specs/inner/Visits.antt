@@ -1,7 +1,7 @@
 -- What a visit of a child says.
 use Rattle.std.specs.Prelude.{◌≡◌, true, List, [], Some, None}
 use Rattle.retro_path.specs.Path.{PathValue}
-use Rattle.casebook_snapshot.specs.Items.{Contents, is_missing, held_of}
+use Rattle.casebook_snapshot.specs.Items.{Contents, is_missing, row_for}
 use Rattle.casebook_snapshot.specs.Reasons.{reason_of}
 use Rattle.casebook_snapshot.specs.Children.{path_of, IsListing}
 use Rattle.casebook_snapshot.specs.declared.child.Child.{Child}
@@ -21,5 +21,5 @@ abbrev pub IsVisit : Contents → List PathValue → Child → Visit → Type 0
 IsVisit f skip c Gone = is_missing (f (path_of c)) ≡ true
 IsVisit f skip c (Skip r) = reason_of f skip (path_of c) ≡ Some r
 IsVisit f skip c (Keep p h cs) =
-    (p ≡ path_of c) × ((reason_of f skip p ≡ None) × ((held_of (f p) ≡ Some h)
+    (p ≡ path_of c) × ((reason_of f skip p ≡ None) × ((row_for (f p) ≡ Some h)
     × AreChildren f p (f p) cs.items))

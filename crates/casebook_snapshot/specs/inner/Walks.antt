@@ -8,7 +8,7 @@ use Rattle.casebook_snapshot.specs.Children.{path_of}
 use Rattle.casebook_snapshot.specs.Kept.{is_open, kept}
 use Rattle.casebook_snapshot.specs.Snapshots.{IsIn, IsSkipped, row_at}
 use Rattle.casebook_snapshot.specs.declared.child.Child.{Child}
-use Rattle.casebook_snapshot.specs.declared.item.Held.{Held}
+use Rattle.casebook_snapshot.specs.declared.item.Row.{Row}
 use Rattle.casebook_snapshot.specs.declared.reason.Reason.{Reason}
 use Rattle.casebook_snapshot.specs.declared.snapshot.Snapshot.{Snapshot}
 use Rattle.casebook_snapshot.specs.declared.visit.Visit.{Visit}
@@ -30,8 +30,8 @@ AreOpen f skip (c ∷ cs) =
 pub record IsWalked (f : Contents) (skip : List PathValue) (s : Snapshot) (left : List Child)
     : Type 0 where
   pub root : is_dir (f []) ≡ true
-  pub sound : (q : PathValue) (h : Held) → row_at s q ≡ Some h → kept f skip q ≡ Some h
-  pub complete : (q : PathValue) (h : Held) → kept f skip q ≡ Some h
+  pub sound : (q : PathValue) (h : Row) → row_at s q ≡ Some h → kept f skip q ≡ Some h
+  pub complete : (q : PathValue) (h : Row) → kept f skip q ≡ Some h
       → (row_at s q ≡ Some h) ⊎ IsUnder left q
   pub right : (q : PathValue) (r : Reason) → IsIn s.skipped.items q r → IsSkipped f skip q r
   pub named : (q : PathValue) (r : Reason) → IsSkipped f skip q r
@@ -39,7 +39,7 @@ pub record IsWalked (f : Contents) (skip : List PathValue) (s : Snapshot) (left 
   pub reachable : AreOpen f skip left
 
 -- rows with one put at a path
-abbrev pub IsRowPut : Snapshot → Snapshot → PathValue → Held → Type 0
+abbrev pub IsRowPut : Snapshot → Snapshot → PathValue → Row → Type 0
 IsRowPut s t p h = (q : PathValue) → row_at t q ≡ cond (is_eq (path_cmp p q)) (Some h) (row_at s q)
 
 -- what a walk does with a child
