@@ -73,7 +73,7 @@ impl<'a> Disk<'a> {
         Ok(false)
     }
 
-    /// Makes the new node of a path under its temporary name, and looks at the path once more.
+    /// Makes the new node of a path under its temporary name, and looks at the path again.
     /// Returns where the path is, or `None` if it doesn't hold `before`.
     fn prepare(&self, path: &Path, before: &Found, after: &Found) -> io::Result<Option<Target>> {
         let (Place::In(dir), name) = place_of(self.rt, self.alloc, &self.root, path)? else {

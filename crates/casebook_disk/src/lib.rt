@@ -6,7 +6,7 @@
 //! also if somebody else exchanges directories meanwhile.
 //!
 //! A new node is made under a temporary name beside its path, gets its mode and owner, and is
-//! synced. Then the path is looked at once more, and the new node is renamed over it.
+//! synced. Then the path is looked at again, and the new node is renamed over it.
 //!
 //! What is left to chance: between the last look and the rename somebody who can write into the
 //! directory can still exchange the file of that one name. Whatever comes in that moment is lost.
