@@ -4,7 +4,6 @@ pub mod HarmlessLemmas
 pub mod KindLemmas
 pub mod Known
 pub mod NamedLemmas
-pub mod NumberLemmas
 pub mod RisingLemmas
 pub mod RowLemmas
 pub mod RunLemmas

@@ -6,7 +6,7 @@ use Rattle.std.specs.FinMap.{FinMap}
 use Rattle.std.specs.List.{filter}
 use Rattle.std.specs.Ordering.{nat_cmp}
 use Rattle.casebook_about.specs.Time.{last_second_in, second_in}
-use Rattle.casebook_text.specs.Numbers.{number_in}
+use Rattle.retro_text.specs.Numbers.{number_in}
 use Rattle.casebook_view.specs.Rows.{RowValue}
 use Rattle.casebook_cli.specs.declared.bound.Bound.{Bound}
 use Rattle.casebook_cli.specs.declared.bound.Bound.TheVariants.{Line, Second}

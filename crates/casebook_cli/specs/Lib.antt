@@ -9,7 +9,6 @@ pub mod Inputs
 pub mod Labels
 pub mod Lines
 pub mod Messages
-pub mod Numbers
 pub mod Pages
 pub mod Program
 pub mod Repairs

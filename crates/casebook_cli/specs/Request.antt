@@ -10,12 +10,12 @@ use Rattle.retro_path.specs.declared.resolving.Resolved.{Resolved}
 use Rattle.retro_path.specs.declared.resolving.Resolved.TheVariants.{Is, Empty, LongName}
 use Rattle.retro_json.specs.Replacements.{replacements_in}
 use Rattle.retro_keep.specs.declared.edit.Edit.{Edit}
-use Rattle.casebook_text.specs.Numbers.{number_in}
+use Rattle.retro_text.specs.Numbers.{number_in}
 use Rattle.casebook_view.specs.declared.line_test.LineTest.{LineTest}
 use Rattle.casebook_view.specs.declared.line_test.LineTest.TheVariants.{Sessions, From, To, Reads, Writes, Touches}
 use Rattle.casebook_view.specs.declared.path_test.PathTest.{PathTest}
 use Rattle.casebook_cli.specs.Bounds.{bound_in, has_times, last_bound_in, line_of}
-use Rattle.casebook_cli.specs.Numbers.{numbers_in}
+use Rattle.retro_edge.specs.Numbers.{numbers_in}
 use Rattle.casebook_cli.specs.Words.{Call, Named, bad, called, named_in, nothing}
 use Rattle.casebook_cli.specs.declared.bound.Bound.{Bound}
 use Rattle.casebook_cli.specs.declared.bounds.Bounds.{Bounds}

@@ -70,7 +70,6 @@ mod line_options;
 mod lines_answer;
 mod lines_request;
 mod messages;
-mod numbers;
 mod options;
 mod pages;
 mod path_options;

@@ -1,6 +1,6 @@
 //! The request of the command `lines`.
 ghost use Rattle.std.specs.Prelude.{◌≡◌, ◌++◌, IfOk, OnOk, map, option_map};
-ghost use Rattle.casebook_text.specs.Numbers.{number_in};
+ghost use Rattle.retro_text.specs.Numbers.{number_in};
 ghost use Rattle.casebook_cli.specs.Bounds.{bound_in, last_bound_in};
 ghost use Rattle.casebook_cli.specs.Request.{bounds_given, format_given};
 ghost use Rattle.casebook_cli.specs.Request.{format_named, lines_request, listed};
@@ -14,12 +14,12 @@ use crate::bound::Bound;
 use crate::bounds::{Bounds, line_of, second_of};
 use crate::format::Format;
 use crate::lines_request::LinesRequest;
-use crate::numbers::number_of;
 use crate::options::{check_input, is_given, log_of, number_option};
 use crate::path_options::path_tests;
 use crate::problem::Problem;
 use crate::words::{CommandCall, WordsFault};
 use casebook_view::LineTest;
+use retro_text::number_of;
 use std::alloc::Global;
 
 /// Returns the test of a session, if one is given.

@@ -1,14 +1,14 @@
 //! What the words of the command line give a command.
 ghost use Rattle.std.specs.Prelude.{◌≡◌, option_map};
-ghost use Rattle.casebook_text.specs.Numbers.{number_in};
+ghost use Rattle.retro_text.specs.Numbers.{number_in};
 ghost use Rattle.casebook_cli.specs.Request.{is_given, is_input_twice, log_given, once};
 ghost use Rattle.casebook_cli.specs.Request.{read_option};
 ghost use Rattle.casebook_cli.specs.Words.{call_view};
 ghost use Rattle.casebook_cli.specs.inner.Views.{Means};
 
-use crate::numbers::number_of;
 use crate::problem::Problem;
 use crate::words::{CommandCall, WordsFault};
+use retro_text::number_of;
 
 /// Returns the log that a command is given.
 pub(crate) fn log_of<'a>(call: &CommandCall<'a>) -> Result<&'a str, WordsFault>

@@ -1,6 +1,6 @@
 //! The requests of commands about repairs.
 ghost use Rattle.std.specs.Prelude.{◌≡◌, IfOk, option_map};
-ghost use Rattle.casebook_cli.specs.Numbers.{numbers_in};
+ghost use Rattle.retro_edge.specs.Numbers.{numbers_in};
 ghost use Rattle.casebook_cli.specs.Request.{cancel_given, page_request};
 ghost use Rattle.casebook_cli.specs.Request.{read_option, repair_request};
 ghost use Rattle.casebook_cli.specs.Request.{replacements_given, rounds_given};
@@ -11,13 +11,13 @@ ghost use Rattle.casebook_cli.specs.inner.Views.{Means, page_view, repair_view, 
 ghost use Rattle.casebook_cli.specs.inner.Views.{show_view};
 
 use crate::NoMem;
-use crate::numbers::numbers_in;
 use crate::options::{check_input, is_given, log_of, number_option};
 use crate::problem::Problem;
 use crate::repair_request::{PageRequest, RepairRequest, ShowRequest};
 use crate::rounds::Rounds;
 use crate::shown::{Extras, Shown};
 use crate::words::{CommandCall, WordsFault};
+use retro_edge::numbers_in;
 use retro_json::{LogFault, read_replacements};
 use retro_keep::Edit;
 use std::alloc::Global;

@@ -8,7 +8,6 @@ pub mod SafeLines
 pub mod ShownLines
 pub mod ShownRows
 pub mod HtmlLemmas
-pub mod NumberLemmas
 pub mod NumberLists
 pub mod ItemLemmas
 pub mod ListLemmas

@@ -4,7 +4,7 @@ use Rattle.std.specs.Prelude.{codes}
 use Rattle.std.specs.Prelude.{if◌then◌else◌, Option, Some, None, option_map, option_and_then}
 use Rattle.std.specs.Cmp.Lexicographic.{pointwise}
 use Rattle.casebook_text.specs.Splitting.{cut_at}
-use Rattle.casebook_text.specs.Numbers.{number_in}
+use Rattle.retro_text.specs.Numbers.{number_in}
 use Rattle.casebook_text.specs.declared.item.Item.{Item}
 use Rattle.casebook_text.specs.declared.item.Lines.{Lines}
 use Rattle.casebook_text.specs.declared.item.Lines.TheVariants.{One, Range, Session}

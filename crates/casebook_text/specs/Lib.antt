@@ -1,7 +1,6 @@
 pub mod SafeText
 pub mod SafeLine
 pub mod Html
-pub mod Numbers
 pub mod Splitting
 pub mod Item
 pub mod Lists

@@ -2,8 +2,8 @@
 ghost use Rattle.std.specs.Prelude.{◌≡◌, option_map};
 ghost use Rattle.casebook_text.specs.Item.{after_dash, item_in, is_in, lines_in, numbers_in};
 
-use crate::numbers::number_of;
 use crate::splitting::cut_at;
+use retro_text::number_of;
 
 /// The lines that an item names.
 #[derive(Clone, Copy, Debug, PartialEq, Eq)]

@@ -46,7 +46,6 @@ mod list;
 mod list_fault;
 mod list_file;
 mod number_list;
-mod numbers;
 mod safe_line;
 mod safe_text;
 mod shown_lines;

@@ -1,6 +1,5 @@
 pub mod Floats
 pub mod CallLemmas
-pub mod NumberLemmas
 pub mod RefusalLemmas
 pub mod RunLemmas
 pub mod FitLemmas

@@ -1,6 +1,5 @@
 pub mod Exit
 pub mod Input
-pub mod Numbers
 pub mod Program
 pub mod RepairReport
 pub mod Report

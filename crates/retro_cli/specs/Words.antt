@@ -1,6 +1,6 @@
 -- The program's command line, and what words ask for there, as `clap` reads them.
 use Rattle.std.specs.Prelude.{ℕ, List, [], ◌∷◌, ◌++◌, true, Option, Some, None, Result, codes, map, option_map}
-use Rattle.std.specs.Prelude.{option_and_then, nat_eq, if◌then◌else◌}
+use Rattle.std.specs.Prelude.{option_and_then, nat_eq, if◌then◌else◌, length, ◌==◌}
 use Rattle.std.specs.Cmp.Lexicographic.{pointwise}
 use Rattle.clap.specs.Words.{App, Kinds, Row, Rule, Shape, Text, fault_of, first_of, new_app, new_rule, subcommand_of}
 use Rattle.clap.specs.Words.{with_subcommand}
@@ -11,7 +11,8 @@ use Rattle.retro_keep.specs.declared.edit.Edit.TheVariants.{Cancel}
 use Rattle.retro_json.specs.declared.fault.LogFault.{LogFault}
 use Rattle.retro_json.specs.declared.fault.LogFault.TheVariants as documents
 use Rattle.retro_json.specs.Replacements.{replacements_in}
-use Rattle.retro_cli.specs.Numbers.{list_in, number_in}
+use Rattle.retro_text.specs.Numbers.{number_in}
+use Rattle.retro_edge.specs.Numbers.{numbers_in}
 use Rattle.retro_cli.specs.declared.repair_options.RepairOptions.{RepairOptions as OptionsValue}
 use Rattle.retro_cli.specs.declared.words.CommandCall.{CommandCall}
 use Rattle.retro_cli.specs.declared.words.Request.{Request as RequestValue}
@@ -119,6 +120,10 @@ pub data Request : Type 0 where
   repair : RepairOptions → Request
   relog : RepairOptions → Request
   trim : ℕ → Request
+
+-- an empty text, or numbers separated by single commas
+unfoldable pub list_in : List ℕ → Option (List ℕ)
+list_in text = if length text == 0 then Some [] else numbers_in text
 
 -- lines that are left out, and then lines whose text is replaced; or none if either is missing
 abbrev pub edits_with : Option (List ℕ) → Option (List Edit) → Option (List Edit)

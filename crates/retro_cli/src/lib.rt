@@ -46,7 +46,6 @@ mod answers;
 mod ending;
 mod exit;
 mod input;
-mod numbers;
 mod program;
 mod repair_options;
 mod repair_report;

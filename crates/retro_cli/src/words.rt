@@ -5,20 +5,21 @@ ghost use Rattle.clap.specs.Words.{app_of, rule_of};
 ghost use Rattle.clap.specs.declared.builder.command.Command.TheViews.{out-Command as fields_of};
 ghost use Rattle.retro_keep.specs.declared.edit.Edit.TheVariants as edits;
 ghost use Rattle.retro_json.specs.Replacements.{replacements_in};
-ghost use Rattle.retro_cli.specs.Numbers.{list_in, number_in};
+ghost use Rattle.retro_text.specs.Numbers.{number_in};
 ghost use Rattle.retro_cli.specs.Words.{option, edit_options, repair_options, command, bare};
 ghost use Rattle.retro_cli.specs.Words.{program, required_option};
 ghost use Rattle.retro_cli.specs.Words.{call_in, call_view, edits_of, options_of, options_view};
-ghost use Rattle.retro_cli.specs.Words.{request_of, request_view, request_in, words_fault, Means};
+ghost use Rattle.retro_cli.specs.Words.{list_in, request_of, request_view, request_in, words_fault, Means};
 ghost use Rattle.retro_cli.specs.declared.words.WordsFault.TheVariants as faults;
 
-use crate::numbers::{list_of, number_of};
 use crate::repair_options::RepairOptions;
 use crate::replacements::replacements_of;
 use clap::error::ErrorKind;
 use clap::{Arg, ArgAction, Command};
+use retro_edge::numbers_in;
 use retro_json::LogFault;
 use retro_keep::Edit;
+use retro_text::number_of;
 use retro_tree::NoMem;
 use std::alloc::{AllocFailed, Global};
 
@@ -198,6 +199,18 @@ fn read_call<'a>(alloc: Global, words: &'a [String]) -> Result<CommandCall<'a>, 
     }
 }
 
+/// Returns the numbers of a list: no numbers for an empty text, and otherwise numbers separated by
+/// single commas. Fails with `BadWords` for any other text.
+#[tactic(auto, unfolding(crate::specs::Words::list_in))]
+fn list_of(alloc: Global, text: &str) -> Result<Vec<u32>, WordsFault>
+    ensures { Means (λ v. v.items) result (list_in text.now) }
+{
+    if text.is_empty() {
+        return Ok(Vec::new(alloc));
+    }
+    numbers_in(alloc, text)?.ok_or(WordsFault::BadWords)
+}
+
 /// Returns the numbers of an option's list. Fails with `BadWords` if the command doesn't have the
 /// option, or if its text isn't a list of numbers.
 fn list_option(alloc: Global, text: Option<&str>) -> Result<Vec<u32>, WordsFault>
@@ -250,7 +263,10 @@ fn edits_of(alloc: Global, call: &CommandCall<'_>) -> Result<Vec<Edit>, WordsFau
 fn number_option(text: Option<&str>) -> Result<u32, WordsFault>
     ensures { Means (λ n. n) result (option_and_then number_in (option_map (λ s. s.now) text.entry)) }
 {
-    text.and_then(number_of).ok_or(WordsFault::BadWords)
+    match text {
+        Some(text) => number_of(text).ok_or(WordsFault::BadWords),
+        None => Err(WordsFault::BadWords),
+    }
 }
 
 /// Returns the options of a repair. Fails with `BadWords` if the command doesn't have them, or if

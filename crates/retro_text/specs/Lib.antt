@@ -3,6 +3,7 @@ pub mod Utility
 pub mod Usage
 pub mod Request
 pub mod Lines
+pub mod Numbers
 pub mod Spans
 pub mod Cut
 pub mod Search

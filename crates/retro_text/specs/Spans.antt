@@ -3,10 +3,9 @@
 use Rattle.std.specs.Prelude.{ℕ, ◌==◌, ◌+◌, ◌-◌, ◌&&◌, ◌||◌, Bool, true, nat_le, List, [], ◌∷◌, ◌++◌, length, take}
 use Rattle.std.specs.Prelude.{drop, position}
 use Rattle.std.specs.Prelude.{Option, Some, None, option_map, option_and_then, if◌then◌else◌}
-use Rattle.std.specs.List.{list_any, list_all, slice_split}
-use Rattle.std.specs.Char.{is_ascii_digit}
-use Rattle.std.specs.Str.Parse.{digits_value}
+use Rattle.std.specs.List.{list_any, slice_split}
 use Rattle.retro_text.specs.Ascii.{tab, space, comma, dash}
+use Rattle.retro_text.specs.Numbers.{number_in}
 use Rattle.retro_text.specs.declared.span.Span.{Span}
 
 abbrev pub span : ℕ → Option ℕ → Span
@@ -30,12 +29,14 @@ any_contains spans index = list_any (λ s. contains s index) spans
 abbrev pub max_digits : ℕ
 max_digits = 9
 
+-- the index of the position with this number, which is at least 1
+abbrev pub index_at : ℕ → Option ℕ
+index_at number = if nat_le 1 number then Some (number - 1) else None
+
 -- the index of a position: a number of one to nine digits, at least 1
 unfoldable pub index_in : List ℕ → Option ℕ
 index_in text =
-    if nat_le 1 (length text) && (nat_le (length text) max_digits
-    && (list_all is_ascii_digit text && nat_le 1 (digits_value 10 text)))
-    then Some (digits_value 10 text - 1) else None
+    if nat_le (length text) max_digits then option_and_then index_at (number_in text) else None
 
 abbrev pub ordered : ℕ → ℕ → Option Span
 ordered first last = if nat_le first last then Some (span first (Some last)) else None

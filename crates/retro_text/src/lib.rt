@@ -1,15 +1,16 @@
 //! What utilities compute from texts alone (XCU chapter 4).
 //!
 //! Options and operands, lines, the lists of `cut` and what it leaves of a text, the lines that
-//! `grep -F` selects and what it prints, the condition of `test`, the text of `echo`. Nothing here
-//! knows files or states. Each call is an equation between its arguments and its result.
+//! `grep -F` selects and what it prints, the condition of `test`, the text of `echo`. Decimal
+//! numbers are read here for the programs and their lists of lines too. Nothing here knows files or
+//! states. Each call is an equation between its arguments and its result.
 //!
 //! If allocation fails, calls return `NoMem` and leave their arguments unchanged.
 //!
 //! # What is proved
 //!
 //! - Each call is an equation: options and operands (`Request::of`), `Cut::of` and `Cut::text`,
-//!   `Search::of` and `Search::run`, `Condition::of`, `echo_text`, `Utility::of`.
+//!   `Search::of` and `Search::run`, `Condition::of`, `echo_text`, `Utility::of`, `number_of`.
 #![tactic(auto)]
 
 mod condition;
@@ -18,6 +19,7 @@ mod echo;
 mod given;
 mod known_letters;
 mod lines;
+mod number;
 mod request;
 mod search;
 mod span;
@@ -31,6 +33,7 @@ pub use cut::Cut;
 pub use echo::echo_text;
 pub use known_letters::KnownLetters;
 pub use lines::Lines;
+pub use number::number_of;
 pub use request::Request;
 pub use search::{Found, Search, label};
 pub use span::Span;

@@ -1,9 +1,9 @@
 //! Spans of positions.
 ghost use Rattle.std.specs.Prelude.{◌≡◌, ◌==◌, ◌||◌, ◌≤◌, ℕ, IfSome, position};
-ghost use Rattle.std.specs.List.{list_all};
-ghost use Rattle.std.specs.Char.{is_ascii_digit};
 ghost use Rattle.retro_text.specs.Ascii.{dash};
 ghost use Rattle.retro_text.specs.Spans.{contains, is_up_to, index_in, span_between, span_in};
+
+use crate::number::number_of;
 
 /// The greatest number of digits in a position.
 const MAX_DIGITS: usize = 9;
@@ -16,24 +16,16 @@ pub struct Span {
     pub last: Option<u32>,
 }
 
-/// Returns whether all bytes are decimal digits.
-fn are_digits(bytes: &[u8]) -> bool
-    ensures { result ≡ list_all is_ascii_digit bytes.now }
-{
-    bytes.iter().all(|byte| byte.is_ascii_digit())
-}
-
 /// Returns the index of the position that one to nine digits write, or `None` if the text isn't
 /// such digits or the position is 0.
-#[tactic(auto, using(crate::proofs::NumberLemmas::numbers))]
+#[tactic(auto, unfolding(crate::specs::Spans::index_in), using(crate::proofs::NumberLemmas::not_utf8))]
 fn index_of(text: &[u8]) -> Option<u32>
     ensures { result ≡ index_in text.now }
 {
-    if text.len() > MAX_DIGITS || !are_digits(text) {
+    if text.len() > MAX_DIGITS {
         return None;
     }
-    let position: u32 = str::from_utf8(text).ok()?.parse().ok()?;
-    position.checked_sub(1)
+    number_of(str::from_utf8(text).ok()?)?.checked_sub(1)
 }
 
 /// Returns the span of the texts before and after a dash, or `None` if they make none.

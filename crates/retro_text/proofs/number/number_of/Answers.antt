@@ -1,7 +1,7 @@
 use Rattle.std.proofs.Common.{◌≡◌, true, sym, ap, ◌∙◌}
 use Rattle.std.specs.Str.{all_ascii_digits}
-use Rattle.casebook_text.proofs.NumberLemmas.{parsed}
-use Rattle.casebook_text.proofs.numbers.number_of.Goals as goal
+use Rattle.retro_text.proofs.NumberLemmas.{parsed}
+use Rattle.retro_text.proofs.number.number_of.Goals as goal
 
 pub returns : goal.returns
 returns c =

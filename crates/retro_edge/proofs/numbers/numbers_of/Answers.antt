@@ -1,6 +1,6 @@
 use Rattle.std.proofs.Common.{sym}
-use Rattle.casebook_cli.proofs.NumberLemmas.{loop_goes_on, loop_ends, loop_done}
-use Rattle.casebook_cli.proofs.numbers.numbers_of.Goals as goal
+use Rattle.retro_edge.proofs.NumberLemmas.{loop_goes_on, loop_ends, loop_done}
+use Rattle.retro_edge.proofs.numbers.numbers_of.Goals as goal
 
 pub loop-text-preserved : goal.loop-text-preserved
 loop-text-preserved c =

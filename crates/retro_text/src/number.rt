@@ -1,7 +1,7 @@
-//! Numbers of lines and sessions.
+//! Decimal numbers.
 ghost use Rattle.std.specs.Prelude.{◌≡◌};
 ghost use Rattle.std.specs.Str.{all_ascii_digits};
-ghost use Rattle.casebook_text.specs.Numbers.{number_in};
+ghost use Rattle.retro_text.specs.Numbers.{number_in};
 
 /// The greatest number of digits of a number.
 const MOST_DIGITS: usize = 10;
@@ -21,7 +21,7 @@ fn are_digits(text: &[u8]) -> bool
 /// Returns the decimal number that a text is, or `None` if the text isn't one to ten digits or the
 /// number is over 4,294,967,295.
 #[tactic(auto, unfolding(crate::specs::Numbers::number_in))]
-pub(crate) fn number_of(text: &str) -> Option<u32>
+pub fn number_of(text: &str) -> Option<u32>
     ensures { result ≡ number_in text.now }
 {
     if text.len() > MOST_DIGITS || !are_digits(text.as_bytes()) {

@@ -1,7 +1,7 @@
 use Rattle.std.proofs.Common.{arith}
 use Rattle.std.proofs.lemmas.Iterator.Consumers.{map_from_collect}
 use Rattle.std.proofs.lemmas.Iterator.Splits.{YieldsList-from_str_split}
-use Rattle.retro_cli.proofs.numbers.split_list.Goals as goal
+use Rattle.retro_edge.proofs.numbers.split_at_commas.Goals as goal
 
 pub returns : goal.returns
 returns c =

@@ -1,4 +1,4 @@
--- Numbers of lines and sessions.
+-- Decimal numbers.
 use Rattle.std.specs.Prelude.{ℕ, ◌^◌, List, length, Option, Some, None, if◌then◌else◌, nat_lt}
 use Rattle.std.specs.Prelude.{nat_le, ◌&&◌}
 use Rattle.std.specs.Str.{all_ascii_digits}
