@@ -3,7 +3,7 @@ use Rattle.std.specs.Prelude.{ℕ, ◌-◌, ◌==◌, Bool, true, false, ◌&&�
 use Rattle.std.specs.Prelude.{if◌then◌else◌, is_none, is_some, length, nat_eq, ok_or, option_and_then, option_map}
 use Rattle.std.specs.List.{slice_get}
 use Rattle.std.specs.Cmp.Lexicographic.{pointwise}
-use Rattle.clap.specs.Words.{Text, first_of}
+use Rattle.clap.specs.Words.{Text}
 use Rattle.retro_path.specs.Ascii.{slash}
 use Rattle.retro_path.specs.Resolving.{resolve}
 use Rattle.retro_path.specs.declared.resolving.Resolved.{Resolved}
@@ -16,7 +16,8 @@ use Rattle.casebook_view.specs.declared.line_test.LineTest.TheVariants.{Sessions
 use Rattle.casebook_view.specs.declared.path_test.PathTest.{PathTest}
 use Rattle.casebook_cli.specs.Bounds.{bound_in, has_times, last_bound_in, line_of}
 use Rattle.retro_edge.specs.Numbers.{numbers_in}
-use Rattle.casebook_cli.specs.Words.{Call, Named, bad, called, named_in, nothing}
+use Rattle.retro_edge.specs.Calls.{Call, Named, called, given, named_in, nothing, refused}
+use Rattle.casebook_cli.specs.Words.{program}
 use Rattle.casebook_cli.specs.declared.bound.Bound.{Bound}
 use Rattle.casebook_cli.specs.declared.bounds.Bounds.{Bounds}
 use Rattle.casebook_cli.specs.declared.format.Format.{Format}
@@ -136,9 +137,6 @@ help_text topics.Refusals = REFUSALS.now
 help_text topics.Profile = PROFILE.now
 
 -- ---- what a command is given
-
-abbrev pub given : Text → Call → Option Text
-given name call = first_of name call.rows
 
 -- whether an option without a value is given
 abbrev pub is_set : Option Text → Bool
@@ -392,13 +390,13 @@ command_request call =
     else result_map ask (query_in call)
 
 abbrev pub request_of : Named → Result Request Problem
-request_of (bad problem) = Err problem
+request_of refused = Err problems.Words
 request_of nothing = Ok (help topics.Program)
 request_of (called call) = command_request call
 
 -- what the words ask for, or what is wrong with them
 unfoldable pub request_in : List Text → Result Request Problem
-request_in words = request_of (named_in words)
+request_in words = request_of (named_in program words)
 
 -- ---- values of the code
 

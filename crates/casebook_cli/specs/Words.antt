@@ -1,15 +1,7 @@
--- The program's command line, and the command that words name there, as `clap` reads them.
-use Rattle.std.specs.Prelude.{List, [], ◌∷◌, ◌++◌, true, Option, Some, None, Result, codes, option_map}
-use Rattle.clap.specs.Words.{App, Kinds, Row, Rule, Shape, Text, fault_of, new_app, new_rule, rows_of, subcommand_of}
-use Rattle.clap.specs.Words.{with_subcommand}
-use Rattle.clap.specs.Matches.{found_of}
+-- The program's command line, as `clap` reads it.
+use Rattle.std.specs.Prelude.{List, [], ◌∷◌, ◌++◌, true, Some, codes}
+use Rattle.clap.specs.Words.{App, Rule, Shape, Text, new_app, new_rule, with_subcommand}
 use Rattle.clap.specs.declared.builder.action.ArgAction.TheVariants.{Set, SetTrue}
-use Rattle.casebook_cli.specs.declared.problem.Problem.{Problem}
-use Rattle.casebook_cli.specs.declared.problem.Problem.TheVariants as problems
-use Rattle.retro_tree.specs.OutOfMemory.{UnlessOutOfMemory}
-use Rattle.casebook_cli.specs.declared.words.CommandCall.{CommandCall}
-use Rattle.casebook_cli.specs.declared.words.WordsFault.{WordsFault}
-use Rattle.casebook_cli.specs.declared.words.WordsFault.TheVariants as faults
 
 -- ---- the command line
 
@@ -98,49 +90,3 @@ without_repairs =
 
 abbrev pub program : App
 program = with_command (with_command without_repairs (codes "show") show_rules) (codes "page") page_rules
-
--- ---- the command in words, as `clap` reads them
-
--- a command's name, and what it is given
-pub record Call : Type 0 where
-  pub name : Text
-  pub rows : List Row
-
-abbrev pub call_of : Text × List Row → Call
-call_of p = record { name = p.0; rows = p.1 }
-
--- what words name: a command or none; or they are bad
-pub data Named : Type 0 where
-  called : Call → Named
-  nothing : Named
-  bad : Problem → Named
-
-abbrev pub named : Option Call → Named
-named None = nothing
-named (Some call) = called call
-
-abbrev pub unless_fault : Kinds → Option Call → Named
-unless_fault [] call = named call
-unless_fault (k ∷ ks) call = bad problems.Words
-
--- what words name, which are bad if `clap` refuses them
-unfoldable pub named_in : List Text → Named
-named_in words = unless_fault (fault_of program words) (option_map call_of (subcommand_of program words))
-
--- ---- values of the code
-
-abbrev pub call_view : CommandCall → Call
-call_view call = record { name = call.name.now; rows = rows_of (found_of call.given) }
-
-abbrev pub named_view : Option CommandCall → Named
-named_view None = nothing
-named_view (Some call) = called (call_view call)
-
--- what a fault says of the words: what is wrong with them, or None if memory ran out
-abbrev pub not_named : WordsFault → Option Named
-not_named faults.NoMem = None
-not_named (faults.Bad problem) = Some (bad problem)
-
--- the result is what the words name, unless memory ran out
-abbrev pub Names : Result (Option CommandCall) WordsFault → Named → Type 0
-Names result meant = UnlessOutOfMemory named_view not_named result meant

@@ -3,7 +3,7 @@ ghost use Rattle.std.specs.Prelude.{◌≡◌, map, option_map, string_bytes};
 ghost use Rattle.casebook_cli.specs.Request.{command_request, query_in};
 ghost use Rattle.casebook_cli.specs.Request.{request_in, topic_asked, topic_in};
 ghost use Rattle.casebook_cli.specs.Request.{topic_or_program};
-ghost use Rattle.casebook_cli.specs.Words.{call_view};
+ghost use Rattle.retro_edge.specs.Calls.{call_view};
 ghost use Rattle.casebook_cli.specs.inner.Views.{Means, query_view, request_view};
 
 use crate::line_options::lines_request;
@@ -13,7 +13,8 @@ use crate::query::Query;
 use crate::repair_options::{page_request, show_request};
 use crate::request::Request;
 use crate::topic::Topic;
-use crate::words::{CommandCall, WordsFault, read_call};
+use crate::words::{WordsFault, call_in};
+use retro_edge::{CallFault, CommandCall};
 use std::alloc::Global;
 
 /// Returns what a text says that help is about.
@@ -88,8 +89,10 @@ fn command_request<'a>(alloc: Global, call: &CommandCall<'a>) -> Result<Request<
 pub(crate) fn read_words<'a>(alloc: Global, words: &'a [String]) -> Result<Request<'a>, WordsFault>
     ensures { Means request_view result (request_in (map string_bytes words.entry.now)) }
 {
-    match read_call(alloc, words)? {
-        None => Ok(Request::Help(Topic::Program)),
-        Some(call) => command_request(alloc, &call),
+    match call_in(alloc, words) {
+        Ok(Some(call)) => command_request(alloc, &call),
+        Ok(None) => Ok(Request::Help(Topic::Program)),
+        Err(CallFault::Refused) => Err(WordsFault::Bad(Problem::Words)),
+        Err(CallFault::NoMem) => Err(WordsFault::NoMem),
     }
 }

@@ -5,7 +5,7 @@ ghost use Rattle.casebook_cli.specs.Bounds.{bound_in, last_bound_in};
 ghost use Rattle.casebook_cli.specs.Request.{bounds_given, format_given};
 ghost use Rattle.casebook_cli.specs.Request.{format_named, lines_request, listed};
 ghost use Rattle.casebook_cli.specs.Request.{of_numbers, of_session, read_option, test_view};
-ghost use Rattle.casebook_cli.specs.Words.{call_view};
+ghost use Rattle.retro_edge.specs.Calls.{call_view};
 ghost use Rattle.casebook_cli.specs.inner.Views.{Means, lines_view};
 ghost use Rattle.casebook_cli.specs.declared.problem.Problem.TheVariants as problems;
 
@@ -17,8 +17,9 @@ use crate::lines_request::LinesRequest;
 use crate::options::{check_input, is_given, log_of, number_option};
 use crate::path_options::path_tests;
 use crate::problem::Problem;
-use crate::words::{CommandCall, WordsFault};
+use crate::words::WordsFault;
 use casebook_view::LineTest;
+use retro_edge::CommandCall;
 use retro_text::number_of;
 use std::alloc::Global;
 

@@ -3,11 +3,12 @@ ghost use Rattle.std.specs.Prelude.{◌≡◌, option_map};
 ghost use Rattle.retro_text.specs.Numbers.{number_in};
 ghost use Rattle.casebook_cli.specs.Request.{is_given, is_input_twice, log_given, once};
 ghost use Rattle.casebook_cli.specs.Request.{read_option};
-ghost use Rattle.casebook_cli.specs.Words.{call_view};
+ghost use Rattle.retro_edge.specs.Calls.{call_view};
 ghost use Rattle.casebook_cli.specs.inner.Views.{Means};
 
 use crate::problem::Problem;
-use crate::words::{CommandCall, WordsFault};
+use crate::words::WordsFault;
+use retro_edge::CommandCall;
 use retro_text::number_of;
 
 /// Returns the log that a command is given.

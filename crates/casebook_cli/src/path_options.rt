@@ -3,14 +3,15 @@ ghost use Rattle.std.specs.Prelude.{◌≡◌, IfOk, map, option_map};
 ghost use Rattle.casebook_cli.specs.Request.{begins_at_root, ends_with_slash, of_paths};
 ghost use Rattle.casebook_cli.specs.Request.{path_in, path_tests, read_option, read_path};
 ghost use Rattle.casebook_cli.specs.Request.{test_view, touched_path, wrote_path};
-ghost use Rattle.casebook_cli.specs.Words.{call_view};
+ghost use Rattle.retro_edge.specs.Calls.{call_view};
 ghost use Rattle.casebook_cli.specs.inner.Views.{Means};
 
 use crate::NoMem;
 use crate::line_options::push_test;
 use crate::problem::Problem;
-use crate::words::{CommandCall, WordsFault};
+use crate::words::WordsFault;
 use casebook_view::{LineTest, PathTest};
+use retro_edge::CommandCall;
 use retro_tree::{Path, Resolved, resolve};
 use std::alloc::Global;
 

@@ -1,10 +1,11 @@
 //! The command that the words of the command line name, as `clap` reads them.
-ghost use Rattle.std.specs.Prelude.{◌≡◌, ◌∷◌, [], false, codes, map, option_map, IfOk};
+ghost use Rattle.std.specs.Prelude.{◌≡◌, ◌∷◌, [], false, codes, map, IfOk};
 ghost use Rattle.std.specs.Prelude.{string_bytes};
-ghost use Rattle.clap.specs.Words.{app_of, first_of, rule_of};
+ghost use Rattle.clap.specs.Words.{app_of, rule_of};
 ghost use Rattle.clap.specs.declared.builder.command.Command.TheViews.{out-Command as fields_of};
-ghost use Rattle.casebook_cli.specs.Words.{Names, bare, call_view, check_rules, command, edit_rules};
-ghost use Rattle.casebook_cli.specs.Words.{flag, help_flag, help_rules, lines_rules, named_in};
+ghost use Rattle.retro_edge.specs.Calls.{Names, named_in};
+ghost use Rattle.casebook_cli.specs.Words.{bare, check_rules, command, edit_rules};
+ghost use Rattle.casebook_cli.specs.Words.{flag, help_flag, help_rules, lines_rules};
 ghost use Rattle.casebook_cli.specs.Words.{number_rules, option, page_rules, path_rules};
 ghost use Rattle.casebook_cli.specs.Words.{pattern_rules, program};
 ghost use Rattle.casebook_cli.specs.Words.{repair_rules, show_rules, without_repairs, word};
@@ -12,8 +13,8 @@ ghost use Rattle.casebook_cli.specs.declared.words.WordsFault.TheVariants as fau
 
 use crate::NoMem;
 use crate::problem::Problem;
-use clap::error::ErrorKind;
-use clap::{Arg, ArgAction, ArgMatches, Command};
+use clap::{Arg, ArgAction, Command};
+use retro_edge::{CallFault, CommandCall, read_call};
 use std::alloc::{AllocFailed, Global};
 
 /// Why words make no request.
@@ -38,24 +39,6 @@ impl<T: Drop> From<AllocFailed<T>> for WordsFault {
 
     fn from(_error: AllocFailed<T>) -> WordsFault {
         WordsFault::NoMem
-    }
-}
-
-/// The command that words name, and what they give it.
-#[derive(Drop)]
-pub(crate) struct CommandCall<'a> {
-    /// The command's name.
-    pub(crate) name: &'a str,
-    /// The words and options that it is given.
-    pub(crate) given: ArgMatches<'a>,
-}
-
-impl<'a> CommandCall<'a> {
-    /// Returns the text of an option or of a word, if it is given.
-    pub(crate) fn text_of(&self, name: &str) -> Option<&'a str>
-        ensures { option_map (λ s. s.now) result ≡ first_of name.now (call_view self.now).rows }
-    {
-        self.given.get_str(name)
     }
 }
 
@@ -249,23 +232,12 @@ fn program_command<'a>(alloc: Global) -> Result<Command<'a>, NoMem>
         .subcommand(page_command(alloc)?)
 }
 
-/// Returns the command that words name, as `clap` reads them, or `None` if they name none. Fails
-/// with `Bad` if `clap` refuses them.
-pub(crate) fn read_call<'a>(
+/// Returns the command that words name, as `clap` reads them, or `None` if they name none.
+pub(crate) fn call_in<'a>(
     alloc: Global,
     words: &'a [String],
-) -> Result<Option<CommandCall<'a>>, WordsFault>
-    ensures { Names result (named_in (map string_bytes words.entry.now)) }
+) -> Result<Option<CommandCall<'a>>, CallFault>
+    ensures { Names result (named_in program (map string_bytes words.entry.now)) }
 {
-    let command = program_command(alloc)?;
-    match command.try_get_matches_from(words) {
-        Ok(mut matches) => match matches.remove_subcommand() {
-            Some((name, given)) => Ok(Some(CommandCall { name, given })),
-            None => Ok(None),
-        },
-        Err(error) => match error.kind() {
-            ErrorKind::OutOfMemory => Err(WordsFault::NoMem),
-            _ => Err(WordsFault::Bad(Problem::Words)),
-        },
-    }
+    read_call(program_command(alloc)?, words)
 }

@@ -2,8 +2,7 @@
 use Rattle.std.specs.Prelude.{ℕ, List, [], ◌∷◌, ◌++◌, true, Option, Some, None, Result, codes, map, option_map}
 use Rattle.std.specs.Prelude.{option_and_then, nat_eq, if◌then◌else◌, length, ◌==◌}
 use Rattle.std.specs.Cmp.Lexicographic.{pointwise}
-use Rattle.clap.specs.Words.{App, Kinds, Row, Rule, Shape, Text, fault_of, first_of, new_app, new_rule, subcommand_of}
-use Rattle.clap.specs.Words.{with_subcommand}
+use Rattle.clap.specs.Words.{App, Rule, Shape, Text, new_app, new_rule, with_subcommand}
 use Rattle.clap.specs.declared.builder.action.ArgAction.TheVariants.{Set}
 use Rattle.retro_tree.specs.OutOfMemory.{UnlessOutOfMemory}
 use Rattle.retro_keep.specs.declared.edit.Edit.{Edit}
@@ -12,9 +11,9 @@ use Rattle.retro_json.specs.declared.fault.LogFault.{LogFault}
 use Rattle.retro_json.specs.declared.fault.LogFault.TheVariants as documents
 use Rattle.retro_json.specs.Replacements.{replacements_in}
 use Rattle.retro_text.specs.Numbers.{number_in}
+use Rattle.retro_edge.specs.Calls.{Call, Named, called, given, named_in, nothing, refused}
 use Rattle.retro_edge.specs.Numbers.{numbers_in}
 use Rattle.retro_cli.specs.declared.repair_options.RepairOptions.{RepairOptions as OptionsValue}
-use Rattle.retro_cli.specs.declared.words.CommandCall.{CommandCall}
 use Rattle.retro_cli.specs.declared.words.Request.{Request as RequestValue}
 use Rattle.retro_cli.specs.declared.words.Request.TheVariants as requests
 use Rattle.retro_cli.specs.declared.words.WordsFault.{WordsFault}
@@ -72,35 +71,6 @@ repair_program =
 abbrev pub program : App
 program = with_command repair_program (codes "trim") (required_option (codes "at") ∷ [])
 
--- ---- the command in words, as `clap` reads them
-
--- a command's name, and the texts of the options that it has
-pub record Call : Type 0 where
-  pub name : Text
-  pub cancel : Option Text
-  pub replace : Option Text
-  pub workers : Option Text
-  pub cuts : Option Text
-  pub at : Option Text
-
-abbrev pub call_of : Text × List Row → Call
-call_of p = record {
-  name = p.0;
-  cancel = first_of (codes "cancel") p.1;
-  replace = first_of (codes "replace") p.1;
-  workers = first_of (codes "workers") p.1;
-  cuts = first_of (codes "cuts") p.1;
-  at = first_of (codes "at") p.1;
-}
-
-abbrev pub unless_fault : {A : Type 0} → Kinds → Option A → Option A
-unless_fault [] found = found
-unless_fault (k ∷ ks) found = None
-
--- the command in the words, or none if `clap` refuses them
-unfoldable pub call_in : List Text → Option Call
-call_in words = unless_fault (fault_of program words) (option_map call_of (subcommand_of program words))
-
 -- ---- what the words ask for
 
 -- how a log is to be repaired: with which lines edited, by so many threads beside the first one, and
@@ -132,7 +102,9 @@ edits_with _ _ = None
 
 -- the edits of lines, or none if the command has no such options or one is malformed
 abbrev pub edits_of : Call → Option (List Edit)
-edits_of g = edits_with (option_and_then list_in g.cancel) (option_and_then replacements_in g.replace)
+edits_of call =
+    edits_with (option_and_then list_in (given (codes "cancel") call))
+    (option_and_then replacements_in (given (codes "replace") call))
 
 -- the options with these values, or none if a value is missing
 abbrev pub options_with : Option (List Edit) → Option ℕ → Option (List ℕ) → Option RepairOptions
@@ -142,33 +114,31 @@ options_with _ _ _ = None
 
 -- the options of a repair, or none if the command doesn't have them or one is malformed
 abbrev pub options_of : Call → Option RepairOptions
-options_of g =
-    options_with (edits_of g) (option_and_then number_in g.workers) (option_and_then list_in g.cuts)
+options_of call =
+    options_with (edits_of call) (option_and_then number_in (given (codes "workers") call))
+    (option_and_then list_in (given (codes "cuts") call))
 
-abbrev pub request_of : Call → Option Request
-request_of g =
-    if pointwise nat_eq g.name (codes "replay") then option_map replay (edits_of g)
-    else if pointwise nat_eq g.name (codes "record") then Some record_script
-    else if pointwise nat_eq g.name (codes "check") then Some check_log
-    else if pointwise nat_eq g.name (codes "repair") then option_map repair (options_of g)
-    else if pointwise nat_eq g.name (codes "relog") then option_map relog (options_of g)
-    else if pointwise nat_eq g.name (codes "trim") then option_map trim (option_and_then number_in g.at) else None
+-- the request of a command, or none if the value of an option is malformed
+unfoldable pub command_request : Call → Option Request
+command_request call =
+    if pointwise nat_eq call.name (codes "replay") then option_map replay (edits_of call)
+    else if pointwise nat_eq call.name (codes "record") then Some record_script
+    else if pointwise nat_eq call.name (codes "check") then Some check_log
+    else if pointwise nat_eq call.name (codes "repair") then option_map repair (options_of call)
+    else if pointwise nat_eq call.name (codes "relog") then option_map relog (options_of call)
+    else if pointwise nat_eq call.name (codes "trim")
+    then option_map trim (option_and_then number_in (given (codes "at") call)) else None
+
+abbrev pub request_of : Named → Option Request
+request_of (called call) = command_request call
+request_of nothing = None
+request_of refused = None
 
 -- what the words ask for, or none if they are bad
 unfoldable pub request_in : List Text → Option Request
-request_in words = option_and_then request_of (call_in words)
+request_in words = request_of (named_in program words)
 
 -- ---- values of the code
-
-abbrev pub call_view : CommandCall → Call
-call_view g = record {
-  name = g.name.now;
-  cancel = option_map (λ s. s.now) g.cancel;
-  replace = option_map (λ s. s.now) g.replace;
-  workers = option_map (λ s. s.now) g.workers;
-  cuts = option_map (λ s. s.now) g.cuts;
-  at = option_map (λ s. s.now) g.at;
-}
 
 abbrev pub options_view : OptionsValue → RepairOptions
 options_view o = record { edits = o.edits.items; workers = o.workers; cuts = o.cuts.items }

@@ -8,15 +8,15 @@ ghost use Rattle.retro_json.specs.Replacements.{replacements_in};
 ghost use Rattle.retro_text.specs.Numbers.{number_in};
 ghost use Rattle.retro_cli.specs.Words.{option, edit_options, repair_options, command, bare};
 ghost use Rattle.retro_cli.specs.Words.{program, required_option};
-ghost use Rattle.retro_cli.specs.Words.{call_in, call_view, edits_of, options_of, options_view};
-ghost use Rattle.retro_cli.specs.Words.{list_in, request_of, request_view, request_in, words_fault, Means};
+ghost use Rattle.retro_edge.specs.Calls.{Names, call_view, named_in};
+ghost use Rattle.retro_cli.specs.Words.{command_request, edits_of, options_of, options_view};
+ghost use Rattle.retro_cli.specs.Words.{list_in, request_view, request_in, words_fault, Means};
 ghost use Rattle.retro_cli.specs.declared.words.WordsFault.TheVariants as faults;
 
 use crate::repair_options::RepairOptions;
 use crate::replacements::replacements_of;
-use clap::error::ErrorKind;
 use clap::{Arg, ArgAction, Command};
-use retro_edge::numbers_in;
+use retro_edge::{CallFault, CommandCall, numbers_in, read_call};
 use retro_json::LogFault;
 use retro_keep::Edit;
 use retro_text::number_of;
@@ -74,18 +74,6 @@ impl<T: Drop> From<AllocFailed<T>> for WordsFault {
     fn from(_error: AllocFailed<T>) -> WordsFault {
         WordsFault::NoMem
     }
-}
-
-/// The command that words name, and the texts of its options. An option that the command doesn't
-/// have is `None`.
-#[derive(Debug, Drop)]
-struct CommandCall<'a> {
-    name: &'a str,
-    cancel: Option<&'a str>,
-    replace: Option<&'a str>,
-    workers: Option<&'a str>,
-    cuts: Option<&'a str>,
-    at: Option<&'a str>,
 }
 
 /// Returns an option that takes one value, with its default.
@@ -174,29 +162,11 @@ fn program_command<'a>(alloc: Global) -> Result<Command<'a>, NoMem>
         .subcommand(trimming_command(alloc)?)
 }
 
-/// Returns the command that words name, as `clap` reads them. Fails with `BadWords` if `clap`
-/// refuses them.
-fn read_call<'a>(alloc: Global, words: &'a [String]) -> Result<CommandCall<'a>, WordsFault>
-    ensures { Means call_view result (call_in (map string_bytes words.entry.now)) }
+/// Returns the command that words name, as `clap` reads them.
+fn call_in<'a>(alloc: Global, words: &'a [String]) -> Result<Option<CommandCall<'a>>, CallFault>
+    ensures { Names result (named_in program (map string_bytes words.entry.now)) }
 {
-    let command = program_command(alloc)?;
-    match command.try_get_matches_from(words) {
-        Ok(matches) => match matches.subcommand() {
-            Some((name, inner)) => Ok(CommandCall {
-                name,
-                cancel: inner.get_str("cancel"),
-                replace: inner.get_str("replace"),
-                workers: inner.get_str("workers"),
-                cuts: inner.get_str("cuts"),
-                at: inner.get_str("at"),
-            }),
-            None => Err(WordsFault::BadWords),
-        },
-        Err(error) => match error.kind() {
-            ErrorKind::OutOfMemory => Err(WordsFault::NoMem),
-            _ => Err(WordsFault::BadWords),
-        },
-    }
+    read_call(program_command(alloc)?, words)
 }
 
 /// Returns the numbers of a list: no numbers for an empty text, and otherwise numbers separated by
@@ -251,8 +221,8 @@ fn cancellations(alloc: Global, cancel: &[u32]) -> Result<Vec<Edit>, NoMem>
 fn edits_of(alloc: Global, call: &CommandCall<'_>) -> Result<Vec<Edit>, WordsFault>
     ensures { Means (λ v. v.items) result (edits_of (call_view call.now)) }
 {
-    let cancel = list_option(alloc, call.cancel)?;
-    let mut replacements = replacements_option(alloc, call.replace)?;
+    let cancel = list_option(alloc, call.text_of("cancel"))?;
+    let mut replacements = replacements_option(alloc, call.text_of("replace"))?;
     let mut edits = cancellations(alloc, &cancel)?;
     edits.append(&mut replacements)?;
     Ok(edits)
@@ -276,9 +246,29 @@ fn options_of(alloc: Global, call: &CommandCall<'_>) -> Result<RepairOptions, Wo
 {
     Ok(RepairOptions {
         edits: edits_of(alloc, call)?,
-        workers: number_option(call.workers)? as usize,
-        cuts: list_option(alloc, call.cuts)?,
+        workers: number_option(call.text_of("workers"))? as usize,
+        cuts: list_option(alloc, call.text_of("cuts"))?,
     })
+}
+
+/// Returns the request of a command. Fails with `BadWords` if the value of an option is malformed.
+#[tactic(auto, unfolding(crate::specs::Words::command_request))]
+fn command_request(alloc: Global, call: &CommandCall<'_>) -> Result<Request, WordsFault>
+    ensures { Means request_view result (command_request (call_view call.now)) }
+{
+    match call.name {
+        "replay" => Ok(Request::Replay {
+            edits: edits_of(alloc, call)?,
+        }),
+        "record" => Ok(Request::Record),
+        "check" => Ok(Request::Check),
+        "repair" => Ok(Request::Repair(options_of(alloc, call)?)),
+        "relog" => Ok(Request::Relog(options_of(alloc, call)?)),
+        "trim" => Ok(Request::Trim {
+            at: number_option(call.text_of("at"))?,
+        }),
+        _ => Err(WordsFault::BadWords),
+    }
 }
 
 /// Returns the request that words make. The first word is the program's name.
@@ -289,18 +279,9 @@ fn options_of(alloc: Global, call: &CommandCall<'_>) -> Result<RepairOptions, Wo
 pub(crate) fn read_words(alloc: Global, words: &[String]) -> Result<Request, WordsFault>
     ensures { Means request_view result (request_in (map string_bytes words.now)) }
 {
-    let call = read_call(alloc, words)?;
-    match call.name {
-        "replay" => Ok(Request::Replay {
-            edits: edits_of(alloc, &call)?,
-        }),
-        "record" => Ok(Request::Record),
-        "check" => Ok(Request::Check),
-        "repair" => Ok(Request::Repair(options_of(alloc, &call)?)),
-        "relog" => Ok(Request::Relog(options_of(alloc, &call)?)),
-        "trim" => Ok(Request::Trim {
-            at: number_option(call.at)?,
-        }),
-        _ => Err(WordsFault::BadWords),
+    match call_in(alloc, words) {
+        Ok(Some(call)) => command_request(alloc, &call),
+        Ok(None) | Err(CallFault::Refused) => Err(WordsFault::BadWords),
+        Err(CallFault::NoMem) => Err(WordsFault::NoMem),
     }
 }

@@ -1,17 +1,21 @@
 //! What the command lines and the outputs of both programs share.
 //!
-//! If allocation fails, calls return `NoMem`.
+//! If allocation fails, calls return `NoMem` or [`CallFault::NoMem`].
 //!
 //! # What is proved
 //!
 //! - `Output::write_all` returns `Ok` only if the writer took the whole text, and an error only if
-//!   it took a part from the text's start, maybe nothing, but not all of it [`whole`, `part`]. After
-//!   an error the output has failed, and it fails in no other way [`failed`, `ok`].
+//!   it took a part from the text's start, maybe nothing, but not all of it [`whole`, `part`].
+//!   After an error the output has failed, and it fails in no other way [`failed`, `ok`].
+//! - `read_call` returns the command that words name and what they give it, by `clap`'s definition
+//!   of the program's command line, unless memory runs out (`specs/Calls.antt`).
 //! - `numbers_in` returns the numbers of a list: an equation with what `specs/Numbers.antt` says.
 #![tactic(auto)]
 
+mod call;
 mod numbers;
 mod output;
 
+pub use call::{CallFault, CommandCall, read_call};
 pub use numbers::numbers_in;
 pub use output::{Output, WriteFailed};

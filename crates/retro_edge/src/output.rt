@@ -53,8 +53,8 @@ impl<W: Write> Output<W> {
         }
     }
 
-    /// Writes a text. Fails if a call of `write` fails or takes no byte. A part of the text's start,
-    /// but not all of it, was then written.
+    /// Writes a text. Fails if a call of `write` fails or takes no byte. A part of the text's
+    /// start, but not all of it, was then written.
     pub fn write_all(&mut self, text: &[u8]) -> Result<(), WriteFailed>
         ensures whole { OnOk result
             (Appends (W.contents self.old.writer) (W.contents self.new.writer) text.now) }

@@ -1,7 +1,7 @@
 use Rattle.std.proofs.Common.{◌∙◌}
 use Rattle.clap.specs.Matches.{found_of}
 use Rattle.clap.proofs.WalkLemmas.{first_value-rows}
-use Rattle.casebook_cli.proofs.words.CommandCall.text_of.Goals as goal
+use Rattle.retro_edge.proofs.call.CommandCall.text_of.Goals as goal
 
 pub returns : goal.returns
 returns c = c.get_str.ensures ∙ first_value-rows (found_of c.args.self.now.given) c.args.name.now
