@@ -5,3 +5,10 @@ pub mod Plans
 pub mod Covering
 pub mod Advanced
 pub mod Holding
+pub mod Numbers
+pub mod Entries
+pub mod UsedLines
+pub mod CellLoops
+pub mod KeptUses
+pub mod Meetings
+pub mod Renewals

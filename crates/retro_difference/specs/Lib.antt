@@ -1,2 +1,4 @@
 pub mod Meeting
+pub mod NextUses
+pub mod Difference
 pub mod inner

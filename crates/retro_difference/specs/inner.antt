@@ -4,3 +4,6 @@ pub mod GrownRef
 pub mod Plan
 pub mod Undo
 pub mod Write
+pub mod DifferenceCode
+pub mod NextUsesCode
+pub mod MayDiffer

@@ -16,7 +16,7 @@ use std::alloc::Global;
 /// cells that the notes change are read. A file is copied only when it first differs. If a file
 /// only grows in both states, its two versions are compared only if their lengths don't tell
 /// whether they are equal.
-pub fn advance<C: Cells>(
+pub(crate) fn advance<C: Cells>(
     alloc: Global,
     overlay: &mut Overlay,
     cells: &C,
@@ -38,7 +38,7 @@ pub fn advance<C: Cells>(
 /// An entry grows in place. It is removed if the states agree in its cell after the line. Cells
 /// without an entry get none, since what notes do to a cell depends on its value alone. A recorded
 /// value is read only if bytes are appended to an entry that is a missing or an empty file.
-pub fn advance_both<C: Cells>(
+pub(crate) fn advance_both<C: Cells>(
     alloc: Global,
     overlay: &mut Overlay,
     cells: &C,

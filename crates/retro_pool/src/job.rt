@@ -46,7 +46,7 @@ impl Job {
     pub fn run<G: Gate>(
         self,
         alloc: Global,
-        ground: &Ground<'_, '_>,
+        ground: &Ground<'_, '_, '_>,
         gate: &G,
     ) -> Result<Guess, NoMem>
         requires { is_line ground.now.recording self ≡ true }
@@ -71,7 +71,7 @@ impl Job {
 /// has one. Calls the observer before and after the execution.
 fn run_ahead<G: Gate>(
     alloc: Global,
-    ground: &Ground<'_, '_>,
+    ground: &Ground<'_, '_, '_>,
     number: u32,
     gate: &G,
 ) -> Result<Run, NoMem>

@@ -13,7 +13,11 @@ use std::alloc::Global;
 /// Returns a job for each of the numbers whose line is stale in the combined state before it, in
 /// order: a line whose text is replaced, and a line that nothing edits and whose notes don't hold
 /// there. A number that no line has gets no job.
-pub fn make_jobs(alloc: Global, ground: &Ground<'_, '_>, numbers: &[u32]) -> Result<Vec<Job>, NoMem>
+pub fn make_jobs(
+    alloc: Global,
+    ground: &Ground<'_, '_, '_>,
+    numbers: &[u32],
+) -> Result<Vec<Job>, NoMem>
     ensures { IfOk result (λ jobs.
         PicksBy (λ n. n) (IsWanted ground.now) numbers.now jobs.items) }
 {
@@ -37,7 +41,7 @@ pub fn make_jobs(alloc: Global, ground: &Ground<'_, '_>, numbers: &[u32]) -> Res
 }
 
 /// Returns whether the line with the given number is stale in the combined state before it.
-fn is_wanted(alloc: Global, ground: &Ground<'_, '_>, number: u32) -> Result<bool, NoMem>
+fn is_wanted(alloc: Global, ground: &Ground<'_, '_, '_>, number: u32) -> Result<bool, NoMem>
     ensures { IfOk result (λ b.
         MatchBool b (IsWanted ground.now number) (¬ (IsWanted ground.now number))) }
 {

@@ -23,7 +23,7 @@ const MAX_BUSY: u32 = 1000;
 pub fn work<S: Seat, G: Gate>(
     alloc: Global,
     seat: &mut S,
-    ground: &Ground<'_, '_>,
+    ground: &Ground<'_, '_, '_>,
     gate: &G,
     into: &mut Vec<Guess>,
 ) -> usize
@@ -65,7 +65,12 @@ fn take_job<S: Seat>(seat: &mut S) -> Option<Job>
 
 /// Runs a job. Returns `None` if memory ran out, or if the ground's recording doesn't have the
 /// line; the job is given back then.
-fn guess_of<G: Gate>(alloc: Global, job: Job, ground: &Ground<'_, '_>, gate: &G) -> Option<Guess>
+fn guess_of<G: Gate>(
+    alloc: Global,
+    job: Job,
+    ground: &Ground<'_, '_, '_>,
+    gate: &G,
+) -> Option<Guess>
     ensures { IfSome result (λ guess. IsGuessOf ground.now job guess) }
 {
     if ground.recording().run_of(job.number()).is_none() {

@@ -29,7 +29,7 @@ pub fn recording_of(alloc: Global, lines: &str) -> Result<Recording, Fail> {
 }
 
 /// Settles the first line of a repair.
-pub fn settle_first(alloc: Global, repairer: &mut Repairer<'_, '_>) -> Result<(), Fail> {
+pub fn settle_first(alloc: Global, repairer: &mut Repairer<'_, '_, '_>) -> Result<(), Fail> {
     match repairer.next_line() {
         Some(line) => {
             repairer.settle(alloc, line, None, &Quiet)?;
@@ -40,38 +40,19 @@ pub fn settle_first(alloc: Global, repairer: &mut Repairer<'_, '_>) -> Result<()
 }
 
 /// Returns the jobs among the lines with the numbers 1 to 6, by a ground.
-pub fn jobs_on(alloc: Global, ground: &Ground<'_, '_>) -> Result<Vec<Job>, Fail> {
+pub fn jobs_on(alloc: Global, ground: &Ground<'_, '_, '_>) -> Result<Vec<Job>, Fail> {
     let numbers: [u32; 6] = [1, 2, 3, 4, 5, 6];
     let jobs = make_jobs(alloc, ground, &numbers)?;
     Ok(jobs)
 }
 
-/// A recording, and edits of its lines.
-#[derive(Drop)]
-pub struct Edited {
-    pub recording: Recording,
-    pub edits: Vec<Edit>,
-}
-
-/// Returns the recording of the script that `script_of` writes for these lines, with its first line
-/// cancelled.
-pub fn cancelled_first(alloc: Global, lines: &str) -> Result<Edited, Fail> {
-    let recording = recording_of(alloc, lines)?;
-    let mut edits = Vec::new(alloc);
-    edits.push(Edit::Cancel(1))?;
-    Ok(Edited { recording, edits })
-}
-
 /// Returns the jobs among the lines of a recording, and among a number that no line has, once its
 /// first line is settled as cancelled.
 pub fn jobs_of(alloc: Global, lines: &str) -> Result<Vec<Job>, Fail> {
-    jobs_edited(alloc, &cancelled_first(alloc, lines)?)
-}
-
-/// Returns the jobs among the lines with the numbers 1 to 6 once the first line is settled.
-fn jobs_edited(alloc: Global, edited: &Edited) -> Result<Vec<Job>, Fail> {
-    let history = History::of(alloc, &edited.recording)?;
-    let mut repairer = Repairer::new(alloc, &edited.recording, &history, edited.edits.as_slice())?;
+    let recording = recording_of(alloc, lines)?;
+    let history = History::of(alloc, &recording)?;
+    let edits: [Edit; 1] = [Edit::Cancel(1)];
+    let mut repairer = Repairer::new(alloc, &recording, &history, &edits)?;
     settle_first(alloc, &mut repairer)?;
     jobs_on(alloc, &repairer.ground())
 }

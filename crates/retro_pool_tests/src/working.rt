@@ -2,7 +2,7 @@
 ghost use Rattle.std.specs.Prelude.{List, ℕ, []};
 
 use crate::boards::deal_all;
-use crate::grounds::{Edited, LINES, cancelled_first, jobs_of, jobs_on, settle_first};
+use crate::grounds::{LINES, jobs_of, jobs_on, recording_of, settle_first};
 use retro_history::History;
 use retro_keep::Edit;
 use retro_pool::{Board, Guess, Seat, Taken, Thief, work};
@@ -63,7 +63,7 @@ fn guesses_text(alloc: Global, guesses: &[Guess]) -> Result<String, Fail> {
 fn worked<G: Gate>(
     alloc: Global,
     thief: &mut Thief,
-    ground: &Ground<'_, '_>,
+    ground: &Ground<'_, '_, '_>,
     gate: &G,
     room: usize,
 ) -> Result<String, Fail> {
@@ -87,7 +87,7 @@ const GUESSES: &str = concat!(
 /// guesses as a text.
 fn worked_thrice<G: Gate>(
     alloc: Global,
-    ground: &Ground<'_, '_>,
+    ground: &Ground<'_, '_, '_>,
     gate: &G,
 ) -> Result<String, Fail> {
     let (mut owner, mut thieves) = Board::new(alloc, 1, 4)?;
@@ -107,14 +107,10 @@ fn worked_thrice<G: Gate>(
 /// Works on the jobs of `LINES` over the ground of a recording of other lines, whose first line is
 /// settled as cancelled. Returns the guesses as a text.
 fn worked_over<G: Gate>(alloc: Global, lines: &str, gate: &G) -> Result<String, Fail> {
-    worked_after_first(alloc, &cancelled_first(alloc, lines)?, gate)
-}
-
-/// Works on the jobs of `LINES` over the ground of an edited recording whose first line is settled.
-/// Returns the guesses as a text.
-fn worked_after_first<G: Gate>(alloc: Global, edited: &Edited, gate: &G) -> Result<String, Fail> {
-    let history = History::of(alloc, &edited.recording)?;
-    let mut repairer = Repairer::new(alloc, &edited.recording, &history, edited.edits.as_slice())?;
+    let recording = recording_of(alloc, lines)?;
+    let history = History::of(alloc, &recording)?;
+    let edits: [Edit; 1] = [Edit::Cancel(1)];
+    let mut repairer = Repairer::new(alloc, &recording, &history, &edits)?;
     settle_first(alloc, &mut repairer)?;
     let ground = repairer.ground();
     worked_thrice(alloc, &ground, gate)
@@ -158,22 +154,15 @@ const EDITED_GUESSES: &str = concat!(
 
 /// Works on the jobs of `EDITED` over its own ground. Returns the guesses as a text.
 fn worked_edited(alloc: Global) -> Result<String, Fail> {
-    let mut edited = cancelled_first(alloc, EDITED)?;
-    edited
-        .edits
-        .push(Edit::Replace(3, Text::of(text(alloc, "echo z")?)))?;
-    edited.edits.push(Edit::Cancel(4))?;
-    edited
-        .edits
-        .push(Edit::Replace(5, Text::of(text(alloc, "echo y")?)))?;
-    worked_with_edits(alloc, &edited)
-}
-
-/// Works on the jobs of an edited recording over its own ground, once its first line is settled.
-/// Returns the guesses as a text.
-fn worked_with_edits(alloc: Global, edited: &Edited) -> Result<String, Fail> {
-    let history = History::of(alloc, &edited.recording)?;
-    let mut repairer = Repairer::new(alloc, &edited.recording, &history, edited.edits.as_slice())?;
+    let recording = recording_of(alloc, EDITED)?;
+    let history = History::of(alloc, &recording)?;
+    let edits: [Edit; 4] = [
+        Edit::Cancel(1),
+        Edit::Replace(3, Text::of(text(alloc, "echo z")?)),
+        Edit::Cancel(4),
+        Edit::Replace(5, Text::of(text(alloc, "echo y")?)),
+    ];
+    let mut repairer = Repairer::new(alloc, &recording, &history, &edits)?;
     settle_first(alloc, &mut repairer)?;
     let ground = repairer.ground();
     let (mut owner, mut thieves) = Board::new(alloc, 1, 6)?;
@@ -195,13 +184,10 @@ fn jobs_run_the_new_texts_of_replaced_lines(rt: HostRuntime) -> Result<(), Fail>
 
 /// Works on a seat that is always busy. Returns how many jobs gave no guess, and how many did.
 fn worked_in_vain(alloc: Global) -> Result<(usize, usize), Fail> {
-    worked_for_nothing(alloc, &cancelled_first(alloc, LINES)?)
-}
-
-/// Works on a seat that is always busy, over the ground of an edited recording.
-fn worked_for_nothing(alloc: Global, edited: &Edited) -> Result<(usize, usize), Fail> {
-    let history = History::of(alloc, &edited.recording)?;
-    let repairer = Repairer::new(alloc, &edited.recording, &history, edited.edits.as_slice())?;
+    let recording = recording_of(alloc, LINES)?;
+    let history = History::of(alloc, &recording)?;
+    let edits: [Edit; 1] = [Edit::Cancel(1)];
+    let repairer = Repairer::new(alloc, &recording, &history, &edits)?;
     let ground = repairer.ground();
     let mut guesses = Vec::with_capacity(alloc, 4)?;
     let mut busy = Busy;

@@ -4,7 +4,7 @@ use Rattle.std.proofs.Common.{List, Some, arith, refl, subst, sym}
 use Rattle.std.proofs.lemmas.Bool.{eq-eqb, eqb-true, ltb-false, ltb-true, true≢false}
 use Rattle.retro_keep.specs.Edit.{IsNextFrom, is_among}
 use Rattle.retro_redo.specs.inner.Meetings.{AddsEdited}
-use Rattle.retro_redo.proofs.Meetings.{key_added, only_added, others_kept}
+use Rattle.retro_difference.proofs.Meetings.{key_added, only_added, others_kept}
 
 -- the edited numbers below another one were added
 pub record Marking (is_edited : ℕ → Bool) (from last low : ℕ) (old new : List ℕ) : Type 0 where

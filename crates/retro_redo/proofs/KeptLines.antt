@@ -20,7 +20,7 @@ use Rattle.retro_redo.proofs.Before.{next_below, one_less}
 use Rattle.retro_redo.proofs.EditCases.{unmet_not_met}
 use Rattle.retro_redo.proofs.Keeping.{keeps_more, more}
 use Rattle.retro_redo.proofs.Positions.{Line, recorded_more, repaired_more}
-use Rattle.retro_redo.proofs.UsedLines.{line_at, rest_at}
+use Rattle.retro_difference.proofs.UsedLines.{line_at, rest_at}
 
 pub length_more : (steps : List Step) (step : Step) → length (steps ++ step ∷ []) ≡ suc (length steps)
 length_more [] step = refl

@@ -9,13 +9,8 @@ pub mod Finishing
 pub mod Taking
 pub mod RunAgain
 pub mod NextLines
-pub mod Numbers
 pub mod Before
 pub mod InTurn
-pub mod Entries
-pub mod CellLoops
-pub mod UsedLines
-pub mod KeptUses
 pub mod Skipped
 pub mod KeptLines
 pub mod StepUses
@@ -23,7 +18,6 @@ pub mod Unmet
 pub mod AlteredPaths
 pub mod Altered
 pub mod ChosenLines
-pub mod Meetings
 pub mod StopNumbers
 pub mod EditedNumbers
 pub mod SoFar

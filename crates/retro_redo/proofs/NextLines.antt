@@ -41,6 +41,9 @@ abbrev pub pair_of : NextLine → Line
 pair_of n = (n.number, n.noted.now)
 
 module _ (p : ProgressValue) (n : NextLine) (is : IsNextLine p n) where
+  pub next_number_is : next_number p ≡ Some n.number
+  next_number_is = ap (option_map (λ (l : Line). l.0)) is.next
+
   pub same_line : (l : Line) → next_line p ≡ Some l → pair_of n ≡ l
   same_line l next =
       let both : ◌≡◌ {A = Option Line} (Some (pair_of n)) (Some l) = sym is.next ∙ next in

@@ -19,15 +19,15 @@ use Rattle.retro_history.proofs.Lines.{RiseFrom, later}
 use Rattle.retro_keep.specs.Edit.{IsNextFrom, sooner}
 use Rattle.retro_keep.specs.Recording.{RecordingValue, noted_at}
 use Rattle.retro_redo.specs.Editing.{AreLines, EditMap}
-use Rattle.retro_redo.specs.inner.Keeping.{KeepsUses}
-use Rattle.retro_redo.specs.inner.NextUses.{AreSorted, IsFirstIn, Use, first_number, has_use}
+use Rattle.retro_difference.specs.NextUses.{KeepsUses}
+use Rattle.retro_difference.specs.NextUses.{AreSorted, IsFirstIn, Use, first_number, has_use}
 use Rattle.retro_redo.specs.Skipping.{AreUnmet, IsStop}
 use Rattle.retro_redo.proofs.EditCases.{none_there}
-use Rattle.retro_redo.proofs.Entries.{has_none, head_has, least}
-use Rattle.retro_redo.proofs.KeptUses.{agree_at, keeps_past, met_at}
+use Rattle.retro_difference.proofs.Entries.{has_none, head_has, least}
+use Rattle.retro_difference.proofs.KeptUses.{agree_at, keeps_past, met_at}
 use Rattle.retro_redo.proofs.Positions.{Line, not_none}
-use Rattle.retro_redo.proofs.UsedLines.{all_from, from_line, line_from, number_above, past_line, rise_after, rise_from}
-use Rattle.retro_redo.proofs.UsedLines.{use_above, use_past}
+use Rattle.retro_difference.proofs.UsedLines.{all_from, from_line, line_from, number_above, past_line, rise_after, rise_from}
+use Rattle.retro_difference.proofs.UsedLines.{use_above, use_past}
 
 -- ---- the number of the next stop
 

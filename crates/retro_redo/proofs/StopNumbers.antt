@@ -19,20 +19,21 @@ use Rattle.retro_keep.specs.Edit.{is_among}
 use Rattle.retro_history.specs.Index.{meets, numbers_of}
 use Rattle.retro_history.proofs.Lines.{RiseFrom, above, later, numbers_of_more}
 use Rattle.retro_keep.specs.Recording.{IsWellFormed, noted_at, number_in}
-use Rattle.retro_redo.specs.inner.Keeping.{KeepsUses}
+use Rattle.retro_difference.specs.NextUses.{KeepsUses}
 use Rattle.retro_redo.specs.Editing.{AreLines, EditMap}
 use Rattle.retro_redo.specs.Meetings.{StopsNow, lines_until}
 use Rattle.retro_redo.specs.Picks.{PicksBy}
-use Rattle.retro_redo.specs.inner.Meetings.{AddsEdited, AreNumbersUntil}
+use Rattle.retro_difference.specs.NextUses.{AreNumbersUntil}
+use Rattle.retro_redo.specs.inner.Meetings.{AddsEdited}
 use Rattle.retro_redo.specs.Progress.{ProgressValue, next_line, recorded_now, repaired_now}
-use Rattle.retro_redo.specs.inner.NextUses.{Use, has_use, is_use}
-use Rattle.retro_redo.proofs.Entries.{or_rest}
-use Rattle.retro_redo.proofs.KeptUses.{agree, differ}
+use Rattle.retro_difference.specs.NextUses.{Use, has_use, is_use}
+use Rattle.retro_difference.proofs.Entries.{or_rest}
+use Rattle.retro_difference.proofs.KeptUses.{agree, differ}
 use Rattle.retro_redo.proofs.Positions.{Line}
-use Rattle.retro_redo.proofs.UsedLines.{above_at, all_from, from_line}
-use Rattle.retro_redo.proofs.UsedLines.{line_from, number_above, rise_after, rise_from}
-use Rattle.retro_redo.proofs.Meetings.{same_numbers, picked_sorted, meets_key, key_meets, IsLineAt, picked_at}
-use Rattle.retro_redo.proofs.Meetings.{at_picked, use_from, use_back, use_within, within_use, first_soon}
+use Rattle.retro_difference.proofs.UsedLines.{above_at, all_from, from_line}
+use Rattle.retro_difference.proofs.UsedLines.{line_from, number_above, rise_after, rise_from}
+use Rattle.retro_difference.proofs.Meetings.{same_numbers, picked_sorted, meets_key, key_meets, IsLineAt, picked_at}
+use Rattle.retro_difference.proofs.Meetings.{at_picked, use_from, use_back, use_within, within_use, first_soon}
 
 -- ---- lines that are edited
 

@@ -4,6 +4,4 @@ pub mod AlteredCode
 pub mod GroundCode
 pub mod Keeping
 pub mod Meetings
-pub mod NextUses
-pub mod NextUsesCode
 pub mod ProgressCode

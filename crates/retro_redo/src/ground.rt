@@ -18,14 +18,14 @@ pub type Shown<'g, 'a> = Combined<'g, At<'g, 'a>>;
 /// It borrows the recording, its history, the edits, and the exact overlay: the cells in which the
 /// repaired state differs from the recorded one before the next line to settle.
 #[derive(Drop)]
-pub struct Ground<'g, 'a> {
+pub struct Ground<'g, 'a, 'e> {
     recording: &'a Recording,
-    edits: &'g Edits<'a>,
+    edits: &'g Edits<'e>,
     history: &'g History<'a>,
     overlay: &'g Overlay,
 }
 
-impl<'g, 'a> Model for Ground<'g, 'a> {
+impl<'g, 'a, 'e> Model for Ground<'g, 'a, 'e> {
     ghost use Rattle.std.specs.Prelude.{◌≡◌};
     ghost use Rattle.retro_tree.specs.Overlay.{Fits};
     ghost use Rattle.retro_redo.specs.Ground.{GroundValue};
@@ -44,14 +44,14 @@ impl<'g, 'a> Model for Ground<'g, 'a> {
     ghost invariant = { λ a. (a.history.now ≡ a.recording.now) × Fits a.overlay.now };
 }
 
-impl<'g, 'a> Ground<'g, 'a> {
+impl<'g, 'a, 'e> Ground<'g, 'a, 'e> {
     /// Returns the ground with the given recording, edits, history and overlay.
     pub(crate) fn new(
         recording: &'a Recording,
-        edits: &'g Edits<'a>,
+        edits: &'g Edits<'e>,
         history: &'g History<'a>,
         overlay: &'g Overlay,
-    ) -> Ground<'g, 'a>
+    ) -> Ground<'g, 'a, 'e>
         requires history { history.now ≡ recording.now }
         requires fits { Fits overlay.now }
         ensures recording { result.recording ≡ recording.now }
@@ -88,7 +88,7 @@ impl<'g, 'a> Ground<'g, 'a> {
     }
 
     /// Returns the edits.
-    pub fn edits(&self) -> &'g Edits<'a>
+    pub fn edits(&self) -> &'g Edits<'e>
         ensures { result.now ≡ self.now.edits }
     {
         self.edits

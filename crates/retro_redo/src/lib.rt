@@ -84,7 +84,6 @@ mod gate;
 mod ground;
 mod laws;
 mod line;
-mod next_uses;
 mod outcome;
 mod repair;
 mod repair_fault;

@@ -8,19 +8,19 @@ use retro_tree::Text;
 
 /// A line whose turn it is in a repair.
 #[derive(Clone, Copy)]
-pub struct Line<'a> {
+pub struct Line<'a, 'e> {
     /// The line's number.
     pub number: u32,
     /// The line as it was recorded.
     pub noted: &'a Noted,
     /// How the line is edited, or `None` if it isn't.
-    pub edit: Option<&'a Edit>,
+    pub edit: Option<&'e Edit>,
     /// Whether the line is met: whether its text is replaced, or it isn't edited and reads or
     /// writes a cell in which the recorded and the repaired state differ.
     pub is_met: bool,
 }
 
-impl<'a> Line<'a> {
+impl Line<'_, '_> {
     /// Returns whether the line is cancelled, so that it runs no text.
     pub(crate) fn is_cancelled(&self) -> bool
         ensures { MatchBool result
@@ -35,7 +35,7 @@ impl<'a> Line<'a> {
 
     /// Returns the text of a new run of the line: its new text if its text is replaced, and its own
     /// text if not.
-    pub(crate) fn text(&self) -> &'a Text
+    pub(crate) fn text(&self) -> &Text
         ensures { result.now
             ≡ unwrap_or (text_run (option_copied self.now.edit) self.now.noted.now.text)
             self.now.noted.now.text }

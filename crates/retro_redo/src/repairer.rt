@@ -26,7 +26,6 @@ mod settling;
 
 use crate::ground::Ground;
 use crate::line::Line;
-use crate::next_uses::NextUses;
 use crate::repair::Repair;
 use crate::repair_fault::RepairFault;
 use crate::skipping::{push_kept, unmet_lines};
@@ -34,6 +33,7 @@ use crate::step::Step;
 use crate::steps::Steps;
 use crate::stops::{add_edited, is_met_by};
 use crate::tally::Tally;
+use retro_difference::Difference;
 use retro_history::{At, History};
 use retro_keep::{Edit, Edits, Noted, Recording};
 use retro_tree::{NoMem, Overlay};
@@ -50,20 +50,20 @@ use std::marker::Model;
 /// [`Repairer::next_line`] returns the next line to settle, and [`Repairer::settle`] takes it. Some
 /// calls take the number of the next line, as [`Repairer::next`] returns it.
 #[derive(Drop)]
-pub struct Repairer<'h, 'a> {
+pub struct Repairer<'h, 'a, 'e> {
     recording: &'a Recording,
     history: &'h History<'a>,
-    edits: Edits<'a>,
+    edits: Edits<'e>,
     choices: Vec<Step>,
-    overlay: Overlay,
-    uses: NextUses,
+    difference: Difference,
     met: Vec<u32>,
 }
 
-impl<'h, 'a> Model for Repairer<'h, 'a> {
+impl<'h, 'a, 'e> Model for Repairer<'h, 'a, 'e> {
     ghost use Rattle.std.specs.Prelude.{◌≡◌, drop, length};
     ghost use Rattle.retro_redo.specs.Progress.{ProgressValue};
-    ghost use Rattle.retro_redo.specs.inner.Keeping.{Keeps, KeepsUses};
+    ghost use Rattle.retro_difference.specs.Difference.{IsAmong};
+    ghost use Rattle.retro_redo.specs.inner.Keeping.{Keeps};
     ghost use Rattle.retro_redo.specs.inner.ProgressCode.{coded_progress};
 
     ghost Value = { ProgressValue };
@@ -80,12 +80,12 @@ impl<'h, 'a> Model for Repairer<'h, 'a> {
       recording = a.recording.now;
       edits = a.edits;
       choices = a.choices.items;
-    }) a.overlay a.met.items
-        × KeepsUses a.overlay (drop (length a.choices.items) a.recording.now.lines) a.uses
+    }) a.difference.overlay a.met.items
+        × IsAmong (drop (length a.choices.items) a.recording.now.lines) a.difference
         × (a.history.now ≡ a.recording.now) };
 }
 
-impl<'h, 'a> Repairer<'h, 'a> {
+impl<'h, 'a, 'e> Repairer<'h, 'a, 'e> {
     /// Starts the repair of an edited recording.
     ///
     /// # Errors
@@ -98,8 +98,8 @@ impl<'h, 'a> Repairer<'h, 'a> {
         alloc: Global,
         recording: &'a Recording,
         history: &'h History<'a>,
-        edits: &'a [Edit],
-    ) -> Result<Repairer<'h, 'a>, RepairFault>
+        edits: &'e [Edit],
+    ) -> Result<Repairer<'h, 'a, 'e>, RepairFault>
         requires { history.now ≡ recording.now }
         ensures recording { IfOk result (λ r. r.recording ≡ recording.now) }
         ensures edits { IfOk result (λ r. (n : ℕ) → edit_in r n ≡ edit_of edits.now n) }
@@ -113,8 +113,7 @@ impl<'h, 'a> Repairer<'h, 'a> {
             history,
             edits: Edits::of(alloc, edits)?,
             choices: Vec::new(alloc),
-            overlay: Overlay::new(alloc),
-            uses: NextUses::new(alloc),
+            difference: Difference::none(alloc),
             met: Vec::new(alloc),
         })
     }
@@ -129,14 +128,14 @@ impl<'h, 'a> Repairer<'h, 'a> {
     }
 
     /// Returns the next line to settle, or `None` if all lines are settled.
-    pub fn next_line(&self) -> Option<Line<'a>>
+    pub fn next_line(&self) -> Option<Line<'a, 'e>>
         ensures { MatchOption result (next_line self.now ≡ None) (IsNextLine self.now) }
     {
         let Some(line) = self.noted_line() else {
             return None;
         };
         let edit = self.edits.get(line.0);
-        let is_met = is_met_by(edit, self.uses.has_use_at(line.0));
+        let is_met = is_met_by(edit, self.difference.is_used_at(line.0));
         Some(Line {
             number: line.0,
             noted: &line.1,
@@ -156,7 +155,7 @@ impl<'h, 'a> Repairer<'h, 'a> {
     }
 
     /// Returns the next line, whose number is `number`. Only the contract uses `number`.
-    fn line_at(&self, number: u32) -> Line<'a>
+    fn line_at(&self, number: u32) -> Line<'a, 'e>
         requires { next_number self.now ≡ Some number }
         ensures { IsNextLine self.now result }
     {
@@ -175,7 +174,7 @@ impl<'h, 'a> Repairer<'h, 'a> {
     {
         // For the prover: the contract of `noted_line` says that the recording is well formed.
         let _ = self.noted_line();
-        &self.overlay
+        self.difference.overlay()
     }
 
     /// Returns the recorded state before the next line, whose number is `number`. It is a function
@@ -190,7 +189,7 @@ impl<'h, 'a> Repairer<'h, 'a> {
     }
 
     /// Returns the edits.
-    pub fn edits(&self) -> &Edits<'a>
+    pub fn edits(&self) -> &Edits<'e>
         ensures { result.now ≡ self.now.edits }
     {
         &self.edits
@@ -219,7 +218,7 @@ impl<'h, 'a> Repairer<'h, 'a> {
     /// Keeps the next lines that are neither edited nor met, and returns the line after them, or
     /// `None` if all lines are settled. The kept lines aren't read, since the next line that is
     /// edited or met is found by its number.
-    pub fn skip_unmet(&mut self) -> Result<Option<Line<'a>>, NoMem>
+    pub fn skip_unmet(&mut self) -> Result<Option<Line<'a, 'e>>, NoMem>
         ensures next { IfOk result (λ line.
             MatchOption line (next_line self.new ≡ None) (IsNextLine self.new)) }
         ensures ok { OnOk result (IsSkip self.old self.new) }
@@ -237,7 +236,7 @@ impl<'h, 'a> Repairer<'h, 'a> {
         // For the prover: the contract of `noted_line` says that the recording is well formed.
         let _ = self.noted_line();
         let settled = self.choices.len();
-        let count = unmet_lines(self.recording, settled, &self.edits, &self.uses);
+        let count = unmet_lines(self.recording, settled, &self.edits, &self.difference);
         push_kept(&mut self.choices, count)?;
         Ok(())
     }
@@ -265,9 +264,7 @@ impl<'h, 'a> Repairer<'h, 'a> {
         }
         let next = &lines[settled];
         let last = &lines[end - 1];
-        let mut numbers = self
-            .uses
-            .numbers_until(alloc, self.history, &self.overlay, last.0)?;
+        let mut numbers = self.difference.numbers_until(alloc, self.history, last.0)?;
         add_edited(&self.edits, next.0, last.0, &mut numbers)?;
         // For the prover: the contract of `iter` says that the numbers are in order.
         let _ = numbers.iter();
@@ -276,7 +273,7 @@ impl<'h, 'a> Repairer<'h, 'a> {
 
     /// Lends the recording, the edits, the history and the overlay, for guesses of later lines. The
     /// ground's view before the next line is the repaired state.
-    pub fn ground(&self) -> Ground<'_, 'a>
+    pub fn ground(&self) -> Ground<'_, 'a, 'e>
         ensures recording { result.recording ≡ self.now.recording }
         ensures edits { result.edits ≡ self.now.edits }
         ensures exact { IsExact result.overlay (recorded_now self.now) (repaired_now self.now) }
@@ -285,7 +282,12 @@ impl<'h, 'a> Repairer<'h, 'a> {
     {
         // For the prover: the contract of `noted_line` says that the recording is well formed.
         let _ = self.noted_line();
-        Ground::new(self.recording, &self.edits, self.history, &self.overlay)
+        Ground::new(
+            self.recording,
+            &self.edits,
+            self.history,
+            self.difference.overlay(),
+        )
     }
 
     /// Returns the repair. All lines must be settled. [`Steps::finish`] says what it is.
@@ -304,7 +306,7 @@ impl<'h, 'a> Repairer<'h, 'a> {
 
     /// Returns the steps of the settled lines, without the history, which can then be dropped
     /// before the repair is made.
-    pub fn into_steps(self) -> Steps<'a>
+    pub fn into_steps(self) -> Steps<'a, 'e>
         ensures { result ≡ self.entry }
     {
         let Repairer {
@@ -312,15 +314,14 @@ impl<'h, 'a> Repairer<'h, 'a> {
             history: _,
             edits,
             choices,
-            overlay,
-            uses: _,
+            difference,
             met,
         } = self;
         Steps {
             recording,
             edits,
             choices,
-            overlay,
+            overlay: difference.into_overlay(),
             met,
         }
     }

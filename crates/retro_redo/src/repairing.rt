@@ -73,12 +73,12 @@ pub fn repair_watched<G: Gate>(
 
 /// Settles all lines of a recording on one thread. The history is dropped before the repaired
 /// recording is made, so the two don't take memory at the same time.
-fn settle_all<'a, G: Gate>(
+fn settle_all<'a, 'e, G: Gate>(
     alloc: Global,
     recording: &'a Recording,
-    edits: &'a [Edit],
+    edits: &'e [Edit],
     gate: &G,
-) -> Result<Steps<'a>, RepairFault>
+) -> Result<Steps<'a, 'e>, RepairFault>
     ensures recording { IfOk result (λ settled. settled.recording ≡ recording.now) }
     ensures edits { IfOk result (λ settled.
         (n : ℕ) → edit_in settled n ≡ edit_of edits.now n) }

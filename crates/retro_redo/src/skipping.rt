@@ -5,42 +5,40 @@ ghost use Rattle.std.specs.FinMap as map_of;
 ghost use Rattle.std.specs.List.{slice_get};
 ghost use Rattle.std.specs.Option.{option_copied};
 ghost use Rattle.retro_tree.specs.Exact.{IsExact};
-ghost use Rattle.retro_tree.specs.Overlay.{OverlayMap};
 ghost use Rattle.retro_tree.specs.declared.state.State.{State};
 ghost use Rattle.retro_keep.specs.Edit.{sooner};
 ghost use Rattle.retro_redo.specs.Editing.{AreLines};
-ghost use Rattle.retro_redo.specs.inner.Keeping.{KeepsUses};
+ghost use Rattle.retro_difference.specs.Difference.{IsAmong};
 ghost use Rattle.retro_redo.specs.Skipping.{AreUnmet};
 ghost use Rattle.retro_redo.specs.declared.step.Step.TheVariants as steps;
 
-use crate::next_uses::NextUses;
 use crate::step::Step;
+use retro_difference::Difference;
 use retro_keep::{Edits, Noted, Recording};
 use retro_tree::NoMem;
 
-/// Returns how many lines in a row are neither edited nor met, from the index `from` on. `uses` has
-/// the next uses of the cells in which the states differ, among the lines from `from` on.
+/// Returns how many lines in a row are neither edited nor met, from the index `from` on. `difference`
+/// has the cells in which the states differ before them.
 ///
 /// No line's notes are read. The next line that is edited or met is found by its number.
 pub(crate) fn unmet_lines(
     recording: &Recording,
     from: usize,
     edits: &Edits<'_>,
-    uses: &NextUses,
+    difference: &Difference,
 ) -> usize
     requires { AreLines edits.now recording.now }
-    ensures { let rest = drop from recording.now.lines in (overlay : OverlayMap)
-        → KeepsUses overlay rest uses.now
-        → ((s t : State) → IsExact overlay s t
+    ensures { let rest = drop from recording.now.lines in IsAmong rest difference.now
+        → ((s t : State) → IsExact difference.now.overlay s t
         → AreUnmet (map_of.get edits.now) result rest s t)
-        × KeepsUses overlay (drop result rest) uses.now }
+        × IsAmong (drop result rest) difference.now }
 {
     let lines = recording.lines();
     let Some(line) = line_at(lines, from) else {
         return 0;
     };
     let rest = lines_from(lines, from);
-    match sooner(edits.next_from(line.0), uses.next()) {
+    match sooner(edits.next_from(line.0), difference.next()) {
         None => rest.len(),
         Some(number) => rest.partition_point(|line| line.0 < number),
     }

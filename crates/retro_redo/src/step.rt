@@ -1,14 +1,19 @@
 //! The steps of a repair.
-ghost use Rattle.std.specs.Prelude.{◌≡◌, OnErr, OnOk};
+ghost use Rattle.std.specs.Prelude.{◌≡◌, ℕ, suc, OnErr, OnOk, Some, drop};
+ghost use Rattle.std.specs.List.{slice_get};
 ghost use Rattle.retro_tree.specs.Exact.{IsExact, IsTight};
 ghost use Rattle.retro_tree.specs.Notes.{after};
 ghost use Rattle.retro_tree.specs.declared.state.State.{State};
+ghost use Rattle.retro_keep.specs.Recorded.{recorded_before};
+ghost use Rattle.retro_keep.specs.Recording.{IsWellFormed};
+ghost use Rattle.retro_difference.specs.Difference.{IsAmong, Stays};
 ghost use Rattle.retro_redo.specs.Progress.{IsRunTaken, chosen};
 
-use retro_difference::{advance, advance_both};
-use retro_keep::Noted;
+use crate::line::Line;
+use retro_difference::{Difference, LineRun};
+use retro_history::History;
 use retro_shell::Run;
-use retro_tree::{Cells, NoMem, Notes, Overlay};
+use retro_tree::{NoMem, Notes};
 use std::alloc::Global;
 
 /// How a repair settles a line.
@@ -35,24 +40,60 @@ impl Step {
     }
 }
 
-/// Advances an exact overlay over a line that is settled by `step`. `recorded` has the values of
-/// the recorded state before the line.
-pub(crate) fn advance_by<C: Cells>(
+/// Goes over a line that is settled by `step`, in the recording that the history is of.
+pub(crate) fn go_over(
     alloc: Global,
-    overlay: &mut Overlay,
-    recorded: &C,
-    noted: &Noted,
+    difference: &mut Difference,
+    history: &History<'_>,
+    line: Line<'_, '_>,
     step: &Step,
 ) -> Result<(), NoMem>
-    requires { IsTight overlay.old (C.state recorded.now) }
-    ensures exact { OnOk result ((t : State) → IsExact overlay.old (C.state recorded.now) t
-        → IsExact overlay.new (after noted.now.notes (C.state recorded.now))
-        (after (chosen step.now noted.now) t)) }
-    ensures err { OnErr result (overlay.new ≡ overlay.old) }
+    requires { IsTight difference.old.overlay (recorded_before line.number history.now) }
+    ensures exact { OnOk result ((t : State)
+        → IsExact difference.old.overlay (recorded_before line.entry.number history.now) t
+        → IsExact difference.new.overlay
+        (after line.entry.noted.now.notes (recorded_before line.entry.number history.now))
+        (after (chosen step.now line.entry.noted.now) t)) }
+    ensures uses { OnOk result ((k : ℕ) (t : State) → IsWellFormed history.now
+        → slice_get history.now.lines k ≡ Some (line.entry.number, line.entry.noted.now)
+        → IsExact difference.old.overlay (recorded_before line.entry.number history.now) t
+        → IsAmong (drop k history.now.lines) difference.old
+        → IsAmong (drop (suc k) history.now.lines) difference.new) }
+    ensures err { OnErr result
+        (Stays history.now line.entry.number difference.old difference.new) }
 {
+    let number = line.number;
+    let recorded = &line.noted.notes;
     match step {
-        Step::Cancel => advance(alloc, overlay, recorded, &noted.notes, &Notes::new(alloc)?),
-        Step::Keep => advance_both(alloc, overlay, recorded, &noted.notes),
-        Step::Take(run) => advance(alloc, overlay, recorded, &noted.notes, run.notes()),
+        Step::Keep => difference.advance(
+            alloc,
+            history,
+            LineRun {
+                number,
+                recorded,
+                chosen: None,
+            },
+        ),
+        Step::Cancel => {
+            let none = Notes::new(alloc)?;
+            difference.advance(
+                alloc,
+                history,
+                LineRun {
+                    number,
+                    recorded,
+                    chosen: Some(&none),
+                },
+            )
+        }
+        Step::Take(run) => difference.advance(
+            alloc,
+            history,
+            LineRun {
+                number,
+                recorded,
+                chosen: Some(run.notes()),
+            },
+        ),
     }
 }

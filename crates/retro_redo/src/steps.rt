@@ -18,15 +18,15 @@ use std::marker::Model;
 /// The steps by which a repair settled its lines, in order, the numbers of the met lines, and the
 /// exact overlay of the cells in which the repaired state differs from the recorded one after them.
 #[derive(Drop)]
-pub struct Steps<'a> {
+pub struct Steps<'a, 'e> {
     pub(crate) recording: &'a Recording,
-    pub(crate) edits: Edits<'a>,
+    pub(crate) edits: Edits<'e>,
     pub(crate) choices: Vec<Step>,
     pub(crate) overlay: Overlay,
     pub(crate) met: Vec<u32>,
 }
 
-impl<'a> Model for Steps<'a> {
+impl<'a, 'e> Model for Steps<'a, 'e> {
     ghost use Rattle.retro_redo.specs.Progress.{ProgressValue};
     ghost use Rattle.retro_redo.specs.inner.ProgressCode.{coded_progress};
     ghost use Rattle.retro_redo.specs.inner.Keeping.{Keeps};
@@ -48,7 +48,7 @@ impl<'a> Model for Steps<'a> {
     }) a.overlay a.met.items };
 }
 
-impl<'a> Steps<'a> {
+impl<'a, 'e> Steps<'a, 'e> {
     /// Returns the repair. All lines must be settled.
     ///
     /// If the recording is what running its lines gives, the repair's state and outputs are those

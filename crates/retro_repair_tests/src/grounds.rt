@@ -35,7 +35,7 @@ fn node_text<V: View>(alloc: Global, view: &V, path: &Path) -> Result<String, Fa
 /// Returns the node at a path in the combined state before a line, with the names of its children.
 pub fn shown(
     alloc: Global,
-    repairer: &mut Repairer<'_, '_>,
+    repairer: &mut Repairer<'_, '_, '_>,
     from: u32,
     number: u32,
     at: &str,
@@ -48,7 +48,7 @@ pub fn shown(
 /// wrote a path, and whether the line with a number is edited.
 fn ground_text(
     alloc: Global,
-    ground: &Ground<'_, '_>,
+    ground: &Ground<'_, '_, '_>,
     number: u32,
     at: &str,
 ) -> Result<String, Fail> {
@@ -70,7 +70,7 @@ fn ground_text(
 /// Returns what the ground before a line lends.
 pub fn lent(
     alloc: Global,
-    repairer: &mut Repairer<'_, '_>,
+    repairer: &mut Repairer<'_, '_, '_>,
     from: u32,
     at: &str,
 ) -> Result<String, Fail> {
@@ -79,7 +79,7 @@ pub fn lent(
 }
 
 /// Returns a guess of a line.
-fn guess(alloc: Global, ground: &Ground<'_, '_>, number: u32) -> Result<Run, Fail> {
+fn guess(alloc: Global, ground: &Ground<'_, '_, '_>, number: u32) -> Result<Run, Fail> {
     match ground.recording().run_of(number) {
         Some(noted) => {
             let view = ground.view(number);
@@ -94,7 +94,7 @@ fn guess(alloc: Global, ground: &Ground<'_, '_>, number: u32) -> Result<Run, Fai
 /// Returns what a run printed, and whether it fits at its turn.
 fn fit_text(
     alloc: Global,
-    repairer: &Repairer<'_, '_>,
+    repairer: &Repairer<'_, '_, '_>,
     number: u32,
     run: &Run,
 ) -> Result<String, Fail>
@@ -110,7 +110,7 @@ fn fit_text(
 /// fits at its turn.
 pub fn guessed(
     alloc: Global,
-    repairer: &mut Repairer<'_, '_>,
+    repairer: &mut Repairer<'_, '_, '_>,
     from: u32,
     number: u32,
 ) -> Result<String, Fail> {
@@ -127,7 +127,7 @@ pub fn guessed(
 /// states differ before a line.
 pub fn stops_until(
     alloc: Global,
-    repairer: &mut Repairer<'_, '_>,
+    repairer: &mut Repairer<'_, '_, '_>,
     from: u32,
     end: u32,
 ) -> Result<String, Fail> {

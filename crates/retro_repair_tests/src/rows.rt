@@ -65,7 +65,7 @@ fn told(alloc: Global, repair: &Repair, call: &str, given: &[String]) -> Result<
 /// Returns the result of a call on a repair that has settled no line yet.
 fn stepped(
     alloc: Global,
-    repairer: &mut Repairer<'_, '_>,
+    repairer: &mut Repairer<'_, '_, '_>,
     call: &str,
     given: &[String],
 ) -> Result<String, Fail> {
@@ -85,7 +85,7 @@ fn stepped(
 /// Returns the result of a call on a repair, or its refusal.
 fn stepped_or_refused(
     alloc: Global,
-    made: Result<Repairer<'_, '_>, RepairFault>,
+    made: Result<Repairer<'_, '_, '_>, RepairFault>,
     call: &str,
     given: &[String],
 ) -> Result<String, Fail> {
@@ -104,23 +104,11 @@ fn by_steps(
     list: &str,
     given: &[String],
 ) -> Result<String, Fail> {
-    let edits = edits(alloc, list)?;
-    by_edits(alloc, recording, &edits, call, given)
-}
-
-/// Returns the result of a call on the repair of an edited recording that is made step by step, or
-/// its refusal.
-fn by_edits(
-    alloc: Global,
-    recording: &Recording,
-    edits: &[Edit],
-    call: &str,
-    given: &[String],
-) -> Result<String, Fail> {
     let history = History::of(alloc, recording)?;
+    let edits = edits(alloc, list)?;
     stepped_or_refused(
         alloc,
-        Repairer::new(alloc, recording, &history, edits),
+        Repairer::new(alloc, recording, &history, &edits),
         call,
         given,
     )

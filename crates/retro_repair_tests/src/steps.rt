@@ -12,7 +12,7 @@ use std::test::Fail;
 /// Settles the next line, and returns what became of it.
 fn settle(
     alloc: Global,
-    repairer: &mut Repairer<'_, '_>,
+    repairer: &mut Repairer<'_, '_, '_>,
     number: u32,
 ) -> Result<&'static str, NoMem>
     requires { next_number repairer.old ≡ Some number }
@@ -37,7 +37,7 @@ fn settle(
 /// Settles the lines with numbers below another.
 pub fn settle_below(
     alloc: Global,
-    repairer: &mut Repairer<'_, '_>,
+    repairer: &mut Repairer<'_, '_, '_>,
     number: u32,
 ) -> Result<(), NoMem> {
     for _ in 0..number {
@@ -76,7 +76,7 @@ pub fn overlay_text(alloc: Global, overlay: &Overlay) -> Result<String, NoMem> {
 fn push_step(
     alloc: Global,
     out: &mut String,
-    repairer: &mut Repairer<'_, '_>,
+    repairer: &mut Repairer<'_, '_, '_>,
     number: u32,
 ) -> Result<(), NoMem>
     requires { next_number repairer.old ≡ Some number }
@@ -88,7 +88,7 @@ fn push_step(
 
 /// Settles all lines. Returns each line's number, the overlay before it, and what becomes of it.
 /// Ends with the overlay after the last line.
-pub fn steps(alloc: Global, repairer: &mut Repairer<'_, '_>) -> Result<String, Fail> {
+pub fn steps(alloc: Global, repairer: &mut Repairer<'_, '_, '_>) -> Result<String, Fail> {
     let mut out = String::new(alloc);
     let count = repairer.ground().recording().lines().len();
     for _ in 0..count {
@@ -109,7 +109,7 @@ fn push_stop(alloc: Global, out: &mut String, number: u32, settled: usize) -> Re
 
 /// Settles all lines, those in between by skips. Returns the number of each line at which a skip
 /// stopped, with how many lines were settled then.
-pub fn stops(alloc: Global, repairer: &mut Repairer<'_, '_>) -> Result<String, Fail> {
+pub fn stops(alloc: Global, repairer: &mut Repairer<'_, '_, '_>) -> Result<String, Fail> {
     let mut out = String::new(alloc);
     let count = repairer.ground().recording().lines().len();
     for _ in 0..count {

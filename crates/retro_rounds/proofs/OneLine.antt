@@ -21,7 +21,7 @@ use Rattle.retro_redo.specs.declared.tally.Tally.{Tally}
 use Rattle.retro_redo.proofs.Before.{before_next}
 use Rattle.retro_redo.proofs.KeptLines.{length_more}
 use Rattle.retro_redo.proofs.Positions.{Line, moment, settled_more}
-use Rattle.retro_redo.proofs.UsedLines.{from_line, rise_after}
+use Rattle.retro_difference.proofs.UsedLines.{from_line, rise_after}
 use Rattle.retro_rounds.specs.Jobs.{IsJob}
 use Rattle.retro_rounds.specs.Pieces.{Start}
 use Rattle.retro_rounds.specs.Tally.{spent}

@@ -28,7 +28,7 @@ use Rattle.retro_redo.specs.Picks.{PicksBy}
 use Rattle.retro_redo.specs.Progress.{ProgressValue, edit_in, next_line, next_number, recorded_now, repaired_now}
 use Rattle.retro_redo.specs.Settling.{IsGuessOf}
 use Rattle.retro_redo.proofs.Positions.{Line, not_none}
-use Rattle.retro_redo.proofs.UsedLines.{apart}
+use Rattle.retro_difference.proofs.UsedLines.{apart}
 use Rattle.retro_rounds.specs.Jobs.{IsShown}
 use Rattle.retro_rounds.specs.Pieces.{Start}
 use Rattle.retro_rounds.specs.inner.Attempts.{IsAttempt}

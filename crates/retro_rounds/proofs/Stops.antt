@@ -18,7 +18,7 @@ use Rattle.retro_redo.specs.Progress.{settled_now}
 use Rattle.retro_redo.specs.Skipping.{AreUnmet, with_kept}
 use Rattle.retro_redo.specs.declared.tally.Tally.{Tally}
 use Rattle.retro_redo.proofs.Positions.{Line, not_none}
-use Rattle.retro_redo.proofs.UsedLines.{above_at, all_from, from_line, no_more, rise_after, rise_from}
+use Rattle.retro_difference.proofs.UsedLines.{above_at, all_from, from_line, no_more, rise_after, rise_from}
 use Rattle.retro_rounds.specs.Jobs.{IsJob, IsUnused}
 use Rattle.retro_rounds.specs.Pieces.{InPiece, Start, from_within, in_pieces}
 use Rattle.retro_rounds.specs.Tally.{IsCount}

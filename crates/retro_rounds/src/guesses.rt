@@ -31,7 +31,7 @@ struct Round {
 pub(crate) fn guesses_of<R: Threads + Sync, G: Gate + Sync>(
     crew: &Crew<'_, R>,
     alloc: Global,
-    ground: &Ground<'_, '_>,
+    ground: &Ground<'_, '_, '_>,
     jobs: Vec<Job>,
     gate: &G,
 ) -> Result<Vec<Attempt>, NoMem>

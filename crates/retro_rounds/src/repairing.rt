@@ -79,7 +79,7 @@ fn settle_all<'a, R: Threads + Sync, G: Gate + Sync>(
     alloc: Global,
     request: &Request<'a>,
     gate: &G,
-) -> Result<(Steps<'a>, Tally), RepairFault>
+) -> Result<(Steps<'a, 'a>, Tally), RepairFault>
     requires cuts { are_cuts request.now.cuts.now ≡ true }
     requires accepted { AreAccepted request.now.edits.now request.now.recording.now }
     ensures recording { IfOk result (λ settled.

@@ -68,7 +68,7 @@ impl<'c> Rounds<'c> {
         &mut self,
         crew: &Crew<'_, R>,
         alloc: Global,
-        repairer: &Repairer<'_, '_>,
+        repairer: &Repairer<'_, '_, '_>,
         gate: &G,
     ) -> Result<(), NoMem>
         requires unsettled { length repairer.now.choices < length repairer.now.recording.lines }
@@ -93,11 +93,11 @@ impl<'c> Rounds<'c> {
     }
 
     /// Settles the next line, `line`, by the attempt at it if there is one.
-    pub(crate) fn settle<'a, G: Gate>(
+    pub(crate) fn settle<'a, 'e, G: Gate>(
         &mut self,
         alloc: Global,
-        repairer: &mut Repairer<'_, 'a>,
-        line: Line<'a>,
+        repairer: &mut Repairer<'_, 'a, 'e>,
+        line: Line<'a, 'e>,
         gate: &G,
     ) -> Result<(), NoMem>
         requires next { IsNextLine repairer.old line }
@@ -160,7 +160,7 @@ fn count(tally: &mut Tally, how: Settlement, was_made: bool)
 fn attempts_until<R: Threads + Sync, G: Gate + Sync>(
     crew: &Crew<'_, R>,
     alloc: Global,
-    repairer: &Repairer<'_, '_>,
+    repairer: &Repairer<'_, '_, '_>,
     end: usize,
     gate: &G,
 ) -> Result<Vec<Attempt>, NoMem>

@@ -33,7 +33,7 @@ impl Worker {
     }
 
     /// Takes jobs and runs them, until none is left or there is no room for another guess.
-    fn work<G: Gate>(&mut self, alloc: Global, ground: &Ground<'_, '_>, gate: &G)
+    fn work<G: Gate>(&mut self, alloc: Global, ground: &Ground<'_, '_, '_>, gate: &G)
         requires { HasGuesses ground.now self.old }
         ensures board { board_of self.new.seat ≡ board_of self.old.seat }
         ensures right { HasGuesses ground.now self.new }
@@ -74,7 +74,7 @@ pub(crate) fn work_all<R: Threads + Sync, G: Gate + Sync>(
     crew: &Crew<'_, R>,
     alloc: Global,
     workers: &mut [Worker],
-    ground: &Ground<'_, '_>,
+    ground: &Ground<'_, '_, '_>,
     gate: &G,
 )
     requires right { All (HasGuesses ground.now) workers.old }

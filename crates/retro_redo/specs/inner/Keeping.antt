@@ -1,14 +1,10 @@
 -- The invariant of a repair's progress.
-use Rattle.std.specs.Prelude.{◌≡◌, ℕ, true, List, Some}
-use Rattle.std.specs.FinMap as map
+use Rattle.std.specs.Prelude.{ℕ, List}
 use Rattle.retro_tree.specs.Exact.{IsExact}
 use Rattle.retro_tree.specs.Overlay.{OverlayMap}
 use Rattle.retro_tree.specs.State.{SameSessions}
-use Rattle.retro_tree.specs.declared.cell.Cell.{Cell}
-use Rattle.retro_history.specs.Index.{Line}
 use Rattle.retro_redo.specs.Editing.{AreLines}
 use Rattle.retro_redo.specs.Moments.{IsMet, Picks}
-use Rattle.retro_redo.specs.inner.NextUses.{AreSorted, IsFirstIn, Use, first_use, has_use, is_use}
 use Rattle.retro_redo.specs.Progress.{ProgressValue, Settles, edit_in, recorded_now, repaired_now, settled_now}
 
 -- Each choice is one that its line allows. The overlay has entries for exactly the cells in which
@@ -22,13 +18,3 @@ pub record Keeps (p : ProgressValue) (overlay : OverlayMap) (met : List ℕ) : T
   pub recorded_sessions : SameSessions (recorded_now p) p.recording.first
   pub repaired_sessions : SameSessions (repaired_now p) p.recording.first
   pub known : AreLines p.edits p.recording
-
--- Each cell with an entry in the overlay has an entry at the first of the lines to settle that uses
--- it. Each entry is at one of these lines, which uses its cell. The first entry's cell has an entry
--- in the overlay.
-pub record KeepsUses (overlay : OverlayMap) (lines : List Line) (uses : List Use) : Type 0 where
-  pub complete : (c : Cell) (n : ℕ) → map.contains_key overlay c ≡ true → first_use c lines ≡ Some n
-      → has_use n c uses ≡ true
-  pub sound : (n : ℕ) (c : Cell) → has_use n c uses ≡ true → is_use n c lines ≡ true
-  pub first : IsFirstIn overlay uses
-  pub sorted : AreSorted uses

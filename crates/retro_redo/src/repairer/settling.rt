@@ -15,13 +15,13 @@ use super::Repairer;
 use crate::gate::{Gate, Turn};
 use crate::line::Line;
 use crate::settlement::Settlement;
-use crate::step::{Step, advance_by};
+use crate::step::{Step, go_over};
 use retro_difference::{Combined, equiv};
 use retro_shell::{Run, run_line};
 use retro_tree::NoMem;
 use std::alloc::Global;
 
-impl<'h, 'a> Repairer<'h, 'a> {
+impl<'h, 'a, 'e> Repairer<'h, 'a, 'e> {
     /// Settles the next line, `line`, and returns how. Cancels it if it is cancelled. Keeps it if
     /// it isn't edited, and it isn't met or its notes hold in the repaired state. Otherwise the
     /// line is met and stale: it gets its guess if the guess's notes hold in the repaired state,
@@ -32,7 +32,7 @@ impl<'h, 'a> Repairer<'h, 'a> {
     pub fn settle<G: Gate>(
         &mut self,
         alloc: Global,
-        line: Line<'a>,
+        line: Line<'a, 'e>,
         guess: Option<Run>,
         gate: &G,
     ) -> Result<Settlement, NoMem>
@@ -61,7 +61,7 @@ impl<'h, 'a> Repairer<'h, 'a> {
     fn settle_stale<G: Gate>(
         &mut self,
         alloc: Global,
-        line: Line<'a>,
+        line: Line<'a, 'e>,
         guess: Option<Run>,
         gate: &G,
     ) -> Result<Settlement, NoMem>
@@ -90,7 +90,7 @@ impl<'h, 'a> Repairer<'h, 'a> {
     fn settle_again<G: Gate>(
         &mut self,
         alloc: Global,
-        line: Line<'a>,
+        line: Line<'a, 'e>,
         gate: &G,
     ) -> Result<(), NoMem>
         requires next { IsNextLine self.old line }
@@ -115,7 +115,7 @@ impl<'h, 'a> Repairer<'h, 'a> {
 
     /// Returns whether the next line, `line`, isn't edited and its notes hold in the repaired
     /// state.
-    pub(crate) fn is_as_noted(&self, alloc: Global, line: Line<'a>) -> Result<bool, NoMem>
+    pub(crate) fn is_as_noted(&self, alloc: Global, line: Line<'a, 'e>) -> Result<bool, NoMem>
         requires { IsNextLine self.now line }
         ensures { (l : ℕ × NotedValue) → next_line self.now ≡ Some l
             → IfOk result (λ b. IsTrue b
@@ -125,7 +125,8 @@ impl<'h, 'a> Repairer<'h, 'a> {
             return Ok(false);
         }
         let recorded = self.recorded(line.number);
-        equiv(alloc, &line.noted.notes, &recorded, &self.overlay)
+        let overlay = self.difference.overlay();
+        equiv(alloc, &line.noted.notes, &recorded, overlay)
     }
 
     /// Returns whether the notes of a run hold in the repaired state before the next line, whose
@@ -134,7 +135,8 @@ impl<'h, 'a> Repairer<'h, 'a> {
         requires { next_number self.now ≡ Some number }
         ensures { IfOk result (λ b. IsTrue b ↔ Holds run.now.notes (repaired_now self.now)) }
     {
-        equiv(alloc, run.notes(), &self.recorded(number), &self.overlay)
+        let overlay = self.difference.overlay();
+        equiv(alloc, run.notes(), &self.recorded(number), overlay)
     }
 
     /// Runs the next line again, in the repaired state: its new text if its text is replaced, and
@@ -152,7 +154,7 @@ impl<'h, 'a> Repairer<'h, 'a> {
     pub(crate) fn run_again<G: Gate>(
         &self,
         alloc: Global,
-        line: Line<'a>,
+        line: Line<'a, 'e>,
         gate: &G,
     ) -> Result<Run, NoMem>
         requires { IsNextLine self.now line }
@@ -161,7 +163,7 @@ impl<'h, 'a> Repairer<'h, 'a> {
         ensures holds { IfOk result (λ run. Holds run.notes (repaired_now self.now)) }
     {
         let text = line.text();
-        let repaired = Combined::new(self.recorded(line.number), &self.overlay);
+        let repaired = Combined::new(self.recorded(line.number), self.difference.overlay());
         gate.begin(line.number, Turn::Place);
         let run = run_line(alloc, &repaired, line.noted.sid, text.as_str());
         gate.end(line.number, Turn::Place);
@@ -190,7 +192,7 @@ impl<'h, 'a> Repairer<'h, 'a> {
     pub(crate) fn take_step(
         &mut self,
         alloc: Global,
-        line: Line<'a>,
+        line: Line<'a, 'e>,
         step: Step,
     ) -> Result<(), NoMem>
         requires next { IsNextLine self.old line }
@@ -203,28 +205,12 @@ impl<'h, 'a> Repairer<'h, 'a> {
         step.check_run();
         // For the prover: the contract of `noted_line` says that the recording is well formed.
         let _ = self.noted_line();
-        let (number, noted) = (line.number, line.noted);
-        let recorded = self.recorded(number);
-        let cells = self
-            .uses
-            .cells_to_renew(alloc, &self.overlay, number, noted, &step)?;
         self.choices.reserve(1)?;
         self.met.reserve(1)?;
-        // If memory runs out from here on, entries that were added stay. They do no harm, since
-        // each is of a line that uses its cell. `prune` removes those at the front whose cells
-        // don't differ.
-        if let Err(error) = self.uses.add_cells(alloc, self.history, cells, number) {
-            self.uses.prune(0, &self.overlay);
-            return Err(error);
-        }
-        if let Err(error) = advance_by(alloc, &mut self.overlay, &recorded, noted, &step) {
-            self.uses.prune(0, &self.overlay);
-            return Err(error);
-        }
-        self.uses.prune(number, &self.overlay);
+        go_over(alloc, &mut self.difference, self.history, line, &step)?;
         self.choices.push_reserved(step);
         if line.is_met {
-            self.met.push_reserved(number);
+            self.met.push_reserved(line.number);
         }
         Ok(())
     }

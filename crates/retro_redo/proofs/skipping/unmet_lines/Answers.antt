@@ -5,12 +5,12 @@ use Rattle.std.specs.List.Sorted.{IsNonDecreasingBy}
 use Rattle.std.specs.Option.{option_copied}
 use Rattle.std.proofs.lemmas.List.Sorted.{IsPartitionedBy-ltb, IsPartitionPoint-from_clause}
 use Rattle.retro_keep.specs.Edit.{sooner}
-use Rattle.retro_redo.specs.inner.NextUses.{first_number}
+use Rattle.retro_difference.specs.NextUses.{first_number}
 use Rattle.retro_redo.specs.Skipping.{AreUnmet}
 use Rattle.retro_redo.proofs.Finishing.{none_is}
 use Rattle.retro_redo.proofs.Positions.{Line}
 use Rattle.retro_redo.proofs.Skipped.{AreUnder, all_under, skipped_from, some_under}
-use Rattle.retro_redo.proofs.UsedLines.{no_more, numbers_rise}
+use Rattle.retro_difference.proofs.UsedLines.{no_more, numbers_rise}
 use Rattle.retro_redo.proofs.skipping.unmet_lines.Goals as goal
 
 pub returns-in_default : goal.returns-in_default
@@ -19,7 +19,7 @@ returns-in_default c =
     let none = no_more lines c.args.from
     (sym (ap (λ (ls : List Line). slice_get ls c.args.from) c.lines-lines.ensures.value) ∙ sym c.line_at.ensures.line
     ∙ ap option_copied (none_is c.line_at.result c.in_default.not-Some)) in
-    λ overlay keeps. (
+    λ keeps. (
       λ s t exact. subst (λ ls. AreUnmet (finmap.get c.args.edits.now) 0 ls s t) (sym none) tt,
       keeps,
     )
@@ -30,10 +30,10 @@ returns-in-None c =
     let from = c.args.from in
     let one = c.next_from.result in
     let rest_is = c.lines_from-rest.ensures ∙ ap (drop from) c.lines-lines.ensures.value in
-    let stop_is : sooner one (first_number c.args.uses.now) ≡ None =
+    let stop_is : sooner one (first_number c.args.difference.now.uses) ≡ None =
     ap (sooner one) (sym c.next.ensures) ∙ sym c.in-None.ensures in
-    λ overlay keeps.
-    skipped_from c.args.edits.now overlay c.args.uses.now c.args.recording.now from c.in-Some.line.now one
+    λ keeps.
+    skipped_from c.args.edits.now c.args.difference.now.overlay c.args.difference.now.uses c.args.recording.now from c.in-Some.line.now one
     (length c.lines_from-rest.result.now) c.lines-lines.ensures.well_formed.rising
     (sym (ap (λ (ls : List Line). slice_get ls from) c.lines-lines.ensures.value) ∙ sym c.line_at.ensures.line
     ∙ ap option_copied c.in-Some.is) c.requires c.next_from.ensures
@@ -50,15 +50,15 @@ returns-in-Some-sooner c =
     let n = c.partition_point.result in
     let rise = c.lines-lines.ensures.well_formed.rising in
     let rest_is = c.lines_from-rest.ensures ∙ ap (drop from) c.lines-lines.ensures.value in
-    let stop_is : sooner one (first_number c.args.uses.now) ≡ Some number =
+    let stop_is : sooner one (first_number c.args.difference.now.uses) ≡ Some number =
     ap (sooner one) (sym c.next.ensures) ∙ sym c.in-Some-sooner.ensures in
     let parted = IsPartitionPoint-from_clause (λ (x : Line). nat_lt x.0 number) c.lines_from-rest.result.now n
     c.partition_point.ensures.partitioned
     (IsPartitionedBy-ltb (λ (x : Line). x.0) c.lines_from-rest.result.now number
     (subst (IsNonDecreasingBy (λ (x : Line). x.0)) (sym rest_is) (numbers_rise 0 lines from rise)))
     (λ a r g called. search rules) in
-    λ overlay keeps.
-    skipped_from c.args.edits.now overlay c.args.uses.now c.args.recording.now from c.in-Some.line.now one n
+    λ keeps.
+    skipped_from c.args.edits.now c.args.difference.now.overlay c.args.difference.now.uses c.args.recording.now from c.in-Some.line.now one n
     rise
     (sym (ap (λ (ls : List Line). slice_get ls from) c.lines-lines.ensures.value) ∙ sym c.line_at.ensures.line
     ∙ ap option_copied c.in-Some.is) c.requires c.next_from.ensures

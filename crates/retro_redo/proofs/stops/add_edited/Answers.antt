@@ -1,7 +1,7 @@
 use Rattle.std.proofs.Common.{arith, refl, ◌+◌, ◌≡◌}
 use Rattle.std.specs.FinMap as finmap
 use Rattle.retro_redo.proofs.EditedNumbers.{marking_ends, marking_goes_on}
-use Rattle.retro_redo.proofs.Meetings.{was_added}
+use Rattle.retro_difference.proofs.Meetings.{was_added}
 use Rattle.retro_redo.proofs.stops.add_edited.Goals as goal
 
 pub returns-then-number-last-2 : goal.returns-then-number-last-2

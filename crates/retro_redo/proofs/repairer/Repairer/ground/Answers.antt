@@ -1,7 +1,7 @@
 use Rattle.std.proofs.Common.{ap, subst, sym, ◌∙◌}
 use Rattle.retro_tree.specs.Commit.{committed}
 use Rattle.retro_tree.specs.Exact.{IsExact}
-use Rattle.retro_tree.specs.Overlay.{OverlayMap}
+use Rattle.retro_tree.specs.Overlay.{Fits, OverlayMap}
 use Rattle.retro_tree.proofs.ExactOverlays.{exact_fits}
 use Rattle.retro_keep.specs.Recorded.{recorded_before}
 use Rattle.retro_redo.specs.Progress.{ProgressValue, recorded_now, repaired_now}
@@ -10,7 +10,8 @@ use Rattle.retro_redo.proofs.Keeping.{repaired_is}
 use Rattle.retro_redo.proofs.repairer.Repairer.ground.Goals as goal
 
 pub new-requires-clause-fits : goal.new-requires-clause-fits
-new-requires-clause-fits c = exact_fits c.self.inside.overlay _ _ c.self.invariant.0.exact
+new-requires-clause-fits c =
+    subst Fits (sym c.overlay.ensures) (exact_fits c.self.inside.difference.overlay _ _ c.self.invariant.0.exact)
 
 pub new-requires-clause-history : goal.new-requires-clause-history
 new-requires-clause-history c = c.self.invariant.2
@@ -18,8 +19,8 @@ new-requires-clause-history c = c.self.invariant.2
 pub returns-clause-exact : goal.returns-clause-exact
 returns-clause-exact c =
     subst (λ (o : OverlayMap). IsExact o (recorded_now c.args.self.now) (repaired_now c.args.self.now))
-    (sym c.new.ensures.overlay)
-    (subst (λ (p : ProgressValue). IsExact c.self.inside.overlay (recorded_now p) (repaired_now p)) c.self.view_is
+    (sym (c.new.ensures.overlay ∙ c.overlay.ensures))
+    (subst (λ (p : ProgressValue). IsExact c.self.inside.difference.overlay (recorded_now p) (repaired_now p)) c.self.view_is
     c.self.invariant.0.exact)
 
 pub returns-clause-shows : goal.returns-clause-shows
@@ -28,5 +29,5 @@ returns-clause-shows c =
     ap (λ r. committed c.new.result.overlay (recorded_before number r))
     (c.new.ensures.recording ∙ ap (λ (p : ProgressValue). p.recording) c.self.view_is)
     ∙ ap (committed c.new.result.overlay) (before_next c.args.self.now number c.noted_line.ensures.well_formed next)
-    ∙ ap (λ (o : OverlayMap). committed o (recorded_now c.args.self.now)) c.new.ensures.overlay
-    ∙ repaired_is c.args.self.now _ c.self.inside.overlay c.self.inside.met.items c.self.view_is c.self.invariant.0
+    ∙ ap (λ (o : OverlayMap). committed o (recorded_now c.args.self.now)) (c.new.ensures.overlay ∙ c.overlay.ensures)
+    ∙ repaired_is c.args.self.now _ c.self.inside.difference.overlay c.self.inside.met.items c.self.view_is c.self.invariant.0

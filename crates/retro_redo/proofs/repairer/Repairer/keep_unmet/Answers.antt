@@ -1,5 +1,5 @@
 use Rattle.std.proofs.Common.{ap, drop, subst, sym, ◌∙◌}
-use Rattle.retro_redo.specs.inner.Keeping.{KeepsUses}
+use Rattle.retro_difference.specs.Difference.{IsAmong}
 use Rattle.retro_redo.specs.Progress.{ProgressValue}
 use Rattle.retro_redo.proofs.KeptLines.{keeps_skipped, skips}
 use Rattle.retro_redo.proofs.StepUses.{skipped_uses}
@@ -12,13 +12,13 @@ pub invariant_of-self-2 : goal.invariant_of-self-2
 invariant_of-self-2 c =
     let at = c.len-settled.ensures ∙ c.self.inside.choices.ok.0 in
     let lines = c.self.inside.recording.now.lines in
-    let found = c.unmet_lines-count.ensures c.self.inside.overlay
-    (subst (λ k. KeepsUses c.self.inside.overlay (drop k lines) c.self.inside.uses) (sym at) c.self.invariant.1) in (
-      keeps_skipped c.args.self.now _ c.self.inside.overlay c.self.inside.met.items c.self.inside.recording.now
+    let found =
+    c.unmet_lines-count.ensures (subst (λ k. IsAmong (drop k lines) c.self.inside.difference) (sym at) c.self.invariant.1) in (
+      keeps_skipped c.args.self.now _ c.self.inside.difference.overlay c.self.inside.met.items c.self.inside.recording.now
           c.len-settled.result c.unmet_lines-count.result c.push_kept.new.choices.items c.self.view_is
           c.self.invariant.0 c.noted_line.ensures.well_formed (ap (λ (p : ProgressValue). p.recording) c.self.view_is) at
           found.0 c.in_ok-push_kept.ensures.ok,
-      skipped_uses c.self.inside.choices.items lines c.self.inside.overlay c.self.inside.uses c.len-settled.result
+      skipped_uses c.self.inside.choices.items lines c.self.inside.difference.overlay c.self.inside.difference.uses c.len-settled.result
           c.unmet_lines-count.result c.push_kept.new.choices.items at found.1 c.in_ok-push_kept.ensures.ok,
       c.self.invariant.2,
     )
@@ -27,9 +27,9 @@ pub returns-clause-ok : goal.returns-clause-ok
 returns-clause-ok c =
     let at = c.len-settled.ensures ∙ c.self.inside.choices.ok.0 in
     let lines = c.self.inside.recording.now.lines in
-    let found = c.unmet_lines-count.ensures c.self.inside.overlay
-    (subst (λ k. KeepsUses c.self.inside.overlay (drop k lines) c.self.inside.uses) (sym at) c.self.invariant.1) in
-    skips c.args.self.now _ c.self.inside.overlay c.self.inside.met.items c.self.inside.recording.now
+    let found =
+    c.unmet_lines-count.ensures (subst (λ k. IsAmong (drop k lines) c.self.inside.difference) (sym at) c.self.invariant.1) in
+    skips c.args.self.now _ c.self.inside.difference.overlay c.self.inside.met.items c.self.inside.recording.now
     c.len-settled.result c.unmet_lines-count.result c.push_kept.new.choices.items c.self.view_is
     c.self.invariant.0 c.noted_line.ensures.well_formed (ap (λ (p : ProgressValue). p.recording) c.self.view_is) at found.0
     c.in_ok-push_kept.ensures.ok

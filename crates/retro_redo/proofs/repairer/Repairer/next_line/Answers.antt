@@ -16,17 +16,17 @@ returns c =
     let next = sym c.noted_line.ensures.line ∙ ap option_copied c.in-Some.is in
     let edit = c.get-edit.ensures ∙ ap (λ (p : ProgressValue). edit_in p k.0) c.self.view_is in
     let used =
-    next_met c.args.self.now _ c.self.inside.overlay c.self.inside.uses k c.self.view_is c.self.invariant.1
-    c.noted_line.ensures.well_formed next c.has_use_at.result c.has_use_at.ensures in
+    next_met c.args.self.now _ c.self.inside.difference.overlay c.self.inside.difference.uses k c.self.view_is c.self.invariant.1
+    c.noted_line.ensures.well_formed next c.is_used_at.result c.is_used_at.ensures in
     record {
       next = next;
       edit = edit;
       met =
-          met_now c.args.self.now _ c.self.inside.overlay c.self.inside.met.items c.has_use_at.result k
+          met_now c.args.self.now _ c.self.inside.difference.overlay c.self.inside.met.items c.is_used_at.result k
           c.self.view_is c.self.invariant.0 next used (option_copied c.get-edit.result) c.is_met_by-is_met.result edit
           c.is_met_by-is_met.ensures k next;
       holds = λ own none not_met.
-          unmet_holds c.args.self.now _ c.self.inside.overlay c.self.inside.met.items c.has_use_at.result k
+          unmet_holds c.args.self.now _ c.self.inside.difference.overlay c.self.inside.met.items c.is_used_at.result k
           c.self.view_is c.self.invariant.0 next used (option_copied c.get-edit.result) c.is_met_by-is_met.result edit
           c.is_met_by-is_met.ensures own k next none not_met;
     }

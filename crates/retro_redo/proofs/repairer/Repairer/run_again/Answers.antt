@@ -1,13 +1,15 @@
-use Rattle.std.proofs.Common.{IfOk, ap, subst, ◌∙◌}
+use Rattle.std.proofs.Common.{IfOk, ap, subst, sym, ◌∙◌}
 use Rattle.retro_tree.specs.Notes.{Holds}
 use Rattle.retro_tree.specs.Commit.{committed}
+use Rattle.retro_tree.specs.Overlay.{Fits, OverlayMap}
 use Rattle.retro_tree.proofs.ExactOverlays.{exact_fits}
 use Rattle.retro_redo.proofs.Keeping.{new_run_of, repaired_is}
 use Rattle.retro_redo.proofs.NextLines.{new_text_next, pair_of}
 use Rattle.retro_redo.proofs.repairer.Repairer.run_again.Goals as goal
 
 pub new-repaired-requires : goal.new-repaired-requires
-new-repaired-requires g c = exact_fits c.self.inside.overlay _ _ c.self.invariant.0.exact
+new-repaired-requires g c =
+    subst Fits (sym c.overlay.ensures) (exact_fits c.self.inside.difference.overlay _ _ c.self.invariant.0.exact)
 
 pub returns-clause-new_run : goal.returns-clause-new_run
 returns-clause-new_run g c =
@@ -18,6 +20,7 @@ returns-clause-new_run g c =
 pub returns-clause-holds : goal.returns-clause-holds
 returns-clause-holds g c =
     subst (λ s. IfOk c.run_line-run.result (λ run. Holds run.notes s))
-    (c.new-repaired.ensures ∙ ap (committed c.self.inside.overlay) c.recorded.ensures
-    ∙ repaired_is c.args.self.now _ c.self.inside.overlay c.self.inside.met.items c.self.view_is c.self.invariant.0)
+    (c.new-repaired.ensures ∙ ap (λ (o : OverlayMap). committed o c.recorded.result) c.overlay.ensures
+    ∙ ap (committed c.self.inside.difference.overlay) c.recorded.ensures
+    ∙ repaired_is c.args.self.now _ c.self.inside.difference.overlay c.self.inside.met.items c.self.view_is c.self.invariant.0)
     c.run_line-run.ensures.holds

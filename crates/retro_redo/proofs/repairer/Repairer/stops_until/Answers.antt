@@ -5,8 +5,9 @@ use Rattle.std.proofs.lemmas.Option.{slice_get_read}
 use Rattle.retro_tree.specs.Exact.{IsExact}
 use Rattle.retro_keep.specs.Recording.{IsWellFormed, RecordingValue}
 use Rattle.retro_redo.specs.Editing.{AreLines, EditMap}
-use Rattle.retro_redo.specs.inner.Keeping.{KeepsUses}
-use Rattle.retro_redo.specs.inner.Meetings.{AddsEdited, AreNumbersUntil}
+use Rattle.retro_difference.specs.NextUses.{KeepsUses}
+use Rattle.retro_difference.specs.NextUses.{AreNumbersUntil}
+use Rattle.retro_redo.specs.inner.Meetings.{AddsEdited}
 use Rattle.retro_redo.specs.Progress.{ProgressValue, recorded_now, repaired_now}
 use Rattle.retro_redo.specs.declared.step.Step.{Step}
 use Rattle.retro_redo.proofs.StopNumbers.{stops_picked}
@@ -15,7 +16,7 @@ use Rattle.retro_redo.proofs.repairer.Repairer.stops_until.Goals as goal
 
 pub returns : goal.returns
 returns c =
-    let overlay = c.self.inside.overlay in
+    let overlay = c.self.inside.difference.overlay in
     let same : c.self.inside.recording.now ≡ c.args.self.now.recording =
     ap (λ (p : ProgressValue). p.recording) c.self.view_is in
     let choices : c.self.inside.choices.items ≡ c.args.self.now.choices =
@@ -33,11 +34,11 @@ returns c =
     let last_at : slice_get c.lines-lines.result.now (c.args.end - 1) ≡ Some c.index-lines-end.result =
     slice_get_read c.lines-lines.result.now (length c.lines-lines.result.now) (c.args.end - 1)
     c.index-lines-end.result refl (omega (arith, less, fits, c.requires)) c.index-lines-end.is in
-    stops_picked c.args.self.now overlay c.self.inside.uses c.in_ok-numbers.numbers.keys c.add_edited.new.numbers.keys
+    stops_picked c.args.self.now overlay c.self.inside.difference.uses c.in_ok-numbers.numbers.keys c.add_edited.new.numbers.keys
     c.args.end c.index-lines-settled.result c.index-lines-end.result
     (subst (λ (p : ProgressValue). IsExact overlay (recorded_now p) (repaired_now p)) c.self.view_is
     c.self.invariant.0.exact)
-    (subst (λ (p : ProgressValue). KeepsUses overlay (drop (length p.choices) p.recording.lines) c.self.inside.uses)
+    (subst (λ (p : ProgressValue). KeepsUses overlay (drop (length p.choices) p.recording.lines) c.self.inside.difference.uses)
     c.self.view_is c.self.invariant.1)
     (subst (λ (p : ProgressValue). AreLines p.edits p.recording) c.self.view_is c.self.invariant.0.known)
     (subst IsWellFormed same c.lines-lines.ensures.well_formed)
@@ -45,7 +46,7 @@ returns c =
     (sym (ap (λ (ls : List Line). slice_get ls (length c.args.self.now.choices)) lines)
     ∙ ap (slice_get c.lines-lines.result.now) (sym settled_is) ∙ next_at)
     (sym (ap (λ (ls : List Line). slice_get ls (c.args.end - 1)) lines) ∙ last_at) c.iter.ensures.ordered
-    (subst (λ (r : RecordingValue). AreNumbersUntil c.index-lines-end.result.0 overlay r.lines c.self.inside.uses
+    (subst (λ (r : RecordingValue). AreNumbersUntil c.index-lines-end.result.0 overlay r.lines c.self.inside.difference.uses
     c.in_ok-numbers.numbers.keys) (c.self.invariant.2 ∙ same) c.in_ok-numbers.ensures)
     (subst (λ (m : EditMap). AddsEdited (finmap.contains_key m) c.index-lines-settled.result.0 c.index-lines-end.result.0
     c.in_ok-numbers.numbers.keys c.add_edited.new.numbers.keys)
