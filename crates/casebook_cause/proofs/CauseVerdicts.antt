@@ -10,15 +10,16 @@ use Rattle.retro_keep.specs.declared.edit.Edit.{Edit}
 use Rattle.retro_keep.specs.declared.noted.Noted.{Noted}
 use Rattle.retro_history.proofs.Chains.{Lines}
 use Rattle.retro_redo.specs.Moments.{text_now}
-use Rattle.retro_redo.specs.Progress.{line_chosen, lines_chosen, verdict_of, verdicts_chosen}
-use Rattle.retro_redo.specs.Repair.{verdict_again, verdict_by}
+use Rattle.retro_redo.specs.Progress.{line_chosen, lines_chosen, verdict_of}
+use Rattle.retro_redo.specs.Repair.{verdict_by}
 use Rattle.retro_redo.specs.Settled.{AreSettled, IsSettled, recording_chosen}
 use Rattle.retro_redo.specs.declared.repair.Repair.{Repair}
 use Rattle.retro_redo.specs.declared.step.Step.{Step}
 use Rattle.retro_redo.specs.declared.step.Step.TheVariants.{Cancel, Keep, Take}
 use Rattle.retro_redo.specs.declared.verdict.Verdict.{Verdict}
 use Rattle.retro_redo.specs.declared.verdict.Verdict.TheVariants.{Cancelled, Kept, Redone}
-use Rattle.casebook_cause.specs.Cause.{IsAlike, IsCause, changes_for, notes_of, verdict_at}
+use Rattle.retro_redo.proofs.Verdicts.{again_verdicts, chosen_verdicts, pair_in, verdict_again, verdicts_chosen}
+use Rattle.casebook_cause.specs.Cause.{IsAlike, IsCause, changes_for, notes_of, verdict_at, verdict_on}
 use Rattle.casebook_cause.proofs.NotKept.{not_kept}
 use Rattle.casebook_cause.proofs.Redone.{AreEdited, first_edited}
 
@@ -81,25 +82,26 @@ no_line_alike : (q : Ask) (m : ℕ) (one two : RecordingValue) → IsNoLine m on
 no_line_alike q m one two none = ap (λ o. changes_for q (notes_of o)) (none.0 ∙ sym none.1)
 
 has_verdict : (edit : ℕ → Option Edit) (r : RecordingValue) (repair : Repair) (q : Ask) (n m : ℕ)
-    → AreSettled edit r repair → IsCause q n r repair.recording m → verdict_at m repair.verdicts.items ≡ None → ⊥
+    → AreSettled edit r repair → IsCause q n r repair.recording m → verdict_on m repair ≡ None → ⊥
 has_verdict edit r repair q n m settled cause missing =
     let steps = settled.0 in
     let whole : IsSettled edit r steps repair = settled.1 in
     let lawless : ¬ (IsWellFormed (recording_chosen r steps)) = λ w.
     let chosen = whole.chosen w in
-    let none = none_chosen m r.lines steps whole.all (sym (ap (verdict_at m) chosen.verdicts_are) ∙ missing) in
+    let none = none_chosen m r.lines steps whole.all (sym (ap (verdict_at m)
+    (chosen_verdicts edit r.lines steps repair.lines.items r.first r.first chosen.lines_are)) ∙ missing) in
     cause.otherwise (no_line_alike q m r repair.recording
     (none.0, ap (λ (x : RecordingValue). noted_at m x.lines) chosen.recording_is ∙ none.1)) in
     let again = whole.again lawless in
     cause.otherwise (no_line_alike q m r repair.recording
     (none_edited edit m r.lines repair.recording.lines again.recording_is.lines
-    (sym (ap (verdict_at m) again.verdicts_are) ∙ missing)))
+    (sym (ap (verdict_at m) (ap (map pair_in) again.lines_are ∙ again_verdicts edit r.lines)) ∙ missing)))
 
 pub cancelled_or_redone : (edit : ℕ → Option Edit) (r : RecordingValue) (repair : Repair) (q : Ask) (n m : ℕ)
     → AreSettled edit r repair → IsCause q n r repair.recording m
-    → (verdict_at m repair.verdicts.items ≡ Some Cancelled) ⊎ (verdict_at m repair.verdicts.items ≡ Some Redone)
+    → (verdict_on m repair ≡ Some Cancelled) ⊎ (verdict_on m repair ≡ Some Redone)
 cancelled_or_redone edit r repair q n m settled cause =
-    go (verdict_at m repair.verdicts.items) (has_verdict edit r repair q n m settled cause)
+    go (verdict_on m repair) (has_verdict edit r repair q n m settled cause)
     (not_kept edit r repair q n m settled cause)
   where
     go : (o : Option Verdict) → (o ≡ None → ⊥) → (o ≡ Some Kept → ⊥) → (o ≡ Some Cancelled) ⊎ (o ≡ Some Redone)

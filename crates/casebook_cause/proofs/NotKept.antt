@@ -8,14 +8,15 @@ use Rattle.retro_keep.specs.Recording.{IsWellFormed, RecordingValue, noted_at, n
 use Rattle.retro_keep.specs.declared.edit.Edit.{Edit}
 use Rattle.retro_keep.specs.declared.noted.Noted.{Noted}
 use Rattle.retro_redo.specs.Moments.{text_now}
-use Rattle.retro_redo.specs.Progress.{line_chosen, lines_chosen, verdict_of, verdicts_chosen}
-use Rattle.retro_redo.specs.Repair.{verdict_again, verdict_by}
+use Rattle.retro_redo.specs.Progress.{line_chosen, lines_chosen, verdict_of}
+use Rattle.retro_redo.specs.Repair.{verdict_by, verdicts_in}
 use Rattle.retro_redo.specs.Settled.{AreSettled, IsSettled, recording_chosen}
 use Rattle.retro_redo.specs.declared.repair.Repair.{Repair}
 use Rattle.retro_redo.specs.declared.step.Step.{Step}
 use Rattle.retro_redo.specs.declared.step.Step.TheVariants.{Cancel, Keep, Take}
 use Rattle.retro_redo.specs.declared.verdict.Verdict.TheVariants.{Kept}
-use Rattle.casebook_cause.specs.Cause.{IsAlike, IsCause, changes_for, notes_of, verdict_at}
+use Rattle.retro_redo.proofs.Verdicts.{again_verdicts, chosen_verdicts, pair_in, verdict_again, verdicts_chosen}
+use Rattle.casebook_cause.specs.Cause.{IsAlike, IsCause, changes_for, notes_of, verdict_at, verdict_on}
 
 -- ---- a repair by choices
 
@@ -63,18 +64,19 @@ never_again m edit (l ∷ lines) is = by_test (l.0 == m) is (never_again m edit 
 -- ---- causes
 
 kept_alike : (r : RecordingValue) (steps : List Step) (repair : Repair) (q : Ask) (m : ℕ)
-    → repair.recording ≡ recording_chosen r steps → repair.verdicts.items ≡ verdicts_chosen r.lines steps
-    → verdict_at m repair.verdicts.items ≡ Some Kept → IsAlike q r repair.recording m
+    → repair.recording ≡ recording_chosen r steps → verdicts_in repair ≡ verdicts_chosen r.lines steps
+    → verdict_on m repair ≡ Some Kept → IsAlike q r repair.recording m
 kept_alike r steps repair q m recording_is verdicts_are kept =
     ap (λ o. changes_for q (notes_of o))
     (sym (kept_same m r.lines steps (sym (ap (verdict_at m) verdicts_are) ∙ kept))
     ∙ ap (λ (x : RecordingValue). noted_at m x.lines) (sym recording_is))
 
 pub not_kept : (edit : ℕ → Option Edit) (r : RecordingValue) (repair : Repair) (q : Ask) (n m : ℕ)
-    → AreSettled edit r repair → IsCause q n r repair.recording m → verdict_at m repair.verdicts.items ≢ Some Kept
+    → AreSettled edit r repair → IsCause q n r repair.recording m → verdict_on m repair ≢ Some Kept
 not_kept edit r repair q n m settled cause kept =
     let steps = settled.0 in
     let whole : IsSettled edit r steps repair = settled.1 in
     let lawless : ¬ (IsWellFormed (recording_chosen r steps)) = λ w.
-    cause.otherwise (kept_alike r steps repair q m (whole.chosen w).recording_is (whole.chosen w).verdicts_are kept) in
-    never_again m edit r.lines (sym (ap (verdict_at m) (whole.again lawless).verdicts_are) ∙ kept)
+    cause.otherwise (kept_alike r steps repair q m (whole.chosen w).recording_is
+    (chosen_verdicts edit r.lines steps repair.lines.items r.first r.first (whole.chosen w).lines_are) kept) in
+    never_again m edit r.lines (sym (ap (verdict_at m) (ap (map pair_in) (whole.again lawless).lines_are ∙ again_verdicts edit r.lines)) ∙ kept)

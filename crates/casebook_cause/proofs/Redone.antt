@@ -15,12 +15,13 @@ use Rattle.retro_keep.specs.declared.edit.Edit.{Edit}
 use Rattle.retro_keep.specs.declared.noted.Noted.{Noted}
 use Rattle.retro_keep.specs.declared.script.ScriptLine.{ScriptLine}
 use Rattle.retro_history.proofs.Chains.{Lines, Rise, above, later, not_below}
-use Rattle.retro_redo.specs.Moments.{AreVerdicts, IsStaleBy, IsVerdict, Moment, moments, state_of_run}
+use Rattle.retro_redo.specs.Moments.{AreSettledLines, IsStaleBy, IsVerdict, Moment, moments, state_of_run}
 use Rattle.retro_redo.specs.Repair.{IsRepair}
 use Rattle.retro_redo.specs.declared.repair.Repair.{Repair}
-use Rattle.retro_redo.specs.declared.verdict.Verdict.{Verdict}
+use Rattle.retro_redo.specs.declared.verdict.SettledLine.{SettledLine}
 use Rattle.retro_redo.specs.declared.verdict.Verdict.TheVariants.{Redone}
-use Rattle.casebook_cause.specs.Cause.{verdict_at}
+use Rattle.retro_redo.proofs.Verdicts.{pair_in}
+use Rattle.casebook_cause.specs.Cause.{verdict_at, verdict_on}
 
 -- a line with the states before it in the two runs
 abbrev moment : ℕ × Noted → State → State → Moment
@@ -79,16 +80,16 @@ found_above n low (l ∷ lines) noted rise e =
 
 module _ (edit : ℕ → Option Edit) (n : ℕ) (noted : Noted) where
   -- what is to show of the lines from some on
-  abbrev Fails : Lines → State → List (ℕ × Verdict) → Type 0
+  abbrev Fails : Lines → State → List SettledLine → Type 0
   Fails lines s vs = (now : Lines) (t : State) → AreEdited edit lines now → AllRecorded now t
-      → AreVerdicts edit (moments edit lines s t) vs → noted_at n lines ≡ Some noted → verdict_at n vs ≡ Some Redone
+      → AreSettledLines edit (moments edit lines s t) vs → noted_at n lines ≡ Some noted → verdict_at n (map pair_in vs) ≡ Some Redone
       → ¬ (Holds noted.notes (last_state (lines_below n now) t))
 
   -- the lines after a line that runs a text or none
-  after_text : (l : ℕ × Noted) (lines : Lines) (s : State) (vs : List (ℕ × Verdict)) → Fails lines s vs → l.0 < n
-      → noted_at n lines ≡ Some noted → verdict_at n vs ≡ Some Redone → (o : Option (List ℕ)) (now : Lines) (t : State)
+  after_text : (l : ℕ × Noted) (lines : Lines) (s : State) (vs : List SettledLine) → Fails lines s vs → l.0 < n
+      → noted_at n lines ≡ Some noted → verdict_at n (map pair_in vs) ≡ Some Redone → (o : Option (List ℕ)) (now : Lines) (t : State)
       → map script_line now ≡ line_run (script_line l) o ++ edited edit (map script_line lines) → AllRecorded now t
-      → AreVerdicts edit (moments edit lines s (state_of_run l.1.sid o t)) vs
+      → AreSettledLines edit (moments edit lines s (state_of_run l.1.sid o t)) vs
       → ¬ (Holds noted.notes (last_state (lines_below n now) t))
   after_text l lines s vs rest less found redone None now t e recorded verdicts =
       rest now t e recorded verdicts found redone
@@ -103,31 +104,31 @@ module _ (edit : ℕ → Option Edit) (n : ℕ) (noted : Noted) where
       (λ i. (line (sid i) (same i) t).0) ∙ ap (λ p. p.0) recorded.0.means in
       let below : nat_lt k.0 n ≡ true = lt-ltb k.0 n (omega (arith, number, less)) in
       rest ks (after k.1.notes t) tail recorded.1
-      (subst (λ u. AreVerdicts edit (moments edit lines s u) vs) reached verdicts) found redone
+      (subst (λ u. AreSettledLines edit (moments edit lines s u) vs) reached verdicts) found redone
       (subst (λ (b : Bool). Holds noted.notes (last_state (if b then k ∷ lines_below n ks else lines_below n ks) t))
       below held)
 
-  redone_at : edit n ≡ None → (lines : Lines) (low : ℕ) (s : State) (vs : List (ℕ × Verdict)) → Rise low lines
+  redone_at : edit n ≡ None → (lines : Lines) (low : ℕ) (s : State) (vs : List SettledLine) → Rise low lines
       → Fails lines s vs
   redone_at none [] low s vs rise now t are recorded verdicts found redone = absurd (none_some noted found)
   redone_at none (l ∷ lines) low s [] rise now t are recorded verdicts found redone = absurd verdicts
   redone_at none (l ∷ lines) low s (v ∷ vs) rise now t are recorded verdicts found redone =
-      by_number (l.0 == n) refl found (v.0 == n) refl redone
+      by_number (l.0 == n) refl found (v.number == n) refl redone
       (redone_at none lines l.0 (line l.1.sid l.1.text s).0 vs (later low l lines rise))
     where
-      apart : (l.0 == n) ≡ (v.0 == n)
-      apart = ap (λ k. k == n) (sym verdicts.0)
+      apart : (l.0 == n) ≡ (v.number == n)
+      apart = ap (λ k. k == n) (sym verdicts.0.0)
 
       by_number : (b : Bool) → (l.0 == n) ≡ b → (if b then Some l.1 else noted_at n lines) ≡ Some noted
-          → (a : Bool) → (v.0 == n) ≡ a → (if a then Some v.1 else verdict_at n vs) ≡ Some Redone
+          → (a : Bool) → (v.number == n) ≡ a → (if a then Some v.verdict else verdict_at n (map pair_in vs)) ≡ Some Redone
           → Fails lines (line l.1.sid l.1.text s).0 vs → ¬ (Holds noted.notes (last_state (lines_below n now) t))
       by_number true e is true d stale rest = λ held.
           let here : l.0 ≡ n = eqb-true l.0 n e in
           let same : l.1 ≡ noted = cc in
-          let redo : v.1 ≡ Redone = cc in
+          let redo : v.verdict ≡ Redone = cc in
           let fails : ¬ (Holds l.1.notes t) =
           subst (λ o. IsStaleBy o l.1.notes t) (ap edit here ∙ none)
-          (subst (IsVerdict edit (moment l s t)) redo verdicts.1) in
+          (subst (IsVerdict edit (moment l s t)) redo verdicts.0.1) in
           let nothing : lines_below n now ≡ [] =
           none_at edit n l lines now (omega (arith, here))
           (λ ks f. none_now edit n l.0 lines ks (omega (arith, here)) (later low l lines rise) f) are in
@@ -138,15 +139,15 @@ module _ (edit : ℕ → Option Edit) (n : ℕ) (noted : Noted) where
       by_number false e is false d stale rest =
           after_text l lines (line l.1.sid l.1.text s).0 vs rest
           (found_above n l.0 lines noted (later low l lines rise) is) is stale (text_run (edit l.0) l.1.text) now t are
-          recorded verdicts.2
+          recorded verdicts.1
 
 pub redone_fails : (edit : ℕ → Option Edit) (r : RecordingValue) (repair : Repair) (n : ℕ) (noted : Noted)
     → IsWellFormed r → IsRepair edit r repair → noted_at n r.lines ≡ Some noted → edit n ≡ None
-    → verdict_at n repair.verdicts.items ≡ Some Redone → ¬ (Holds noted.notes (recorded_before n repair.recording))
+    → verdict_on n repair ≡ Some Redone → ¬ (Holds noted.notes (recorded_before n repair.recording))
 unfolding recorded_before
 redone_fails edit r repair n noted well repaired found none redone =
     let again = repaired.recording_is in
-    redone_at edit n noted none r.lines 0 r.first repair.verdicts.items well.rising repair.recording.lines
+    redone_at edit n noted none r.lines 0 r.first repair.lines.items well.rising repair.recording.lines
     repair.recording.first again.lines again.recorded
-    (subst (λ t. AreVerdicts edit (moments edit r.lines r.first t) repair.verdicts.items) (sym again.first)
-    repaired.verdicts_are) found redone
+    (subst (λ t. AreSettledLines edit (moments edit r.lines r.first t) repair.lines.items) (sym again.first)
+    repaired.lines_are) found redone

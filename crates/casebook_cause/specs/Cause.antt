@@ -8,6 +8,8 @@ use Rattle.retro_tree.specs.declared.change.Change.{Change}
 use Rattle.retro_tree.specs.declared.note.Note.{Note}
 use Rattle.retro_keep.specs.Recording.{RecordingValue, noted_at}
 use Rattle.retro_keep.specs.declared.noted.Noted.{Noted}
+use Rattle.retro_redo.specs.Repair.{verdicts_in}
+use Rattle.retro_redo.specs.declared.repair.Repair.{Repair}
 use Rattle.retro_redo.specs.declared.verdict.Verdict.{Verdict}
 use Rattle.casebook_cause.specs.LineResult.{changes_in}
 
@@ -39,7 +41,11 @@ pub record IsCause (q : Ask) (n : ℕ) (one two : RecordingValue) (m : ℕ) : Ty
   pub otherwise : ¬ (IsAlike q one two m)
   pub last : (k : ℕ) → m < k → k < n → IsAlike q one two k
 
--- the verdict on the line with a number, or None if there is none
+-- the first of some verdicts that is on the line with a number, or None if there is none
 abbrev pub verdict_at : ℕ → List (ℕ × Verdict) → Option Verdict
 verdict_at n [] = None
 verdict_at n (v ∷ verdicts) = if v.0 == n then Some v.1 else verdict_at n verdicts
+
+-- the verdict of a repair on the line with a number
+abbrev pub verdict_on : ℕ → Repair → Option Verdict
+verdict_on n repair = verdict_at n (verdicts_in repair)

@@ -12,11 +12,11 @@ ghost use Rattle.retro_keep.specs.Recorded.{recorded_before};
 ghost use Rattle.retro_keep.specs.Recording.{IsWellFormed, RecordingValue, noted_at};
 ghost use Rattle.retro_keep.specs.declared.edit.Edit.{Edit};
 ghost use Rattle.retro_keep.specs.declared.noted.Noted.{Noted};
-ghost use Rattle.retro_redo.specs.Repair.{IsRepair};
+ghost use Rattle.retro_redo.specs.Repair.{IsRepair, compensations_in};
 ghost use Rattle.retro_redo.specs.Settled.{AreSettled};
 ghost use Rattle.retro_redo.specs.declared.repair.Repair.{Repair};
 ghost use Rattle.retro_redo.specs.declared.verdict.Verdict.TheVariants.{Cancelled, Redone};
-ghost use Rattle.casebook_cause.specs.Cause.{IsCause, verdict_at};
+ghost use Rattle.casebook_cause.specs.Cause.{IsCause, verdict_on};
 ghost use Rattle.casebook_cause.specs.Compensations.{AreParts, leaks, tellings};
 ghost use Rattle.casebook_cause.specs.FailingNote.{IsFirstFailing};
 
@@ -24,8 +24,8 @@ ghost use Rattle.casebook_cause.specs.FailingNote.{IsFirstFailing};
 /// lines, merged in order.
 #[tactic(auto, using(crate::proofs::Parts::both_parts))]
 pub fn leaks_and_tellings_are_all()
-    ensures { (repair : Repair)
-        → AreParts (leaks repair) (tellings repair) repair.compensations.items }
+    ensures { (r : RecordingValue) (repair : Repair)
+        → AreParts (leaks r repair) (tellings r repair) (compensations_in r repair) }
 {}
 
 /// States that the notes of a line that a repair runs again don't hold before it in the repaired
@@ -35,7 +35,7 @@ pub fn redone_lines_have_a_failing_note()
     ensures { (edit : ℕ → Option Edit) (r : RecordingValue) (repair : Repair) (n : ℕ)
         (noted : Noted) → IsWellFormed r → IsRepair edit r repair
         → noted_at n r.lines ≡ Some noted → edit n ≡ None
-        → verdict_at n repair.verdicts.items ≡ Some Redone
+        → verdict_on n repair ≡ Some Redone
         → ¬ (Holds noted.notes (recorded_before n repair.recording)) }
 {}
 
@@ -56,6 +56,6 @@ pub fn failing_queries_have_another_answer()
 pub fn causes_are_cancelled_or_redone()
     ensures { (edit : ℕ → Option Edit) (r : RecordingValue) (repair : Repair) (q : Ask) (n m : ℕ)
         → AreSettled edit r repair → IsCause q n r repair.recording m
-        → (verdict_at m repair.verdicts.items ≡ Some Cancelled)
-        ⊎ (verdict_at m repair.verdicts.items ≡ Some Redone) }
+        → (verdict_on m repair ≡ Some Cancelled)
+        ⊎ (verdict_on m repair ≡ Some Redone) }
 {}

@@ -30,7 +30,7 @@
 //!   (`failing_queries_have_another_answer`). A cause is a line that the repair cancels or runs
 //!   again (`causes_are_cancelled_or_redone`), and earlier than what it causes: so each chain of
 //!   causes ends at an edited line.
-//! - `leaks` returns the compensations of the lines that a verdict cancels, `tellings` all others,
+//! - `leaks` returns the compensations of the cancelled lines, `tellings` all others,
 //!   both in order. Merged in order they are the repair's compensations
 //!   (`leaks_and_tellings_are_all`).
 #![tactic(auto)]

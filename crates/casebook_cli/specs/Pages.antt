@@ -10,7 +10,7 @@ use Rattle.casebook_cli.specs.Inputs.{InputsValue}
 use Rattle.casebook_cli.specs.Repairs.{IsAsked}
 use Rattle.casebook_cli.specs.Request.{PageRequest}
 use Rattle.casebook_cli.specs.Screens.{IsSummary}
-use Rattle.casebook_cli.specs.declared.repairs.Asked.{Asked}
+use Rattle.casebook_cli.specs.declared.repairs.AskedRepair.{AskedRepair}
 
 -- The text is a page with a row for each line of the recording, but for untouched lines if they are
 -- many and not all are asked for.
@@ -22,6 +22,6 @@ pub record IsPageOf (edits : List Edit) (r : RecordingValue) (repair : Repair) (
 
 -- The text is a page of the repair of the log that is asked for.
 pub record IsPage (inputs : InputsValue) (request : PageRequest) (text : List ℕ) : Type 0 where
-  pub asked : Asked
+  pub asked : AskedRepair
   pub is_asked : IsAsked inputs request.repair asked
   pub is_page : IsPageOf asked.edits.items asked.recording asked.repair request.all text

@@ -22,7 +22,7 @@ use Rattle.casebook_cli.specs.Inputs.{DocumentValue, InputsValue, SourcesValue}
 use Rattle.casebook_cli.specs.Labels.{AreLabels}
 use Rattle.casebook_cli.specs.Request.{Query, RepairRequest, RoundsValue}
 use Rattle.casebook_cli.specs.Request.{check, lines, page, show}
-use Rattle.casebook_cli.specs.declared.repairs.Asked.{Asked}
+use Rattle.casebook_cli.specs.declared.repairs.AskedRepair.{AskedRepair}
 
 -- ---- documents
 
@@ -83,9 +83,9 @@ pub record IsRepairBy (rounds : Option RoundsValue) (edits : List Edit) (r : Rec
   pub is_repair : IsRecordingOf (recordings.script_in r) r → IsRepair (edit_of edits) r repair
   pub settled : AreSettled (edit_of edits) r repair
 
--- the verdicts of a repair are in order of lines
-abbrev pub VerdictsRise : Repair → Type 0
-VerdictsRise repair = IsTrue (rises_from 0 (map (λ v. v.0) repair.verdicts.items))
+-- the lines of a repair are in order of their numbers
+abbrev pub LinesRise : Repair → Type 0
+LinesRise repair = IsTrue (rises_from 0 (map (λ l. l.number) repair.lines.items))
 
 -- the edits that leave out the lines with these numbers
 abbrev pub cancelled : List ℕ → List Edit
@@ -98,7 +98,7 @@ pub record AreEdits (list : List ℕ) (replacements : List Edit) (r : RecordingV
   pub are_edits : edits ≡ cancelled numbers ++ replacements
 
 -- The repair of the log that is asked for, with names and times.
-pub record IsAsked (inputs : InputsValue) (request : RepairRequest) (asked : Asked) : Type 0 where
+pub record IsAsked (inputs : InputsValue) (request : RepairRequest) (asked : AskedRepair) : Type 0 where
   pub log : log_in inputs.log.bytes ≡ Ok asked.recording
   pub list : List ℕ
   pub is_list : IsListGiven request.cancel inputs.list list

@@ -28,7 +28,7 @@ use Rattle.casebook_cli.specs.Inputs.{InputsValue}
 use Rattle.casebook_cli.specs.Lines.{widest_name}
 use Rattle.casebook_cli.specs.Repairs.{IsAsked}
 use Rattle.casebook_cli.specs.Request.{ShowRequest}
-use Rattle.casebook_cli.specs.declared.repairs.Asked.{Asked}
+use Rattle.casebook_cli.specs.declared.repairs.AskedRepair.{AskedRepair}
 use Rattle.casebook_cli.specs.Colours.{shown_lines}
 use Rattle.casebook_cli.specs.declared.screens.Parts.{Parts}
 use Rattle.casebook_json.specs.Summary.{summary_text}
@@ -46,7 +46,7 @@ Rise summary =
 
 -- What a repair by edits would do.
 pub record IsSummary (edits : List Edit) (r : RecordingValue) (repair : Repair) (summary : Summary) : Type 0 where
-  pub fates : AreFates r repair repair.verdicts.items summary.fates.items
+  pub fates : AreFates r repair repair.lines.items summary.fates.items
   pub reasons : AreReasons edits r repair summary.reasons.items
   pub restorations : AreChangedPaths (last_state r.lines r.first).tree (repaired_state repair).tree
       summary.restorations.items
@@ -54,8 +54,8 @@ pub record IsSummary (edits : List Edit) (r : RecordingValue) (repair : Repair) 
   pub doubtful : summary.doubtful.items
       ≡ filter (is_doubtful r repair.recording summary.unknown.items) (map path_in summary.restorations.items)
   pub notices : summary.notices.items ≡ map (notice_for r summary.reasons.items)
-      (filter (is_understood summary.unknown.items) (tellings repair))
-  pub leaks : summary.leaks.items ≡ map (leak_for r) (filter (is_understood summary.unknown.items) (leaks repair))
+      (filter (is_understood summary.unknown.items) (tellings r repair))
+  pub leaks : summary.leaks.items ≡ map (leak_for r) (filter (is_understood summary.unknown.items) (leaks r repair))
   pub effects : map effect_value summary.effects.items ≡ effects_of r summary.reasons.items summary.fates.items
   pub rise : Rise summary
 
@@ -145,6 +145,6 @@ pub record IsShownOf (edits : List Edit) (r : RecordingValue) (repair : Repair) 
 
 -- The text shows the repair of the log that is asked for.
 pub record IsShown (colours : Bool) (inputs : InputsValue) (request : ShowRequest) (text : List ℕ) : Type 0 where
-  pub asked : Asked
+  pub asked : AskedRepair
   pub is_asked : IsAsked inputs request.repair asked
   pub is_shown : IsShownOf asked.edits.items asked.recording asked.repair asked.labels request.shown colours text

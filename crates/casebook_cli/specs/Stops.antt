@@ -24,7 +24,7 @@ use Rattle.casebook_cli.specs.Labels.{AreLabels, IsAbout}
 use Rattle.casebook_cli.specs.Lines.{pattern_config, sessions_named}
 use Rattle.casebook_cli.specs.Repairs.{AreEdits, IsAsked, IsListGiven, lines_in, sources_of}
 use Rattle.casebook_cli.specs.Request.{LinesRequest, Query, RepairRequest, Request, RoundsValue, ShowRequest, ask, check, help, lines, page, request_in, show}
-use Rattle.casebook_cli.specs.declared.repairs.Asked.{Asked}
+use Rattle.casebook_cli.specs.declared.repairs.AskedRepair.{AskedRepair}
 use Rattle.casebook_cli.specs.declared.searched.Searched.{Searched}
 use Rattle.casebook_cli.specs.declared.searched.Searched.TheVariants as searched_in
 use Rattle.casebook_cli.specs.declared.shown.Shown.{Shown}
@@ -186,7 +186,7 @@ StopsShown other r stop = stop ≡ stops.OutOfMemory
 
 pub data StopsShow (inputs : InputsValue) (request : ShowRequest) (stop : Stop) : Type 0 where
   not_asked : StopsAsked inputs request.repair stop → StopsShow inputs request stop
-  not_shown : (asked : Asked) → IsAsked inputs request.repair asked
+  not_shown : (asked : AskedRepair) → IsAsked inputs request.repair asked
       → StopsShown request.shown asked.recording stop → StopsShow inputs request stop
 
 -- ---- requests

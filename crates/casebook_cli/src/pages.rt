@@ -1,10 +1,10 @@
 //! Pages of repairs.
 ghost use Rattle.std.specs.Prelude.{IfOk, string_bytes};
 ghost use Rattle.casebook_cli.specs.Pages.{IsPageOf};
-ghost use Rattle.casebook_cli.specs.Repairs.{VerdictsRise};
+ghost use Rattle.casebook_cli.specs.Repairs.{LinesRise};
 
 use crate::NoMem;
-use crate::repairs::{Asked, summary_of};
+use crate::repairs::{AskedRepair, summary_of};
 use casebook_page::{Contents, page};
 use casebook_view::{Case, Filters, rows};
 use casebook_words::Labels;
@@ -29,7 +29,7 @@ fn page_of_case<'x>(
     title: &'x str,
     all: bool,
 ) -> Result<String, NoMem>
-    requires { VerdictsRise case.now.repair }
+    requires { LinesRise case.now.repair }
     ensures { IfOk result (λ text.
         IsPageOf case.entry.now.edits case.entry.now.recording case.entry.now.repair all
         (string_bytes text)) }
@@ -53,11 +53,11 @@ fn page_of_case<'x>(
 /// lines.
 pub(crate) fn page_text(
     alloc: Global,
-    asked: &Asked,
+    asked: &AskedRepair,
     title: &str,
     all: bool,
 ) -> Result<String, NoMem>
-    requires { VerdictsRise asked.now.repair }
+    requires { LinesRise asked.now.repair }
     ensures { IfOk result (λ text.
         IsPageOf asked.now.edits.items asked.now.recording asked.now.repair all
         (string_bytes text)) }

@@ -1,6 +1,6 @@
 //! Repairs that are asked for.
 ghost use Rattle.std.specs.Prelude.{◌≡◌, IfOk, IfErr, option_map};
-ghost use Rattle.casebook_cli.specs.Repairs.{AreEdits, IsAsked, IsRepairBy, VerdictsRise};
+ghost use Rattle.casebook_cli.specs.Repairs.{AreEdits, IsAsked, IsRepairBy, LinesRise};
 ghost use Rattle.casebook_cli.specs.Repairs.{lines_in};
 ghost use Rattle.casebook_cli.specs.Screens.{IsSummary};
 ghost use Rattle.casebook_cli.specs.Stops.{IsRefused, StopsAsked, StopsNumbers, StopsRepair};
@@ -25,7 +25,7 @@ use std::thread::Threads;
 
 /// A repair that is asked for, with what it is a repair of.
 #[derive(Drop)]
-pub(crate) struct Asked {
+pub(crate) struct AskedRepair {
     /// The recording of the log.
     pub(crate) recording: Recording,
     /// Its repair by the edits, as it is asked for.
@@ -36,7 +36,7 @@ pub(crate) struct Asked {
     pub(crate) labels: Labels,
 }
 
-impl Asked {
+impl AskedRepair {
     /// Returns the recording with its repair.
     pub(crate) fn case(&self, alloc: Global) -> Result<Case<'_>, NoMem>
         ensures recording { IfOk result (λ case. case.recording ≡ self.now.recording) }
@@ -49,7 +49,7 @@ impl Asked {
 
 /// Returns what a repair would do.
 pub(crate) fn summary_of(alloc: Global, case: &Case<'_>) -> Result<Summary, NoMem>
-    requires { VerdictsRise case.now.repair }
+    requires { LinesRise case.now.repair }
     ensures { IfOk result (IsSummary case.now.edits case.now.recording case.now.repair) }
 {
     Summary::of(alloc, case)
@@ -123,9 +123,9 @@ pub(crate) fn asked_repair<'a, R: Threads + Sync + AllocGlobal, P: Progress>(
     progress: &P,
     inputs: &Inputs<'a>,
     request: RepairRequest<'a>,
-) -> Result<Asked, Stop<'a>>
+) -> Result<AskedRepair, Stop<'a>>
     ensures ok { IfOk result (IsAsked (inputs_view inputs.now) (repair_view request.entry)) }
-    ensures rise { IfOk result (λ asked. VerdictsRise asked.repair) }
+    ensures rise { IfOk result (λ asked. LinesRise asked.repair) }
     ensures err { IfErr result (StopsAsked (inputs_view inputs.now) (repair_view request.entry)) }
 {
     let alloc = rt.alloc();
@@ -138,7 +138,7 @@ pub(crate) fn asked_repair<'a, R: Threads + Sync + AllocGlobal, P: Progress>(
     progress.begin(Step::Repairing(recording.lines().len()));
     let repair = repair_by(rt, &recording, edits.as_slice(), &request.rounds)?;
     progress.begin(Step::Showing(recording.lines().len()));
-    Ok(Asked {
+    Ok(AskedRepair {
         recording,
         repair,
         edits,

@@ -1,7 +1,7 @@
 //! What is shown of repairs.
 ghost use Rattle.std.specs.Prelude.{◌≡◌, IfOk, IfErr, IsTrue, not, string_bytes};
 ghost use Rattle.casebook_cli.specs.Harmless.{IsHarmless, is_plain_shown};
-ghost use Rattle.casebook_cli.specs.Repairs.{VerdictsRise};
+ghost use Rattle.casebook_cli.specs.Repairs.{LinesRise};
 ghost use Rattle.casebook_cli.specs.Screens.{AreDiffLines, AreParts, AreSummaryLines, AreWhyLines};
 ghost use Rattle.casebook_cli.specs.Screens.{IsJson, IsLineText, IsScreenText, IsShownOf, IsTextOf};
 ghost use Rattle.casebook_cli.specs.Screens.{Rise};
@@ -10,7 +10,7 @@ ghost use Rattle.casebook_cli.specs.inner.Views.{screen_view};
 
 use crate::NoMem;
 use crate::colours::shown_lines;
-use crate::repairs::{Asked, summary_of};
+use crate::repairs::{AskedRepair, summary_of};
 use crate::rows_text::widest_name;
 use crate::shown::{Extras, Shown};
 use crate::stop::Stop;
@@ -170,7 +170,7 @@ fn text_of_case<'a>(
     shown: Shown,
     colours: bool,
 ) -> Result<String, Stop<'a>>
-    requires { VerdictsRise case.now.repair }
+    requires { LinesRise case.now.repair }
     ensures ok { IfOk result (λ text. IsShownOf case.now.edits case.now.recording
         case.now.repair labels.now shown colours (string_bytes text)) }
     ensures harmless { IfOk result (λ text. IsTrue (is_plain_shown colours shown)
@@ -191,11 +191,11 @@ fn text_of_case<'a>(
 /// Returns what is to be shown of a repair, with colours if they are wanted.
 pub(crate) fn shown_text<'a>(
     alloc: Global,
-    asked: &Asked,
+    asked: &AskedRepair,
     shown: Shown,
     colours: bool,
 ) -> Result<String, Stop<'a>>
-    requires { VerdictsRise asked.now.repair }
+    requires { LinesRise asked.now.repair }
     ensures ok { IfOk result (λ text. IsShownOf asked.now.edits.items asked.now.recording
         asked.now.repair asked.now.labels shown colours (string_bytes text)) }
     ensures harmless { IfOk result (λ text. IsTrue (is_plain_shown colours shown)

@@ -1,5 +1,5 @@
 -- Lines that are made of parts, one part after another.
-use Rattle.std.proofs.Common.{◌≡◌, ℕ, ◌+◌, ◌<◌, ◌≤◌, List, [], ◌∷◌, ◌++◌, ap, append_assoc, drop, get_or, length, refl, subst, sym, ◌∙◌}
+use Rattle.std.proofs.Common.{◌≡◌, ℕ, ◌+◌, ◌<◌, ◌≤◌, List, [], ◌∷◌, ◌++◌, ap, append_assoc, drop, get_or, length, map, refl, subst, sym, ◌∙◌}
 use Rattle.std.proofs.lemmas.List.{append-nil, drop_all, drop_more}
 use Rattle.casebook_cause.specs.declared.changed_path.ChangedPath.{ChangedPath}
 use Rattle.retro_tree.specs.Tree.{Tree}
@@ -7,13 +7,18 @@ use Rattle.casebook_screen.specs.Diffs.{AreParts, IsPathDiff}
 
 module _ {A : Type 0} (P : A → List (List ℕ) → Type 0) (xs : List A) where
   -- one more part
+  pub parts_next : (i : ℕ) (d : A) (lines part : List (List ℕ)) → i < length xs → P (get_or xs i d) part
+      → ((rest : List (List ℕ)) → AreParts P (drop i xs) rest → AreParts P xs (lines ++ rest))
+      → (rest : List (List ℕ)) → AreParts P (drop (i + 1) xs) rest → AreParts P xs ((lines ++ part) ++ rest)
+  parts_next i d lines part lt holds so_far rest after =
+      subst (AreParts P xs) (sym (append_assoc lines part rest))
+      (so_far (part ++ rest) (subst (λ t. AreParts P t (part ++ rest)) (sym (drop_more xs i d lt))
+      (part, rest, holds, after, refl)))
+
   pub parts_more : (i : ℕ) (x : A) (lines part : List (List ℕ)) → i < length xs → x ≡ get_or xs i x → P x part
       → ((rest : List (List ℕ)) → AreParts P (drop i xs) rest → AreParts P xs (lines ++ rest))
       → (rest : List (List ℕ)) → AreParts P (drop (i + 1) xs) rest → AreParts P xs ((lines ++ part) ++ rest)
-  parts_more i x lines part lt at holds so_far rest after =
-      let next : drop i xs ≡ x ∷ drop (i + 1) xs = drop_more xs i x lt ∙ ap (λ t. t ∷ drop (i + 1) xs) (sym at) in
-      subst (AreParts P xs) (sym (append_assoc lines part rest))
-      (so_far (part ++ rest) (subst (λ t. AreParts P t (part ++ rest)) (sym next) (part, rest, holds, after, refl)))
+  parts_more i x lines part lt at holds = parts_next i x lines part lt (subst (λ y. P y part) at holds)
 
   -- no part is left
   pub parts_all : (i : ℕ) (lines : List (List ℕ)) → length xs ≤ i
@@ -21,6 +26,12 @@ module _ {A : Type 0} (P : A → List (List ℕ) → Type 0) (xs : List A) where
   parts_all i lines le so_far =
       subst (AreParts P xs) (append-nil lines)
       (so_far [] (subst (λ t. AreParts P t []) (sym (drop_all i xs le)) refl))
+
+-- the parts of some items are those of what the items are seen as
+pub parts_map : {A B : Type 0} (f : A → B) (P : B → List (List ℕ) → Type 0) (xs : List A) (lines : List (List ℕ))
+    → AreParts (λ x. P (f x)) xs lines → AreParts P (map f xs) lines
+parts_map f P [] lines are = are
+parts_map f P (x ∷ xs) lines are = (are.0, are.1, are.2, parts_map f P xs are.1 are.3, are.4)
 
 -- the diffs of paths in two trees are those in equal trees
 pub same_trees : (before after old new : Tree) (paths : List ChangedPath) (lines : List (List ℕ))

@@ -6,8 +6,8 @@ use Rattle.casebook_cause.specs.declared.changed_path.ChangedPath.{ChangedPath}
 use Rattle.casebook_words.specs.FileLines.{lines_at, shown_lines}
 use Rattle.casebook_words.specs.Words.{path_words}
 use Rattle.retro_keep.specs.Recording.{RecordingValue, last_state}
-use Rattle.retro_redo.specs.Repair.{repaired_state}
-use Rattle.retro_redo.specs.declared.compensation.Compensation.{Compensation}
+use Rattle.retro_redo.specs.Moments.{CompensationValue}
+use Rattle.retro_redo.specs.Repair.{compensations_in, repaired_state}
 use Rattle.retro_redo.specs.declared.repair.Repair.{Repair}
 use Rattle.retro_tree.specs.Path.{PathValue}
 use Rattle.retro_tree.specs.Tree.{Tree}
@@ -63,7 +63,7 @@ abbrev pub output_name : ℕ → List ℕ
 output_name number = codes "output of line " ++ decimal number
 
 -- the diff of what a line printed and prints
-abbrev pub IsOutputDiff : Compensation → List (List ℕ) → Type 0
+abbrev pub IsOutputDiff : CompensationValue → List (List ℕ) → Type 0
 IsOutputDiff c lines =
     IsDiff (output_name c.number) (output_name c.number) (shown_lines c.before) (shown_lines c.now) lines
 
@@ -77,5 +77,5 @@ pub record AreDiffs (r : RecordingValue) (repair : Repair) (paths : List Changed
   pub of_paths : AreParts
       (λ changed. IsPathDiff (last_state r.lines r.first).tree (repaired_state repair).tree changed.path)
       paths files
-  pub of_outputs : AreParts IsOutputDiff repair.compensations.items outputs
+  pub of_outputs : AreParts IsOutputDiff (compensations_in r repair) outputs
   pub shown : lines ≡ [] ∷ (files ++ outputs)

@@ -3,6 +3,7 @@ ghost use Rattle.std.specs.Prelude.{◌≡◌, ◌++◌, ◌||◌, IfOk, OnOk, I
 ghost use Rattle.std.specs.List.{list_all};
 ghost use Rattle.std.specs.Option.{option_copied};
 ghost use Rattle.retro_keep.specs.Recording.{last_state};
+ghost use Rattle.retro_redo.specs.Moments.{compensation_view};
 ghost use Rattle.retro_redo.specs.Repair.{repaired_state};
 ghost use Rattle.casebook_text.specs.SafeText.{is_printable};
 ghost use Rattle.casebook_screen.specs.Diffs.{AreDiffs, AreParts, IsDiff, IsOutputDiff};
@@ -119,19 +120,19 @@ fn output_name(alloc: Global, number: u32) -> Result<SafeLine, NoMem>
 }
 
 /// Returns the diff of what a line printed and prints.
-fn output_diff(alloc: Global, compensation: &Compensation) -> Result<Vec<SafeLine>, NoMem>
-    ensures { IfOk result (λ lines. IsOutputDiff compensation.entry.now lines.items) }
+fn output_diff(alloc: Global, compensation: &Compensation<'_>) -> Result<Vec<SafeLine>, NoMem>
+    ensures { IfOk result (λ lines.
+        IsOutputDiff (compensation_view compensation.entry.now) lines.items) }
 {
     let name = output_name(alloc, compensation.number)?;
-    let before = compensation.before.as_slice();
-    let now = compensation.now.as_slice();
-    let file = FileLines::of_bytes(alloc, before, now)?;
+    let file = FileLines::of_bytes(alloc, compensation.before, compensation.now)?;
     named_diff(alloc, &name, &name, &file)
 }
 
 /// Returns the diffs of what lines printed and print.
-fn output_diffs(alloc: Global, compensations: &[Compensation]) -> Result<Vec<SafeLine>, NoMem>
-    ensures { IfOk result (λ lines. AreParts IsOutputDiff compensations.now lines.items) }
+fn output_diffs(alloc: Global, compensations: &[Compensation<'_>]) -> Result<Vec<SafeLine>, NoMem>
+    ensures { IfOk result (λ lines. AreParts (λ c. IsOutputDiff (compensation_view c))
+        compensations.now lines.items) }
 {
     let mut lines = Vec::new(alloc);
     for compensation in compensations {
@@ -154,9 +155,10 @@ pub fn diff_lines(
     let repair = case.repair();
     let before = case.recording().last().tree();
     let after = repair.state().tree();
+    let compensations = repair.compensations(alloc, case.recording())?;
     let mut lines = Vec::new(alloc);
     lines.push(SafeLine::new(alloc))?;
     lines.append(&mut path_diffs(alloc, before, after, changed)?)?;
-    lines.append(&mut output_diffs(alloc, repair.compensations.as_slice())?)?;
+    lines.append(&mut output_diffs(alloc, &compensations)?)?;
     Ok(lines)
 }

@@ -4,19 +4,19 @@ use Rattle.std.proofs.lemmas.List.{append-nil, drop_all}
 use Rattle.retro_keep.specs.Recording.{RecordingValue}
 use Rattle.retro_keep.specs.declared.noted.Noted.{Noted}
 use Rattle.retro_redo.specs.declared.repair.Repair.{Repair}
-use Rattle.retro_redo.specs.declared.verdict.Verdict.{Verdict}
+use Rattle.retro_redo.specs.declared.verdict.SettledLine.{SettledLine}
 use Rattle.casebook_view.specs.Fates.{AreFates, IsFateOfRuns, IsRedoneFate}
 use Rattle.casebook_view.specs.declared.fate.Fate.{Fate}
 use Rattle.casebook_view.specs.declared.fate.Fate.TheVariants.{Changed}
 
-module _ (r : RecordingValue) (repair : Repair) (vs : List (ℕ × Verdict)) (i : ℕ) where
+module _ (r : RecordingValue) (repair : Repair) (ls : List SettledLine) (i : ℕ) where
   -- no fates are left
-  pub fates_all : (fs : List (ℕ × Fate)) → length vs ≤ i
-      → ((rest : List (ℕ × Fate)) → AreFates r repair (drop i vs) rest → AreFates r repair vs (fs ++ rest))
-      → AreFates r repair vs fs
+  pub fates_all : (fs : List (ℕ × Fate)) → length ls ≤ i
+      → ((rest : List (ℕ × Fate)) → AreFates r repair (drop i ls) rest → AreFates r repair ls (fs ++ rest))
+      → AreFates r repair ls fs
   fates_all fs le so_far =
-      subst (λ t. AreFates r repair vs t) (append-nil fs)
-      (so_far [] (subst (λ t. AreFates r repair t []) (sym (drop_all i vs le)) tt))
+      subst (λ t. AreFates r repair ls t) (append-nil fs)
+      (so_far [] (subst (λ t. AreFates r repair t []) (sym (drop_all i ls le)) tt))
 
 -- ---- lines that are run again
 

@@ -1,10 +1,10 @@
 -- What a repair does with lines.
 use Rattle.std.specs.Prelude.{◌≡◌, ℕ, Bool, true, false, List, [], ◌∷◌, Option, Some, None}
 use Rattle.std.specs.Prelude.{option_map}
-use Rattle.retro_keep.specs.Edit.{is_among}
 use Rattle.retro_keep.specs.Recording.{RecordingValue, noted_at}
 use Rattle.retro_keep.specs.declared.noted.Noted.{Noted}
 use Rattle.retro_redo.specs.declared.repair.Repair.{Repair}
+use Rattle.retro_redo.specs.declared.verdict.SettledLine.{SettledLine}
 use Rattle.retro_redo.specs.declared.verdict.Verdict.{Verdict}
 use Rattle.retro_redo.specs.declared.verdict.Verdict.TheVariants as verdicts
 use Rattle.casebook_cause.specs.LineResult.{HasSameResult}
@@ -28,20 +28,23 @@ IsRedoneFate (Some old) (Some new) fate = IsFateOfRuns old new fate
 IsRedoneFate (Some old) None fate = fate ≡ fates.Changed
 IsRedoneFate None new fate = fate ≡ fates.Changed
 
--- the fate of a line with a verdict, in a recording and its repair
-abbrev pub IsFate : RecordingValue → Repair → ℕ → Verdict → Fate → Type 0
-IsFate r repair n verdicts.Cancelled fate = fate ≡ fates.Cancelled
-IsFate r repair n verdicts.Kept fate = fate ≡ kept_fate (is_among repair.met.items n)
-IsFate r repair n verdicts.Redone fate =
-    IsRedoneFate (noted_at n r.lines) (noted_at n repair.recording.lines) fate
+-- the fate of a line by the verdict on it, in a recording and its repair
+abbrev pub IsFateBy : RecordingValue → Repair → SettledLine → Verdict → Fate → Type 0
+IsFateBy r repair l verdicts.Cancelled fate = fate ≡ fates.Cancelled
+IsFateBy r repair l verdicts.Kept fate = fate ≡ kept_fate l.is_met
+IsFateBy r repair l verdicts.Redone fate =
+    IsRedoneFate (noted_at l.number r.lines) (noted_at l.number repair.recording.lines) fate
 
--- the fates of the lines with some verdicts, in order
-abbrev pub AreFates : RecordingValue → Repair → List (ℕ × Verdict) → List (ℕ × Fate) → Type 0
+abbrev pub IsFate : RecordingValue → Repair → SettledLine → Fate → Type 0
+IsFate r repair l fate = IsFateBy r repair l l.verdict fate
+
+-- the fates of some lines, in order
+abbrev pub AreFates : RecordingValue → Repair → List SettledLine → List (ℕ × Fate) → Type 0
 AreFates r repair [] [] = Unit {0}
 AreFates r repair [] (f ∷ fs) = ⊥
-AreFates r repair (v ∷ vs) [] = ⊥
-AreFates r repair (v ∷ vs) (f ∷ fs) =
-    (f.0 ≡ v.0) × IsFate r repair v.0 v.1 f.1 × AreFates r repair vs fs
+AreFates r repair (l ∷ lines) [] = ⊥
+AreFates r repair (l ∷ lines) (f ∷ fs) =
+    (f.0 ≡ l.number) × IsFate r repair l f.1 × AreFates r repair lines fs
 
 abbrev pub fate_eq : Fate → Fate → Bool
 fate_eq fates.Cancelled fates.Cancelled = true

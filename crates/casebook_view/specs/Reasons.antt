@@ -1,7 +1,7 @@
 -- Why lines are run again.
 use Rattle.std.specs.Prelude.{◌≡◌, ℕ, zero, suc, ◌<◌, Bool, true, false, IsTrue, List, [], ◌∷◌, ◌++◌, map, drop}
 use Rattle.std.specs.Prelude.{◌==◌, Option, Some, None, MatchOption}
-use Rattle.std.specs.List.{filter, list_any}
+use Rattle.std.specs.List.{list_any}
 use Rattle.retro_tree.specs.Notes.{Holds}
 use Rattle.retro_tree.specs.declared.ask.Ask.{Ask}
 use Rattle.retro_tree.specs.declared.note.Note.{Note}
@@ -12,9 +12,9 @@ use Rattle.retro_keep.specs.Recording.{RecordingValue, noted_at}
 use Rattle.retro_keep.specs.Script.{rises_from}
 use Rattle.retro_keep.specs.declared.edit.Edit.{Edit}
 use Rattle.retro_keep.specs.declared.edit.Edit.TheVariants.{Cancel, Replace}
+use Rattle.retro_redo.specs.Repair.{numbers_with}
 use Rattle.retro_redo.specs.declared.repair.Repair.{Repair}
-use Rattle.retro_redo.specs.declared.verdict.Verdict.{Verdict}
-use Rattle.retro_redo.specs.declared.verdict.Verdict.TheVariants.{Cancelled, Redone, Kept}
+use Rattle.retro_redo.specs.declared.verdict.Verdict.TheVariants.{Redone}
 use Rattle.casebook_cause.specs.Cause.{IsAlike, IsCause, notes_of}
 use Rattle.casebook_cause.specs.FailingNote.{IsFirstFailing}
 use Rattle.casebook_view.specs.ByNumber.{with_number}
@@ -125,18 +125,6 @@ chain_from (suc k) reasons n = chain_by (cause_in (reason_at n reasons)) (chain_
 
 -- ---- all lines
 
-abbrev pub is_redoing : Verdict → Bool
-is_redoing Cancelled = false
-is_redoing Redone = true
-is_redoing Kept = false
-
-abbrev pub is_redone : ℕ × Verdict → Bool
-is_redone v = is_redoing v.1
-
--- the numbers of the lines that are run again, in order
-abbrev pub redone_lines : List (ℕ × Verdict) → List ℕ
-redone_lines verdicts = map (λ v. v.0) (filter is_redone verdicts)
-
 -- A reason after others is that of its line. Its chain goes on as that of its cause, if the numbers
 -- of the lines rise.
 pub record IsNextReason (edits : List Edit) (r : RecordingValue) (repair : Repair)
@@ -153,5 +141,5 @@ AreReasonsAfter edits r repair earlier (x ∷ xs) =
 -- The reasons of a repair by edits: one for each line that is run again, in order.
 pub record AreReasons (edits : List Edit) (r : RecordingValue) (repair : Repair)
     (reasons : List Reason) : Type 0 where
-  pub lines : map number_in reasons ≡ redone_lines repair.verdicts.items
+  pub lines : map number_in reasons ≡ numbers_with Redone repair.lines.items
   pub each : AreReasonsAfter edits r repair [] reasons

@@ -3,7 +3,7 @@ use Rattle.std.specs.Prelude.{ℕ, List, Option, Some, None, length}
 use Rattle.retro_tree.specs.declared.ask.Ask.{Ask}
 use Rattle.retro_tree.specs.declared.note.Note.{Note}
 use Rattle.retro_keep.specs.Recording.{RecordingValue, noted_at}
-use Rattle.retro_redo.specs.declared.compensation.Compensation.{Compensation}
+use Rattle.retro_redo.specs.Moments.{CompensationValue}
 use Rattle.casebook_view.specs.Fates.{session_in}
 use Rattle.casebook_view.specs.Reasons.{notes_at, query_at, reason_at}
 use Rattle.casebook_view.specs.Subjects.{subject_of}
@@ -15,11 +15,11 @@ use Rattle.casebook_view.specs.declared.subject.Subject.TheVariants.{Text, Again
 use Rattle.casebook_view.specs.declared.why.Why.{Why}
 use Rattle.casebook_view.specs.declared.why.Why.TheVariants.{Replaced, Query, RunAgain}
 
-abbrev pub number_of : Compensation → ℕ
+abbrev pub number_of : CompensationValue → ℕ
 number_of compensation = compensation.number
 
 -- what a compensation of a cancelled line says of it
-abbrev pub leak_for : RecordingValue → Compensation → Leak
+abbrev pub leak_for : RecordingValue → CompensationValue → Leak
 leak_for r c = record {
   number = c.number;
   session = session_in (noted_at c.number r.lines);
@@ -51,7 +51,7 @@ abbrev pub line_subject : RecordingValue → List Reason → ℕ → Subject
 line_subject r reasons n = subject_by (notes_at n r) (reason_at n reasons)
 
 -- what a compensation of a line that isn't cancelled says of it
-abbrev pub notice_for : RecordingValue → List Reason → Compensation → Notice
+abbrev pub notice_for : RecordingValue → List Reason → CompensationValue → Notice
 notice_for r reasons c = record {
   number = c.number;
   session = session_in (noted_at c.number r.lines);

@@ -9,7 +9,7 @@ use Rattle.retro_tree.specs.Path.{PathValue}
 use Rattle.retro_tree.specs.declared.note.Note.{Note}
 use Rattle.retro_keep.specs.Recording.{RecordingValue, noted_at}
 use Rattle.retro_keep.specs.declared.noted.Noted.{Noted}
-use Rattle.retro_redo.specs.declared.compensation.Compensation.{Compensation}
+use Rattle.retro_redo.specs.Moments.{CompensationValue}
 use Rattle.casebook_usage.specs.declared.obstacle.Obstacle.{Obstacle}
 use Rattle.casebook_profile.specs.UnknownLines.{unknown_lines_of}
 use Rattle.casebook_profile.specs.declared.unknown_line.UnknownLine.{UnknownLine}
@@ -30,7 +30,7 @@ abbrev pub is_unknown : List UnknownLine → ℕ → Bool
 is_unknown unknown n = is_some (obstacle_at n unknown)
 
 -- whether a compensation is that of a line that is understood
-abbrev pub is_understood : List UnknownLine → Compensation → Bool
+abbrev pub is_understood : List UnknownLine → CompensationValue → Bool
 is_understood unknown c = not (is_unknown unknown c.number)
 
 -- ---- the lines of a repair

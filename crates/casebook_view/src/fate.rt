@@ -1,9 +1,5 @@
 //! What a repair does with lines.
-ghost use Rattle.std.specs.Prelude.{◌≡◌, ℕ, ◌||◌, IfOk, OnOk, Some};
-ghost use Rattle.std.specs.Ordering.{nat_cmp};
-ghost use Rattle.std.specs.BTreeMap.{is_at};
-ghost use Rattle.std.specs.List.{list_any};
-ghost use Rattle.retro_keep.specs.Edit.{is_among, is_number};
+ghost use Rattle.std.specs.Prelude.{IfOk, Some};
 ghost use Rattle.retro_keep.specs.Recording.{noted_at};
 ghost use Rattle.casebook_view.specs.Fates.{AreFates, IsFate, IsFateOfRuns, IsRedoneFate};
 
@@ -11,9 +7,8 @@ use crate::NoMem;
 use crate::case::Case;
 use casebook_cause::has_another_result;
 use retro_keep::Noted;
-use retro_redo::Verdict;
+use retro_redo::{SettledLine, Verdict};
 use std::alloc::Global;
-use std::collections::BTreeSet;
 
 /// What a repair does with a line.
 #[derive(Clone, Copy, Debug, PartialEq, Eq)]
@@ -63,38 +58,15 @@ fn fate_of_redone(case: &Case<'_>, number: u32) -> Fate
     }
 }
 
-/// Adds a number.
-fn add_number(numbers: &mut BTreeSet<u32>, number: u32) -> Result<(), NoMem>
-    ensures { OnOk result ((n : ℕ) → list_any (is_at (nat_cmp n)) numbers.new.keys
-        ≡ (list_any (is_at (nat_cmp n)) numbers.old.keys || is_number n number)) }
+/// Returns what becomes of a line, by what the repair did with it.
+fn fate_of(case: &Case<'_>, line: &SettledLine) -> Fate
+    ensures { IsFate case.now.recording case.now.repair line.now result }
 {
-    numbers.insert(number)?;
-    Ok(())
-}
-
-/// Returns the numbers of the lines that are met.
-fn met_lines(alloc: Global, met: &[u32]) -> Result<BTreeSet<u32>, NoMem>
-    ensures { IfOk result (λ numbers. (n : ℕ)
-        → list_any (is_at (nat_cmp n)) numbers.keys ≡ is_among met.now n) }
-{
-    let mut numbers = BTreeSet::new(alloc);
-    for number in met {
-        add_number(&mut numbers, *number)?;
-    }
-    Ok(numbers)
-}
-
-/// Returns what becomes of a line with a verdict.
-fn fate_of(case: &Case<'_>, met: &BTreeSet<u32>, number: u32, verdict: Verdict) -> Fate
-    ensures { ((n : ℕ) → list_any (is_at (nat_cmp n)) met.now.keys
-        ≡ is_among case.now.repair.met.items n)
-        → IsFate case.now.recording case.now.repair number verdict result }
-{
-    match verdict {
+    match line.verdict {
         Verdict::Cancelled => Fate::Cancelled,
-        Verdict::Redone => fate_of_redone(case, number),
+        Verdict::Redone => fate_of_redone(case, line.number),
         Verdict::Kept => {
-            if met.contains(&number) {
+            if line.is_met {
                 Fate::Kept
             } else {
                 Fate::Untouched
@@ -106,12 +78,11 @@ fn fate_of(case: &Case<'_>, met: &BTreeSet<u32>, number: u32, verdict: Verdict) 
 /// Returns what becomes of each line, in order.
 pub fn fates(alloc: Global, case: &Case<'_>) -> Result<Vec<(u32, Fate)>, NoMem>
     ensures { IfOk result (λ fates. AreFates case.now.recording case.now.repair
-        case.now.repair.verdicts.items fates.items) }
+        case.now.repair.lines.items fates.items) }
 {
-    let met = met_lines(alloc, case.repair().met.as_slice())?;
     let mut fates = Vec::new(alloc);
-    for line in &case.repair().verdicts {
-        fates.push((line.0, fate_of(case, &met, line.0, line.1)))?;
+    for line in &case.repair().lines {
+        fates.push((line.number, fate_of(case, line)))?;
     }
     Ok(fates)
 }

@@ -1,6 +1,7 @@
 //! What cancelled lines showed.
 ghost use Rattle.std.specs.Prelude.{◌≡◌, IfOk, map};
 ghost use Rattle.std.specs.List.{filter};
+ghost use Rattle.retro_redo.specs.Moments.{compensation_view};
 ghost use Rattle.casebook_cause.specs.Compensations.{leaks};
 ghost use Rattle.casebook_view.specs.Summaries.{leak_for};
 ghost use Rattle.casebook_view.specs.Unknown.{is_understood};
@@ -25,8 +26,8 @@ pub struct Leak {
 }
 
 /// Returns the leak of a cancelled line that is compensated.
-fn leak_of(case: &Case<'_>, compensation: &Compensation) -> Leak
-    ensures { result ≡ leak_for case.now.recording compensation.entry.now }
+fn leak_of(case: &Case<'_>, compensation: &Compensation<'_>) -> Leak
+    ensures { result ≡ leak_for case.now.recording (compensation_view compensation.entry.now) }
 {
     Leak {
         number: compensation.number,
@@ -39,9 +40,9 @@ fn leak_of(case: &Case<'_>, compensation: &Compensation) -> Leak
 /// understood. What such a line printed is Retro's own, and nobody saw it.
 pub fn leaks_of(alloc: Global, case: &Case<'_>, unknown: &[UnknownLine]) -> Result<Vec<Leak>, NoMem>
     ensures { IfOk result (λ found. found.items ≡ map (leak_for case.now.recording)
-        (filter (is_understood unknown.now) (leaks case.now.repair))) }
+        (filter (is_understood unknown.now) (leaks case.now.recording case.now.repair))) }
 {
-    let compensations = leaks(alloc, case.repair())?;
+    let compensations = leaks(alloc, case.recording(), case.repair())?;
     let obstacles = Obstacles::of(alloc, unknown)?;
     let mut found = Vec::new(alloc);
     for compensation in &compensations {

@@ -30,15 +30,15 @@
 //!   contracts, and its type keeps that its differences and its history are theirs.
 //!   `Case::cause_of` returns the last line before another one that changes differently what a
 //!   query asks about, or says that there is none [by `IsCauseOf`].
-//! - `fates` returns one fate for each verdict, in order [by `AreFates`]: a line that is run again
+//! - `fates` returns one fate for each line, in order [by `AreFates`]: a line that is run again
 //!   has another result exactly if its outputs or its changes differ.
 //! - `reasons` returns one reason for each line that is run again, in order [by `AreReasons`]. It
 //!   is that an edit replaces the line's text, exactly if one does. Else it names the first
 //!   recorded note that doesn't hold in the repaired state before the line, and the last earlier
 //!   line that changes differently what that note asks about, or says that there is none. If all
 //!   notes hold, it is that the line is run again with all others. A line without a cause is its
-//!   own origin. If the verdicts are in order of lines, another line's origin is that of its cause,
-//!   or the cause itself if that isn't run again.
+//!   own origin. If the numbers of the lines rise, another line's origin is that of its cause, or
+//!   the cause itself if that isn't run again.
 //! - `answers_of` returns the query of a reason with the noted answer and with the answer in the
 //!   repaired state before the line, after the changes that the line made before the query.
 //! - `chain` follows causes, as many times as there are reasons at most.

@@ -2,6 +2,7 @@
 ghost use Rattle.std.specs.Prelude.{◌≡◌, IfOk, IsTrue, map};
 ghost use Rattle.std.specs.List.{filter};
 ghost use Rattle.retro_keep.specs.Script.{rises_from};
+ghost use Rattle.retro_redo.specs.Moments.{compensation_view};
 ghost use Rattle.casebook_cause.specs.Compensations.{tellings};
 ghost use Rattle.std.specs.Option.{option_copied};
 ghost use Rattle.casebook_view.specs.Reasons.{notes_at, number_in};
@@ -76,11 +77,12 @@ fn notice_of(
     alloc: Global,
     case: &Case<'_>,
     reasons: &[Reason],
-    compensation: &Compensation,
+    compensation: &Compensation<'_>,
 ) -> Result<Notice, NoMem>
     ensures line { IfOk result (λ notice. notice.number ≡ compensation.entry.now.number) }
     ensures value { IsTrue (rises_from 0 (map number_in reasons.now)) → IfOk result (λ notice.
-        notice ≡ notice_for case.now.recording reasons.now compensation.entry.now) }
+        notice ≡ notice_for case.now.recording reasons.now
+        (compensation_view compensation.entry.now)) }
 {
     let number = compensation.number;
     Ok(Notice {
@@ -100,12 +102,12 @@ pub fn notices(
     unknown: &[UnknownLine],
 ) -> Result<Vec<Notice>, NoMem>
     ensures lines { IfOk result (λ found. map line_told found.items
-        ≡ map number_of (filter (is_understood unknown.now) (tellings case.now.repair))) }
+        ≡ map number_of (filter (is_understood unknown.now) (tellings case.now.recording case.now.repair))) }
     ensures values { IsTrue (rises_from 0 (map number_in reasons.now)) → IfOk result (λ found.
         found.items ≡ map (notice_for case.now.recording reasons.now)
-        (filter (is_understood unknown.now) (tellings case.now.repair))) }
+        (filter (is_understood unknown.now) (tellings case.now.recording case.now.repair))) }
 {
-    let compensations = tellings(alloc, case.repair())?;
+    let compensations = tellings(alloc, case.recording(), case.repair())?;
     let obstacles = Obstacles::of(alloc, unknown)?;
     let mut found = Vec::new(alloc);
     for compensation in &compensations {

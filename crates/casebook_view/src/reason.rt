@@ -3,9 +3,11 @@ ghost use Rattle.std.specs.Prelude.{◌≡◌, ◌∷◌, ◌++◌, [], IfOk, Is
 ghost use Rattle.std.specs.Option.{option_copied};
 ghost use Rattle.retro_keep.specs.Recorded.{recorded_before};
 ghost use Rattle.retro_keep.specs.Script.{rises_from};
+ghost use Rattle.retro_redo.specs.Repair.{numbers_with};
+ghost use Rattle.retro_redo.specs.declared.verdict.Verdict.TheVariants.{Redone};
 ghost use Rattle.casebook_view.specs.Reasons.{AreReasons, AreReasonsAfter, IsCauseOf, IsFailing};
 ghost use Rattle.retro_keep.specs.declared.edit.Edit.{Edit as EditValue};
-ghost use Rattle.casebook_view.specs.Reasons.{IsNextReason, IsWhy, redone_lines};
+ghost use Rattle.casebook_view.specs.Reasons.{IsNextReason, IsWhy};
 ghost use Rattle.casebook_view.specs.Reasons.{cause_in, chain_from, failing_query, has_new_text};
 ghost use Rattle.casebook_view.specs.Reasons.{notes_at, number_in, origin_by, query_at};
 ghost use Rattle.casebook_view.specs.Reasons.{reason_at};
@@ -17,7 +19,7 @@ use crate::new_texts::NewTexts;
 use crate::why::Why;
 use casebook_cause::first_failing_note;
 use retro_keep::Noted;
-use retro_redo::Verdict;
+use retro_redo::{SettledLine, Verdict};
 use retro_tree::{Ask, Note};
 use std::alloc::Global;
 
@@ -160,16 +162,16 @@ fn push_reason(
     case: &Case<'_>,
     texts: &NewTexts,
     reasons: &mut Vec<Reason>,
-    line: (u32, Verdict),
+    line: &SettledLine,
 ) -> Result<(), NoMem>
     ensures lines { OnOk result (map number_in reasons.new.items
-        ≡ map number_in reasons.old.items ++ redone_lines (line ∷ [])) }
+        ≡ map number_in reasons.old.items ++ numbers_with Redone (line.now ∷ [])) }
     ensures each { (edits : List EditValue) → AreNewTexts edits texts.now → OnOk result
         (AreReasonsAfter edits case.now.recording case.now.repair [] reasons.old.items
         → AreReasonsAfter edits case.now.recording case.now.repair [] reasons.new.items) }
 {
-    if let Verdict::Redone = line.1 {
-        let reason = reason_for(alloc, case, texts, reasons.as_slice(), line.0)?;
+    if let Verdict::Redone = line.verdict {
+        let reason = reason_for(alloc, case, texts, reasons.as_slice(), line.number)?;
         reasons.push(reason)?;
     }
     Ok(())
@@ -182,8 +184,8 @@ pub fn reasons(alloc: Global, case: &Case<'_>) -> Result<Vec<Reason>, NoMem>
 {
     let texts = NewTexts::of(alloc, case.edits())?;
     let mut reasons = Vec::new(alloc);
-    for line in &case.repair().verdicts {
-        push_reason(alloc, case, &texts, &mut reasons, *line)?;
+    for line in &case.repair().lines {
+        push_reason(alloc, case, &texts, &mut reasons, line)?;
     }
     Ok(reasons)
 }

@@ -69,7 +69,7 @@ impl Summary {
             ≡ unknown_in case.now.recording case.now.repair.recording) }
         ensures fates { IfOk result (λ summary.
             AreFates case.now.recording case.now.repair
-            case.now.repair.verdicts.items summary.fates.items) }
+            case.now.repair.lines.items summary.fates.items) }
         ensures reasons { IfOk result (λ summary.
             AreReasons case.now.edits case.now.recording case.now.repair
             summary.reasons.items) }
@@ -81,15 +81,15 @@ impl Summary {
             (map path_in summary.restorations.items)) }
         ensures lines_told { IfOk result (λ summary. map line_told summary.notices.items
             ≡ map number_of (filter (is_understood summary.unknown.items)
-            (tellings case.now.repair))) }
+            (tellings case.now.recording case.now.repair))) }
         ensures notices { IfOk result (λ summary.
             IsTrue (rises_from 0 (map number_in summary.reasons.items))
             → summary.notices.items
             ≡ map (notice_for case.now.recording summary.reasons.items)
-            (filter (is_understood summary.unknown.items) (tellings case.now.repair))) }
+            (filter (is_understood summary.unknown.items) (tellings case.now.recording case.now.repair))) }
         ensures leaks { IfOk result (λ summary. summary.leaks.items
             ≡ map (leak_for case.now.recording)
-            (filter (is_understood summary.unknown.items) (leaks case.now.repair))) }
+            (filter (is_understood summary.unknown.items) (leaks case.now.recording case.now.repair))) }
         ensures effects { IfOk result (λ summary.
             IsTrue (rises_from 0 (map number_in summary.reasons.items))
             → map effect_value summary.effects.items

@@ -9,7 +9,7 @@ use retro_tree::{Ask, NoMem, Note};
 use std::alloc::Global;
 
 /// Returns the numbers of compensations.
-fn numbers_text(alloc: Global, compensations: &[&Compensation]) -> Result<String, NoMem> {
+fn numbers_text(alloc: Global, compensations: &[Compensation<'_>]) -> Result<String, NoMem> {
     let mut out = String::new(alloc);
     for compensation in compensations {
         push_item(
@@ -22,10 +22,15 @@ fn numbers_text(alloc: Global, compensations: &[&Compensation]) -> Result<String
 }
 
 /// Returns the lines of a repair that leaked, or those that are told about.
-pub fn compensated(alloc: Global, repair: &Repair, which: &str) -> Result<String, NoMem> {
+pub fn compensated(
+    alloc: Global,
+    recorded: &Recording,
+    repair: &Repair,
+    which: &str,
+) -> Result<String, NoMem> {
     let found = match which {
-        "leaks" => leaks(alloc, repair)?,
-        _ => tellings(alloc, repair)?,
+        "leaks" => leaks(alloc, recorded, repair)?,
+        _ => tellings(alloc, recorded, repair)?,
     };
     numbers_text(alloc, found.as_slice())
 }

@@ -54,7 +54,7 @@ fn of_repair(
     of: &str,
 ) -> Result<String, Fail> {
     match call {
-        "compensated" => Ok(compensated(alloc, repair, of)?),
+        "compensated" => Ok(compensated(alloc, recording, repair, of)?),
         "met" => Ok(met(alloc, recording, &repair.recording, of.parse()?)?),
         _ => {
             let case = Case::of(alloc, recording, repair, edits)?;

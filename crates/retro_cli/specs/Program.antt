@@ -110,7 +110,7 @@ pub record IsRepairOf (edits : List Edit) (input : Text) (repair : Repair) : Typ
 -- the text is the report of a repair of the log in the input
 abbrev pub IsRepairReport : List Edit → Text → Text → Type 0
 IsRepairReport edits input text =
-    (repair : Repair) × IsRepairOf edits input repair × (text ≡ repair_text repair)
+    (repair : Repair) × (is : IsRepairOf edits input repair) × (text ≡ repair_text is.recording repair)
 
 -- the text is the log of the repaired recording, of any log
 pub record IsRepairedLog (edits : List Edit) (input text : Text) : Type 0 where

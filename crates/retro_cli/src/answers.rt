@@ -15,7 +15,7 @@ use crate::repair_report::repair_report;
 use crate::report::replay_report;
 use crate::stop::Stop;
 use crate::words::Request;
-use retro_keep::{Edit, check, keep, replay};
+use retro_keep::{Edit, Recording, check, keep, replay};
 use retro_log::{read_log, read_script, write_log};
 use retro_redo::{Quiet, Repair};
 use retro_rounds::repair;
@@ -60,20 +60,21 @@ fn check_input(alloc: Global, input: Vec<u8>) -> Result<(Vec<u8>, Ending), Stop>
     }
 }
 
-/// Returns the repair of a log.
+/// Returns the recording of a log, and its repair.
 fn repair_log<T: Threads + Sync + AllocGlobal>(
     rt: &T,
     options: &RepairOptions,
     input: Vec<u8>,
-) -> Result<Repair, Stop>
-    ensures ok { IfOk result (λ repair.
-        IsAcceptedRepair (options_view options.now) input.items repair) }
+) -> Result<(Recording, Repair), Stop>
+    ensures ok { IfOk result (λ both.
+        (is : IsAcceptedRepair (options_view options.now) input.items both.1)
+        × (is.is_repair.recording ≡ both.0)) }
     ensures err { IfErr result (λ stop.
         Refuses stop (repair_refusal (options_view options.now) (log_in input.items))) }
 {
     let recording = read_log(rt.alloc(), &input)?;
     drop(input);
-    Ok(repair(
+    let repair = repair(
         rt,
         rt.alloc(),
         &recording,
@@ -81,7 +82,8 @@ fn repair_log<T: Threads + Sync + AllocGlobal>(
         options.workers,
         &options.cuts,
         &Quiet,
-    )?)
+    )?;
+    Ok((recording, repair))
 }
 
 /// Returns the report of a repair of a log.
@@ -98,8 +100,8 @@ fn repair_input<T: Threads + Sync + AllocGlobal>(
     ensures err { IfErr result (λ stop.
         Refuses stop (repair_refusal (options_view options.now) (log_in input.items))) }
 {
-    let repair = repair_log(rt, options, input)?;
-    Ok(repair_report(rt.alloc(), &repair)?)
+    let (recording, repair) = repair_log(rt, options, input)?;
+    Ok(repair_report(rt.alloc(), recording, &repair)?)
 }
 
 /// Returns the log of the repaired recording of a log.
@@ -116,7 +118,8 @@ fn relog_input<T: Threads + Sync + AllocGlobal>(
     ensures err { IfErr result (λ stop.
         Refuses stop (repair_refusal (options_view options.now) (log_in input.items))) }
 {
-    let repair = repair_log(rt, options, input)?;
+    let (recording, repair) = repair_log(rt, options, input)?;
+    drop(recording);
     Ok(write_log(rt.alloc(), &repair.recording)?)
 }
 

@@ -18,13 +18,12 @@ use Rattle.retro_keep.specs.declared.edit.Edit.{Edit}
 use Rattle.retro_keep.specs.declared.noted.Noted.{Noted}
 use Rattle.retro_keep.specs.declared.script.ScriptLine.{ScriptLine}
 use Rattle.retro_keep.proofs.Recorded.{known_after}
-use Rattle.retro_redo.specs.Moments.{AreVerdicts, IsStaleBy, IsVerdict, Moment, compensation, compensations, moments}
+use Rattle.retro_redo.specs.Moments.{CompensationValue, IsStaleBy, IsVerdict, Moment, compensation, compensations, moments}
 use Rattle.retro_redo.specs.Moments.{new_text, next_repaired, output_of_run, printed_before, printed_now, state_of_run}
 use Rattle.retro_redo.specs.Moments.{text_now}
 use Rattle.retro_redo.specs.Progress.{Settles, chosen, compensations_chosen, output_chosen}
-use Rattle.retro_redo.specs.Progress.{settled, verdict_of, verdicts_chosen}
-use Rattle.retro_redo.specs.Final.{IsFinal}
-use Rattle.retro_redo.specs.declared.compensation.Compensation.{Compensation}
+use Rattle.retro_redo.specs.Progress.{settled, verdict_of}
+use Rattle.retro_redo.specs.Final.{AreRight, IsFinal}
 use Rattle.retro_redo.specs.declared.step.Step.{Step}
 use Rattle.retro_redo.specs.declared.step.Step.TheVariants.{Cancel, Keep, Take}
 use Rattle.retro_redo.proofs.EditCases.{own_text, stale_text}
@@ -85,7 +84,7 @@ on_way : (edit : ℕ → Option Edit) (l : Line) (lines : List Line) (s t s2 t2 
 on_way edit l lines s t s2 t2 e f = ap₂ (λ p q. here l s t ∷ moments edit lines p q) e f
 
 compensated_first : (edit : ℕ → Option Edit) (l : Line) (s t : State) (ms : List Moment) (before now : List ℕ)
-    (rest : List Compensation) → printed_before (here l s t) ≡ before → printed_now edit (here l s t) ≡ now
+    (rest : List CompensationValue) → printed_before (here l s t) ≡ before → printed_now edit (here l s t) ≡ now
     → compensations edit ms ≡ rest
     → compensations edit (here l s t ∷ ms) ≡ compensation l.0 before now ++ rest
 compensated_first edit l s t ms before now rest e f g =
@@ -104,7 +103,7 @@ record Rest (edit : ℕ → Option Edit) (l : Line) (lines : List Line) (step : 
   on_the_way : moments edit (l ∷ lines) s t ≡ settled (l ∷ lines) (step ∷ steps) s t
   compensated : compensations edit (moments edit (l ∷ lines) s t)
       ≡ compensations_chosen (l ∷ lines) (step ∷ steps)
-  verdicts : AreVerdicts edit (moments edit (l ∷ lines) s t) (verdicts_chosen (l ∷ lines) (step ∷ steps))
+  verdicts : AreRight edit (moments edit (l ∷ lines) s t) (step ∷ steps)
 
 rest_of : (edit : ℕ → Option Edit) (l : Line) (lines : List Line) (step : Step) (steps : List Step) (s t : State)
     → Meets edit l step s t → IsFinal edit lines steps (after l.1.notes s) (after (chosen step l.1) t)
@@ -115,8 +114,7 @@ rest_of edit l lines step steps s t m rest =
       on_the_way = way ∙ ap (λ ms. here l s t ∷ ms) rest.on_the_way;
       compensated = ap (compensations edit) way
           ∙ compensated_first edit l s t _ _ _ _ m.before m.now rest.compensated;
-      verdicts = subst (λ ms. AreVerdicts edit ms (verdicts_chosen (l ∷ lines) (step ∷ steps))) (sym way)
-          (refl, m.verdict, rest.verdicts);
+      verdicts = subst (λ ms. AreRight edit ms (step ∷ steps)) (sym way) (m.verdict, rest.verdicts);
     }
 
 -- ---- the induction
@@ -128,7 +126,7 @@ settles_final edit [] [] s t recorded lawful known settles all = record {
   outcome_is = refl;
   on_the_way = refl;
   compensated = refl;
-  verdicts = refl;
+  verdicts = tt;
   lines_are = refl;
   recorded = tt;
 }

@@ -4,6 +4,7 @@ use Rattle.std.proofs.Common.{Result, Ok, Err}
 use Rattle.std.proofs.Common.{IsTrue, arith, refl, sym, ap, ap₂, cond, subst, nat_lt, ◌<◌}
 use Rattle.std.proofs.Common.{IfOk, ◌↔◌}
 use Rattle.std.specs.FinMap as finmap
+use Rattle.std.specs.List.{flat_map}
 use Rattle.std.specs.Option.{is_some}
 use Rattle.std.proofs.lemmas.Bool.{false≢true, ltb-true, lt-ltb}
 use Rattle.retro_tree.specs.Commit.{committed}
@@ -22,19 +23,20 @@ use Rattle.retro_keep.specs.declared.script.LinesFault.TheVariants as lines_faul
 use Rattle.retro_keep.specs.declared.script.ScriptLine.{ScriptLine}
 use Rattle.retro_keep.proofs.Edited.{script_edited}
 use Rattle.retro_keep.proofs.Recorded.{well_formed}
-use Rattle.retro_redo.specs.Final.{IsFinal}
+use Rattle.retro_redo.specs.Final.{AreRight, IsFinal}
 use Rattle.retro_redo.specs.inner.Keeping.{Keeps}
 use Rattle.retro_redo.specs.Editing.{EditMap}
-use Rattle.retro_redo.specs.Moments.{AreVerdicts, IsMet, Picks}
+use Rattle.retro_redo.specs.Moments.{AreSettledLines, IsVerdict, Moment}
 use Rattle.retro_redo.specs.Progress.{ProgressValue, edit_in, lines_chosen, next_line, repaired_now}
-use Rattle.retro_redo.specs.Progress.{AreTakenIfMet, repaired_after, repaired_recording}
-use Rattle.retro_redo.specs.Repair.{IsRepair, IsRunAgain, edited_lines, moments_of, repaired_outputs}
+use Rattle.retro_redo.specs.Progress.{AreLinesBy, AreTakenIfMet, repaired_after, repaired_recording, settled_now}
+use Rattle.retro_redo.specs.Repair.{IsRepair, IsRunAgain, compensation_in, edited_lines, moments_of, repaired_outputs}
 use Rattle.retro_redo.specs.Repair.{repaired_state, script_now}
 use Rattle.retro_redo.specs.Settled.{AreSettled, IsSettled}
-use Rattle.retro_redo.specs.Progress.{compensations_chosen, settled, verdicts_chosen}
 use Rattle.retro_redo.specs.declared.repair.Repair.{Repair}
 use Rattle.retro_redo.specs.declared.step.Step.{Step}
+use Rattle.retro_redo.specs.declared.verdict.SettledLine.{SettledLine}
 use Rattle.retro_redo.proofs.Choices.{chosen_from, last_chosen}
+use Rattle.retro_redo.proofs.Compensating.{outputs_differ}
 use Rattle.retro_redo.proofs.Final.{settles_final}
 use Rattle.retro_redo.proofs.Keeping.{repaired_is}
 use Rattle.retro_redo.proofs.Positions.{Line, all_settled, recorded_all}
@@ -94,13 +96,25 @@ numbers_of script r is = sym (numbers_are r.lines) ∙ ap (map number_of) is.lin
 -- ---- the answer
 
 -- each settled line has its choice
-pub all_chosen : (p q : ProgressValue) (overlay : OverlayMap) (met : List ℕ) → q ≡ p → Keeps q overlay met
+pub all_chosen : (p q : ProgressValue) (overlay : OverlayMap) (lines : List SettledLine) → q ≡ p → Keeps q overlay lines
     → next_line p ≡ None → length q.choices ≡ length q.recording.lines
-all_chosen p q overlay met e keeps ended =
+all_chosen p q overlay lines e keeps ended =
     all_settled (edit_in q) q.recording.lines q.choices q.recording.first q.recording.first keeps.settles
     (ap next_line e ∙ ended)
 
-module _ (p : ProgressValue) (overlay : OverlayMap) (met : List ℕ) (keeps : Keeps p overlay met)
+-- lines by choices that are right are as they should be
+lines_right : (edit : ℕ → Option Edit) (ms : List Moment) (steps : List Step) (lines : List SettledLine)
+    → AreRight edit ms steps → AreLinesBy edit ms steps lines → AreSettledLines edit ms lines
+lines_right edit [] [] lines right by = by
+lines_right edit [] (step ∷ steps) lines right by = absurd by
+lines_right edit (m ∷ ms) [] lines right by = absurd by
+lines_right edit (m ∷ ms) (step ∷ steps) [] right by = absurd by
+lines_right edit (m ∷ ms) (step ∷ steps) (l ∷ lines) right by = (
+  (by.0.0, subst (IsVerdict edit m) (sym by.0.1) right.0, by.0.2),
+  lines_right edit ms steps lines right.1 by.1,
+)
+
+module _ (p : ProgressValue) (overlay : OverlayMap) (lines : List SettledLine) (keeps : Keeps p overlay lines)
     (w : IsWellFormed p.recording) (ended : next_line p ≡ None)
     (is : IsRecordingOf (script_in p.recording) p.recording) where
   all : length p.choices ≡ length p.recording.lines
@@ -119,10 +133,8 @@ module _ (p : ProgressValue) (overlay : OverlayMap) (met : List ℕ) (keeps : Ke
 
   pub is_repair : (repair : Repair)
       → repair.recording ≡ repaired_recording p
-      → repair.verdicts.items ≡ verdicts_chosen p.recording.lines p.choices
-      → repair.compensations.items ≡ compensations_chosen p.recording.lines p.choices
-      → repair.met.items ≡ met → IsRepair (edit_in p) p.recording repair
-  is_repair repair recording verdicts compensated met_are =
+      → repair.lines.items ≡ lines → IsRepair (edit_in p) p.recording repair
+  is_repair repair recording left =
       let chosen = lines_chosen p.recording.lines p.choices in
       let state_is : repaired_state repair ≡ repaired_now p =
       ap (λ (r : RecordingValue). last_state r.lines r.first) recording
@@ -131,11 +143,11 @@ module _ (p : ProgressValue) (overlay : OverlayMap) (met : List ℕ) (keeps : Ke
       ap (λ (r : RecordingValue). map output_in r.lines) recording in
       record {
         outcome_is = ap₂ (λ s os. (s, os)) state_is outputs_are ∙ sym final.outcome_is;
-        compensated = compensated ∙ sym final.compensated;
-        verdicts_are = subst (λ vs. AreVerdicts (edit_in p) (moments_of (edit_in p) p.recording) vs)
-            (sym verdicts) final.verdicts;
-        met_are = subst (λ ns. Picks (IsMet (edit_in p)) (moments_of (edit_in p) p.recording) ns)
-            (sym met_are) (subst (λ ms. Picks (IsMet (edit_in p)) ms met) (sym final.on_the_way) keeps.are_met);
+        compensated = ap (λ (r : RecordingValue). flat_map (compensation_in r.lines) p.recording.lines) recording
+            ∙ outputs_differ p.recording.lines p.choices all w.rising ∙ sym final.compensated;
+        lines_are = subst (AreSettledLines (edit_in p) (moments_of (edit_in p) p.recording)) (sym left)
+            (lines_right (edit_in p) (moments_of (edit_in p) p.recording) p.choices lines final.verdicts
+            (subst (λ ms. AreLinesBy (edit_in p) ms p.choices lines) (sym final.on_the_way) keeps.lines_are));
         recording_is = record {
           first = ap (λ (r : RecordingValue). r.first) recording;
           lines = ap (λ (r : RecordingValue). map script_line r.lines) recording ∙ final.lines_are;
@@ -158,7 +170,7 @@ pub none_is : {X : Type 0} (found : Option X) → ((x : X) → found ≡ Some x 
 none_is None h = refl
 none_is (Some x) h = absurd (h x refl)
 
-module _ (p q : ProgressValue) (overlay : OverlayMap) (met : List ℕ) (e : q ≡ p) (keeps : Keeps q overlay met)
+module _ (p q : ProgressValue) (overlay : OverlayMap) (lines : List SettledLine) (e : q ≡ p) (keeps : Keeps q overlay lines)
     (w : IsWellFormed q.recording) (ended : next_line p ≡ None) where
   ended_in : next_line q ≡ None
   ended_in = ap next_line e ∙ ended
@@ -168,8 +180,8 @@ module _ (p q : ProgressValue) (overlay : OverlayMap) (met : List ℕ) (e : q �
       ≡ repaired_after q.recording.lines q.choices q.recording.first
   last_committed =
       ap (committed overlay)
-      (sym (recorded_all q.recording.lines q.choices q.recording.first (all_chosen p q overlay met e keeps ended)))
-      ∙ repaired_is q q overlay met refl keeps
+      (sym (recorded_all q.recording.lines q.choices q.recording.first (all_chosen p q overlay lines e keeps ended)))
+      ∙ repaired_is q q overlay lines refl keeps
 
   module _ (found : Option RecordingValue)
       (exact : IsTrue (is_some found) ↔ IsWellFormed (repaired_recording q)) where
@@ -180,7 +192,7 @@ module _ (p q : ProgressValue) (overlay : OverlayMap) (met : List ℕ) (e : q �
     pub found_none : found ≡ None → IsRecordingOf (script_in p.recording) p.recording → ⊥
     found_none none is =
         false≢true (sym (ap is_some none)
-        ∙ exact.1 (chosen_well_formed q overlay met keeps w ended_in (is_in is)))
+        ∙ exact.1 (chosen_well_formed q overlay lines keeps w ended_in (is_in is)))
 
     -- each line has its choice, and the lines as chosen make no recording
     pub settled_again : found ≡ None → (repair : Repair) → IsRunAgain (edit_in q) q.recording repair
@@ -188,7 +200,7 @@ module _ (p q : ProgressValue) (overlay : OverlayMap) (met : List ℕ) (e : q �
     settled_again none repair again =
         subst (λ (x : ProgressValue). IsSettled (edit_in x) x.recording x.choices repair) e (record {
           settles = keeps.settles;
-          all = all_chosen p q overlay met e keeps ended;
+          all = all_chosen p q overlay lines e keeps ended;
           begins = again.begins;
           chosen = λ well. absurd (false≢true (sym (ap is_some none) ∙ exact.1 well));
           again = λ not_well. again;
@@ -197,36 +209,28 @@ module _ (p q : ProgressValue) (overlay : OverlayMap) (met : List ℕ) (e : q �
     -- each line has its choice, and the lines as chosen make a recording
     pub settled_found : (repair : Repair) (r : RecordingValue) → found ≡ Some r
         → repair.recording ≡ repaired_recording q
-        → repair.verdicts.items ≡ verdicts_chosen q.recording.lines q.choices
-        → repair.compensations.items ≡ compensations_chosen q.recording.lines q.choices
-        → repair.met.items ≡ met → IsSettled (edit_in p) p.recording p.choices repair
-    settled_found repair r some recording verdicts compensated met_are =
+        → repair.lines.items ≡ lines → IsSettled (edit_in p) p.recording p.choices repair
+    settled_found repair r some recording left =
         subst (λ (x : ProgressValue). IsSettled (edit_in x) x.recording x.choices repair) e (record {
           settles = keeps.settles;
-          all = all_chosen p q overlay met e keeps ended;
+          all = all_chosen p q overlay lines e keeps ended;
           begins = ap (λ (x : RecordingValue). x.from) recording;
           chosen = λ well. record {
             recording_is = recording;
             state_is = ap (λ (x : RecordingValue). last_state x.lines x.first) recording
                 ∙ last_chosen q.recording.lines q.choices q.recording.first;
             outputs_are = ap (λ (x : RecordingValue). map output_in x.lines) recording;
-            compensated = compensated;
-            verdicts_are = verdicts;
-            met_are = subst (λ ns. Picks (IsMet (edit_in q))
-                (settled q.recording.lines q.choices q.recording.first q.recording.first) ns) (sym met_are)
-                keeps.are_met;
+            lines_are = subst (AreLinesBy (edit_in q) (settled_now q) q.choices) (sym left) keeps.lines_are;
           };
           again = λ not_well. absurd (not_well (exact.0 (ap is_some some)));
         })
 
     pub repair_found : (repair : Repair) → IsRecordingOf (script_in p.recording) p.recording
         → repair.recording ≡ repaired_recording q
-        → repair.verdicts.items ≡ verdicts_chosen q.recording.lines q.choices
-        → repair.compensations.items ≡ compensations_chosen q.recording.lines q.choices
-        → repair.met.items ≡ met → IsRepair (edit_in p) p.recording repair
-    repair_found repair is recording verdicts compensated met_are =
+        → repair.lines.items ≡ lines → IsRepair (edit_in p) p.recording repair
+    repair_found repair is recording left =
         subst (λ x. IsRepair (edit_in x) x.recording repair) e
-        (is_repair q overlay met keeps w ended_in (is_in is) repair recording verdicts compensated met_are)
+        (is_repair q overlay lines keeps w ended_in (is_in is) repair recording left)
 
 -- the same lines are edited alike
 pub repair_same : (a : EditMap) (edits : List Edit) (r q : RecordingValue) (repair : Repair)

@@ -1,5 +1,5 @@
 -- The progress of a repair: at its start, and with one more line settled.
-use Rattle.std.proofs.Common.{◌≡◌, ◌∙◌, ◌⊎◌, inl, inr, ℕ, Bool, Bor, true, false, List, [], ◌∷◌, ◌++◌, length, not, Option, None}
+use Rattle.std.proofs.Common.{◌≡◌, ◌∙◌, ℕ, Bool, Bor, true, false, List, [], ◌∷◌, ◌++◌, length, not, Option, None}
 use Rattle.std.proofs.Common.{Some, refl, sym, ap, subst}
 use Rattle.std.proofs.Common.{IfOk, IsTrue, MatchBool, Ok, Err, Result, ◌↔◌}
 use Rattle.std.proofs.lemmas.Bool.{false≢true}
@@ -19,13 +19,15 @@ use Rattle.retro_shell.specs.Runs.{RunValue}
 use Rattle.retro_keep.specs.Recording.{IsWellFormed, RecordingValue, are_own, is_own_line}
 use Rattle.retro_redo.specs.Editing.{AreLines, EditMap}
 use Rattle.retro_redo.specs.inner.Keeping.{Keeps}
-use Rattle.retro_redo.specs.Moments.{IsMet, IsMetBy, IsUnmetBy, Picks, new_text, text_now}
-use Rattle.retro_redo.specs.Progress.{IsNewRunOf, IsRunTaken, MayStep, ProgressValue, chosen, edit_in, next_line}
-use Rattle.retro_redo.specs.Progress.{recorded_after, recorded_now, repaired_after, repaired_now, settled_now}
+use Rattle.retro_redo.specs.Moments.{IsMet, IsMetBy, IsUnmetBy, Moment, new_text, text_now}
+use Rattle.retro_redo.specs.Progress.{AreLinesBy, IsNewRunOf, IsRunTaken, MayStep, ProgressValue, chosen, edit_in}
+use Rattle.retro_redo.specs.Progress.{next_line, recorded_after, recorded_now, repaired_after, repaired_now}
+use Rattle.retro_redo.specs.Progress.{settled_now, verdict_of}
 use Rattle.retro_redo.specs.declared.step.Step.{Step}
 use Rattle.retro_redo.specs.declared.step.Step.TheVariants.{Cancel, Keep, Take}
+use Rattle.retro_redo.specs.declared.verdict.SettledLine.{SettledLine}
 use Rattle.retro_redo.proofs.EditCases.{unmet_not_met}
-use Rattle.retro_redo.proofs.Positions.{Line, moment, picks_met, picks_unmet, recorded_more, recorded_none}
+use Rattle.retro_redo.proofs.Positions.{Line, lines_more, moment, recorded_more, recorded_none}
 use Rattle.retro_redo.proofs.Positions.{repaired_more}
 use Rattle.retro_redo.proofs.Positions.{repaired_none, settled_more, settled_none, settles_more, settles_none}
 use Rattle.retro_redo.proofs.Sessions.{all_get, own_notes_keep_sessions, session_get}
@@ -41,7 +43,7 @@ keeps_new r edits overlay known e = record {
       (value c (repaired_after r.lines [] r.first)))
       (sym (ap (λ (o : OverlayMap). finmap.get o c) e ∙ finmap.get-empty _ c))
       (ap (value c) (recorded_none r.lines r.first ∙ sym (repaired_none r.lines r.first)));
-  are_met = subst (λ ms. Picks (IsMet (finmap.get edits)) ms []) (sym (settled_none r.lines r.first r.first)) refl;
+  lines_are = subst (λ ms. AreLinesBy (finmap.get edits) ms [] []) (sym (settled_none r.lines r.first r.first)) refl;
   recorded_sessions = λ k. ap (λ (s : State). finmap.contains_key s.sessions k) (recorded_none r.lines r.first);
   repaired_sessions = λ k. ap (λ (s : State). finmap.contains_key s.sessions k) (repaired_none r.lines r.first);
   known = known;
@@ -53,20 +55,17 @@ keeps_new r edits overlay known e = record {
 abbrev pub more : ProgressValue → Step → ProgressValue
 more p step = record { recording = p.recording; edits = p.edits; choices = p.choices ++ step ∷ [] }
 
--- the met numbers with those of the next line: its own, if it is met
-abbrev pub IsMetMore : ProgressValue → Line → List ℕ → List ℕ → Type 0
-IsMetMore p l met new =
-    (IsMet (edit_in p) (moment l (recorded_now p) (repaired_now p)) × (new ≡ met ++ l.0 ∷ []))
-    ⊎ ((¬ (IsMet (edit_in p) (moment l (recorded_now p) (repaired_now p)))) × (new ≡ met))
+-- what a step leaves of the next line, by whether the line is met
+abbrev pub line_by : Line → Step → Bool → SettledLine
+line_by l step met = record { number = l.0; verdict = verdict_of step; is_met = met }
 
-picks_more : (p : ProgressValue) (l : Line) (met new : List ℕ) → Picks (IsMet (edit_in p)) (settled_now p) met
-    → IsMetMore p l met new
-    → Picks (IsMet (edit_in p)) (settled_now p ++ moment l (recorded_now p) (repaired_now p) ∷ []) new
-picks_more p l met new h (inl m) =
-    subst (Picks (IsMet (edit_in p)) _) (sym m.1) (picks_met (IsMet (edit_in p)) (settled_now p) _ met h m.0)
-picks_more p l met new h (inr m) =
-    subst (Picks (IsMet (edit_in p)) _) (sym m.1)
-    (picks_unmet (IsMet (edit_in p)) (settled_now p) _ met h m.0)
+-- the next line in the states before it
+abbrev next_moment : ProgressValue → Line → Moment
+next_moment p l = moment l (recorded_now p) (repaired_now p)
+
+-- whether the next line is met
+abbrev pub IsMetNow : ProgressValue → Line → Bool → Type 0
+IsMetNow p l met = MatchBool met (IsMet (edit_in p) (next_moment p l)) (¬ (IsMet (edit_in p) (next_moment p l)))
 
 chosen_own : (p : ProgressValue) (l : Line) (step : Step) (s t : State) → are_own l.1.sid l.1.notes ≡ true
     → MayStep (edit_in p) s t l step → IsRunTaken step
@@ -76,12 +75,12 @@ chosen_own p l Keep s t own may run has = own_notes_keep_sessions l.1.sid l.1.no
 chosen_own p l (Take taken) s t own may run has =
     own_notes_keep_sessions taken.sid taken.notes t run.own (ap (finmap.contains_key t.sessions) may.1.0 ∙ has)
 
-pub keeps_more : (p : ProgressValue) (overlay new : OverlayMap) (met new_met : List ℕ) (l : Line) (step : Step)
-    → Keeps p overlay met → IsWellFormed p.recording → next_line p ≡ Some l
+pub keeps_more : (p : ProgressValue) (overlay new : OverlayMap) (lines : List SettledLine) (l : Line) (step : Step)
+    (met : Bool) → Keeps p overlay lines → IsWellFormed p.recording → next_line p ≡ Some l
     → MayStep (edit_in p) (recorded_now p) (repaired_now p) l step → IsRunTaken step
     → IsExact new (after l.1.notes (recorded_now p)) (after (chosen step l.1) (repaired_now p))
-    → IsMetMore p l met new_met → Keeps (more p step) new new_met
-keeps_more p overlay new met new_met l step keeps well next may run exact is_met =
+    → IsMetNow p l met → Keeps (more p step) new (lines ++ line_by l step met ∷ [])
+keeps_more p overlay new left l step met keeps well next may run exact is_met =
     let lines = p.recording.lines in
     let first = p.recording.first in
     let recorded = recorded_more lines p.choices l step first next in
@@ -92,9 +91,10 @@ keeps_more p overlay new met new_met l step keeps well next may run exact is_met
       settles = settles_more (edit_in p) lines p.choices l step first first next keeps.settles may run;
       exact = subst (λ s. IsExact new s (repaired_now (more p step))) (sym recorded)
           (subst (λ t. IsExact new (after l.1.notes (recorded_now p)) t) (sym repaired) exact);
-      are_met = subst (λ ms. Picks (IsMet (edit_in p)) ms new_met)
+      lines_are = subst (λ ms. AreLinesBy (edit_in p) ms (p.choices ++ step ∷ []) (left ++ line_by l step met ∷ []))
           (sym (settled_more lines p.choices l step first first next))
-          (picks_more p l met new_met keeps.are_met is_met);
+          (lines_more (edit_in p) (settled_now p) p.choices left (next_moment p l) step (line_by l step met)
+          keeps.lines_are (refl, refl, is_met));
       recorded_sessions = λ k. ap (λ (s : State). finmap.contains_key s.sessions k) recorded
           ∙ own_notes_keep_sessions l.1.sid l.1.notes (recorded_now p) own (keeps.recorded_sessions l.1.sid ∙ has) k
           ∙ keeps.recorded_sessions k;
@@ -105,38 +105,38 @@ keeps_more p overlay new met new_met l step keeps well next may run exact is_met
     }
 
 -- the recorded and the repaired state have the same sessions
-pub keeps_same_sessions : (p : ProgressValue) (overlay : OverlayMap) (met : List ℕ) → Keeps p overlay met
+pub keeps_same_sessions : (p : ProgressValue) (overlay : OverlayMap) (lines : List SettledLine) → Keeps p overlay lines
     → SameSessions (recorded_now p) (repaired_now p)
-keeps_same_sessions p overlay met keeps k = keeps.recorded_sessions k ∙ sym (keeps.repaired_sessions k)
+keeps_same_sessions p overlay lines keeps k = keeps.recorded_sessions k ∙ sym (keeps.repaired_sessions k)
 
 -- ---- goals of the code, where q is the progress as its fields are, and p as contracts see it
 
-pub repaired_is : (p q : ProgressValue) (overlay : OverlayMap) (met : List ℕ) → q ≡ p → Keeps q overlay met
+pub repaired_is : (p q : ProgressValue) (overlay : OverlayMap) (lines : List SettledLine) → q ≡ p → Keeps q overlay lines
     → committed overlay (recorded_now p) ≡ repaired_now p
-repaired_is p q overlay met e keeps =
-    let kept = subst (λ x. Keeps x overlay met) e keeps in
-    exact_state overlay (recorded_now p) (repaired_now p) kept.exact (keeps_same_sessions p overlay met kept)
+repaired_is p q overlay lines e keeps =
+    let kept = subst (λ x. Keeps x overlay lines) e keeps in
+    exact_state overlay (recorded_now p) (repaired_now p) kept.exact (keeps_same_sessions p overlay lines kept)
 
-pub holds_of : (p q : ProgressValue) (overlay : OverlayMap) (met : List ℕ) {X : Type 0} (r : Result Bool X)
-    (notes : List Note) (s : State) → q ≡ p → Keeps q overlay met → s ≡ recorded_now p
+pub holds_of : (p q : ProgressValue) (overlay : OverlayMap) (lines : List SettledLine) {X : Type 0} (r : Result Bool X)
+    (notes : List Note) (s : State) → q ≡ p → Keeps q overlay lines → s ≡ recorded_now p
     → IfOk r (λ b. (t : State) → IsExact overlay s t → SameSessions s t → IsTrue b ↔ Holds notes t)
     → IfOk r (λ b. IsTrue b ↔ Holds notes (repaired_now p))
-holds_of p q overlay met (Err x) notes s e keeps recorded h = tt
-holds_of p q overlay met (Ok b) notes s e keeps recorded h =
-    let kept = subst (λ x. Keeps x overlay met) e keeps in
+holds_of p q overlay lines (Err x) notes s e keeps recorded h = tt
+holds_of p q overlay lines (Ok b) notes s e keeps recorded h =
+    let kept = subst (λ x. Keeps x overlay lines) e keeps in
     h (repaired_now p) (subst (λ x. IsExact overlay x (repaired_now p)) (sym recorded) kept.exact)
-    (subst (λ x. SameSessions x (repaired_now p)) (sym recorded) (keeps_same_sessions p overlay met kept))
+    (subst (λ x. SameSessions x (repaired_now p)) (sym recorded) (keeps_same_sessions p overlay lines kept))
 
-pub equiv_of : (p q : ProgressValue) (overlay : OverlayMap) (met : List ℕ) {X : Type 0} (r : Result Bool X) (k : Line)
-    (s : State) → q ≡ p → Keeps q overlay met → s ≡ recorded_now p → next_line p ≡ Some k → edit_in p k.0 ≡ None
+pub equiv_of : (p q : ProgressValue) (overlay : OverlayMap) (lines : List SettledLine) {X : Type 0} (r : Result Bool X) (k : Line)
+    (s : State) → q ≡ p → Keeps q overlay lines → s ≡ recorded_now p → next_line p ≡ Some k → edit_in p k.0 ≡ None
     → IfOk r (λ b. (t : State) → IsExact overlay s t → SameSessions s t → IsTrue b ↔ Holds k.1.notes t)
     → (l : Line) → next_line p ≡ Some l
     → IfOk r (λ b. IsTrue b ↔ ((edit_in p l.0 ≡ None) × Holds l.1.notes (repaired_now p)))
-equiv_of p q overlay met r k s e keeps recorded next none h l is =
+equiv_of p q overlay lines r k s e keeps recorded next none h l is =
     let both : ◌≡◌ {A = Option Line} (Some k) (Some l) = sym next ∙ is in
     let same : k ≡ l = cc in
     subst (λ (x : Line). IfOk r (λ b. IsTrue b ↔ ((edit_in p x.0 ≡ None) × Holds x.1.notes (repaired_now p)))) same
-    (with_none r (holds_of p q overlay met r k.1.notes s e keeps recorded h))
+    (with_none r (holds_of p q overlay lines r k.1.notes s e keeps recorded h))
   where
     with_none : {Y : Type 0} (x : Result Bool Y) → IfOk x (λ b. IsTrue b ↔ Holds k.1.notes (repaired_now p))
         → IfOk x (λ b. IsTrue b ↔ ((edit_in p k.0 ≡ None) × Holds k.1.notes (repaired_now p)))
@@ -186,38 +186,43 @@ IsDecided p l b =
     MatchBool b (IsMetBy (edit_in p l.0) l.1.notes (recorded_now p) (repaired_now p))
     (IsUnmetBy (edit_in p l.0) l.1.notes (recorded_now p) (repaired_now p))
 
-module _ (p : ProgressValue) (met new : List ℕ) (b : Bool) (l : Line) (next : next_line p ≡ Some l)
-    (decided : (k : Line) → next_line p ≡ Some k → IsDecided p k b) where
-  pub met_more : b ≡ true → new ≡ met ++ l.0 ∷ [] → IsMetMore p l met new
-  met_more is pushed = inl (subst (IsDecided p l) is (decided l next), pushed)
+-- what is decided of the next line says whether it is met
+pub is_met_now : (p : ProgressValue) (l : Line) (b : Bool) → IsDecided p l b → IsMetNow p l b
+is_met_now p l true decided = decided
+is_met_now p l false decided = unmet_not_met (edit_in p l.0) l.1.notes (recorded_now p) (repaired_now p) decided
 
-  pub unmet_more : b ≡ false → new ≡ met → IsMetMore p l met new
-  unmet_more is same =
-      inr (
-        unmet_not_met (edit_in p l.0) l.1.notes (recorded_now p) (repaired_now p)
-            (subst (IsDecided p l) is (decided l next)),
-        same,
-      )
+-- What the code knows of a step by which it settles the next line `l`: `met` says whether the line is
+-- met, `s` is the recorded state before it, and `new` is the overlay after it.
+pub record IsStepFor (p q : ProgressValue) (overlay new : OverlayMap) (lines : List SettledLine) (l : Line)
+    (step : Step) (met : Bool) (s : State) : Type 0 where
+  pub same : q ≡ p
+  pub keeps : Keeps q overlay lines
+  pub well : IsWellFormed p.recording
+  pub next : next_line p ≡ Some l
+  pub recorded : s ≡ recorded_now p
+  pub may : (k : Line) → next_line p ≡ Some k
+      → MayStep (edit_in p) (recorded_now p) (repaired_now p) k step
+  pub run : IsRunTaken step
+  pub exact : (t : State) → IsExact overlay s t → IsExact new (after l.1.notes s) (after (chosen step l.1) t)
+  pub decided : IsDecided p l met
 
 -- the progress after a step
-pub steps_more : (p q : ProgressValue) (overlay new : OverlayMap) (met new_met : List ℕ) (steps : List Step) (l : Line)
-    (step : Step) (s : State) → (e : q ≡ p) → Keeps q overlay met → IsWellFormed p.recording
-    → next_line p ≡ Some l → s ≡ recorded_now p
-    → ((k : Line) → next_line p ≡ Some k
-    → MayStep (edit_in p) (recorded_now p) (repaired_now p) k step)
-    → IsRunTaken step
-    → ((t : State) → IsExact overlay s t → IsExact new (after l.1.notes s) (after (chosen step l.1) t))
-    → steps ≡ q.choices ++ step ∷ [] → IsMetMore p l met new_met
-    → Keeps (record { recording = q.recording; edits = q.edits; choices = steps }) new new_met
-steps_more p q overlay new met new_met steps l step s e keeps well next recorded may run exact pushed is_met =
-    subst (λ cs. Keeps (record { recording = q.recording; edits = q.edits; choices = cs }) new new_met) (sym pushed)
-    (subst (λ x. Keeps (more x step) new new_met) (sym e)
-    (keeps_more p overlay new met new_met l step kept well next (may l next) run advanced is_met))
+pub steps_more : {p q : ProgressValue} {overlay new : OverlayMap} {lines : List SettledLine} {l : Line} {step : Step}
+    {met : Bool} {s : State} → IsStepFor p q overlay new lines l step met s
+    → (steps : List Step) (left : List SettledLine) → steps ≡ q.choices ++ step ∷ []
+    → left ≡ lines ++ line_by l step met ∷ []
+    → Keeps (record { recording = q.recording; edits = q.edits; choices = steps }) new left
+steps_more {p} {q} {overlay} {new} {lines} {l} {step} {met} {s} is steps left pushed left_is =
+    subst (λ cs. Keeps (record { recording = q.recording; edits = q.edits; choices = cs }) new left) (sym pushed)
+    (subst (Keeps (more q step) new) (sym left_is)
+    (subst (λ x. Keeps (more x step) new (lines ++ line_by l step met ∷ [])) (sym is.same)
+    (keeps_more p overlay new lines l step met kept is.well is.next (is.may l is.next) is.run advanced
+    (is_met_now p l met is.decided))))
   where
-    kept : Keeps p overlay met
-    kept = subst (λ x. Keeps x overlay met) e keeps
+    kept : Keeps p overlay lines
+    kept = subst (λ x. Keeps x overlay lines) is.same is.keeps
 
     advanced : IsExact new (after l.1.notes (recorded_now p)) (after (chosen step l.1) (repaired_now p))
     advanced =
-        subst (λ x. IsExact new (after l.1.notes x) (after (chosen step l.1) (repaired_now p))) recorded
-        (exact (repaired_now p) (subst (λ x. IsExact overlay x (repaired_now p)) (sym recorded) kept.exact))
+        subst (λ x. IsExact new (after l.1.notes x) (after (chosen step l.1) (repaired_now p))) is.recorded
+        (is.exact (repaired_now p) (subst (λ x. IsExact overlay x (repaired_now p)) (sym is.recorded) kept.exact))

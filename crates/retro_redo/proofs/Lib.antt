@@ -22,3 +22,5 @@ pub mod StopNumbers
 pub mod EditedNumbers
 pub mod SoFar
 pub mod Overlays
+pub mod Verdicts
+pub mod Compensating

@@ -8,9 +8,11 @@ use Rattle.retro_keep.specs.Recording.{IsRecordingOf, script_in}
 use Rattle.retro_keep.specs.declared.edit.Edit.{Edit}
 use Rattle.retro_redo.specs.Moments.{new_text, text_now}
 use Rattle.retro_redo.specs.NextLine.{IsNextLine}
-use Rattle.retro_redo.specs.Progress.{ProgressValue, edit_in, next_line, next_number, repaired_now}
+use Rattle.retro_redo.specs.Progress.{ProgressValue, edit_in, next_line, next_number, repaired_now, verdict_of}
 use Rattle.retro_redo.specs.declared.line.Line.{Line as NextLine}
-use Rattle.retro_redo.proofs.Keeping.{IsDecided}
+use Rattle.retro_redo.specs.declared.step.Step.{Step}
+use Rattle.retro_redo.specs.declared.verdict.SettledLine.{SettledLine}
+use Rattle.retro_redo.proofs.Keeping.{IsDecided, line_by}
 use Rattle.retro_redo.proofs.Positions.{Line}
 
 -- ---- a line that was handed out
@@ -80,3 +82,8 @@ module _ (p : ProgressValue) (n : NextLine) (is : IsNextLine p n) where
       → text ≡ new_text (edit_in p) (pair_of n)
   new_text_next text h =
       h ∙ ap (λ (o : Option Edit). unwrap_or (text_run o n.noted.now.text) n.noted.now.text) is.edit
+
+-- what a step leaves of a line, whose parts the code makes
+pub settled_line : (l : SettledLine) (n : NextLine) (step : Step) → l.number ≡ n.number
+    → l.verdict ≡ verdict_of step → l.is_met ≡ n.is_met → l ≡ line_by (pair_of n) step n.is_met
+settled_line l n step number verdict met = λ i. record { number = number i; verdict = verdict i; is_met = met i }

@@ -1,15 +1,17 @@
 -- One more line settled: the states, the choices and the moments.
-use Rattle.std.proofs.Common.{◌≡◌, ◌∙◌, inl, inr, ℕ, List, [], ◌∷◌, ◌++◌, length, Option, Some, None}
-use Rattle.std.proofs.Common.{suc, refl, ap, arith, subst}
+use Rattle.std.proofs.Common.{◌≡◌, ◌∙◌, ℕ, List, [], ◌∷◌, ◌++◌, length, Option, Some, None}
+use Rattle.std.proofs.Common.{suc, refl, ap, arith, subst, sym}
 use Rattle.std.specs.List.{slice_get}
 use Rattle.retro_tree.specs.Notes.{after}
 use Rattle.retro_tree.specs.declared.state.State.{State}
 use Rattle.retro_keep.specs.Recording.{last_state}
 use Rattle.retro_keep.specs.declared.edit.Edit.{Edit}
 use Rattle.retro_keep.specs.declared.noted.Noted.{Noted}
-use Rattle.retro_redo.specs.Moments.{Moment, Picks}
-use Rattle.retro_redo.specs.Progress.{IsRunTaken, MayStep, Settles, chosen, recorded_after, repaired_after, settled}
+use Rattle.retro_redo.specs.Moments.{Moment}
+use Rattle.retro_redo.specs.Progress.{AreLinesBy, IsLineBy, IsRunTaken, MayStep, Settles, chosen, recorded_after}
+use Rattle.retro_redo.specs.Progress.{repaired_after, settled}
 use Rattle.retro_redo.specs.declared.step.Step.{Step}
+use Rattle.retro_redo.specs.declared.verdict.SettledLine.{SettledLine}
 
 abbrev pub Line : Type 0
 Line = ℕ × Noted
@@ -82,19 +84,16 @@ settles_more edit (k ∷ lines) [] l step s t next h may run =
 settles_more edit (k ∷ lines) (d ∷ steps) l step s t next h may run =
     (h.0, h.1, settles_more edit lines steps l step (after k.1.notes s) (after (chosen d k.1) t) next h.2 may run)
 
--- ---- picked moments
-pub picks_met : (P : Moment → Type 0) (ms : List Moment) (m : Moment) (ns : List ℕ) → Picks P ms ns → P m
-    → Picks P (ms ++ m ∷ []) (ns ++ m.number ∷ [])
-picks_met P [] m ns h p = inl (p, [], ap (λ xs. xs ++ m.number ∷ []) h, refl)
-picks_met P (k ∷ ms) m ns (inl h) p =
-    inl (h.0, h.1 ++ m.number ∷ [], ap (λ xs. xs ++ m.number ∷ []) h.2, picks_met P ms m h.1 h.3 p)
-picks_met P (k ∷ ms) m ns (inr h) p = inr (h.0, picks_met P ms m ns h.1 p)
-
-pub picks_unmet : (P : Moment → Type 0) (ms : List Moment) (m : Moment) (ns : List ℕ) → Picks P ms ns → ¬ (P m)
-    → Picks P (ms ++ m ∷ []) ns
-picks_unmet P [] m ns h p = inr (p, h)
-picks_unmet P (k ∷ ms) m ns (inl h) p = inl (h.0, h.1, h.2, picks_unmet P ms m h.1 h.3 p)
-picks_unmet P (k ∷ ms) m ns (inr h) p = inr (h.0, picks_unmet P ms m ns h.1 p)
+-- ---- what is left of lines
+pub lines_more : (edit : ℕ → Option Edit) (ms : List Moment) (steps : List Step) (lines : List SettledLine) (m : Moment)
+    (step : Step) (l : SettledLine) → AreLinesBy edit ms steps lines → IsLineBy edit m step l
+    → AreLinesBy edit (ms ++ m ∷ []) (steps ++ step ∷ []) (lines ++ l ∷ [])
+lines_more edit [] [] lines m step l h is =
+    subst (λ ls. AreLinesBy edit (m ∷ []) (step ∷ []) (ls ++ l ∷ [])) (sym h) (is, refl)
+lines_more edit [] (x ∷ steps) lines m step l h is = absurd h
+lines_more edit (k ∷ ms) [] lines m step l h is = absurd h
+lines_more edit (k ∷ ms) (x ∷ steps) [] m step l h is = absurd h
+lines_more edit (k ∷ ms) (x ∷ steps) (y ∷ lines) m step l h is = (h.0, lines_more edit ms steps lines m step l h.1 is)
 
 -- ---- all lines settled
 pub all_settled : (edit : ℕ → Option Edit) (lines : List Line) (steps : List Step) (s t : State)

@@ -15,6 +15,7 @@ use Rattle.retro_redo.specs.inner.Keeping.{Keeps}
 use Rattle.retro_redo.specs.Progress.{ProgressValue, Settles, edit_in, chosen, recorded_after, repaired_after}
 use Rattle.retro_redo.specs.SoFar.{AreStatesOfRuns}
 use Rattle.retro_redo.specs.declared.step.Step.{Step}
+use Rattle.retro_redo.specs.declared.verdict.SettledLine.{SettledLine}
 use Rattle.retro_redo.proofs.Final.{settles_final}
 use Rattle.retro_redo.proofs.Positions.{Line, recorded_none, repaired_none}
 
@@ -73,9 +74,9 @@ last_of_run (l ∷ lines) s h =
     ap (λ r. (after_line l.0 r (outcome (map script_line lines))).0) h.0.means
     ∙ last_of_run lines (after l.1.notes s) h.1
 
-pub states_of_runs : (p : ProgressValue) (overlay : OverlayMap) (met : List ℕ) → Keeps p overlay met
+pub states_of_runs : (p : ProgressValue) (overlay : OverlayMap) (lines : List SettledLine) → Keeps p overlay lines
     → IsWellFormed p.recording → IsRecordingOf (script_in p.recording) p.recording → AreStatesOfRuns p
-states_of_runs p overlay met keeps well is =
+states_of_runs p overlay lines keeps well is =
     let all = p.recording.lines in
     let first = p.recording.first in
     let steps = p.choices in
@@ -93,7 +94,7 @@ states_of_runs p overlay met keeps well is =
     }
 
 -- the same of the progress as contracts see it, where q is the progress as its fields are
-pub states_seen : (p q : ProgressValue) (overlay : OverlayMap) (met : List ℕ) → q ≡ p → Keeps q overlay met
+pub states_seen : (p q : ProgressValue) (overlay : OverlayMap) (lines : List SettledLine) → q ≡ p → Keeps q overlay lines
     → IsWellFormed p.recording → IsRecordingOf (script_in p.recording) p.recording → AreStatesOfRuns p
-states_seen p q overlay met e keeps =
-    states_of_runs p overlay met (subst (λ (x : ProgressValue). Keeps x overlay met) e keeps)
+states_seen p q overlay lines e keeps =
+    states_of_runs p overlay lines (subst (λ (x : ProgressValue). Keeps x overlay lines) e keeps)

@@ -1,6 +1,6 @@
 -- The next uses of cells at a step of a repair, where q is the progress as its fields are, and p as
 -- contracts see it.
-use Rattle.std.proofs.Common.{◌≡◌, ◌∙◌, ℕ, suc, Bool, true, List, [], ◌∷◌, ◌++◌, drop, length}
+use Rattle.std.proofs.Common.{◌≡◌, ◌∙◌, ℕ, suc, Bool, List, [], ◌∷◌, ◌++◌, drop, length}
 use Rattle.std.proofs.Common.{◌+◌, replicate, Some, MatchBool, refl, sym, ap, subst}
 use Rattle.std.specs.List.{slice_get}
 use Rattle.std.specs.FinMap as finmap
@@ -24,6 +24,7 @@ use Rattle.retro_redo.specs.inner.Keeping.{Keeps}
 use Rattle.retro_redo.specs.Progress.{ProgressValue, next_line, recorded_now, repaired_now}
 use Rattle.retro_redo.specs.declared.step.Step.{Step}
 use Rattle.retro_redo.specs.declared.step.Step.TheVariants.{Keep}
+use Rattle.retro_redo.specs.declared.verdict.SettledLine.{SettledLine}
 use Rattle.retro_redo.proofs.KeptLines.{length_more}
 use Rattle.retro_redo.proofs.Positions.{Line}
 
@@ -108,11 +109,11 @@ skipped_uses choices lines overlay uses place n steps at keeps pushed =
     ∙ (λ i. sym at i + length-replicate n Keep i)))) keeps
 
 -- what is kept, if nothing changes
-pub keeps_same : (q : ProgressValue) (overlay same_overlay : OverlayMap) (met same_met : List ℕ) (steps : List Step)
-    → Keeps q overlay met → steps ≡ q.choices → same_met ≡ met → same_overlay ≡ overlay
-    → Keeps (record { recording = q.recording; edits = q.edits; choices = steps }) same_overlay same_met
-keeps_same q overlay same_overlay met same_met steps keeps choices_are met_is overlay_is =
+pub keeps_same : (q : ProgressValue) (overlay same_overlay : OverlayMap) (lines same_lines : List SettledLine)
+    (steps : List Step) → Keeps q overlay lines → steps ≡ q.choices → same_lines ≡ lines → same_overlay ≡ overlay
+    → Keeps (record { recording = q.recording; edits = q.edits; choices = steps }) same_overlay same_lines
+keeps_same q overlay same_overlay lines same_lines steps keeps choices_are lines_are overlay_is =
     subst (λ (cs : List Step). Keeps (record { recording = q.recording; edits = q.edits; choices = cs }) same_overlay
-    same_met) (sym choices_are)
-    (subst (λ (ms : List ℕ). Keeps q same_overlay ms) (sym met_is)
-    (subst (λ (o : OverlayMap). Keeps q o met) (sym overlay_is) keeps))
+    same_lines) (sym choices_are)
+    (subst (λ (ls : List SettledLine). Keeps q same_overlay ls) (sym lines_are)
+    (subst (λ (o : OverlayMap). Keeps q o lines) (sym overlay_is) keeps))

@@ -1,5 +1,5 @@
 -- The notes of unmet lines.
-use Rattle.std.proofs.Common.{◌≡◌, ◌∙◌, ℕ, Bool, false, List, [], ◌∷◌, Option, None, Some, MatchBool, length, sym, ap, subst}
+use Rattle.std.proofs.Common.{◌≡◌, ◌∙◌, Bool, false, List, [], ◌∷◌, Option, None, Some, MatchBool, length, sym, ap, subst}
 use Rattle.std.specs.List.{slice_get}
 use Rattle.retro_tree.specs.Exact.{IsExact}
 use Rattle.retro_tree.specs.Notes.{after, AgreeOn, Holds}
@@ -13,6 +13,7 @@ use Rattle.retro_redo.specs.inner.Keeping.{Keeps}
 use Rattle.retro_redo.specs.inner.Meetings.{is_met_by}
 use Rattle.retro_redo.specs.Progress.{ProgressValue, edit_in, next_line, recorded_after, recorded_now, repaired_now}
 use Rattle.retro_redo.specs.declared.step.Step.{Step}
+use Rattle.retro_redo.specs.declared.verdict.SettledLine.{SettledLine}
 use Rattle.retro_redo.proofs.EditCases.{met_by_edit, not_used}
 use Rattle.retro_redo.proofs.Keeping.{IsDecided}
 use Rattle.retro_redo.proofs.Positions.{Line, not_none}
@@ -26,8 +27,8 @@ recorded_holds (k ∷ lines) [] l s all next =
 recorded_holds (k ∷ lines) (step ∷ steps) l s all next = recorded_holds lines steps l (after k.1.notes s) all.1 next
 
 -- where p is the progress as contracts see it, and q as its fields are
-module _ (p q : ProgressValue) (overlay : OverlayMap) (met : List ℕ) (used : Bool) (k : Line) (e : q ≡ p)
-    (keeps : Keeps q overlay met) (next : next_line p ≡ Some k)
+module _ (p q : ProgressValue) (overlay : OverlayMap) (lines : List SettledLine) (used : Bool) (k : Line) (e : q ≡ p)
+    (keeps : Keeps q overlay lines) (next : next_line p ≡ Some k)
     (decided : (s t : State) → IsExact overlay s t → MatchBool used (Met k.1.notes s t) (AgreeOn k.1.notes s t)) where
   exact : IsExact overlay (recorded_now p) (repaired_now p)
   exact = subst (λ x. IsExact overlay (recorded_now x) (repaired_now x)) e keeps.exact

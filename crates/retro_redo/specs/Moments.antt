@@ -1,6 +1,6 @@
 -- Two runs side by side: of all lines of a recording, and of its edited lines. Edits are given by the
 -- numbers of lines.
-use Rattle.std.specs.Prelude.{◌≡◌, ℕ, List, [], ◌∷◌, Option, Some, None, unwrap_or, if◌then◌else◌}
+use Rattle.std.specs.Prelude.{◌≡◌, ℕ, List, [], ◌∷◌, MatchBool, Option, Some, None, unwrap_or, if◌then◌else◌}
 use Rattle.std.specs.List.{flat_map}
 use Rattle.retro_tree.specs.Order.{text_eq}
 use Rattle.retro_tree.specs.Notes.{AgreeOn, Holds}
@@ -12,8 +12,8 @@ use Rattle.retro_keep.specs.declared.edit.Edit.{Edit}
 use Rattle.retro_keep.specs.declared.edit.Edit.TheVariants.{Cancel, Replace}
 use Rattle.retro_keep.specs.declared.noted.Noted.{Noted}
 use Rattle.retro_difference.specs.Meeting.{Met}
-use Rattle.retro_redo.specs.Picks.{PicksBy}
 use Rattle.retro_redo.specs.declared.compensation.Compensation.{Compensation}
+use Rattle.retro_redo.specs.declared.verdict.SettledLine.{SettledLine}
 use Rattle.retro_redo.specs.declared.verdict.Verdict.{Verdict}
 use Rattle.retro_redo.specs.declared.verdict.Verdict.TheVariants.{Cancelled, Redone, Kept}
 
@@ -62,13 +62,23 @@ printed_before m = (line m.noted.sid m.noted.text m.recorded).1
 abbrev pub printed_now : (ℕ → Option Edit) → Moment → List ℕ
 printed_now edit m = output_of_run m.noted.sid (text_run (edit m.number) m.noted.text) m.repaired
 
+-- a line that prints something else in the repaired run, with both texts
+pub record CompensationValue : Type 0 where
+  pub number : ℕ
+  pub before : List ℕ
+  pub now : List ℕ
+
+-- the same, as code has it
+abbrev pub compensation_view : Compensation → CompensationValue
+compensation_view c = record { number = c.number; before = c.before.now; now = c.now.now }
+
 -- a compensation, if the texts differ
-abbrev pub compensation : ℕ → List ℕ → List ℕ → List Compensation
+abbrev pub compensation : ℕ → List ℕ → List ℕ → List CompensationValue
 compensation number before now =
     if text_eq before now then [] else record { number = number; before = before; now = now } ∷ []
 
 -- the lines whose output differs, in order, with both texts
-abbrev pub compensations : (ℕ → Option Edit) → List Moment → List Compensation
+abbrev pub compensations : (ℕ → Option Edit) → List Moment → List CompensationValue
 compensations edit ms =
     flat_map (λ m. compensation m.number (printed_before m) (printed_now edit m)) ms
 
@@ -105,16 +115,13 @@ IsVerdict edit m Cancelled = text_run (edit m.number) m.noted.text ≡ None
 IsVerdict edit m Redone = IsStaleBy (edit m.number) m.noted.notes m.repaired
 IsVerdict edit m Kept = (edit m.number ≡ None) × Holds m.noted.notes m.repaired
 
-abbrev pub moment_number : Moment → ℕ
-moment_number m = m.number
+-- what a repair did with a line: its number, the verdict on it, and whether it is met
+abbrev pub IsSettledLine : (ℕ → Option Edit) → Moment → SettledLine → Type 0
+IsSettledLine edit m l =
+    (l.number ≡ m.number) × IsVerdict edit m l.verdict × MatchBool l.is_met (IsMet edit m) (¬ (IsMet edit m))
 
--- the numbers of the moments that satisfy a condition, in order
-abbrev pub Picks : (Moment → Type 0) → List Moment → List ℕ → Type 0
-Picks P ms numbers = PicksBy moment_number P ms numbers
-
--- each line's number with its verdict, in order
-abbrev pub AreVerdicts : (ℕ → Option Edit) → List Moment → List (ℕ × Verdict) → Type 0
-AreVerdicts edit [] verdicts = verdicts ≡ []
-AreVerdicts edit (m ∷ ms) [] = ⊥
-AreVerdicts edit (m ∷ ms) (v ∷ verdicts) =
-    (v.0 ≡ m.number) × IsVerdict edit m v.1 × AreVerdicts edit ms verdicts
+-- the same of each line, in order
+abbrev pub AreSettledLines : (ℕ → Option Edit) → List Moment → List SettledLine → Type 0
+AreSettledLines edit [] lines = lines ≡ []
+AreSettledLines edit (m ∷ ms) [] = ⊥
+AreSettledLines edit (m ∷ ms) (l ∷ lines) = IsSettledLine edit m l × AreSettledLines edit ms lines

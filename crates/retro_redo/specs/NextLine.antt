@@ -1,5 +1,5 @@
 -- The line whose turn it is.
-use Rattle.std.specs.Prelude.{◌≡◌, false, Option, None, Some}
+use Rattle.std.specs.Prelude.{◌≡◌, false, None, Some}
 use Rattle.std.specs.Prelude.{MatchBool}
 use Rattle.std.specs.Option.{option_copied}
 use Rattle.retro_tree.specs.Notes.{Holds}

@@ -1,5 +1,5 @@
 -- The progress of a repair: the choices made so far, and the states that they make.
-use Rattle.std.specs.Prelude.{◌≡◌, ℕ, List, [], ◌∷◌, ◌++◌, ◌⊎◌, Option, None, length, option_map}
+use Rattle.std.specs.Prelude.{◌≡◌, ℕ, List, [], ◌∷◌, ◌++◌, ◌⊎◌, MatchBool, Option, None, length, option_map}
 use Rattle.std.specs.FinMap as map
 use Rattle.std.specs.List.{slice_get}
 use Rattle.retro_tree.specs.Notes.{after, AgreeOn, Holds}
@@ -10,10 +10,11 @@ use Rattle.retro_keep.specs.Recording.{RecordingValue, noted_of}
 use Rattle.retro_keep.specs.declared.edit.Edit.{Edit}
 use Rattle.retro_keep.specs.declared.noted.Noted.{Noted}
 use Rattle.retro_redo.specs.Editing.{EditMap}
-use Rattle.retro_redo.specs.Moments.{IsMetBy, IsStaleBy, Moment, compensation, new_text, text_now}
-use Rattle.retro_redo.specs.declared.compensation.Compensation.{Compensation}
+use Rattle.retro_redo.specs.Moments.{CompensationValue, IsMet, IsMetBy, IsStaleBy, Moment, compensation, new_text}
+use Rattle.retro_redo.specs.Moments.{text_now}
 use Rattle.retro_redo.specs.declared.step.Step.{Step}
 use Rattle.retro_redo.specs.declared.step.Step.TheVariants.{Cancel, Keep, Take}
+use Rattle.retro_redo.specs.declared.verdict.SettledLine.{SettledLine}
 use Rattle.retro_redo.specs.declared.verdict.Verdict.{Verdict}
 use Rattle.retro_redo.specs.declared.verdict.Verdict.TheVariants.{Cancelled, Redone, Kept}
 
@@ -148,10 +149,10 @@ output_chosen noted Cancel = []
 output_chosen noted Keep = noted.output
 output_chosen noted (Take run) = run.output
 
-abbrev pub compensation_chosen : ℕ × Noted → Step → List Compensation
+abbrev pub compensation_chosen : ℕ × Noted → Step → List CompensationValue
 compensation_chosen l step = compensation l.0 l.1.output (output_chosen l.1 step)
 
-abbrev pub compensations_chosen : List (ℕ × Noted) → List Step → List Compensation
+abbrev pub compensations_chosen : List (ℕ × Noted) → List Step → List CompensationValue
 compensations_chosen = by_choices compensation_chosen
 
 abbrev pub verdict_of : Step → Verdict
@@ -159,8 +160,14 @@ verdict_of Cancel = Cancelled
 verdict_of Keep = Kept
 verdict_of (Take run) = Redone
 
-abbrev pub verdict_chosen : ℕ × Noted → Step → List (ℕ × Verdict)
-verdict_chosen l step = (l.0, verdict_of step) ∷ []
+-- what is left of a line in a moment, by its choice: its number, the verdict, and whether it is met
+abbrev pub IsLineBy : (ℕ → Option Edit) → Moment → Step → SettledLine → Type 0
+IsLineBy edit m step l =
+    (l.number ≡ m.number) × (l.verdict ≡ verdict_of step)
+    × MatchBool l.is_met (IsMet edit m) (¬ (IsMet edit m))
 
-abbrev pub verdicts_chosen : List (ℕ × Noted) → List Step → List (ℕ × Verdict)
-verdicts_chosen = by_choices verdict_chosen
+-- the same of each line that has a choice, in order
+abbrev pub AreLinesBy : (ℕ → Option Edit) → List Moment → List Step → List SettledLine → Type 0
+AreLinesBy edit [] [] lines = lines ≡ []
+AreLinesBy edit (m ∷ ms) (step ∷ steps) (l ∷ lines) = IsLineBy edit m step l × AreLinesBy edit ms steps lines
+AreLinesBy edit _ _ _ = ⊥

@@ -3,9 +3,7 @@
 use Rattle.std.specs.Prelude.{◌≡◌, ℕ, List, length, map, Option}
 use Rattle.retro_keep.specs.Recording.{IsWellFormed, RecordingValue, output_in}
 use Rattle.retro_keep.specs.declared.edit.Edit.{Edit}
-use Rattle.retro_redo.specs.Moments.{IsMet, Picks}
-use Rattle.retro_redo.specs.Progress.{AreTakenIfMet, Settles, compensations_chosen, lines_chosen, repaired_after}
-use Rattle.retro_redo.specs.Progress.{settled, verdicts_chosen}
+use Rattle.retro_redo.specs.Progress.{AreLinesBy, AreTakenIfMet, Settles, lines_chosen, repaired_after, settled}
 use Rattle.retro_redo.specs.Repair.{IsRunAgain, repaired_outputs, repaired_state}
 use Rattle.retro_redo.specs.declared.repair.Repair.{Repair}
 use Rattle.retro_redo.specs.declared.step.Step.{Step}
@@ -14,17 +12,15 @@ use Rattle.retro_redo.specs.declared.step.Step.{Step}
 abbrev pub recording_chosen : RecordingValue → List Step → RecordingValue
 recording_chosen r steps = record { first = r.first; from = r.from; lines = lines_chosen r.lines steps }
 
--- The repaired recording has the lines as chosen. State and outputs are those of its notes, and the
--- met lines are those that read or write a cell in which the recorded and the repaired state
--- differ.
+-- The repaired recording has the lines as chosen. State and outputs are those of its notes. Each line
+-- has the verdict of its choice, and is said to be met if its text is replaced, or if nothing edits it
+-- and it reads or writes a cell in which the recorded and the repaired state differ.
 pub record IsByChoices (edit : ℕ → Option Edit) (r : RecordingValue) (steps : List Step) (repair : Repair)
     : Type 0 where
   pub recording_is : repair.recording ≡ recording_chosen r steps
   pub state_is : repaired_state repair ≡ repaired_after r.lines steps r.first
   pub outputs_are : repaired_outputs repair ≡ map output_in (lines_chosen r.lines steps)
-  pub compensated : repair.compensations.items ≡ compensations_chosen r.lines steps
-  pub verdicts_are : repair.verdicts.items ≡ verdicts_chosen r.lines steps
-  pub met_are : Picks (IsMet edit) (settled r.lines steps r.first r.first) repair.met.items
+  pub lines_are : AreLinesBy edit (settled r.lines steps r.first r.first) steps repair.lines.items
 
 -- Each line has a choice that it allows. The repair is what the choices give, if the lines as
 -- chosen make a recording. Otherwise all edited lines are run again. In both cases the repaired

@@ -1,18 +1,14 @@
 //! Repairs that run all edited lines again.
 ghost use Rattle.std.specs.Prelude.{◌≡◌, ◌++◌, IfOk, OnOk, map};
 ghost use Rattle.std.specs.FinMap as map_of;
-ghost use Rattle.std.specs.List.{flat_map};
 ghost use Rattle.retro_keep.specs.Edit.{edited, line_run};
-ghost use Rattle.retro_keep.specs.Recording.{IsRecordingOf, IsWellFormed, noted_at, number_in};
-ghost use Rattle.retro_keep.specs.Recording.{script_line};
+ghost use Rattle.retro_keep.specs.Recording.{IsRecordingOf, IsWellFormed, script_line};
 ghost use Rattle.retro_redo.specs.Moments.{text_now};
-ghost use Rattle.retro_redo.specs.Repair.{IsRunAgain, compensation_again, script_now};
-ghost use Rattle.retro_redo.specs.Repair.{text_again, verdict_again, verdict_by};
+ghost use Rattle.retro_redo.specs.Repair.{IsRunAgain, line_again, script_now};
 
-use crate::compensation::{Compensation, compensate};
 use crate::repair::Repair;
 use crate::tally::Tally;
-use crate::verdict::Verdict;
+use crate::verdict::{SettledLine, Verdict};
 use retro_keep::{Edits, Noted, Recording, Script, ScriptLine, keep_alone};
 use retro_tree::NoMem;
 use std::alloc::Global;
@@ -20,7 +16,7 @@ use std::alloc::Global;
 /// Runs all edited lines again, and returns the repair whose verdict on each of them is `Redone`.
 /// The executions aren't observed by a [`Gate`](crate::Gate).
 ///
-/// This is the fallback of `Progress::finish`. It is needed only for a recording whose notes aren't
+/// This is the fallback of `Steps::finish`. It is needed only for a recording whose notes aren't
 /// those of running its lines.
 pub(crate) fn run_edited(
     alloc: Global,
@@ -33,14 +29,8 @@ pub(crate) fn run_edited(
         IsRunAgain (map_of.get edits.now) recording.now repair) }
 {
     let again = record_edited(alloc, recording, edits)?;
-    let lines = recording.lines();
-    let compensations = compensations(alloc, lines, &again)?;
-    let verdicts = verdicts(alloc, lines, edits)?;
-    let met = numbers(alloc, again.lines())?;
     Ok(Repair {
-        verdicts,
-        met,
-        compensations,
+        lines: settled_again(alloc, recording.lines(), edits)?,
         tally,
         recording: again,
     })
@@ -110,70 +100,37 @@ fn push_edited(
     Ok(())
 }
 
-/// Returns the lines that print something else than was recorded, with both outputs. `again` is the
-/// recording of the lines that were run again.
-fn compensations(
-    alloc: Global,
-    lines: &[(u32, Noted)],
-    again: &Recording,
-) -> Result<Vec<Compensation>, NoMem>
-    ensures { IfOk result (λ compensations.
-        compensations.items ≡ flat_map (compensation_again again.now) lines.now) }
-{
-    let mut compensations = Vec::new(alloc);
-    for line in lines {
-        let (number, noted) = line;
-        let before = noted.output.as_slice();
-        let now = printed(again, *number);
-        compensate(alloc, &mut compensations, *number, before, now)?;
-    }
-    Ok(compensations)
-}
-
-/// Returns what a line printed when it was run again. If it wasn't run again, it prints nothing.
-fn printed(again: &Recording, number: u32) -> &[u8]
-    ensures { result.now ≡ text_again (noted_at number again.now.lines) }
-{
-    match again.run_of(number) {
-        None => &[],
-        Some(noted) => noted.output.as_slice(),
-    }
-}
-
-/// Returns each line's number with its verdict: cancelled if the line runs no text, redone
-/// otherwise.
-fn verdicts(
+/// Returns what is left of lines, all of which are run again but for the cancelled ones.
+fn settled_again(
     alloc: Global,
     lines: &[(u32, Noted)],
     edits: &Edits<'_>,
-) -> Result<Vec<(u32, Verdict)>, NoMem>
-    ensures { IfOk result (λ verdicts.
-        verdicts.items ≡ map (verdict_again (map_of.get edits.now)) lines.now) }
+) -> Result<Vec<SettledLine>, NoMem>
+    ensures { IfOk result (λ settled.
+        settled.items ≡ map (line_again (map_of.get edits.now)) lines.now) }
 {
-    let mut verdicts = Vec::new(alloc);
+    let mut settled = Vec::new(alloc);
     for line in lines {
-        verdicts.push((line.0, verdict_again(line, edits)))?;
+        settled.push(line_again(line, edits))?;
     }
-    Ok(verdicts)
+    Ok(settled)
 }
 
-/// Returns the verdict on a line that is run again unless it is cancelled.
-fn verdict_again(line: &(u32, Noted), edits: &Edits<'_>) -> Verdict
-    ensures { result ≡ verdict_by (text_now (map_of.get edits.now) line.now) }
+/// Returns what is left of a line that is met and run again, unless it is cancelled.
+fn line_again(line: &(u32, Noted), edits: &Edits<'_>) -> SettledLine
+    ensures { result ≡ line_again (map_of.get edits.now) line.now }
 {
-    match edits.text_run(line.0, &line.1.text) {
-        None => Verdict::Cancelled,
-        Some(_) => Verdict::Redone,
+    let number = line.0;
+    match edits.text_run(number, &line.1.text) {
+        None => SettledLine {
+            number,
+            verdict: Verdict::Cancelled,
+            is_met: false,
+        },
+        Some(_) => SettledLine {
+            number,
+            verdict: Verdict::Redone,
+            is_met: true,
+        },
     }
-}
-
-/// Returns the numbers of lines.
-fn numbers(alloc: Global, lines: &[(u32, Noted)]) -> Result<Vec<u32>, NoMem>
-    ensures { IfOk result (λ numbers. numbers.items ≡ map number_in lines.now) }
-{
-    let mut numbers = Vec::new(alloc);
-    for line in lines {
-        numbers.push(line.0)?;
-    }
-    Ok(numbers)
 }

@@ -112,4 +112,4 @@ pub use settlement::Settlement;
 pub use step::Step;
 pub use steps::Steps;
 pub use tally::Tally;
-pub use verdict::Verdict;
+pub use verdict::{SettledLine, Verdict};

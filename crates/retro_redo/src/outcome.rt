@@ -4,15 +4,12 @@ ghost use Rattle.std.specs.Prelude.{is_some, length, ℕ};
 ghost use Rattle.retro_tree.specs.Commit.{committed};
 ghost use Rattle.retro_keep.specs.Recording.{IsWellFormed, last_state};
 ghost use Rattle.retro_keep.specs.declared.edit.Edit.{Edit};
-ghost use Rattle.retro_redo.specs.Progress.{Settles, compensations_chosen, line_chosen};
-ghost use Rattle.retro_redo.specs.Progress.{lines_chosen, output_chosen};
-ghost use Rattle.retro_redo.specs.Progress.{repaired_after, verdict_of, verdicts_chosen};
+ghost use Rattle.retro_redo.specs.Progress.{Settles, line_chosen, lines_chosen};
+ghost use Rattle.retro_redo.specs.Progress.{repaired_after};
 ghost use Rattle.retro_redo.specs.Settled.{recording_chosen};
 
 use crate::altered_paths::keeps_near;
-use crate::compensation::{Compensation, compensate};
 use crate::step::Step;
-use crate::verdict::Verdict;
 use retro_keep::{Noted, Recording};
 use retro_tree::{NoMem, Overlay};
 use std::alloc::Global;
@@ -78,62 +75,4 @@ fn push_line(chosen: &mut Vec<(u32, Noted)>, line: &(u32, Noted), step: Step) ->
         Step::Take(run) => chosen.push((line.0, Noted::of(run)))?,
     }
     Ok(())
-}
-
-/// Returns each line's number with its verdict.
-pub(crate) fn verdicts(
-    alloc: Global,
-    lines: &[(u32, Noted)],
-    choices: &[Step],
-) -> Result<Vec<(u32, Verdict)>, NoMem>
-    requires { length choices.now ≡ length lines.now }
-    ensures { IfOk result (λ verdicts. verdicts.items ≡ verdicts_chosen lines.now choices.now) }
-{
-    let mut verdicts = Vec::new(alloc);
-    for i in 0..lines.len() {
-        verdicts.push((lines[i].0, verdict_of(&choices[i])))?;
-    }
-    Ok(verdicts)
-}
-
-/// Returns the verdict on a line that was settled by `step`.
-fn verdict_of(step: &Step) -> Verdict
-    ensures { result ≡ verdict_of step.now }
-{
-    match step {
-        Step::Cancel => Verdict::Cancelled,
-        Step::Keep => Verdict::Kept,
-        Step::Take(_) => Verdict::Redone,
-    }
-}
-
-/// Returns the lines that print something else than was recorded, with both outputs.
-pub(crate) fn compensations(
-    alloc: Global,
-    lines: &[(u32, Noted)],
-    choices: &[Step],
-) -> Result<Vec<Compensation>, NoMem>
-    requires { length choices.now ≡ length lines.now }
-    ensures { IfOk result (λ compensations.
-        compensations.items ≡ compensations_chosen lines.now choices.now) }
-{
-    let mut compensations = Vec::new(alloc);
-    for i in 0..lines.len() {
-        let (number, noted) = &lines[i];
-        let before = noted.output.as_slice();
-        let now = printed(noted, &choices[i]);
-        compensate(alloc, &mut compensations, *number, before, now)?;
-    }
-    Ok(compensations)
-}
-
-/// Returns what a line prints if `step` is its step.
-fn printed<'a>(noted: &'a Noted, step: &'a Step) -> &'a [u8]
-    ensures { result.now ≡ output_chosen noted.now step.now }
-{
-    match step {
-        Step::Cancel => &[],
-        Step::Keep => noted.output.as_slice(),
-        Step::Take(run) => run.output().as_slice(),
-    }
 }

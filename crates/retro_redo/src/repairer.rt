@@ -33,6 +33,7 @@ use crate::step::Step;
 use crate::steps::Steps;
 use crate::stops::{add_edited, is_met_by};
 use crate::tally::Tally;
+use crate::verdict::SettledLine;
 use retro_difference::Difference;
 use retro_history::{At, History};
 use retro_keep::{Edit, Edits, Noted, Recording};
@@ -55,8 +56,8 @@ pub struct Repairer<'h, 'a, 'e> {
     history: &'h History<'a>,
     edits: Edits<'e>,
     choices: Vec<Step>,
+    lines: Vec<SettledLine>,
     difference: Difference,
-    met: Vec<u32>,
 }
 
 impl<'h, 'a, 'e> Model for Repairer<'h, 'a, 'e> {
@@ -80,7 +81,7 @@ impl<'h, 'a, 'e> Model for Repairer<'h, 'a, 'e> {
       recording = a.recording.now;
       edits = a.edits;
       choices = a.choices.items;
-    }) a.difference.overlay a.met.items
+    }) a.difference.overlay a.lines.items
         × IsAmong (drop (length a.choices.items) a.recording.now.lines) a.difference
         × (a.history.now ≡ a.recording.now) };
 }
@@ -113,8 +114,8 @@ impl<'h, 'a, 'e> Repairer<'h, 'a, 'e> {
             history,
             edits: Edits::of(alloc, edits)?,
             choices: Vec::new(alloc),
+            lines: Vec::new(alloc),
             difference: Difference::none(alloc),
-            met: Vec::new(alloc),
         })
     }
 
@@ -236,8 +237,8 @@ impl<'h, 'a, 'e> Repairer<'h, 'a, 'e> {
         // For the prover: the contract of `noted_line` says that the recording is well formed.
         let _ = self.noted_line();
         let settled = self.choices.len();
-        let count = unmet_lines(self.recording, settled, &self.edits, &self.difference);
-        push_kept(&mut self.choices, count)?;
+        let unmet = unmet_lines(self.recording, settled, &self.edits, &self.difference);
+        push_kept(&mut self.choices, &mut self.lines, unmet)?;
         Ok(())
     }
 
@@ -314,15 +315,15 @@ impl<'h, 'a, 'e> Repairer<'h, 'a, 'e> {
             history: _,
             edits,
             choices,
+            lines,
             difference,
-            met,
         } = self;
         Steps {
             recording,
             edits,
             choices,
+            lines,
             overlay: difference.into_overlay(),
-            met,
         }
     }
 }

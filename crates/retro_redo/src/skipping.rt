@@ -1,6 +1,6 @@
 //! Lines that a repair keeps without reading them.
-ghost use Rattle.std.specs.Prelude.{◌≡◌, ◌<◌, ◌≤◌, ◌++◌, drop, IfSome, length};
-ghost use Rattle.std.specs.Prelude.{OnErr, OnOk, replicate};
+ghost use Rattle.std.specs.Prelude.{◌≡◌, ◌<◌, ◌≤◌, ◌++◌, drop, IfSome, length, map};
+ghost use Rattle.std.specs.Prelude.{OnErr, OnOk, replicate, take};
 ghost use Rattle.std.specs.FinMap as map_of;
 ghost use Rattle.std.specs.List.{slice_get};
 ghost use Rattle.std.specs.Option.{option_copied};
@@ -10,37 +10,40 @@ ghost use Rattle.retro_keep.specs.Edit.{sooner};
 ghost use Rattle.retro_redo.specs.Editing.{AreLines};
 ghost use Rattle.retro_difference.specs.Difference.{IsAmong};
 ghost use Rattle.retro_redo.specs.Skipping.{AreUnmet};
+ghost use Rattle.retro_redo.specs.inner.Keeping.{kept_line};
 ghost use Rattle.retro_redo.specs.declared.step.Step.TheVariants as steps;
 
 use crate::step::Step;
+use crate::verdict::{SettledLine, Verdict};
 use retro_difference::Difference;
 use retro_keep::{Edits, Noted, Recording};
 use retro_tree::NoMem;
 
-/// Returns how many lines in a row are neither edited nor met, from the index `from` on. `difference`
+/// Returns the lines in a row from the index `from` on that are neither edited nor met. `difference`
 /// has the cells in which the states differ before them.
 ///
 /// No line's notes are read. The next line that is edited or met is found by its number.
-pub(crate) fn unmet_lines(
-    recording: &Recording,
+pub(crate) fn unmet_lines<'a>(
+    recording: &'a Recording,
     from: usize,
     edits: &Edits<'_>,
     difference: &Difference,
-) -> usize
+) -> &'a [(u32, Noted)]
     requires { AreLines edits.now recording.now }
-    ensures { let rest = drop from recording.now.lines in IsAmong rest difference.now
+    ensures lines { result.now ≡ take (length result.now) (drop from recording.now.lines) }
+    ensures unmet { let rest = drop from recording.now.lines in IsAmong rest difference.now
         → ((s t : State) → IsExact difference.now.overlay s t
-        → AreUnmet (map_of.get edits.now) result rest s t)
-        × IsAmong (drop result rest) difference.now }
+        → AreUnmet (map_of.get edits.now) (length result.now) rest s t)
+        × IsAmong (drop (length result.now) rest) difference.now }
 {
     let lines = recording.lines();
     let Some(line) = line_at(lines, from) else {
-        return 0;
+        return &[];
     };
     let rest = lines_from(lines, from);
     match sooner(edits.next_from(line.0), difference.next()) {
-        None => rest.len(),
-        Some(number) => rest.partition_point(|line| line.0 < number),
+        None => rest,
+        Some(number) => &rest[..rest.partition_point(|line| line.0 < number)],
     }
 }
 
@@ -73,15 +76,27 @@ fn lines_from(lines: &[(u32, Noted)], place: usize) -> &[(u32, Noted)]
     &lines[place..]
 }
 
-/// Appends `count` choices to keep a line.
-pub(crate) fn push_kept(choices: &mut Vec<Step>, count: usize) -> Result<(), NoMem>
-    ensures ok { OnOk result (choices.new.items
-        ≡ choices.old.items ++ replicate count steps.Keep) }
-    ensures err { OnErr result (choices.new.items ≡ choices.old.items) }
+/// Appends for each of some unmet lines the choice to keep it, and what is left of it.
+pub(crate) fn push_kept(
+    choices: &mut Vec<Step>,
+    lines: &mut Vec<SettledLine>,
+    unmet: &[(u32, Noted)],
+) -> Result<(), NoMem>
+    ensures choices { OnOk result (choices.new.items
+        ≡ choices.old.items ++ replicate (length unmet.now) steps.Keep) }
+    ensures lines { OnOk result (lines.new.items ≡ lines.old.items ++ map kept_line unmet.now) }
+    ensures err { OnErr result ((choices.new.items ≡ choices.old.items)
+        × (lines.new.items ≡ lines.old.items)) }
 {
-    choices.reserve(count)?;
-    for _ in 0..count {
+    choices.reserve(unmet.len())?;
+    lines.reserve(unmet.len())?;
+    for line in unmet {
         choices.push_reserved(Step::Keep);
+        lines.push_reserved(SettledLine {
+            number: line.0,
+            verdict: Verdict::Kept,
+            is_met: false,
+        });
     }
     Ok(())
 }

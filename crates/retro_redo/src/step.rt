@@ -7,9 +7,10 @@ ghost use Rattle.retro_tree.specs.declared.state.State.{State};
 ghost use Rattle.retro_keep.specs.Recorded.{recorded_before};
 ghost use Rattle.retro_keep.specs.Recording.{IsWellFormed};
 ghost use Rattle.retro_difference.specs.Difference.{IsAmong, Stays};
-ghost use Rattle.retro_redo.specs.Progress.{IsRunTaken, chosen};
+ghost use Rattle.retro_redo.specs.Progress.{IsRunTaken, chosen, verdict_of};
 
 use crate::line::Line;
+use crate::verdict::Verdict;
 use retro_difference::{Difference, LineRun};
 use retro_history::History;
 use retro_shell::Run;
@@ -28,6 +29,17 @@ pub enum Step {
 }
 
 impl Step {
+    /// Returns the verdict on a line that is settled by this step.
+    pub(crate) fn verdict(&self) -> Verdict
+        ensures { result ≡ verdict_of self.now }
+    {
+        match self {
+            Step::Cancel => Verdict::Cancelled,
+            Step::Keep => Verdict::Kept,
+            Step::Take(_) => Verdict::Redone,
+        }
+    }
+
     /// Tells the prover that the step's run has what its type guarantees: its notes certify its
     /// line. The function changes nothing. The contract of `Run::sid` states the guarantee, so the
     /// call is enough.

@@ -6,24 +6,25 @@ ghost use Rattle.retro_redo.specs.Repair.{IsRepair};
 ghost use Rattle.retro_redo.specs.Settled.{IsSettled};
 
 use crate::edited::run_edited;
-use crate::outcome::{chosen_recording, compensations, verdicts};
+use crate::outcome::chosen_recording;
 use crate::repair::Repair;
 use crate::step::Step;
 use crate::tally::Tally;
+use crate::verdict::SettledLine;
 use retro_keep::{Edits, Recording};
 use retro_tree::{NoMem, Overlay};
 use std::alloc::Global;
 use std::marker::Model;
 
-/// The steps by which a repair settled its lines, in order, the numbers of the met lines, and the
-/// exact overlay of the cells in which the repaired state differs from the recorded one after them.
+/// The steps by which a repair settled its lines, what they did with the lines, and the exact
+/// overlay of the cells in which the repaired state differs from the recorded one after them.
 #[derive(Drop)]
 pub struct Steps<'a, 'e> {
     pub(crate) recording: &'a Recording,
     pub(crate) edits: Edits<'e>,
     pub(crate) choices: Vec<Step>,
+    pub(crate) lines: Vec<SettledLine>,
     pub(crate) overlay: Overlay,
-    pub(crate) met: Vec<u32>,
 }
 
 impl<'a, 'e> Model for Steps<'a, 'e> {
@@ -45,7 +46,7 @@ impl<'a, 'e> Model for Steps<'a, 'e> {
       recording = a.recording.now;
       edits = a.edits;
       choices = a.choices.items;
-    }) a.overlay a.met.items };
+    }) a.overlay a.lines.items };
 }
 
 impl<'a, 'e> Steps<'a, 'e> {
@@ -68,19 +69,16 @@ impl<'a, 'e> Steps<'a, 'e> {
             recording,
             edits,
             choices,
+            lines,
             overlay,
-            met,
         } = self;
-        let lines = recording.lines();
-        let verdicts = verdicts(alloc, lines, choices.as_slice())?;
-        let compensations = compensations(alloc, lines, choices.as_slice())?;
+        // For the prover: the contract of `lines` says that the recording is well formed.
+        let _ = recording.lines();
         let Some(repaired) = chosen_recording(alloc, recording, choices, overlay)? else {
             return run_edited(alloc, recording, &edits, tally);
         };
         Ok(Repair {
-            verdicts,
-            met,
-            compensations,
+            lines,
             tally,
             recording: repaired,
         })

@@ -49,12 +49,18 @@ fn executed(alloc: Global, recording: &Recording, list: &str) -> Result<String, 
     }
 }
 
-/// Returns what a repair answers to a call.
-fn told(alloc: Global, repair: &Repair, call: &str, given: &[String]) -> Result<String, Fail> {
+/// Returns what the repair of a recording answers to a call.
+fn told(
+    alloc: Global,
+    recording: &Recording,
+    repair: &Repair,
+    call: &str,
+    given: &[String],
+) -> Result<String, Fail> {
     match (call, given) {
         ("lines", []) => Ok(lines(alloc, repair)?),
         ("outputs", []) => outputs(alloc, repair),
-        ("compensations", []) => compensations(alloc, repair),
+        ("compensations", []) => compensations(alloc, recording, repair),
         ("begins", []) => Ok(format!(in alloc; "{}", repair.recording.from())?),
         ("file", [at]) => file(alloc, repair.state(), &path(alloc, at)?),
         ("end", [at]) => end(alloc, repair.state(), &path(alloc, at)?),
@@ -123,7 +129,7 @@ fn same_in_rounds<T: Threads + Sync + AllocGlobal>(
     wanted: &str,
 ) -> Result<(), Fail> {
     let repair = repaired_in_rounds(rt, recording, ask)?;
-    if told(rt.alloc(), &repair, call, given)?.as_str() == wanted {
+    if told(rt.alloc(), recording, &repair, call, given)?.as_str() == wanted {
         Ok(())
     } else {
         fail("another answer in rounds")
@@ -140,7 +146,8 @@ fn told_in_every_way<T: Threads + Sync + AllocGlobal>(
     given: &[String],
 ) -> Result<String, Fail> {
     let alloc = rt.alloc();
-    let wanted = told(alloc, &repaired(alloc, recording, list)?, call, given)?;
+    let repair = repaired(alloc, recording, list)?;
+    let wanted = told(alloc, recording, &repair, call, given)?;
     for (workers, cuts) in [("0", "1"), ("1", "2"), ("16", "64"), ("3", "1 4")] {
         let ask = Ask {
             edits: list,
@@ -162,7 +169,7 @@ fn alike<T: Threads + Sync + AllocGlobal>(
     let alloc = rt.alloc();
     let alone = repaired(alloc, recording, list)?;
     for call in ["lines", "outputs", "compensations"] {
-        let wanted = told(alloc, &alone, call, &[])?;
+        let wanted = told(alloc, recording, &alone, call, &[])?;
         for workers in ["0", "1", "3", "16"] {
             for cuts in ["1", "2", "64", "1 4"] {
                 let ask = Ask {

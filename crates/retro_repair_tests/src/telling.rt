@@ -1,4 +1,5 @@
 //! What a repair answers, as the texts of rows.
+use retro_keep::Recording;
 use retro_redo::{Compensation, Repair, RepairFault, Verdict};
 use retro_rows::{fail, text, utf8};
 use retro_tree::{NoMem, Path, State};
@@ -10,12 +11,10 @@ fn push_number(alloc: Global, out: &mut String, number: u32) -> Result<(), NoMem
     out.push_str(&format!(in alloc; " {number}")?)
 }
 
-/// Appends the numbers of the lines that are redone.
-fn push_redone(alloc: Global, out: &mut String, verdicts: &[(u32, Verdict)]) -> Result<(), NoMem> {
-    for (number, verdict) in verdicts {
-        if *verdict == Verdict::Redone {
-            push_number(alloc, out, *number)?;
-        }
+/// Appends numbers.
+fn push_numbers(alloc: Global, out: &mut String, numbers: &[u32]) -> Result<(), NoMem> {
+    for number in numbers {
+        push_number(alloc, out, *number)?;
     }
     Ok(())
 }
@@ -23,11 +22,9 @@ fn push_redone(alloc: Global, out: &mut String, verdicts: &[(u32, Verdict)]) -> 
 /// Returns the numbers of the met lines, and of the redone ones.
 pub fn lines(alloc: Global, repair: &Repair) -> Result<String, NoMem> {
     let mut out = text(alloc, "met")?;
-    for number in &repair.met {
-        push_number(alloc, &mut out, *number)?;
-    }
+    push_numbers(alloc, &mut out, &repair.met_lines(alloc)?)?;
     out.push_str(", redone")?;
-    push_redone(alloc, &mut out, &repair.verdicts)?;
+    push_numbers(alloc, &mut out, &repair.lines_with(alloc, Verdict::Redone)?)?;
     Ok(out)
 }
 
@@ -53,18 +50,22 @@ pub fn outputs(alloc: Global, repair: &Repair) -> Result<String, Fail> {
 fn push_compensation(
     alloc: Global,
     out: &mut String,
-    compensation: &Compensation,
+    compensation: &Compensation<'_>,
 ) -> Result<(), Fail> {
-    let before = utf8(compensation.before.as_slice())?;
-    let now = utf8(compensation.now.as_slice())?;
+    let before = utf8(compensation.before)?;
+    let now = utf8(compensation.now)?;
     let number = compensation.number;
     Ok(out.push_str(&format!(in alloc; "{number} [{before}] [{now}]")?)?)
 }
 
 /// Returns the number of each compensated line, with what it printed and what it prints now.
-pub fn compensations(alloc: Global, repair: &Repair) -> Result<String, Fail> {
+pub fn compensations(
+    alloc: Global,
+    recording: &Recording,
+    repair: &Repair,
+) -> Result<String, Fail> {
     let mut out = String::new(alloc);
-    for compensation in &repair.compensations {
+    for compensation in &repair.compensations(alloc, recording)? {
         push_compensation(alloc, &mut out, compensation)?;
     }
     Ok(out)

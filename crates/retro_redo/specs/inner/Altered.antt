@@ -1,5 +1,5 @@
 -- Which paths a repair alters, and which kept lines change a path near one of them.
-use Rattle.std.specs.Prelude.{ℕ, Bool, ◌||◌, List, [], ◌++◌, Option, Some, None, is_some}
+use Rattle.std.specs.Prelude.{ℕ, Bool, ◌||◌, List, [], ◌++◌, Option, None, is_some}
 use Rattle.std.specs.List.{filter_map, list_any}
 use Rattle.std.specs.BTreeMap.{is_at}
 use Rattle.retro_tree.specs.Order.{path_cmp}

@@ -16,6 +16,7 @@ use crate::gate::{Gate, Turn};
 use crate::line::Line;
 use crate::settlement::Settlement;
 use crate::step::{Step, go_over};
+use crate::verdict::SettledLine;
 use retro_difference::{Combined, equiv};
 use retro_shell::{Run, run_line};
 use retro_tree::NoMem;
@@ -206,12 +207,10 @@ impl<'h, 'a, 'e> Repairer<'h, 'a, 'e> {
         // For the prover: the contract of `noted_line` says that the recording is well formed.
         let _ = self.noted_line();
         self.choices.reserve(1)?;
-        self.met.reserve(1)?;
+        self.lines.reserve(1)?;
         go_over(alloc, &mut self.difference, self.history, line, &step)?;
+        self.lines.push_reserved(SettledLine::of(&line, &step));
         self.choices.push_reserved(step);
-        if line.is_met {
-            self.met.push_reserved(line.number);
-        }
         Ok(())
     }
 }

@@ -6,5 +6,5 @@ use Rattle.casebook_cause.proofs.compensations.cancelled_lines.Given as goal
 
 abbrev pub invariant-loop-line : goal.invariant-loop-line
 invariant-loop-line l =
-    (n : ℕ) → (has_number n l.numbers.keys || is_cancelled (drop l.line-index l.verdicts) n)
-    ≡ is_cancelled l.verdicts n
+    (n : ℕ) → (has_number n l.numbers.keys || is_cancelled (drop l.line-index l.lines) n)
+    ≡ is_cancelled l.lines n

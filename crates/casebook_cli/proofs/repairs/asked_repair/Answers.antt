@@ -4,7 +4,7 @@ use Rattle.retro_keep.specs.Edit.{edit_of}
 use Rattle.casebook_cli.specs.Repairs.{AreEdits, IsRepairBy, lines_in}
 use Rattle.casebook_cli.specs.Stops.{StopsNumbers, StopsRepair, no_numbers, no_repair}
 use Rattle.casebook_cli.specs.inner.Views.{rounds_view}
-use Rattle.casebook_cli.proofs.RisingLemmas.{verdicts_rise}
+use Rattle.casebook_cli.proofs.RisingLemmas.{lines_rise}
 use Rattle.casebook_cli.proofs.repairs.asked_repair.Goals as goal
 
 pub returns-in_err-edits-clause-err : goal.returns-in_err-edits-clause-err
@@ -45,5 +45,5 @@ returns-clause-ok g c =
 
 pub returns-clause-rise : goal.returns-clause-rise
 returns-clause-rise g c =
-    verdicts_rise (edit_of c.as_slice.result.now) c.in_ok-recording.recording c.in_ok-repair.repair
+    lines_rise (edit_of c.as_slice.result.now) c.in_ok-recording.recording c.in_ok-repair.repair
     c.lines.ensures.well_formed c.in_ok-repair.ensures.ok.settled

@@ -7,5 +7,5 @@ use Rattle.casebook_view.proofs.fate.fates.Given as goal
 abbrev pub invariant-loop-line : goal.invariant-loop-line
 invariant-loop-line l =
     (rest : List (ℕ × Fate))
-    → AreFates l.case.recording l.case.repair (drop l.line-index l.case.repair.verdicts.items) rest
-    → AreFates l.case.recording l.case.repair l.case.repair.verdicts.items (l.fates.items ++ rest)
+    → AreFates l.case.recording l.case.repair (drop l.line-index l.case.repair.lines.items) rest
+    → AreFates l.case.recording l.case.repair l.case.repair.lines.items (l.fates.items ++ rest)

@@ -2,6 +2,7 @@
 use Rattle.std.proofs.Common.{◌≡◌, ◌++◌, drop, map, IsTrue}
 use Rattle.std.specs.List.{filter}
 use Rattle.retro_keep.specs.Script.{rises_from}
+use Rattle.retro_redo.specs.Moments.{compensation_view}
 use Rattle.casebook_cause.specs.Compensations.{tellings}
 use Rattle.casebook_view.specs.Reasons.{number_in}
 use Rattle.casebook_view.specs.Summaries.{line_told, notice_for, number_of}
@@ -12,11 +13,11 @@ abbrev pub invariant-loop-compensation : goal.invariant-loop-compensation
 invariant-loop-compensation l = record {
   lines : map line_told l.found.items
       ++ map number_of
-      (filter (is_understood l.unknown) (map (λ c. c.now) (drop l.compensation-index l.compensation-items)))
-      ≡ map number_of (filter (is_understood l.unknown) (tellings l.case.repair));
+      (filter (is_understood l.unknown) (map compensation_view (drop l.compensation-index l.compensation-items)))
+      ≡ map number_of (filter (is_understood l.unknown) (tellings l.case.recording l.case.repair));
   values : IsTrue (rises_from 0 (map number_in l.reasons))
       → l.found.items
       ++ map (notice_for l.case.recording l.reasons)
-      (filter (is_understood l.unknown) (map (λ c. c.now) (drop l.compensation-index l.compensation-items)))
-      ≡ map (notice_for l.case.recording l.reasons) (filter (is_understood l.unknown) (tellings l.case.repair));
+      (filter (is_understood l.unknown) (map compensation_view (drop l.compensation-index l.compensation-items)))
+      ≡ map (notice_for l.case.recording l.reasons) (filter (is_understood l.unknown) (tellings l.case.recording l.case.repair));
 }

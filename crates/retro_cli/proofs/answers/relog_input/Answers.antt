@@ -6,8 +6,8 @@ use Rattle.retro_cli.proofs.answers.relog_input.Goals as goal
 
 pub returns-clause-ok : goal.returns-clause-ok
 returns-clause-ok g c =
-    let repair = c.in_ok-repair.repair in
-    let is = c.in_ok-repair.ensures.ok.is_repair in
+    let repair = c.in_ok-recording.repair in
+    let is = c.in_ok-recording.ensures.ok.0.is_repair in
     let written = c.in_ok-write_log.ensures in
     let read = read_fits is.recording (record { bytes = c.args.input.items; read = is.is_log }) in
     record {

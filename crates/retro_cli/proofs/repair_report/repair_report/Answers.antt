@@ -8,7 +8,7 @@ use Rattle.retro_cli.proofs.repair_report.repair_report.Goals as goal
 pub returns : goal.returns
 unfolding repair_text
 returns c =
-    let written : view c.in_ok-value.value ≡ repair_data c.args.repair.now = c.in_ok-value.ensures in
-    let none : has_float (view c.in_ok-value.value) ≡ false = ap has_float written ∙ repair_float c.args.repair.now in
+    let written : view c.in_ok-value.value ≡ repair_data c.args.recorded c.args.repair.now = c.in_ok-value.ensures in
+    let none : has_float (view c.in_ok-value.value) ≡ false = ap has_float written ∙ repair_float c.args.recorded c.args.repair.now in
     c.in_ok-push.ensures.items
     ∙ ap (λ text. text ++ codes "\n") (c.in_ok-text.ensures.text none ∙ ap compact_text written)

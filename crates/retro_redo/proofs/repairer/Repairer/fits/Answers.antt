@@ -18,7 +18,7 @@ pub returns : goal.returns
 returns c =
     subst (λ (notes : List Note). IfOk c.equiv.result (λ b. IsTrue b ↔ Holds notes (repaired_now c.args.self.now)))
     c.notes.ensures.value
-    (holds_of c.args.self.now _ c.self.inside.difference.overlay c.self.inside.met.items c.equiv.result c.notes.result.now _
+    (holds_of c.args.self.now _ c.self.inside.difference.overlay c.self.inside.lines.items c.equiv.result c.notes.result.now _
     c.self.view_is c.self.invariant.0 c.recorded.ensures
     (subst (λ (o : OverlayMap). IfOk c.equiv.result (λ b. (t : State) → IsExact o c.recorded.result t
     → SameSessions c.recorded.result t → IsTrue b ↔ Holds c.notes.result.now t)) c.overlay-overlay.ensures

@@ -30,4 +30,4 @@ returns-clause-shows c =
     (c.new.ensures.recording ∙ ap (λ (p : ProgressValue). p.recording) c.self.view_is)
     ∙ ap (committed c.new.result.overlay) (before_next c.args.self.now number c.noted_line.ensures.well_formed next)
     ∙ ap (λ (o : OverlayMap). committed o (recorded_now c.args.self.now)) (c.new.ensures.overlay ∙ c.overlay.ensures)
-    ∙ repaired_is c.args.self.now _ c.self.inside.difference.overlay c.self.inside.met.items c.self.view_is c.self.invariant.0
+    ∙ repaired_is c.args.self.now _ c.self.inside.difference.overlay c.self.inside.lines.items c.self.view_is c.self.invariant.0

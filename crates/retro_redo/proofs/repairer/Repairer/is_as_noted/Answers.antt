@@ -25,7 +25,7 @@ returns-then-is_some c =
 
 pub returns : goal.returns
 returns c =
-    equiv_of c.args.self.now _ c.self.inside.difference.overlay c.self.inside.met.items c.equiv.result (pair_of c.args.line) _
+    equiv_of c.args.self.now _ c.self.inside.difference.overlay c.self.inside.lines.items c.equiv.result (pair_of c.args.line) _
     c.self.view_is c.self.invariant.0 c.recorded-recorded.ensures c.requires.next
     (none_there (edit_in c.args.self.now c.args.line.number)
     (sym (ap is_some c.requires.edit)

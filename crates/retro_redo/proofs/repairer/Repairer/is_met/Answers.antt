@@ -1,7 +1,3 @@
-use Rattle.std.proofs.Common.{◌∙◌, subst, sym}
-use Rattle.retro_tree.specs.Notes.{Holds}
-use Rattle.retro_redo.specs.Progress.{edit_in, repaired_now}
-use Rattle.retro_redo.proofs.Keeping.{IsDecided}
 use Rattle.retro_redo.proofs.NextLines.{decided_next, holds_next}
 use Rattle.retro_redo.proofs.repairer.Repairer.is_met.Goals as goal
 

@@ -1,7 +1,8 @@
-use Rattle.std.proofs.Common.{ℕ, List, ap, sym, subst, []}
+use Rattle.std.proofs.Common.{List, ap, sym, subst, []}
 use Rattle.retro_difference.specs.Difference.{DifferenceValue}
 use Rattle.retro_redo.specs.inner.Keeping.{Keeps}
 use Rattle.retro_redo.specs.declared.step.Step.{Step}
+use Rattle.retro_redo.specs.declared.verdict.SettledLine.{SettledLine}
 use Rattle.retro_redo.proofs.Accepting.{accepted_lines}
 use Rattle.retro_redo.proofs.Keeping.{keeps_new}
 use Rattle.retro_redo.proofs.StepUses.{keeps_no_uses}
@@ -18,11 +19,11 @@ invariant_of-result c =
         edits = c.in_ok-of.field-0;
         choices = steps;
       }) c.none.result.overlay c.new-2.result.items) (sym c.new.ensures.items)
-          (subst (λ (met : List ℕ). Keeps (record {
+          (subst (λ (lines : List SettledLine). Keeps (record {
             recording = c.args.recording.now;
             edits = c.in_ok-of.field-0;
             choices = [];
-          }) c.none.result.overlay met) (sym c.new-2.ensures.items)
+          }) c.none.result.overlay lines) (sym c.new-2.ensures.items)
           (keeps_new c.args.recording.now c.in_ok-of.field-0 c.none.result.overlay known overlay)),
       keeps_no_uses c.none.result.overlay _ c.none.result.uses overlay uses,
       c.requires,

@@ -22,11 +22,11 @@ returns c =
       next = next;
       edit = edit;
       met =
-          met_now c.args.self.now _ c.self.inside.difference.overlay c.self.inside.met.items c.is_used_at.result k
+          met_now c.args.self.now _ c.self.inside.difference.overlay c.self.inside.lines.items c.is_used_at.result k
           c.self.view_is c.self.invariant.0 next used (option_copied c.get-edit.result) c.is_met_by-is_met.result edit
           c.is_met_by-is_met.ensures k next;
       holds = λ own none not_met.
-          unmet_holds c.args.self.now _ c.self.inside.difference.overlay c.self.inside.met.items c.is_used_at.result k
+          unmet_holds c.args.self.now _ c.self.inside.difference.overlay c.self.inside.lines.items c.is_used_at.result k
           c.self.view_is c.self.invariant.0 next used (option_copied c.get-edit.result) c.is_met_by-is_met.result edit
           c.is_met_by-is_met.ensures own k next none not_met;
     }

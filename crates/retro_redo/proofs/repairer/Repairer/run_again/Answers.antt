@@ -22,5 +22,5 @@ returns-clause-holds g c =
     subst (λ s. IfOk c.run_line-run.result (λ run. Holds run.notes s))
     (c.new-repaired.ensures ∙ ap (λ (o : OverlayMap). committed o c.recorded.result) c.overlay.ensures
     ∙ ap (committed c.self.inside.difference.overlay) c.recorded.ensures
-    ∙ repaired_is c.args.self.now _ c.self.inside.difference.overlay c.self.inside.met.items c.self.view_is c.self.invariant.0)
+    ∙ repaired_is c.args.self.now _ c.self.inside.difference.overlay c.self.inside.lines.items c.self.view_is c.self.invariant.0)
     c.run_line-run.ensures.holds

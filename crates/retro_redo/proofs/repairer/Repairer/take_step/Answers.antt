@@ -1,11 +1,11 @@
-use Rattle.std.proofs.Common.{List, [], ℕ, ap, subst, sym, ◌++◌, ◌∷◌, ◌∙◌}
+use Rattle.std.proofs.Common.{[], ap, ap₂, subst, sym, ◌++◌, ◌∷◌, ◌∙◌}
 use Rattle.retro_tree.specs.Exact.{IsExact}
 use Rattle.retro_tree.proofs.ExactOverlays.{exact_tight}
 use Rattle.retro_keep.specs.Recorded.{recorded_before}
 use Rattle.retro_redo.specs.Progress.{ProgressValue, recorded_now, repaired_now}
 use Rattle.retro_redo.proofs.Before.{before_next}
-use Rattle.retro_redo.proofs.Keeping.{met_more, steps_more, unmet_more}
-use Rattle.retro_redo.proofs.NextLines.{decided_next, next_number_is, pair_of}
+use Rattle.retro_redo.proofs.Keeping.{steps_more}
+use Rattle.retro_redo.proofs.NextLines.{decided_next, next_number_is, pair_of, settled_line}
 use Rattle.retro_redo.proofs.StepUses.{keeps_same, settled_uses, unsettled_uses}
 use Rattle.retro_redo.proofs.repairer.Repairer.take_step.Goals as goal
 
@@ -24,7 +24,7 @@ pub invariant_of-self-in_err-go_over : goal.invariant_of-self-in_err-go_over
 invariant_of-self-in_err-go_over c =
     let history = c.self.invariant.2 ∙ ap (λ (p : ProgressValue). p.recording) c.self.view_is in
     let stays = c.in_err-go_over.ensures.err in (
-      keeps_same _ c.self.inside.difference.overlay c.go_over.new.difference.overlay c.self.inside.met.items
+      keeps_same _ c.self.inside.difference.overlay c.go_over.new.difference.overlay c.self.inside.lines.items
           c.reserve-2.new.self.items c.reserve.new.self.items c.self.invariant.0 c.reserve.ensures.items
           c.reserve-2.ensures.items stays.overlay,
       unsettled_uses c.args.self.now _ c.self.inside.difference c.go_over.new.difference c.self.inside.history.now
@@ -33,46 +33,31 @@ invariant_of-self-in_err-go_over c =
       c.self.invariant.2,
     )
 
-pub invariant_of-self-then-line : goal.invariant_of-self-then-line
-invariant_of-self-then-line c =
+pub invariant_of-self-2 : goal.invariant_of-self-2
+invariant_of-self-2 c =
     let next = c.requires.next.next in
     let well = c.noted_line.ensures.well_formed in
     let history = c.self.invariant.2 ∙ ap (λ (p : ProgressValue). p.recording) c.self.view_is in
     let before = ap (recorded_before c.args.line.number) history
     ∙ before_next c.args.self.now c.args.line.number well
     (next_number_is c.args.self.now c.args.line c.requires.next) in
-    let pushed = c.push_reserved.ensures.items ∙ ap (λ steps. steps ++ c.args.step ∷ []) c.reserve.ensures.items in (
-      steps_more c.args.self.now _ c.self.inside.difference.overlay c.go_over.new.difference.overlay
-          c.self.inside.met.items c.push_reserved-then-line.new.self.items c.push_reserved.new.self.items
-          (pair_of c.args.line) c.args.step _ c.self.view_is c.self.invariant.0 well next before c.requires.may
-          c.check_run.ensures c.in_ok-go_over.ensures.exact pushed
-          (met_more c.args.self.now c.self.inside.met.items _ c.args.line.is_met (pair_of c.args.line) next
-          (decided_next c.args.self.now c.args.line c.requires.next) c.if-line.true
-          (c.push_reserved-then-line.ensures.items
-          ∙ ap (λ (ns : List ℕ). ns ++ c.args.line.number ∷ []) c.reserve-2.ensures.items)),
+    let pushed = c.push_reserved-2.ensures.items ∙ ap (λ steps. steps ++ c.args.step ∷ []) c.reserve.ensures.items in
+    let left = c.push_reserved.ensures.items
+    ∙ ap₂ (λ lines l. lines ++ l ∷ []) c.reserve-2.ensures.items
+    (settled_line c.of.result c.args.line c.args.step c.of.ensures.number c.of.ensures.verdict c.of.ensures.met) in (
+      steps_more (record {
+        same = c.self.view_is;
+        keeps = c.self.invariant.0;
+        well = well;
+        next = next;
+        recorded = before;
+        may = c.requires.may;
+        run = c.check_run.ensures;
+        exact = c.in_ok-go_over.ensures.exact;
+        decided = decided_next c.args.self.now c.args.line c.requires.next (pair_of c.args.line) next;
+      }) c.push_reserved-2.new.self.items c.push_reserved.new.self.items pushed left,
       settled_uses c.args.self.now _ c.self.inside.difference c.go_over.new.difference c.self.inside.history.now
           (pair_of c.args.line) c.self.view_is c.self.invariant.1 well next history c.args.step
-          c.push_reserved.new.self.items pushed before c.self.invariant.0.exact c.in_ok-go_over.ensures.uses,
-      c.self.invariant.2,
-    )
-
-pub invariant_of-self-else-line : goal.invariant_of-self-else-line
-invariant_of-self-else-line c =
-    let next = c.requires.next.next in
-    let well = c.noted_line.ensures.well_formed in
-    let history = c.self.invariant.2 ∙ ap (λ (p : ProgressValue). p.recording) c.self.view_is in
-    let before = ap (recorded_before c.args.line.number) history
-    ∙ before_next c.args.self.now c.args.line.number well
-    (next_number_is c.args.self.now c.args.line c.requires.next) in
-    let pushed = c.push_reserved.ensures.items ∙ ap (λ steps. steps ++ c.args.step ∷ []) c.reserve.ensures.items in (
-      steps_more c.args.self.now _ c.self.inside.difference.overlay c.go_over.new.difference.overlay
-          c.self.inside.met.items c.reserve-2.new.self.items c.push_reserved.new.self.items
-          (pair_of c.args.line) c.args.step _ c.self.view_is c.self.invariant.0 well next before c.requires.may
-          c.check_run.ensures c.in_ok-go_over.ensures.exact pushed
-          (unmet_more c.args.self.now c.self.inside.met.items _ c.args.line.is_met (pair_of c.args.line) next
-          (decided_next c.args.self.now c.args.line c.requires.next) c.if-line.false c.reserve-2.ensures.items),
-      settled_uses c.args.self.now _ c.self.inside.difference c.go_over.new.difference c.self.inside.history.now
-          (pair_of c.args.line) c.self.view_is c.self.invariant.1 well next history c.args.step
-          c.push_reserved.new.self.items pushed before c.self.invariant.0.exact c.in_ok-go_over.ensures.uses,
+          c.push_reserved-2.new.self.items pushed before c.self.invariant.0.exact c.in_ok-go_over.ensures.uses,
       c.self.invariant.2,
     )
