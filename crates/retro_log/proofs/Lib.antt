@@ -4,7 +4,6 @@ pub mod Parts
 pub mod OfParts
 pub mod Texts
 pub mod Lines
-pub mod Items
 pub mod Fits
 pub mod Changes
 pub mod LogTrip

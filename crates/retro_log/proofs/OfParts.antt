@@ -23,20 +23,23 @@ use Rattle.retro_json.specs.declared.fault.Refusal.{Refusal}
 use Rattle.retro_json.specs.declared.fault.Refusal.TheVariants.{BadVersion, UnknownKey, WrongShape}
 use Rattle.retro_json.specs.declared.reading.sessions.Row.{Row}
 use Rattle.retro_json.specs.ReadsAs.{FailsAs, seen}
+use Rattle.retro_json.specs.Shape.{Text}
 use Rattle.retro_json.specs.Steps.{◌>>=◌, guard}
 use Rattle.retro_json.specs.Rows.{session_rows, sessions_of_all, tree_of_rows, tree_rows}
 use Rattle.retro_json.specs.Views.{row_view}
 use Rattle.retro_json.proofs.InSteps.{sessions_in_steps, tree_in_steps}
 use Rattle.retro_log.specs.Document.{from_key, has_keys, is_key, line_number_in, log_keys, log_from, log_of, log_parts_of}
 use Rattle.retro_log.specs.Document.{recording_of, script_keys, script_of, script_version, state_of, version_in, with_refusal}
-use Rattle.retro_log.specs.LinesPart.{lines_of}
-use Rattle.retro_log.specs.LogLinesPart.{log_lines_of}
+use Rattle.retro_log.specs.LinesPart.{line_of, lines_of}
+use Rattle.retro_log.specs.LogLinesPart.{log_line_of, log_lines_of}
 use Rattle.retro_log.specs.declared.reading.parts.Parts.{Parts as Read}
-use Rattle.retro_log.specs.inner.Parts.{Parts, first_of_parts, from_of_parts, log_of_parts, log_parts, part_at, parts_fit}
+use Rattle.retro_log.specs.inner.Parts.{Parts, all_lines, first_of_parts, from_of_parts, log_of_parts, log_parts, part_at, parts_fit}
 use Rattle.retro_log.specs.inner.Parts.{script_of_parts, script_parts, state_of_rows}
 use Rattle.retro_log.specs.inner.PartsView.{parts_view}
 use Rattle.retro_log.proofs.Fits.{lines_fit}
+use Rattle.retro_log.proofs.Lines.{lines_by_worst}
 use Rattle.retro_log.proofs.Parts.{parts_read}
+use Rattle.retro_log.proofs.Puts.{keys_without}
 
 -- ---- the first state
 
@@ -114,7 +117,8 @@ log_by known version from tree sessions lines =
 
 log_by_parts : (known : Bool) (version from tree sessions lines : Option Data)
     → log_by known version from tree sessions lines
-    ≡ log_of_parts (parts_read log_lines_of known version from tree sessions lines)
+    ≡ log_of_parts (parts_read log_line_of known version from tree sessions lines)
+unfolding log_lines_of
 log_by_parts false version from tree sessions lines = refl
 log_by_parts true None from tree sessions lines = refl
 log_by_parts true (Some v) from None sessions lines = refl
@@ -150,24 +154,29 @@ script_by known version tree sessions lines =
     >>= λ first. ok_or lines (WrongShape Document)
     >>= λ l. lines_of l >>= λ ls. with_refusal (script_of_lines first ls)
 
-script_by_parts : (known : Bool) (version tree sessions lines : Option Data)
-    → script_by known version tree sessions lines
-    ≡ script_of_parts (parts_read lines_of known version None tree sessions lines)
-script_by_parts false version tree sessions lines = refl
-script_by_parts true None tree sessions lines = refl
-script_by_parts true (Some v) None sessions lines = refl
-script_by_parts true (Some v) (Some t) None lines = refl
-script_by_parts true (Some v) (Some t) (Some s) None = refl
-script_by_parts true (Some v) (Some t) (Some s) (Some l) =
+script_by_parts : (known : Bool) (version from tree sessions lines : Option Data)
+    → script_by (known && not (is_some from)) version tree sessions lines
+    ≡ script_of_parts (parts_read line_of known version from tree sessions lines)
+script_by_parts true version (Some f) tree sessions lines = refl
+script_by_parts false version (Some f) tree sessions lines = refl
+script_by_parts false version None tree sessions lines = refl
+script_by_parts true None None tree sessions lines = refl
+script_by_parts true (Some v) None None sessions lines = refl
+script_by_parts true (Some v) None (Some t) None lines = refl
+script_by_parts true (Some v) None (Some t) (Some s) None = refl
+script_by_parts true (Some v) None (Some t) (Some s) (Some l) =
     of_number (λ first ls. with_refusal (script_of_lines first ls)) (version_in v) (state_of t s) (lines_of l)
     ∙ (λ i. version_in v >>= λ n. guard (n == script_version) BadVersion
-    >>= λ supported. state_in_steps t s i >>= λ first. lines_of l >>= λ ls. with_refusal (script_of_lines first ls))
+    >>= λ supported. state_in_steps t s i >>= λ first. lines_by_worst l i >>= λ ls. with_refusal (script_of_lines first ls))
 
 pub script_of_object : (ms : Members) → script_of (object ms) ≡ script_of_parts (script_parts ms)
 unfolding script_of
 script_of_object ms =
-    script_by_parts (has_keys (is_key script_keys) ms) (get_member (codes "script") ms) (get_member (codes "tree") ms)
-    (get_member (codes "sessions") ms) (get_member (codes "lines") ms)
+    let at : Text → Option Data = λ key. get_member key ms in
+    (λ i. script_by (keys_without from_key (is_key script_keys) refl ms i) (at (codes "script")) (at (codes "tree"))
+    (at (codes "sessions")) (at (codes "lines")))
+    ∙ script_by_parts (has_keys (is_key (from_key ∷ script_keys)) ms) (at (codes "script")) (at from_key)
+    (at (codes "tree")) (at (codes "sessions")) (at (codes "lines"))
 
 -- ---- what is known of parts that were read
 
@@ -239,20 +248,22 @@ log_first_refused p number begin rows others fault tree sessions h fit version f
 pub script_first_refused : (p : Parts ScriptLine) (number : ℕ) (rows : List (PathValue × Entry))
     (others : Result (List (ℕ × Result Session Refusal)) Refusal) (fault : LogFault)
     → part_at p.tree ≡ Ok rows → part_at p.sessions ≡ others → FailsAs fault (state_of_rows rows others)
-    → Ok tt ≡ parts_fit p → Ok number ≡ part_at p.version → (number == script_version) ≡ true
+    → is_some p.from ≡ false → Ok tt ≡ parts_fit p → Ok number ≡ part_at p.version → (number == script_version) ≡ true
     → FailsAs fault (script_of_parts p)
-script_first_refused p number rows others fault tree sessions h fit version supported =
+script_first_refused p number rows others fault tree sessions h unsaid fit version supported =
     let next : State → Result ScriptValue Refusal =
     λ first. part_at p.lines >>= λ lines. with_refusal (script_of_lines first lines) in
-    let steps : script_of_parts p ≡ (first_of_parts p >>= next) = rw (sym fit, sym version, supported) refl in
+    let steps : script_of_parts p ≡ (first_of_parts p >>= next) =
+    rw (unsaid, sym fit, sym version, supported) refl in
     subst (FailsAs fault) (sym steps) (first_refused p rows others fault tree sessions h next)
 
 -- lines that were read fit a recording
 pub noted_fit : (p : Read (ℕ × Noted)) (ms : Members) (lines : Vec (ℕ × Noted) Global)
     → parts_view p ≡ log_parts ms → Ok lines ≡ part_at p.lines
     → (list_all is_own_line lines.items ≡ true) × (list_all is_line_of_kind lines.items ≡ true)
+unfolding log_lines_of
 noted_fit p ms lines is e =
-    let read = part_is_read items log_lines_of p.lines (get_member (codes "lines") ms) (ap (λ q. q.lines) is) in
+    let read = part_is_read items (all_lines log_line_of) p.lines (get_member (codes "lines") ms) (ap (λ q. q.lines) is) in
     let found : (d : Data) × (Ok lines.items ≡ log_lines_of d) =
     subst (λ r. IfOk r (λ v. (d : Data) × (Ok (items v) ≡ log_lines_of d))) (sym e) read in
     lines_fit found.0 lines.items found.1

@@ -1,6 +1,6 @@
 -- Objects whose members are put in one after another, as `serde_json` reads them.
-use Rattle.std.proofs.Common.{◌≡◌, ℕ, List, Bool, true, false, ◌&&◌, cond, Some, Ordering, Less, Equal}
-use Rattle.std.proofs.Common.{Greater, nat_cmp, is_eq, bytes_eq, refl, sym, ap, ◌∙◌}
+use Rattle.std.proofs.Common.{◌≡◌, ℕ, List, Bool, true, false, ◌&&◌, ◌||◌, not, cond, Some, Ordering, Less, Equal}
+use Rattle.std.proofs.Common.{Greater, is_some, nat_cmp, is_eq, bytes_eq, refl, sym, ap, ◌∙◌}
 use Rattle.std.specs.Cmp.Lexicographic.{slice_cmp}
 use Rattle.std.specs.Ordering.{match_ordering}
 use Rattle.std.proofs.lemmas.Map.Lookups.{exact_bytes}
@@ -20,6 +20,14 @@ get_first : (l m : List ℕ) (e : Data) (ms : Members)
 get_first l m e ms =
     by_equality (slice_cmp nat_cmp l m) (Some e) (get_member l ms)
     ∙ ap (λ b. cond b (Some e) (get_member l ms)) (is_eq-slice_cmp l m)
+
+-- a key that isn't another, by the test
+pub not_key : (k key : List ℕ) → (k ≡ key → ⊥) → bytes_eq k key ≡ false
+not_key k key other = at (bytes_eq k key) refl
+  where
+    at : (same : Bool) → bytes_eq k key ≡ same → bytes_eq k key ≡ false
+    at true is = absurd (other ((bytes_eq-Decides k key).0 is))
+    at false is = is
 
 once : {A : Type 0} (b : Bool) (x y z : A) → cond b x z ≡ cond b x (cond b y z)
 once true x y z = refl
@@ -82,3 +90,35 @@ keys_put p k d (member m e ms) = at (keys_put p k d ms) (slice_cmp nat_cmp k m) 
     at rest Less c = refl
     at rest Equal c = and_again (p m) (has_keys p ms) ∙ ap (λ x. p x && (p m && has_keys p ms)) (sym (exact_bytes k m c))
     at rest Greater c = ap (λ b. p m && b) rest ∙ and_swapped (p m) (p k) (has_keys p ms)
+
+and_false : (a : Bool) → (a && false) ≡ false
+and_false true = refl
+and_false false = refl
+
+and_grouped : (a b c : Bool) → a && (b && c) ≡ (a && b) && c
+and_grouped true b c = refl
+and_grouped false b c = refl
+
+-- an object has only some keys if it has only these and one more, and lacks that one
+pub keys_without : (key : List ℕ) (p : List ℕ → Bool) → p key ≡ false → (ms : Members)
+    → has_keys p ms ≡ has_keys (λ k. bytes_eq k key || p k) ms && not (is_some (get_member key ms))
+keys_without key p refused no_members = refl
+keys_without key p refused (member m e ms) =
+    at (keys_without key p refused ms) (bytes_eq m key) refl
+    ∙ ap (λ o. ((bytes_eq m key || p m) && has_keys (λ k. bytes_eq k key || p k) ms) && not (is_some o))
+    (sym (get_first key m e ms))
+  where
+    at : has_keys p ms ≡ has_keys (λ k. bytes_eq k key || p k) ms && not (is_some (get_member key ms))
+        → (b : Bool) → bytes_eq m key ≡ b → p m && has_keys p ms
+        ≡ ((b || p m) && has_keys (λ k. bytes_eq k key || p k) ms)
+        && not (is_some (cond (bytes_eq key m) (Some e) (get_member key ms)))
+    at rest true same =
+        let is : m ≡ key = (bytes_eq-Decides m key).0 same in
+        let refused_too : p m ≡ false = ap p is ∙ refused in
+        let found : bytes_eq key m ≡ true = (bytes_eq-Decides key m).1 (sym is) in
+        rw (refused_too, found) (sym (and_false (has_keys (λ k. bytes_eq k key || p k) ms)))
+    at rest false other =
+        let apart : bytes_eq key m ≡ false =
+        not_key key m (λ is. let same : bytes_eq m key ≡ true = (bytes_eq-Decides m key).1 (sym is) in absurd (cc)) in
+        rw apart (ap (λ b. p m && b) rest ∙ and_grouped (p m) (has_keys (λ k. bytes_eq k key || p k) ms)
+        (not (is_some (get_member key ms))))

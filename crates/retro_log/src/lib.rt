@@ -21,7 +21,8 @@
 //! If allocation fails, calls return `NoMem`, alone or as a variant of their error, and leave
 //! borrowed arguments unchanged.
 //!
-//! Start reading at `reading/log.rt`, then `reading/log_parts.rt` and `reading/log_lines.rt`.
+//! Start reading at `reading/log.rt`, then `reading/members.rt`, which reads the documents of both
+//! kinds, and `reading/log_line.rt`.
 //!
 //! # What is proved
 //!

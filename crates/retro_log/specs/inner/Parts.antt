@@ -1,6 +1,6 @@
 -- The parts of a document's object, each as it is read: the last value of its key, or its refusal.
-use Rattle.std.specs.Prelude.{ℕ, List, ◌∷◌, Bool, false, not, ◌&&◌, ◌==◌, Option, Some, None, Result, Ok, Err}
-use Rattle.std.specs.Prelude.{bytes_eq, codes, if◌then◌else◌, is_some, option_map, ⊤}
+use Rattle.std.specs.Prelude.{ℕ, List, ◌∷◌, Bool, not, ◌&&◌, ◌==◌, Option, Some, None, Result, Ok, Err}
+use Rattle.std.specs.Prelude.{codes, if◌then◌else◌, is_some, option_map, ⊤}
 use Rattle.serde_json.specs.Data.{Data, Members}
 use Rattle.serde_json.specs.Find.{get_member}
 use Rattle.retro_tree.specs.Path.{PathValue}
@@ -11,16 +11,27 @@ use Rattle.retro_keep.specs.Recording.{RecordingValue}
 use Rattle.retro_keep.specs.Script.{ScriptValue, script_of_lines}
 use Rattle.retro_keep.specs.declared.noted.Noted.{Noted}
 use Rattle.retro_keep.specs.declared.script.ScriptLine.{ScriptLine}
-use Rattle.retro_json.specs.declared.fault.Part.TheVariants.{Document}
+use Rattle.retro_json.specs.declared.fault.Part.TheVariants.{Document, Lines}
 use Rattle.retro_json.specs.declared.fault.Refusal.{Refusal}
 use Rattle.retro_json.specs.declared.fault.Refusal.TheVariants.{BadVersion, UnknownKey, WrongShape}
-use Rattle.retro_json.specs.Shape.{Text}
+use Rattle.retro_json.specs.Shape.{Text, cells}
 use Rattle.retro_json.specs.Steps.{◌>>=◌, guard}
+use Rattle.retro_json.specs.Worst.{every}
 use Rattle.retro_json.specs.Rows.{session_rows, sessions_of_all, tree_of_rows, tree_rows}
-use Rattle.retro_log.specs.Document.{from_key, has_keys, is_key, line_number_in, log_keys, recording_of}
-use Rattle.retro_log.specs.Document.{script_keys, script_version, version_in, with_refusal}
-use Rattle.retro_log.specs.LinesPart.{lines_of}
-use Rattle.retro_log.specs.LogLinesPart.{log_lines_of}
+use Rattle.retro_log.specs.Document.{from_key, has_keys, is_key, line_number_in, part_keys, recording_of}
+use Rattle.retro_log.specs.Document.{script_version, version_in, with_refusal}
+use Rattle.retro_log.specs.LinesPart.{line_of}
+use Rattle.retro_log.specs.LogLinesPart.{log_line_of}
+
+-- what a document holds
+pub data Kind : Type 0 where
+  script : Kind
+  log : Kind
+
+-- the key of the version in a document of a kind
+abbrev pub version_key : Kind → Text
+version_key script = codes "script"
+version_key log = codes "log"
 
 pub record Parts (L : Type 0) : Type 0 where
   pub is_known : Bool
@@ -34,45 +45,31 @@ pub record Parts (L : Type 0) : Type 0 where
 abbrev pub part_of : {A : Type 0} → (Data → A) → Text → Members → Option A
 part_of read k ms = option_map read (get_member k ms)
 
--- the parts of a log
-abbrev pub log_parts : Members → Parts (ℕ × Noted)
-log_parts ms = record {
-  is_known = has_keys (is_key (from_key ∷ log_keys)) ms;
-  version = part_of version_in (codes "log") ms;
+-- the lines that an array is, or the worst refusal of the whole list
+abbrev pub all_lines : {L : Type 0} → (Data → Result L Refusal) → Data → Result (List L) Refusal
+all_lines line_of d = cells Lines d >>= every line_of
+
+-- the keys that are read in documents of a kind. A script may not have `from`: `script_of_parts`
+-- refuses it.
+abbrev pub keys_of : Kind → List Text
+keys_of kind = from_key ∷ version_key kind ∷ part_keys
+
+-- the parts of a document of a kind, by what its lines are
+abbrev pub parts_of : {L : Type 0} → Kind → (Data → Result L Refusal) → Members → Parts L
+parts_of kind line_of ms = record {
+  is_known = has_keys (is_key (keys_of kind)) ms;
+  version = part_of version_in (version_key kind) ms;
   from = part_of line_number_in from_key ms;
   tree = part_of tree_rows (codes "tree") ms;
   sessions = part_of session_rows (codes "sessions") ms;
-  lines = part_of log_lines_of (codes "lines") ms;
+  lines = part_of (all_lines line_of) (codes "lines") ms;
 }
 
--- the parts with one more member
-abbrev pub with_log_part : Text → Data → Parts (ℕ × Noted) → Parts (ℕ × Noted)
-with_log_part k d p =
-    if bytes_eq k (codes "log") then record p { version = Some (version_in d) }
-    else if bytes_eq k (codes "from") then record p { from = Some (line_number_in d) }
-    else if bytes_eq k (codes "tree") then record p { tree = Some (tree_rows d) }
-    else if bytes_eq k (codes "sessions") then record p { sessions = Some (session_rows d) }
-    else if bytes_eq k (codes "lines") then record p { lines = Some (log_lines_of d) }
-    else record p { is_known = false }
-
--- the parts of a script
 abbrev pub script_parts : Members → Parts ScriptLine
-script_parts ms = record {
-  is_known = has_keys (is_key script_keys) ms;
-  version = part_of version_in (codes "script") ms;
-  from = None;
-  tree = part_of tree_rows (codes "tree") ms;
-  sessions = part_of session_rows (codes "sessions") ms;
-  lines = part_of lines_of (codes "lines") ms;
-}
+script_parts = parts_of script line_of
 
-abbrev pub with_script_part : Text → Data → Parts ScriptLine → Parts ScriptLine
-with_script_part k d p =
-    if bytes_eq k (codes "script") then record p { version = Some (version_in d) }
-    else if bytes_eq k (codes "tree") then record p { tree = Some (tree_rows d) }
-    else if bytes_eq k (codes "sessions") then record p { sessions = Some (session_rows d) }
-    else if bytes_eq k (codes "lines") then record p { lines = Some (lines_of d) }
-    else record p { is_known = false }
+abbrev pub log_parts : Members → Parts (ℕ × Noted)
+log_parts = parts_of log log_line_of
 
 -- ---- documents of their parts
 
@@ -80,7 +77,7 @@ abbrev pub part_at : {A : Type 0} → Option (Result A Refusal) → Result A Ref
 part_at None = Err (WrongShape Document)
 part_at (Some read) = read
 
--- no other key, and each that both versions have
+-- no key but those that are read, and each that all versions have
 abbrev pub parts_fit : {L : Type 0} → Parts L → Result ⊤ Refusal
 parts_fit p = do
   known ← guard p.is_known UnknownKey
@@ -115,6 +112,7 @@ log_of_parts p = do
 
 abbrev pub script_of_parts : Parts ScriptLine → Result ScriptValue Refusal
 script_of_parts p = do
+  unsaid ← guard (not (is_some p.from)) UnknownKey
   fit ← parts_fit p
   version ← part_at p.version
   supported ← guard (version == script_version) BadVersion

@@ -10,7 +10,7 @@ ghost use Rattle.retro_log.specs.inner.Parts.{from_of_parts, log_of_parts, log_p
 ghost use Rattle.retro_log.specs.inner.PartsView.{parts_view};
 
 use crate::reading::document::state_of_rows;
-use crate::reading::log_parts::read_log_parts;
+use crate::reading::members::read_parts;
 use crate::reading::parts::{Parts, part_at};
 use retro_json::{LogFault, OrRefusal, Part, Refusal};
 use retro_keep::{Noted, Recording};
@@ -96,7 +96,7 @@ pub fn read_log(alloc: Global, bytes: &[u8]) -> Result<Recording, LogFault>
     let Ok(text) = from_utf8(bytes) else {
         return Err(LogFault::Refused(Refusal::NotJson));
     };
-    match read_log_parts(alloc, text)? {
+    match read_parts(alloc, text)? {
         Some(parts) => recording_of_parts(alloc, parts),
         None => Err(LogFault::Refused(Refusal::WrongShape(Part::Document))),
     }

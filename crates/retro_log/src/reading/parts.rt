@@ -9,7 +9,7 @@ use retro_tree::{Entry, Path};
 /// The parts of a document, each as its last member was read: its value, or why it is refused.
 #[derive(Drop)]
 pub struct Parts<L> {
-    /// Whether each key is one that the document's kind has.
+    /// Whether each key is `from` or one that the document's kind has.
     pub is_known: bool,
     /// The version's number.
     pub version: Option<OrRefusal<u64>>,
@@ -45,8 +45,8 @@ impl<L> Parts<L> {
         }
     }
 
-    /// Returns `Ok` if the document has no foreign key and each key that all versions have. Refuses
-    /// a foreign key, and then a key that is missing.
+    /// Returns `Ok` if each key is known and each key that all versions have is there. Refuses an
+    /// unknown key, and then a key that is missing.
     pub fn fit(&self) -> OrRefusal<()>
         ensures { result ≡ parts_fit (parts_view self.now) }
     {

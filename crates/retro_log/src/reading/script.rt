@@ -7,8 +7,8 @@ ghost use Rattle.retro_log.specs.inner.Parts.{script_of_parts, script_parts};
 ghost use Rattle.retro_log.specs.inner.PartsView.{parts_view};
 
 use crate::reading::document::state_of_rows;
+use crate::reading::members::read_parts;
 use crate::reading::parts::{Parts, part_at};
-use crate::reading::script_parts::read_script_parts;
 use retro_json::{LogFault, Part, Refusal};
 use retro_keep::{Script, ScriptLine};
 use simdutf8::basic::from_utf8;
@@ -22,6 +22,9 @@ fn script_of_parts(alloc: Global, parts: Parts<ScriptLine>) -> Result<Script, Lo
     requires { (ms : Members) × (parts_view parts ≡ script_parts ms) }
     ensures { ReadsAs (λ script. script) result (script_of_parts (parts_view parts)) }
 {
+    if parts.from.is_some() {
+        return Err(LogFault::Refused(Refusal::UnknownKey));
+    }
     parts.fit()?;
     let Parts {
         version,
@@ -62,7 +65,7 @@ pub fn read_script(alloc: Global, bytes: &[u8]) -> Result<Script, LogFault>
     let Ok(text) = from_utf8(bytes) else {
         return Err(LogFault::Refused(Refusal::NotJson));
     };
-    match read_script_parts(alloc, text)? {
+    match read_parts(alloc, text)? {
         Some(parts) => script_of_parts(alloc, parts),
         None => Err(LogFault::Refused(Refusal::WrongShape(Part::Document))),
     }

@@ -1,4 +1,4 @@
-use Rattle.std.proofs.Common.{◌==◌, ◌≡◌, true, refl}
+use Rattle.std.proofs.Common.{◌==◌, ◌≡◌, ◌∙◌, true, refl, sym}
 use Rattle.std.proofs.lemmas.Result.{err_from_is_err_and}
 use Rattle.retro_log.specs.Document.{script_version}
 use Rattle.retro_log.specs.inner.PartsView.{parts_view}
@@ -11,8 +11,9 @@ returns-in_err-first c =
     let parts = c.args.parts in
     let others = c.part_at-others.result in
     let supported : (c.in_ok-number.number == script_version) ≡ true = rw c.if-number-ne-SCRIPT_VERSION.false refl in
+    let unsaid = sym c.is_some.ensures ∙ c.if-is_some.false in
     rw (p.1, p.2)
     (script_first_refused (parts_view parts) c.in_ok-number.number c.in_ok-rows.rows.items _ c.in_err-first.field-0.0
     (tree_seen parts c.in_ok-rows.rows c.in_ok-rows.ensures)
-    (sessions_seen parts others c.part_at-others.ensures) c.in_err-first.ensures.value c.in_ok-fit.ensures
+    (sessions_seen parts others c.part_at-others.ensures) c.in_err-first.ensures.value unsaid c.in_ok-fit.ensures
     c.in_ok-number.ensures supported)

@@ -1,22 +1,20 @@
-use Rattle.std.proofs.Common.{◌≡◌, ◌∙◌, Some, None, refl, sym, ap, arith}
+use Rattle.std.proofs.Common.{◌≡◌, ◌∙◌, Some, None, refl, ap, arith}
 use Rattle.json.specs.Json.{read_key}
 use Rattle.json.proofs.Grammar.{read_key-shorter}
 use Rattle.serde_json.specs.Data.{no_members, put}
 use Rattle.retro_value.proofs.Left.{key_refused, member_read, member_refused, members_over, value_shorter}
-use Rattle.retro_log.specs.inner.Parts.{with_script_part}
 use Rattle.retro_log.specs.inner.PartsView.{parts_view}
-use Rattle.retro_log.proofs.Parts.{script_put}
-use Rattle.retro_log.proofs.reading.script_parts.read_members.Goals as goal
+use Rattle.retro_log.proofs.reading.members.read_members.Goals as goal
 
 pub members-init : goal.members-init
-members-init c = (no_members, refl, ap parts_view c.new-parts.ensures)
+members-init g c = (no_members, refl, ap parts_view c.new-parts.ensures)
 
 pub returns-in_err-key-clause-not_json : goal.returns-in_err-key-clause-not_json
-returns-in_err-key-clause-not_json c refused =
+returns-in_err-key-clause-not_json g c refused =
     c.members.invariant.1 ∙ key_refused 126 c.members.invariant.0 c.members.reader c.in_err-key.ensures.value
 
 pub returns-in_err-parts-clause-not_json : goal.returns-in_err-parts-clause-not_json
-returns-in_err-parts-clause-not_json c refused =
+returns-in_err-parts-clause-not_json g c refused =
     let key = c.in-Some.key.now in
     let named : read_key c.members.reader ≡ Some (Some key, c.next_key.new.self) = grind arith in
     c.members.invariant.1
@@ -24,7 +22,7 @@ returns-in_err-parts-clause-not_json c refused =
     (c.with_member.ensures.not_json (grind arith))
 
 pub members-preserved : goal.members-preserved
-members-preserved c =
+members-preserved g c =
     let key = c.in-Some.key.now in
     let named : read_key c.members.reader ≡ Some (Some key, c.next_key.new.self) = grind arith in
     let ms = c.members.invariant.0 in
@@ -32,11 +30,11 @@ members-preserved c =
       put key read.0 ms,
       c.members.invariant.1
           ∙ member_read 126 ms key c.members.reader c.next_key.new.self c.with_member.new.reader read.0 named read.1,
-      read.2 ∙ ap (with_script_part key read.0) c.members.invariant.2 ∙ sym (script_put key read.0 ms),
+      read.2 ms c.members.invariant.2,
     )
 
 pub members-smaller : goal.members-smaller
-members-smaller c =
+members-smaller g c =
     let key = c.in-Some.key.now in
     let named : read_key c.members.reader ≡ Some (Some key, c.next_key.new.self) = grind arith in
     let read = c.in_ok-parts.ensures.value in
@@ -45,7 +43,7 @@ members-smaller c =
     omega (arith, fewer, less)
 
 pub returns-clause-value : goal.returns-clause-value
-returns-clause-value c =
+returns-clause-value g c =
     let over : read_key c.members.reader ≡ Some (None, c.next_key.new.self) = grind arith in (
       c.members.invariant.0,
       c.members.invariant.1 ∙ members_over 126 c.members.invariant.0 c.members.reader c.next_key.new.self over,
