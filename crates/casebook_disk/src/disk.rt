@@ -3,7 +3,7 @@ ghost use Rattle.std.specs.Prelude.{None, map};
 ghost use Rattle.casebook_folder.specs.Made.{step_of};
 
 use crate::errors::folder_error;
-use crate::place::{Place, name_in, open_in, place_of};
+use crate::place::{Place, name_in, open_in, opened, place_of};
 use crate::reading::find_in;
 use crate::target::Target;
 use crate::temporary::{clear, is_temporary};
@@ -26,14 +26,10 @@ impl<'a> Disk<'a> {
     /// Opens the folder with a name.
     pub fn open(rt: &'a HostRuntime, name: &str) -> io::Result<Disk<'a>> {
         let alloc = rt.alloc();
-        let with_slash = format!(in alloc; "{name}/")?;
-        let root = fs::open(rt, with_slash.as_str())?;
-        // Without `/proc` nothing in an open directory has a name.
-        fs::symlink_metadata(rt, name_in(alloc, &root, ".")?.as_str())?;
         Ok(Disk {
             rt,
             alloc,
-            root,
+            root: opened(rt, alloc, name)?,
             made: Vec::new(alloc),
         })
     }

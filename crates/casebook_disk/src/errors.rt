@@ -1,8 +1,10 @@
 //! Errors of the system.
 ghost use Rattle.std.specs.Prelude.{IsTrue};
 ghost use Rattle.casebook_folder.specs.Errors.{is_of_look};
+ghost use Rattle.casebook_snapshot.specs.Errors.{is_of_listing};
 
 use casebook_folder::FolderError;
+use casebook_snapshot::SnapshotError;
 use std::io::{self, ErrorKind};
 
 /// Returns the error of a folder that an error of the system is.
@@ -12,5 +14,15 @@ pub(crate) fn folder_error(error: io::Error) -> FolderError
     match error.kind() {
         ErrorKind::OutOfMemory => FolderError::NoMem,
         _ => FolderError::Failed,
+    }
+}
+
+/// Returns the error of a listing that an error of the system is.
+pub(crate) fn snapshot_error(error: io::Error) -> SnapshotError
+    ensures { IsTrue (is_of_listing result) }
+{
+    match error.kind() {
+        ErrorKind::OutOfMemory => SnapshotError::NoMem,
+        _ => SnapshotError::Failed,
     }
 }

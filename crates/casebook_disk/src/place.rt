@@ -23,6 +23,15 @@ pub(crate) fn name_in(alloc: Global, dir: &File, name: &str) -> Result<String, N
     format!(in alloc; "/proc/self/fd/{}/{name}", dir.as_raw_fd())
 }
 
+/// Opens the folder with a name, and sees that what is in it can be opened too.
+pub(crate) fn opened(rt: &HostRuntime, alloc: Global, name: &str) -> io::Result<File> {
+    let with_slash = format!(in alloc; "{name}/")?;
+    let root = fs::open(rt, with_slash.as_str())?;
+    // Without `/proc` nothing in an open directory has a name.
+    fs::symlink_metadata(rt, name_in(alloc, &root, ".")?.as_str())?;
+    Ok(root)
+}
+
 /// Returns what is at a name without following a link, or `None` if nothing is there.
 pub(crate) fn look_at(rt: &HostRuntime, name: &str) -> io::Result<Option<Metadata>> {
     match fs::symlink_metadata(rt, name) {

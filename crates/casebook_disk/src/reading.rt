@@ -9,10 +9,10 @@ use std::io::{self, Read};
 use std::os::unix::fs::{FileTypeExt, MetadataExt};
 
 /// The size of the largest file that is read, in bytes.
-const FILE_LIMIT: u64 = 1_048_576;
+pub(crate) const FILE_LIMIT: u64 = 1_048_576;
 
 /// Returns the mode and owner of a file or directory.
-fn attributes_of(there: &Metadata) -> Attributes {
+pub(crate) fn attributes_of(there: &Metadata) -> Attributes {
     Attributes {
         mode: there.mode() & 0o7777,
         uid: there.uid(),
@@ -21,7 +21,7 @@ fn attributes_of(there: &Metadata) -> Attributes {
 }
 
 /// Returns whether both are of the same file, unchanged.
-fn is_unchanged(a: &Metadata, b: &Metadata) -> bool {
+pub(crate) fn is_unchanged(a: &Metadata, b: &Metadata) -> bool {
     a.dev() == b.dev()
         && a.ino() == b.ino()
         && a.len() == b.len()

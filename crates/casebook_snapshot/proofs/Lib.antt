@@ -5,3 +5,4 @@ pub mod Walks
 pub mod Visits
 pub mod Lawful
 pub mod Memories
+pub mod Placing

@@ -1,5 +1,6 @@
 -- The children of a directory: their paths, and what a listing has to name.
-use Rattle.std.specs.Prelude.{◌≡◌, ◌⊎◌, ℕ, false, List, [], ◌∷◌, ◌++◌, Option, Some, None}
+use Rattle.std.specs.Prelude.{◌≡◌, ◌⊎◌, ℕ, false, List, [], ◌∷◌, ◌++◌, Option, Some, None, Vec}
+use Rattle.std.specs.declared.alloc.Global.{Global}
 use Rattle.retro_path.specs.Path.{PathValue}
 use Rattle.casebook_snapshot.specs.Items.{Contents, is_missing}
 use Rattle.casebook_snapshot.specs.Reasons.{name_reason}
@@ -35,3 +36,8 @@ IsNamed (c ∷ cs) n = (c.name.items ≡ n) ⊎ IsNamed cs n
 pub record IsListing (f : Contents) (p : PathValue) (cs : List Child) : Type 0 where
   pub sound : ArePresent f p cs
   pub complete : (n : List ℕ) → is_missing (f (p ++ n ∷ [])) ≡ false → IsNamed cs n
+
+-- what a listing whose folder doesn't change says of a directory
+abbrev pub IsListed : Contents → PathValue → Option (Vec Child Global) → Type 0
+IsListed f p None = ⊥
+IsListed f p (Some cs) = IsListing f p cs.items

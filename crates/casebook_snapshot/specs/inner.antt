@@ -2,3 +2,4 @@
 pub mod Visits
 pub mod Walks
 pub mod Memories
+pub mod Placing

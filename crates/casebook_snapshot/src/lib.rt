@@ -2,7 +2,8 @@
 //!
 //! A `Listing` is a folder that is only looked at: `look` says what it holds at a path, and `list`
 //! says which names a directory has, UTF-8 or not. In contracts it is a function from paths to
-//! `Item`s. `Memory` is a listing in memory.
+//! `Item`s. `Memory` is a listing in memory. `Placed` puts a listing at a path: the directories
+//! above that path are there, and nothing besides.
 //!
 //! [`walk`] goes over a listing from its root on, and returns a [`Snapshot`]: a row for each
 //! directory and file that is kept, with mode and owner, and each path that is skipped, with its
@@ -25,6 +26,8 @@
 //!   directory, nothing is at `/dev/null` or below it, names have at most 255 bytes, and files at
 //!   most 1,048,576. A name with a NUL isn't kept, by the definition of what is kept alone.
 //! - `NotADirectory` is returned only if the root isn't a directory.
+//! - A folder that is put at a path holds there and below what it holds itself, directories above,
+//!   and nothing at other paths [`holds` of `Placed`]. So the above is true of its paths there.
 #![tactic(auto)]
 
 mod child;
@@ -33,6 +36,7 @@ mod item;
 mod laws;
 mod listing;
 mod memory;
+mod placed;
 mod reason;
 mod snapshot;
 mod visit;
@@ -44,6 +48,7 @@ pub use item::{Item, Row};
 pub use laws::{snapshots_are_complete, snapshots_are_lawful};
 pub use listing::Listing;
 pub use memory::{Memory, MemoryEntry};
+pub use placed::Placed;
 pub use reason::Reason;
 pub use snapshot::{SkippedPath, Snapshot};
 pub use walking::walk;

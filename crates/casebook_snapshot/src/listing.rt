@@ -1,7 +1,7 @@
 //! Folders that are only looked at.
 ghost use Rattle.std.specs.Prelude.{◌≡◌, IfErr, IfOk, IfSome, IsTrue, Option};
 ghost use Rattle.casebook_snapshot.specs.Items.{Contents};
-ghost use Rattle.casebook_snapshot.specs.Children.{IsListing};
+ghost use Rattle.casebook_snapshot.specs.Children.{IsListed};
 ghost use Rattle.casebook_snapshot.specs.Errors.{is_of_listing};
 
 use crate::child::Child;
@@ -21,9 +21,10 @@ pub trait Listing {
         ensures ok { IfSome (holds self.now) (λ f. IfOk result (λ item. item ≡ f path.now)) }
         ensures errors { IfErr result (λ error. IsTrue (is_of_listing error)) };
 
-    /// Returns the names in a directory, in any order.
-    fn list(&self, alloc: Global, path: &Path) -> Result<Vec<Child>, SnapshotError>
+    /// Returns the names in a directory, in any order, or `None` if it isn't a directory any more
+    /// that can be listed. A name that is listed twice is looked at twice.
+    fn list(&self, alloc: Global, path: &Path) -> Result<Option<Vec<Child>>, SnapshotError>
         ensures ok { IfSome (holds self.now) (λ f. IfOk result (λ children.
-            IsListing f path.now children.items)) }
+            IsListed f path.now children)) }
         ensures errors { IfErr result (λ error. IsTrue (is_of_listing error)) };
 }

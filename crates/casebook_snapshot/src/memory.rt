@@ -108,7 +108,7 @@ impl Listing for Memory {
         Ok(self.find(path)?)
     }
 
-    fn list(&self, alloc: Global, path: &Path) -> Result<Vec<Child>, SnapshotError> {
-        Ok(names_in(alloc, self.entries.as_slice(), path)?)
+    fn list(&self, alloc: Global, path: &Path) -> Result<Option<Vec<Child>>, SnapshotError> {
+        Ok(Some(names_in(alloc, self.entries.as_slice(), path)?))
     }
 }

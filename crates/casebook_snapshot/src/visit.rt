@@ -52,7 +52,9 @@ pub(crate) fn visit_child<L: Listing>(
             Ok(Visit::Keep(path, Row { entry, attributes }, Vec::new(alloc)))
         }
         Item::Dir(attributes) => {
-            let children = listing.list(alloc, &path)?;
+            let Some(children) = listing.list(alloc, &path)? else {
+                return Ok(Visit::Skip(Reason::Changing));
+            };
             let entry = Entry::Dir;
             Ok(Visit::Keep(path, Row { entry, attributes }, children))
         }

@@ -56,7 +56,9 @@ fn begin<L: Listing>(alloc: Global, listing: &L, skip: &[Path]) -> Result<Progre
     let Item::Dir(attributes) = listing.look(&root)? else {
         return Err(SnapshotError::NotADirectory);
     };
-    let left = listing.list(alloc, &root)?;
+    let Some(left) = listing.list(alloc, &root)? else {
+        return Err(SnapshotError::Failed);
+    };
     let entry = Entry::Dir;
     let mut rows = BTreeMap::new(alloc);
     rows.insert(root, Row { entry, attributes })?;

@@ -1,7 +1,7 @@
 //! The calls that rows name.
 use crate::texts::{memory, row_text, skipped_text};
 use casebook_folder::Attributes;
-use casebook_snapshot::{Child, Item, Memory, MemoryEntry, Snapshot, walk};
+use casebook_snapshot::{Child, Item, Listing, Memory, MemoryEntry, Placed, Snapshot, walk};
 use retro_path::{NoMem, Path};
 use retro_rows::{fail, path};
 use std::alloc::Global;
@@ -43,13 +43,23 @@ fn snapshot_text(alloc: Global, snapshot: &Snapshot) -> Result<String, NoMem> {
     Ok(out)
 }
 
-/// Returns the snapshot of a folder, without some paths.
-pub fn snapshot(alloc: Global, folder: &str, skip: &str) -> Result<String, Fail> {
-    let memory = memory(alloc, folder)?;
-    match walk(alloc, &memory, paths(alloc, skip)?.as_slice()) {
+/// Returns the snapshot of a listing, without some paths, as a text.
+fn walked<L: Listing>(alloc: Global, listing: &L, skip: &str) -> Result<String, Fail> {
+    match walk(alloc, listing, paths(alloc, skip)?.as_slice()) {
         Ok(snapshot) => Ok(snapshot_text(alloc, &snapshot)?),
         Err(error) => Ok(format!(in alloc; "{error:?}")?),
     }
+}
+
+/// Returns the snapshot of a folder, without some paths.
+pub fn snapshot(alloc: Global, folder: &str, skip: &str) -> Result<String, Fail> {
+    walked(alloc, &memory(alloc, folder)?, skip)
+}
+
+/// Returns the snapshot of a folder that is put at a path, without some paths.
+pub fn placed(alloc: Global, folder: &str, at: &str, skip: &str) -> Result<String, Fail> {
+    let listing = Placed::new(alloc, memory(alloc, folder)?, path(alloc, at)?);
+    walked(alloc, &listing, skip)
 }
 
 /// Returns a directory of the root user.

@@ -1,6 +1,6 @@
 //! The call that each row names, and the test that makes these calls.
-use crate::calls::{nested, snapshot};
-use crate::tables::{KEPT, LARGE, SKIPPED};
+use crate::calls::{nested, placed, snapshot};
+use crate::tables::{KEPT, LARGE, PLACED, SKIPPED};
 use retro_rows::{fail, rows};
 use std::alloc::Global;
 use std::test::Fail;
@@ -9,6 +9,7 @@ use std::test::Fail;
 fn called(alloc: Global, call: &str, given: &[String]) -> Result<String, Fail> {
     match (call, given) {
         ("snapshot", [folder, skip]) => snapshot(alloc, folder, skip),
+        ("placed", [folder, at, skip]) => placed(alloc, folder, at, skip),
         ("deep", [count]) => nested(alloc, count, true),
         ("wide", [count]) => nested(alloc, count, false),
         _ => fail("no such call"),
@@ -27,7 +28,7 @@ fn hold(alloc: Global, table: &str) -> Result<(), Fail> {
 
 #[test]
 fn rows_hold(rt: HostRuntime) -> Result<(), Fail> {
-    for table in [KEPT, SKIPPED, LARGE] {
+    for table in [KEPT, SKIPPED, PLACED, LARGE] {
         hold(rt.alloc(), table)?;
     }
     Ok(())

@@ -37,6 +37,28 @@ snapshot: /a dir, /a/b dir, /a/b/c file x, /z Link :: /a /a/b /a/b/c /z
 snapshot: /a dir, /a/b Link :: / => / dir 755 0 0, /a dir 755 0 0; /a/b Link
 ";
 
+/// Folders that are put at a path.
+pub const PLACED: &str = "
+placed: /f file x, /d dir 700 7 8, /d/e dir :: /home :: none
+  => / dir 755 0 0, /home dir 755 0 0, /home/d dir 700 7 8, /home/d/e dir 755 0 0,
+  /home/f file 1 644 0 0
+placed: / dir 700 7 8 :: /a/b/c :: none
+  => / dir 755 0 0, /a dir 755 0 0, /a/b dir 755 0 0, /a/b/c dir 700 7 8
+placed: / dir 700 7 8, /f file x :: / :: none => / dir 700 7 8, /f file 1 644 0 0
+placed: /null file x, /nul file x :: /dev :: none
+  => / dir 755 0 0, /dev dir 755 0 0, /dev/nul file 1 644 0 0; /dev/null NullDevice
+placed: /dev dir, /dev/null file x :: /home :: none
+  => / dir 755 0 0, /home dir 755 0 0, /home/dev dir 755 0 0, /home/dev/null file 1 644 0 0
+placed: /f file x :: /dev/null :: none => / dir 755 0 0, /dev dir 755 0 0; /dev/null NullDevice
+placed: /f file x, /a Link, /a/g file x :: /a :: none
+  => / dir 755 0 0, /a dir 755 0 0, /a/f file 1 644 0 0; /a/a Link
+placed: /f file x, /g file y :: /a :: /a/f /g
+  => / dir 755 0 0, /a dir 755 0 0, /a/g file 1 644 0 0; /a/f Asked
+placed: /f file x :: /a/b :: /a => / dir 755 0 0; /a Asked
+placed: / Link :: /a :: none => / dir 755 0 0; /a Link
+placed: / missing :: /a/b :: none => / dir 755 0 0, /a dir 755 0 0
+";
+
 /// Files at the limit, deep trees and wide directories.
 pub const LARGE: &str = "
 snapshot: /f zeros 1048576, /g zeros 1048577, /h zeros 0 :: none

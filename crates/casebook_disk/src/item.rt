@@ -1,0 +1,99 @@
+//! What is at a name, for a snapshot: read without following links.
+use crate::names::see_names;
+use crate::place::{Place, look_at, name_in, open_in};
+use crate::reading::{FILE_LIMIT, attributes_of, is_unchanged};
+use casebook_snapshot::{Item, Reason};
+use retro_path::Bytes;
+use std::alloc::Global;
+use std::fs::{self, File, Metadata};
+use std::io::{self, Read};
+use std::os::unix::fs::{FileTypeExt, MetadataExt};
+
+/// How often a file that changes while it is read is read at most.
+const TRIES: u32 = 3;
+
+/// Reads a file at a name once, if it is unchanged before and after that. Never reads more than the
+/// size of the largest file, and one byte.
+fn read_once(
+    rt: &HostRuntime,
+    alloc: Global,
+    name: &str,
+    there: &Metadata,
+) -> io::Result<Option<Item>> {
+    let file = fs::open(rt, name)?;
+    if !is_unchanged(there, &file.metadata()?) {
+        return Ok(None);
+    }
+    let mut bytes = Vec::new(alloc);
+    let mut part = file.take(there.len().saturating_add(1));
+    part.read_to_end(&mut bytes)?;
+    let file = part.into_inner();
+    if bytes.len() as u64 != there.len() || !is_unchanged(there, &file.metadata()?) {
+        return Ok(None);
+    }
+    Ok(Some(Item::File(Bytes::of(bytes), attributes_of(there))))
+}
+
+/// Returns what is at a name in an open directory, if it isn't a directory or a file that is read.
+fn reason_of(there: &Metadata, dir: &Metadata) -> Option<Reason> {
+    let kind = there.file_type();
+    if kind.is_symlink() {
+        return Some(Reason::Link);
+    }
+    if kind.is_fifo() {
+        return Some(Reason::Pipe);
+    }
+    if kind.is_socket() {
+        return Some(Reason::Socket);
+    }
+    if !kind.is_dir() && !kind.is_file() {
+        return Some(Reason::Device);
+    }
+    if there.dev() != dir.dev() {
+        return Some(Reason::OtherFileSystem);
+    }
+    if kind.is_file() && there.len() > FILE_LIMIT {
+        return Some(Reason::TooLarge);
+    }
+    None
+}
+
+/// Returns an open directory as an item, if the system doesn't refuse to list its names.
+fn open_item(rt: &HostRuntime, alloc: Global, dir: &File) -> io::Result<Item> {
+    see_names(rt, alloc, dir)?;
+    Ok(Item::Dir(attributes_of(&dir.metadata()?)))
+}
+
+/// Returns the directory at a name in an open one, if it can be opened and listed.
+fn directory_in(rt: &HostRuntime, alloc: Global, dir: &File, name: &str) -> io::Result<Item> {
+    match open_in(rt, alloc, dir, name)? {
+        Place::In(below) => open_item(rt, alloc, &below),
+        Place::Missing => Ok(Item::Missing),
+        Place::Blocked(_) => Ok(Item::Barred(Reason::Changing)),
+    }
+}
+
+/// Returns what is at a name in an open directory, without following links. A file that changes
+/// while it is read is read again.
+pub(crate) fn item_in(rt: &HostRuntime, alloc: Global, dir: &File, name: &str) -> io::Result<Item> {
+    if name.is_empty() {
+        return open_item(rt, alloc, dir);
+    }
+    let above = dir.metadata()?;
+    let path = name_in(alloc, dir, name)?;
+    for _ in 0..TRIES {
+        let Some(there) = look_at(rt, path.as_str())? else {
+            return Ok(Item::Missing);
+        };
+        if let Some(reason) = reason_of(&there, &above) {
+            return Ok(Item::Barred(reason));
+        }
+        if there.is_dir() {
+            return directory_in(rt, alloc, dir, name);
+        }
+        if let Some(item) = read_once(rt, alloc, path.as_str(), &there)? {
+            return Ok(item);
+        }
+    }
+    Ok(Item::Barred(Reason::Changing))
+}
