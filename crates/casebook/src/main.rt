@@ -4,10 +4,16 @@
 ghost use Rattle.std.specs.Prelude.{None};
 
 use casebook_cli::{Documents, Exit, Output, Problem, Progress, ReadFault, Step, Stop, run_with};
+use casebook_disk::DiskListing;
+use casebook_folder_cli::{Folders, snapshot_at};
+use casebook_snapshot::{Snapshot, SnapshotError};
+use casebook_text::SafeLine;
+use retro_path::Path;
 use std::alloc::Global;
 use std::cell::Cell;
 use std::io::{ErrorKind, Read, Write};
 use std::process::ExitCode;
+use std::time::{SystemTime, UNIX_EPOCH};
 use std::{env, fs};
 
 /// From so many bytes on, reading a log takes a second or more.
@@ -19,7 +25,7 @@ const MANY_LINES: usize = 10_000;
 /// Goes to the start of a terminal's line, and empties it.
 const CLEAR: &str = "\r\u{1B}[K";
 
-/// The files of the process, and its standard input under the name `-`.
+/// The files and folders of the process, and its standard input under the name `-`.
 #[derive(Drop)]
 struct Files<'a> {
     rt: &'a HostRuntime,
@@ -80,6 +86,42 @@ impl Documents for Files<'_> {
     }
 }
 
+/// Returns why a folder couldn't be opened.
+fn folder_fault_of(error: std::io::Error) -> SnapshotError {
+    match error.kind() {
+        ErrorKind::OutOfMemory => SnapshotError::NoMem,
+        ErrorKind::NotADirectory => SnapshotError::NotADirectory,
+        _ => SnapshotError::Failed,
+    }
+}
+
+impl Folders for Files<'_> {
+    ghost holds = { λ _. None };
+
+    fn snapshot(
+        &self,
+        alloc: Global,
+        name: &str,
+        at: &Path,
+        skip: &[Path],
+    ) -> Result<Snapshot, SnapshotError> {
+        match DiskListing::open(self.rt, name) {
+            Ok(listing) => snapshot_at(alloc, listing, at, skip),
+            Err(error) => Err(folder_fault_of(error)),
+        }
+    }
+
+    fn now(&self) -> Result<i64, SnapshotError> {
+        let Ok(now) = SystemTime::now(self.rt) else {
+            return Err(SnapshotError::Failed);
+        };
+        match now.duration_since(UNIX_EPOCH) {
+            Ok(since) => Ok(since.as_secs() as i64),
+            Err(_) => Err(SnapshotError::Failed),
+        }
+    }
+}
+
 impl Files<'_> {
     /// Says on standard error what is done, in place of what is said there. If standard error takes
     /// nothing, nobody is told.
@@ -111,6 +153,11 @@ impl Progress for Files<'_> {
             }
             _ => {}
         }
+    }
+
+    fn remark(&self, remark: &SafeLine) {
+        // If standard error takes nothing, nobody is told.
+        let _ = writeln!(self.rt.stderr(), "casebook: {}", remark.as_str());
     }
 }
 

@@ -8,10 +8,20 @@ use Rattle.jiff.specs.Strtime.{StrftimeGives}
 abbrev pub time_format : List ℕ
 time_format = codes "%b %d %H:%M"
 
--- whether `jiff` shows a time so in this form, as that of an instant in UTC
+-- how an instant is written in documents: its date and its time of day in UTC (RFC 3339)
+abbrev pub instant_format : List ℕ
+instant_format = codes "%Y-%m-%dT%H:%M:%SZ"
+
+-- whether `jiff` shows a time so in a form, as that of an instant in UTC
+abbrev pub IsShownIn : List ℕ → ℤ → List ℕ → Type 0
+IsShownIn format second text =
+    StrftimeGives (λ (bytes : List ℕ). bytes) format (IsInstantParts (second *ℤ pos 1_000_000_000)) (Ok text)
+
 abbrev pub IsTimeText : ℤ → List ℕ → Type 0
-IsTimeText second text =
-    StrftimeGives (λ (bytes : List ℕ). bytes) time_format (IsInstantParts (second *ℤ pos 1_000_000_000)) (Ok text)
+IsTimeText second text = IsShownIn time_format second text
+
+abbrev pub IsInstantText : ℤ → List ℕ → Type 0
+IsInstantText second text = IsShownIn instant_format second text
 
 -- the whole seconds of nanoseconds
 abbrev pub whole_second : ℤ → ℤ

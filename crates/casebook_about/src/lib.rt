@@ -3,8 +3,9 @@
 //! [`read_about`] reads it from an about document: JSON (RFC 8259) of an object with `"about": 1`,
 //! with `"sessions"`, rows that begin with a session's number and the name of its user, and with
 //! `"lines"`, rows that begin with a line's number and a time in seconds since the start of 1970
-//! (UTC). Both may be missing, further cells and keys don't count. [`time_text`] shows a time,
-//! [`second_of`] reads one, and [`last_second_of`] reads its last second.
+//! (UTC). Both may be missing, further cells and keys don't count. [`time_text`] shows a time
+//! to people, [`instant_text`] writes one in a document, [`second_of`] reads one, and
+//! [`last_second_of`] reads its last second.
 //!
 //! If allocation fails, calls return `OutOfMemory` as a variant of their error.
 //!
@@ -15,7 +16,8 @@
 //!   and of the rows of lines, in this order, with the part and the place of a row
 //!   (`specs/About.antt`, `specs/Rows.antt`).
 //! - `time_text` returns a text in which `jiff` shows the instant in the form `%b %d %H:%M`
-//!   (`specs/Time.antt`). That it is the text which people expect is only tested.
+//!   (`specs/Time.antt`). That it is the text which people expect is only tested. `instant_text`
+//!   does the same in the form `%Y-%m-%dT%H:%M:%SZ`.
 //! - `second_of` returns the second of the instant that a text names as `jiff` reads it: with an
 //!   offset of its own, or in UTC, or as a date's first second in UTC (`specs/Time.antt`).
 //! - `last_second_of` returns the last second of such a time: in UTC a date lasts a day, a time of
@@ -30,4 +32,4 @@ mod time;
 pub use about::{About, read_about};
 pub use fault::{AboutFault, Part};
 pub use rows::{LineTime, SessionUser};
-pub use time::{TIME_FORMAT, last_second_of, second_of, time_text};
+pub use time::{TIME_FORMAT, instant_text, last_second_of, second_of, time_text};

@@ -1,6 +1,7 @@
 //! Times as text.
 ghost use Rattle.std.specs.Prelude.{◌≡◌, ◌++◌, IfOk, string_bytes};
-ghost use Rattle.casebook_about.specs.Time.{IsTimeText, instant_in, last_second_in, second_in};
+ghost use Rattle.casebook_about.specs.Time.{IsInstantText, IsTimeText, instant_in, last_second_in};
+ghost use Rattle.casebook_about.specs.Time.{second_in};
 
 use jiff::{Error, Timestamp};
 use std::alloc::{AllocError, Global};
@@ -14,6 +15,17 @@ pub fn time_text(alloc: Global, second: i64) -> Result<String, Error>
     ensures { IfOk result (λ text. IsTimeText second (string_bytes text)) }
 {
     Timestamp::from_second(second)?.strftime(alloc, TIME_FORMAT)
+}
+
+/// How an instant is written in documents: its date and its time of day in UTC (RFC 3339).
+const INSTANT_FORMAT: &str = "%Y-%m-%dT%H:%M:%SZ";
+
+/// Returns the instant of a time, in seconds since the start of 1970 (UTC), as documents write it:
+/// `2025-05-07T17:00:00Z`. Fails with `Range` if the time isn't in one of the years -9999 to 9999.
+pub fn instant_text(alloc: Global, second: i64) -> Result<String, Error>
+    ensures { IfOk result (λ text. IsInstantText second (string_bytes text)) }
+{
+    Timestamp::from_second(second)?.strftime(alloc, INSTANT_FORMAT)
 }
 
 /// Returns the second of the instant that a text names, or `None` if the text names none.

@@ -1,4 +1,4 @@
--- What holds of documents if it is known what they are.
+-- What holds of documents and folders if it is known what they are.
 use Rattle.std.proofs.Common.{Option, Some, None, IfSome}
 
 -- from one fact to another
@@ -6,13 +6,15 @@ pub one : {A : Type 0} (o : Option A) (P Q : A → Type 0) → IfSome o P → ((
 one None P Q h f = tt
 one (Some x) P Q h f = f x h
 
--- from two facts to a third
-pub two : {A : Type 0} (o : Option A) (P Q R : A → Type 0) → IfSome o P → IfSome o Q
-    → ((x : A) → P x → Q x → R x) → IfSome o R
-two None P Q R h k f = tt
-two (Some x) P Q R h k f = f x h k
+-- a fact of the first of two values, which may both be known
+pub of_first : {A B : Type 0} (o : Option A) (p : Option B) (P : A → Type 0) → IfSome o P
+    → IfSome o (λ x. IfSome p (λ y. P x))
+of_first None p P h = tt
+of_first (Some x) None P h = tt
+of_first (Some x) (Some y) P h = h
 
--- a fact that holds whatever the documents are
-pub always : {A : Type 0} (o : Option A) (P : A → Type 0) → ((x : A) → P x) → IfSome o P
-always None P f = tt
-always (Some x) P f = f x
+-- a fact of the second
+pub of_second : {A B : Type 0} (o : Option A) (p : Option B) (Q : B → Type 0) → IfSome p Q
+    → IfSome o (λ x. IfSome p Q)
+of_second None p Q h = tt
+of_second (Some x) p Q h = h

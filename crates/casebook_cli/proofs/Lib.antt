@@ -6,5 +6,4 @@ pub mod Known
 pub mod NamedLemmas
 pub mod RisingLemmas
 pub mod RowLemmas
-pub mod RunLemmas
 pub mod ScreenLemmas

@@ -1,5 +1,9 @@
 -- The answers to requests.
 use Rattle.std.specs.Prelude.{◌≡◌, ℕ, Bool, false, IsTrue, List}
+use Rattle.casebook_snapshot.specs.declared.snapshot.Snapshot.{Snapshot}
+use Rattle.casebook_folder_cli.specs.Answers.{IsSnapshotOf}
+use Rattle.casebook_folder_cli.specs.Folders.{AllFolders}
+use Rattle.casebook_folder_cli.specs.Words.{SnapshotValue}
 use Rattle.casebook_cli.specs.Checks.{IsChecked}
 use Rattle.casebook_cli.specs.Documents.{AllDocuments}
 use Rattle.casebook_cli.specs.Harmless.{IsHarmless, is_plain}
@@ -8,6 +12,7 @@ use Rattle.casebook_cli.specs.Lines.{AreLines}
 use Rattle.casebook_cli.specs.Pages.{IsPage}
 use Rattle.casebook_cli.specs.Repairs.{sources_of}
 use Rattle.casebook_cli.specs.Request.{Query, Request, ask, check, help, help_text, lines, page, show}
+use Rattle.casebook_cli.specs.Request.{snapshot}
 use Rattle.casebook_cli.specs.Screens.{IsShown}
 
 -- an answer: its text, and whether it says that what was asked about isn't in order
@@ -38,6 +43,12 @@ pub record AnswersQuery (colours : Bool) (at : AllDocuments) (query : Query) (an
   pub answers : AnswersBy colours inputs query answer
   pub harmless : IsTrue (is_plain colours query) → IsHarmless answer.text
 
-abbrev pub Answers : Bool → AllDocuments → Request → AnswerValue → Type 0
-Answers colours at (help topic) answer = answer ≡ saying (help_text topic)
-Answers colours at (ask query) answer = AnswersQuery colours at query answer
+-- the answer to a request for a snapshot: the document of one
+abbrev pub AnswersSnapshot : AllFolders → SnapshotValue → AnswerValue → Type 0
+AnswersSnapshot folders request answer =
+    Says (λ text. (s : Snapshot) × IsSnapshotOf folders request s text) answer
+
+abbrev pub Answers : Bool → AllDocuments → AllFolders → Request → AnswerValue → Type 0
+Answers colours at folders (help topic) answer = answer ≡ saying (help_text topic)
+Answers colours at folders (ask query) answer = AnswersQuery colours at query answer
+Answers colours at folders (snapshot request) answer = AnswersSnapshot folders request answer

@@ -1,6 +1,6 @@
 -- What is said of whether a document is a recording or a script.
 use Rattle.std.specs.Prelude.{◌≡◌, ℕ, Bool, true, false, List, [], ◌∷◌, ◌++◌, Option, Some, None, Result, Ok, Err}
-use Rattle.std.specs.Prelude.{codes, decimal, is_some, length, string_bytes}
+use Rattle.std.specs.Prelude.{codes, decimal, is_some, length}
 use Rattle.serde_json.specs.Data.{Data}
 use Rattle.serde_json.specs.Find.{get}
 use Rattle.retro_json.specs.declared.fault.Refusal.{Refusal}
@@ -61,7 +61,7 @@ SaysOf false name r text = SaysYes name r text
 SaysOf true name r text = SaysNo name r text
 
 abbrev pub IsCheckedAs : List ℕ → RecordingValue → Answer → Type 0
-IsCheckedAs name r answer = SaysOf answer.is_no name r (string_bytes answer.text)
+IsCheckedAs name r answer = SaysOf answer.is_no name r answer.text.items
 
 -- The answer says that a document is refused, after words of what it isn't, and a place where it breaks the rule.
 pub record SaysWhere (IsPlace : Place → Type 0) (name words : List ℕ) (refusal : Refusal) (is_no : Bool) (text : List ℕ)

@@ -15,6 +15,7 @@ use Rattle.casebook_about.specs.declared.fault.AboutFault.TheVariants as faults
 use Rattle.casebook_about.specs.declared.fault.Part.TheVariants as about_parts
 use Rattle.casebook_cli.specs.declared.exit.Exit.{Exit}
 use Rattle.casebook_cli.specs.declared.exit.Exit.TheVariants as exits
+use Rattle.casebook_folder_cli.specs.declared.request.FolderProblem.TheVariants as folder_problems
 use Rattle.casebook_cli.specs.declared.problem.Problem.{Problem}
 use Rattle.casebook_cli.specs.declared.problem.Problem.TheVariants as problems
 use Rattle.casebook_cli.specs.declared.searched.Searched.{Searched}
@@ -45,6 +46,9 @@ problem_words problems.Line = codes "--line: not a number of a line"
 problem_words problems.Format = codes "--format: not text, tsv or numbers"
 problem_words problems.RepairFormat = codes "--format: not text or json"
 problem_words problems.MixedFormat = codes "--format json has no --why, --diff or --line"
+problem_words (problems.Folder folder_problems.NoFolder) = codes "no FOLDER is given; see casebook help snapshot"
+problem_words (problems.Folder folder_problems.At) = codes "--at: not a path from the root"
+problem_words (problems.Folder folder_problems.Skip) = codes "--skip: not a path from the root"
 
 unfoldable pub searched_words : Searched → List ℕ
 searched_words Text = codes "--text: not a regular expression, or too large a one"
@@ -156,6 +160,7 @@ stop_message (stops.NoLine number) = said (counted (codes "--line: no line has t
 stop_message (stops.BadRepair number) = repair_message number
 stop_message stops.OutOfMemory = said (codes "out of memory")
 stop_message (stops.ReadFailed name) = said_of name.now (codes "can't be read")
+stop_message (stops.NotADirectory name) = said_of name.now (codes "not a directory")
 
 -- the line for standard error, empty if an answer was written
 unfoldable pub message_of : Exit → List ℕ

@@ -1,6 +1,7 @@
--- What the program does: what a run on words and documents leaves.
+-- What the program does: what a run on words, documents and folders leaves.
 use Rattle.std.specs.Prelude.{◌≡◌, ℕ, Bool, true, false, List, Option, Ok}
 use Rattle.std.specs.Io.KnownBytes.{Appends}
+use Rattle.casebook_folder_cli.specs.Folders.{AllFolders}
 use Rattle.casebook_cli.specs.Answers.{AnswerValue, Answers}
 use Rattle.casebook_cli.specs.Documents.{AllDocuments}
 use Rattle.retro_edge.specs.Output.{AppendsPart}
@@ -13,10 +14,11 @@ abbrev pub Text : Type 0
 Text = List ℕ
 
 -- The answer to words.
-pub record AnswersWords (words : List Text) (at : AllDocuments) (colours : Bool) (answer : AnswerValue) : Type 0 where
+pub record AnswersWords (words : List Text) (at : AllDocuments) (folders : AllFolders) (colours : Bool)
+    (answer : AnswerValue) : Type 0 where
   pub request : Request
   pub words_ask : request_in words ≡ Ok request
-  pub answers : Answers colours at request answer
+  pub answers : Answers colours at folders request answer
 
 -- An answer was written whole, and the exit says whether it says no.
 pub record Wrote (answer : AnswerValue) (is_no : Bool) (old new : Option Text) : Type 0 where
@@ -31,13 +33,13 @@ Ends answer old new exits.WriteFailed = AppendsPart old new answer.text
 Ends answer old new (exits.Stopped stop) = ⊥
 
 -- There is an answer, and the program ends so.
-pub record Answered (words : List Text) (at : AllDocuments) (colours : Bool) (old new : Option Text) (exit : Exit)
-    : Type 0 where
+pub record Answered (words : List Text) (at : AllDocuments) (folders : AllFolders) (colours : Bool)
+    (old new : Option Text) (exit : Exit) : Type 0 where
   pub answer : AnswerValue
-  pub answers : AnswersWords words at colours answer
+  pub answers : AnswersWords words at folders colours answer
   pub ends : Ends answer old new exit
 
--- what a run on words and documents leaves, with colours if they are wanted
-abbrev pub Runs : List Text → AllDocuments → Bool → Option Text → Option Text → Exit → Type 0
-Runs words at colours old new (exits.Stopped stop) = StopsWords words at stop
-Runs words at colours old new exit = Answered words at colours old new exit
+-- what a run on words, documents and folders leaves, with colours if they are wanted
+abbrev pub Runs : List Text → AllDocuments → AllFolders → Bool → Option Text → Option Text → Exit → Type 0
+Runs words at folders colours old new (exits.Stopped stop) = StopsWords words at stop
+Runs words at folders colours old new exit = Answered words at folders colours old new exit

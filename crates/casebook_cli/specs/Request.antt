@@ -14,6 +14,10 @@ use Rattle.retro_text.specs.Numbers.{number_in}
 use Rattle.casebook_view.specs.declared.line_test.LineTest.{LineTest}
 use Rattle.casebook_view.specs.declared.line_test.LineTest.TheVariants.{Sessions, From, To, Reads, Writes, Touches}
 use Rattle.casebook_view.specs.declared.path_test.PathTest.{PathTest}
+use Rattle.casebook_folder_cli.specs.Words.{SnapshotValue, snapshot_in}
+use Rattle.casebook_folder_cli.specs.declared.request.FolderFault.{FolderFault}
+use Rattle.casebook_folder_cli.specs.declared.request.FolderFault.TheVariants as folder_faults
+use Rattle.casebook_folder_cli.specs.declared.request.FolderProblem.{FolderProblem}
 use Rattle.casebook_cli.specs.Bounds.{bound_in, has_times, last_bound_in, line_of}
 use Rattle.retro_edge.specs.Numbers.{numbers_in}
 use Rattle.retro_edge.specs.Calls.{Call, Named, called, given, named_in, nothing, refused}
@@ -22,7 +26,7 @@ use Rattle.casebook_cli.specs.declared.bound.Bound.{Bound}
 use Rattle.casebook_cli.specs.declared.bounds.Bounds.{Bounds}
 use Rattle.casebook_cli.specs.declared.format.Format.{Format}
 use Rattle.casebook_cli.specs.declared.format.Format.TheVariants as formats
-use Rattle.casebook_cli.specs.declared.help.TheConstants.{PROGRAM, LINES, SHOW, PAGE, CHECK, LISTS, DOCUMENTS, REFUSALS, PROFILE}
+use Rattle.casebook_cli.specs.declared.help.TheConstants.{PROGRAM, LINES, SHOW, PAGE, CHECK, SNAPSHOT, LISTS, DOCUMENTS, REFUSALS, PROFILE}
 use Rattle.casebook_cli.specs.declared.problem.Problem.{Problem}
 use Rattle.casebook_cli.specs.declared.problem.Problem.TheVariants as problems
 use Rattle.casebook_cli.specs.declared.shown.Extras.{Extras}
@@ -30,6 +34,8 @@ use Rattle.casebook_cli.specs.declared.shown.Shown.{Shown}
 use Rattle.casebook_cli.specs.declared.shown.Shown.TheVariants as parts
 use Rattle.casebook_cli.specs.declared.topic.Topic.{Topic}
 use Rattle.casebook_cli.specs.declared.topic.Topic.TheVariants as topics
+use Rattle.casebook_cli.specs.declared.words.WordsFault.{WordsFault}
+use Rattle.casebook_cli.specs.declared.words.WordsFault.TheVariants as faults
 
 -- ---- requests
 
@@ -91,6 +97,7 @@ pub data Query : Type 0 where
 pub data Request : Type 0 where
   help : Topic → Request
   ask : Query → Request
+  snapshot : SnapshotValue → Request
 
 -- ---- steps, of which the first problem ends them
 
@@ -110,6 +117,7 @@ topic_in text =
     else if is_text (codes "show") text then Some topics.Show
     else if is_text (codes "page") text then Some topics.Page
     else if is_text (codes "check") text then Some topics.Check
+    else if is_text (codes "snapshot") text then Some topics.Snapshot
     else if is_text (codes "lists") text then Some topics.Lists
     else if is_text (codes "documents") text then Some topics.Documents
     else if is_text (codes "refusals") text then Some topics.Refusals
@@ -131,6 +139,7 @@ help_text topics.Lines = LINES.now
 help_text topics.Show = SHOW.now
 help_text topics.Page = PAGE.now
 help_text topics.Check = CHECK.now
+help_text topics.Snapshot = SNAPSHOT.now
 help_text topics.Lists = LISTS.now
 help_text topics.Documents = DOCUMENTS.now
 help_text topics.Refusals = REFUSALS.now
@@ -382,11 +391,17 @@ query_in call =
     else if is_text (codes "check") call.name then result_map check (log_given call)
     else Err problems.Words
 
+-- what is wrong with the words of a command about folders
+abbrev pub folder_result : Result SnapshotValue FolderProblem → Result Request Problem
+folder_result (Ok request) = Ok (snapshot request)
+folder_result (Err problem) = Err (problems.Folder problem)
+
 -- the request of a command
 unfoldable pub command_request : Call → Result Request Problem
 command_request call =
     if is_given (codes "help") call then Ok (help (topic_or_program (topic_in call.name)))
     else if is_text (codes "help") call.name then result_map help (topic_asked (given (codes "command") call))
+    else if is_text (codes "snapshot") call.name then folder_result (snapshot_in call)
     else result_map ask (query_in call)
 
 abbrev pub request_of : Named → Result Request Problem
@@ -399,6 +414,10 @@ unfoldable pub request_in : List Text → Result Request Problem
 request_in words = request_of (named_in program words)
 
 -- ---- values of the code
+
+abbrev pub folder_fault : FolderFault → WordsFault
+folder_fault folder_faults.NoMem = faults.NoMem
+folder_fault (folder_faults.Bad problem) = faults.Bad (problems.Folder problem)
 
 abbrev pub test_view : LineTest → Test
 test_view (Sessions sessions) = of_sessions sessions.items

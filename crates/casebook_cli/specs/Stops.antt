@@ -24,6 +24,7 @@ use Rattle.casebook_cli.specs.Labels.{AreLabels, IsAbout}
 use Rattle.casebook_cli.specs.Lines.{pattern_config, sessions_named}
 use Rattle.casebook_cli.specs.Repairs.{AreEdits, IsAsked, IsListGiven, lines_in, sources_of}
 use Rattle.casebook_cli.specs.Request.{LinesRequest, Query, RepairRequest, Request, RoundsValue, ShowRequest, ask, check, help, lines, page, request_in, show}
+use Rattle.casebook_cli.specs.Request.{snapshot}
 use Rattle.casebook_cli.specs.declared.repairs.AskedRepair.{AskedRepair}
 use Rattle.casebook_cli.specs.declared.searched.Searched.{Searched}
 use Rattle.casebook_cli.specs.declared.searched.Searched.TheVariants as searched_in
@@ -203,9 +204,17 @@ pub data StopsQuery (at : AllDocuments) (query : Query) (stop : Stop) : Type 0 w
   refused : (inputs : InputsValue) → AreInputs at (sources_of query) inputs → StopsBy inputs query stop
       → StopsQuery at query stop
 
+-- there is no snapshot of the folder with a name
+abbrev pub StopsSnapshot : List ℕ → Stop → Type 0
+StopsSnapshot folder (stops.ReadFailed name) = name.now ≡ folder
+StopsSnapshot folder (stops.NotADirectory name) = name.now ≡ folder
+StopsSnapshot folder stops.OutOfMemory = Unit {0}
+StopsSnapshot folder other = ⊥
+
 abbrev pub Stops : AllDocuments → Request → Stop → Type 0
 Stops at (help topic) stop = stop ≡ stops.OutOfMemory
 Stops at (ask query) stop = StopsQuery at query stop
+Stops at (snapshot request) stop = StopsSnapshot request.folder stop
 
 -- words make no request
 abbrev pub IsBadWords : List (List ℕ) → Stop → Type 0

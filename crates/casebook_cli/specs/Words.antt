@@ -1,29 +1,10 @@
 -- The program's command line, as `clap` reads it.
-use Rattle.std.specs.Prelude.{List, [], ◌∷◌, ◌++◌, true, Some, codes}
-use Rattle.clap.specs.Words.{App, Rule, Shape, Text, new_app, new_rule, with_subcommand}
-use Rattle.clap.specs.declared.builder.action.ArgAction.TheVariants.{Set, SetTrue}
+use Rattle.std.specs.Prelude.{List, [], ◌∷◌, ◌++◌, true, codes}
+use Rattle.clap.specs.Words.{App, Rule, new_app}
+use Rattle.retro_edge.specs.Rules.{flag, help_flag, option, with_command, word}
+use Rattle.casebook_folder_cli.specs.Words.{snapshot_rules}
 
 -- ---- the command line
-
--- an option of one value
-abbrev pub option : Text → Rule
-option name = record (new_rule name) { long = Some name; action = Some Set }
-
--- an option without a value
-abbrev pub flag : Text → Rule
-flag name = record (new_rule name) { long = Some name; action = Some SetTrue }
-
--- a word that isn't an option
-abbrev pub word : Text → Rule
-word name = record (new_rule name) { action = Some Set }
-
--- the option that asks for help
-abbrev pub help_flag : Rule
-help_flag = record (new_rule (codes "help")) {
-  long = Some (codes "help");
-  short = Some 104;
-  action = Some SetTrue;
-}
 
 abbrev pub help_rules : List Rule
 help_rules = help_flag ∷ word (codes "command") ∷ []
@@ -64,10 +45,6 @@ page_rules = repair_rules ++ (option (codes "title") ∷ flag (codes "all") ∷ 
 abbrev pub check_rules : List Rule
 check_rules = help_flag ∷ word (codes "log") ∷ []
 
--- a command with an own option for help
-abbrev pub command : Text → List Rule → Shape
-command name rules = record (new_app name).top { disable_help_flag = true; rules = rules }
-
 -- help is a command of the program's own, and no command is required
 abbrev pub bare : App
 bare = record {
@@ -79,9 +56,6 @@ bare = record {
   subs = [];
 }
 
-abbrev pub with_command : App → Text → List Rule → App
-with_command app name rules = with_subcommand app (command name rules)
-
 abbrev pub without_repairs : App
 without_repairs =
     with_command
@@ -89,4 +63,7 @@ without_repairs =
     (codes "check") check_rules
 
 abbrev pub program : App
-program = with_command (with_command without_repairs (codes "show") show_rules) (codes "page") page_rules
+program =
+    with_command
+    (with_command (with_command without_repairs (codes "show") show_rules) (codes "page") page_rules)
+    (codes "snapshot") snapshot_rules

@@ -36,17 +36,17 @@ fn refused(
     place: &Place,
 ) -> Result<Answer, NoMem>
     requires { IsTrue (list_all is_printable words.now) }
-    ensures text { IfOk result (λ answer. string_bytes answer.text
+    ensures text { IfOk result (λ answer. answer.text.items
         ≡ text_of_lines (refused_line name.now words.now refusal place.now ∷ [])) }
     ensures no { IfOk result (λ answer. answer.is_no ≡ true) }
-    ensures harmless { IfOk result (λ answer. IsHarmless (string_bytes answer.text)) }
+    ensures harmless { IfOk result (λ answer. IsHarmless answer.text.items) }
 {
     let mut line = about(alloc, name, words)?;
     push_refusal(alloc, &mut line, refusal)?;
     line.push_ascii(": ")?;
     push_place(alloc, &mut line, place)?;
     Ok(Answer {
-        text: plain_line(alloc, line)?,
+        text: plain_line(alloc, line)?.into_bytes(),
         is_no: true,
     })
 }
@@ -103,7 +103,7 @@ fn unlike_text(
 /// Returns whether a log is a recording of its lines.
 fn checked_log(alloc: Global, name: &str, recording: &Recording) -> Result<Answer, NoMem>
     ensures checked { IfOk result (IsCheckedAs name.now recording.now) }
-    ensures harmless { IfOk result (λ answer. IsHarmless (string_bytes answer.text)) }
+    ensures harmless { IfOk result (λ answer. IsHarmless answer.text.items) }
 {
     match first_unlike(alloc, recording)? {
         None => {
@@ -111,7 +111,7 @@ fn checked_log(alloc: Global, name: &str, recording: &Recording) -> Result<Answe
             Ok(Answer::of(counted_text(alloc, name, "a recording of its ", count)?))
         }
         Some(unlike) => Ok(Answer {
-            text: unlike_text(alloc, name, recording, &unlike)?,
+            text: unlike_text(alloc, name, recording, &unlike)?.into_bytes(),
             is_no: true,
         }),
     }
@@ -122,8 +122,8 @@ fn refused_log(alloc: Global, document: &Document<'_>, refusal: Refusal) -> Resu
     ensures place { IfOk result (λ answer.
         SaysWhere (IsPlaceInLog (document_view document.now).bytes refusal)
         (document_view document.now).name (codes "not a log: ") refusal answer.is_no
-        (string_bytes answer.text)) }
-    ensures harmless { IfOk result (λ answer. IsHarmless (string_bytes answer.text)) }
+        answer.text.items) }
+    ensures harmless { IfOk result (λ answer. IsHarmless answer.text.items) }
 {
     let place = place_in_log(alloc, document.bytes.as_slice(), refusal)?;
     refused(alloc, document.name, "not a log: ", refusal, &place)
@@ -134,8 +134,8 @@ fn refused_script(alloc: Global, document: &Document<'_>, refusal: Refusal) -> R
     ensures place { IfOk result (λ answer.
         SaysWhere (IsPlaceInScript (document_view document.now).bytes refusal)
         (document_view document.now).name (codes "not a script: ") refusal answer.is_no
-        (string_bytes answer.text)) }
-    ensures harmless { IfOk result (λ answer. IsHarmless (string_bytes answer.text)) }
+        answer.text.items) }
+    ensures harmless { IfOk result (λ answer. IsHarmless answer.text.items) }
 {
     let place = place_in_script(alloc, document.bytes.as_slice(), refusal)?;
     refused(alloc, document.name, "not a script: ", refusal, &place)
@@ -144,8 +144,8 @@ fn refused_script(alloc: Global, document: &Document<'_>, refusal: Refusal) -> R
 /// Returns whether a document is a log and a recording of its lines.
 fn log_answer(alloc: Global, document: &Document<'_>) -> Result<Answer, NoMem>
     ensures checked { IfOk result (λ answer. IsCheckedLog (document_view document.now)
-        (log_in (document_view document.now).bytes) answer.is_no (string_bytes answer.text)) }
-    ensures harmless { IfOk result (λ answer. IsHarmless (string_bytes answer.text)) }
+        (log_in (document_view document.now).bytes) answer.is_no answer.text.items) }
+    ensures harmless { IfOk result (λ answer. IsHarmless answer.text.items) }
 {
     match read_log(alloc, document.bytes.as_slice()) {
         Ok(recording) => checked_log(alloc, document.name, &recording),
@@ -157,8 +157,8 @@ fn log_answer(alloc: Global, document: &Document<'_>) -> Result<Answer, NoMem>
 /// Returns whether a document is a script.
 fn script_answer(alloc: Global, document: &Document<'_>) -> Result<Answer, NoMem>
     ensures checked { IfOk result (λ answer. IsCheckedScript (document_view document.now)
-        (script_in (document_view document.now).bytes) answer.is_no (string_bytes answer.text)) }
-    ensures harmless { IfOk result (λ answer. IsHarmless (string_bytes answer.text)) }
+        (script_in (document_view document.now).bytes) answer.is_no answer.text.items) }
+    ensures harmless { IfOk result (λ answer. IsHarmless answer.text.items) }
 {
     match read_script(alloc, document.bytes.as_slice()) {
         Ok(script) => {
@@ -187,8 +187,8 @@ fn is_for_script(alloc: Global, bytes: &[u8]) -> Result<bool, NoMem>
 /// Returns whether a document is a recording of its lines, or a script.
 pub(crate) fn check_answer(alloc: Global, document: &Document<'_>) -> Result<Answer, NoMem>
     ensures checked { IfOk result (λ answer. IsChecked (document_view document.now) answer.is_no
-        (string_bytes answer.text)) }
-    ensures harmless { IfOk result (λ answer. IsHarmless (string_bytes answer.text)) }
+        answer.text.items) }
+    ensures harmless { IfOk result (λ answer. IsHarmless answer.text.items) }
 {
     if is_for_script(alloc, document.bytes.as_slice())? {
         script_answer(alloc, document)

@@ -14,6 +14,7 @@ use crate::repair_options::{page_request, show_request};
 use crate::request::Request;
 use crate::topic::Topic;
 use crate::words::{WordsFault, call_in};
+use casebook_folder_cli::snapshot_request;
 use retro_edge::{CallFault, CommandCall};
 use std::alloc::Global;
 
@@ -27,6 +28,7 @@ fn topic_of(text: &str) -> Option<Topic>
         "show" => Some(Topic::Show),
         "page" => Some(Topic::Page),
         "check" => Some(Topic::Check),
+        "snapshot" => Some(Topic::Snapshot),
         "lists" => Some(Topic::Lists),
         "documents" => Some(Topic::Documents),
         "refusals" => Some(Topic::Refusals),
@@ -79,6 +81,9 @@ fn command_request<'a>(alloc: Global, call: &CommandCall<'a>) -> Result<Request<
     }
     if call.name == "help" {
         return Ok(Request::Help(topic_asked(call.text_of("command"))?));
+    }
+    if call.name == "snapshot" {
+        return Ok(Request::Snapshot(snapshot_request(alloc, call)?));
     }
     Ok(Request::Ask(query_of(alloc, call)?))
 }

@@ -14,6 +14,7 @@ use crate::problem::Problem;
 use crate::searched::Searched;
 use crate::stop::Stop;
 use casebook_about::{AboutFault, Part as AboutPart};
+use casebook_folder_cli::FolderProblem;
 use casebook_text::{ItemFault, ListFault, SafeLine};
 use retro_log::{Part, Refusal};
 use std::alloc::Global;
@@ -45,6 +46,11 @@ fn problem_words(problem: Problem) -> &'static str
         Problem::Format => "--format: not text, tsv or numbers",
         Problem::RepairFormat => "--format: not text or json",
         Problem::MixedFormat => "--format json has no --why, --diff or --line",
+        Problem::Folder(FolderProblem::NoFolder) => {
+            "no FOLDER is given; see casebook help snapshot"
+        }
+        Problem::Folder(FolderProblem::At) => "--at: not a path from the root",
+        Problem::Folder(FolderProblem::Skip) => "--skip: not a path from the root",
     }
 }
 
@@ -311,6 +317,7 @@ fn stop_message(alloc: Global, stop: Stop<'_>) -> Result<SafeLine, NoMem>
         Stop::BadRepair(number) => repair_message(alloc, number),
         Stop::OutOfMemory => told(alloc, "out of memory"),
         Stop::ReadFailed(name) => told_of(alloc, name, "can't be read"),
+        Stop::NotADirectory(name) => told_of(alloc, name, "not a directory"),
     }
 }
 

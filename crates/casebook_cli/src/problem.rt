@@ -1,4 +1,5 @@
 //! What is wrong with a command line.
+use casebook_folder_cli::FolderProblem;
 
 /// What is wrong with a command line.
 #[derive(Clone, Copy, Debug, PartialEq, Eq)]
@@ -44,4 +45,6 @@ pub enum Problem {
     RepairFormat,
     /// A repair is to be shown for programs, and a part of it to people.
     MixedFormat,
+    /// The words of a command about folders are bad.
+    Folder(FolderProblem),
 }

@@ -17,6 +17,7 @@ use crate::progress::{Progress, Step};
 use crate::request::Request;
 use crate::stop::Stop;
 use crate::words::WordsFault;
+use casebook_folder_cli::Folders;
 use retro_edge::Output;
 use std::alloc::{AllocGlobal, Global};
 use std::io::Write;
@@ -36,14 +37,15 @@ fn request_of<'a>(alloc: Global, words: &'a [String]) -> Result<Request<'a>, Sto
 }
 
 /// Returns the answer to the request that words make.
-fn answer_to<'a, R: Threads + Sync + AllocGlobal, D: Documents + Progress>(
+fn answer_to<'a, R: Threads + Sync + AllocGlobal, D: Documents + Folders + Progress>(
     rt: &R,
     words: &'a [String],
     documents: &D,
     colours: bool,
 ) -> Result<Answer, Stop<'a>>
     ensures ok { IfOk result (λ answer. IfSome (D.bytes_of documents.now) (λ at.
-        AnswersWords (map string_bytes words.entry.now) at colours (answer_view answer))) }
+        IfSome (D.holds documents.now) (λ folders.
+        AnswersWords (map string_bytes words.entry.now) at folders colours (answer_view answer)))) }
     ensures err { IfErr result (λ stop. IfSome (D.bytes_of documents.now) (λ at.
         StopsWords (map string_bytes words.entry.now) at stop)) }
 {
@@ -58,25 +60,25 @@ fn written<'a, W: Write>(answer: &Answer, output: &mut Output<W>) -> Exit<'a>
     ensures write_failure { output.old.has_failed ≡ false →
         (output.new.has_failed ≡ true) ↔ (result ≡ exits.WriteFailed) }
 {
-    if output.write_all(answer.text.as_bytes()).is_err() {
+    if output.write_all(answer.text.as_slice()).is_err() {
         return Exit::WriteFailed;
     }
     if answer.is_no { Exit::No } else { Exit::Done }
 }
 
 /// Runs the program: reads the command line, whose first word is the program's name, reads the
-/// documents that it names, and writes the answer, with the codes of `specs/Colours.antt` if
+/// documents and folders that it names, and writes the answer, with the codes of `specs/Colours.antt` if
 /// `colours` are wanted. Returns how the program ends.
-pub fn run_with<'a, R: Threads + Sync + AllocGlobal, D: Documents + Progress, W: Write>(
+pub fn run_with<'a, R: Threads + Sync + AllocGlobal, D: Documents + Folders + Progress, W: Write>(
     rt: &R,
     words: &'a [String],
     documents: &D,
     colours: bool,
     output: &mut Output<W>,
 ) -> Exit<'a>
-    ensures runs { IfSome (D.bytes_of documents.now) (λ at.
-        Runs (map string_bytes words.entry.now) at colours
-        (W.contents output.old.writer) (W.contents output.new.writer) result) }
+    ensures runs { IfSome (D.bytes_of documents.now) (λ at. IfSome (D.holds documents.now)
+        (λ folders. Runs (map string_bytes words.entry.now) at folders colours
+        (W.contents output.old.writer) (W.contents output.new.writer) result)) }
     ensures unwritten { writes_nothing result ≡ true → output.new ≡ output.old }
     ensures write_failure { output.old.has_failed ≡ false →
         (output.new.has_failed ≡ true) ↔ (result ≡ exits.WriteFailed) }

@@ -1,4 +1,5 @@
-//! How far the work is.
+//! How far the work is, and what is said beside an answer.
+use casebook_text::SafeLine;
 
 /// A part of the work that can be long.
 #[derive(Clone, Copy, Debug, Drop, PartialEq, Eq)]
@@ -17,4 +18,7 @@ pub enum Step {
 pub trait Progress {
     /// Is told that a part of the work begins.
     fn begin(&self, step: Step);
+
+    /// Is told what is said beside the answer.
+    fn remark(&self, remark: &SafeLine);
 }

@@ -1,6 +1,7 @@
 //! Requests.
 use crate::query::Query;
 use crate::topic::Topic;
+use casebook_folder_cli::SnapshotRequest;
 
 /// What the program is asked to do.
 #[derive(Drop)]
@@ -9,4 +10,6 @@ pub(crate) enum Request<'a> {
     Help(Topic),
     /// Answer a question about documents.
     Ask(Query<'a>),
+    /// Take a snapshot of a folder.
+    Snapshot(SnapshotRequest<'a>),
 }

@@ -35,8 +35,10 @@ pub enum Stop<'a> {
     BadRepair(u8),
     /// Allocation failed.
     OutOfMemory,
-    /// A document couldn't be read.
+    /// A document or a folder couldn't be read.
     ReadFailed(&'a str),
+    /// What is named as a folder isn't one.
+    NotADirectory(&'a str),
 }
 
 impl<'a> From<NoMem> for Stop<'a> {
@@ -63,7 +65,8 @@ impl Stop<'_> {
             | Stop::BadTime(_)
             | Stop::BadList(_)
             | Stop::NoLine(_)
-            | Stop::BadRepair(_) => 1,
+            | Stop::BadRepair(_)
+            | Stop::NotADirectory(_) => 1,
             Stop::OutOfMemory => 2,
             Stop::ReadFailed(_) => 3,
         }

@@ -13,6 +13,8 @@ pub(crate) enum Topic {
     Page,
     /// The command `check`.
     Check,
+    /// The command `snapshot`.
+    Snapshot,
     /// Lists of lines.
     Lists,
     /// The documents that the program reads.

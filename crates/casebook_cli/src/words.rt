@@ -1,20 +1,22 @@
 //! The command that the words of the command line name, as `clap` reads them.
-ghost use Rattle.std.specs.Prelude.{◌≡◌, ◌∷◌, [], false, codes, map, IfOk};
+ghost use Rattle.std.specs.Prelude.{◌≡◌, [], false, codes, map, IfOk};
 ghost use Rattle.std.specs.Prelude.{string_bytes};
-ghost use Rattle.clap.specs.Words.{app_of, rule_of};
+ghost use Rattle.clap.specs.Words.{app_of};
 ghost use Rattle.clap.specs.declared.builder.command.Command.TheViews.{out-Command as fields_of};
 ghost use Rattle.retro_edge.specs.Calls.{Names, named_in};
-ghost use Rattle.casebook_cli.specs.Words.{bare, check_rules, command, edit_rules};
-ghost use Rattle.casebook_cli.specs.Words.{flag, help_flag, help_rules, lines_rules};
-ghost use Rattle.casebook_cli.specs.Words.{number_rules, option, page_rules, path_rules};
-ghost use Rattle.casebook_cli.specs.Words.{pattern_rules, program};
-ghost use Rattle.casebook_cli.specs.Words.{repair_rules, show_rules, without_repairs, word};
+ghost use Rattle.retro_edge.specs.Rules.{command};
+ghost use Rattle.casebook_cli.specs.Request.{folder_fault};
+ghost use Rattle.casebook_cli.specs.Words.{bare, check_rules, edit_rules, help_rules};
+ghost use Rattle.casebook_cli.specs.Words.{lines_rules, number_rules, page_rules, path_rules};
+ghost use Rattle.casebook_cli.specs.Words.{pattern_rules, program, repair_rules, show_rules};
+ghost use Rattle.casebook_cli.specs.Words.{without_repairs};
 ghost use Rattle.casebook_cli.specs.declared.words.WordsFault.TheVariants as faults;
 
 use crate::NoMem;
 use crate::problem::Problem;
-use clap::{Arg, ArgAction, Command};
-use retro_edge::{CallFault, CommandCall, read_call};
+use casebook_folder_cli::{FolderFault, snapshot_command};
+use clap::Command;
+use retro_edge::{CallFault, CommandCall, bare_command, flag, help_flag, option, read_call, word};
 use std::alloc::{AllocFailed, Global};
 
 /// Why words make no request.
@@ -34,58 +36,23 @@ impl From<NoMem> for WordsFault {
     }
 }
 
+impl From<FolderFault> for WordsFault {
+    ghost from_gives = { λ fault e. e ≡ folder_fault fault };
+
+    fn from(fault: FolderFault) -> WordsFault {
+        match fault {
+            FolderFault::NoMem => WordsFault::NoMem,
+            FolderFault::Bad(problem) => WordsFault::Bad(Problem::Folder(problem)),
+        }
+    }
+}
+
 impl<T: Drop> From<AllocFailed<T>> for WordsFault {
     ghost from_gives = { λ _ e. e ≡ faults.NoMem };
 
     fn from(_error: AllocFailed<T>) -> WordsFault {
         WordsFault::NoMem
     }
-}
-
-/// Returns an option that takes one value.
-fn option<'a>(alloc: Global, name: &'a str) -> Arg<'a>
-    ensures rule { rule_of result ≡ option name.entry.now }
-    ensures local { result.global ≡ false }
-{
-    Arg::new(alloc, name).long(name).action(ArgAction::Set)
-}
-
-/// Returns an option without a value.
-fn flag<'a>(alloc: Global, name: &'a str) -> Arg<'a>
-    ensures rule { rule_of result ≡ flag name.entry.now }
-    ensures local { result.global ≡ false }
-{
-    Arg::new(alloc, name).long(name).action(ArgAction::SetTrue)
-}
-
-/// Returns a word that isn't an option.
-fn word<'a>(alloc: Global, name: &'a str) -> Arg<'a>
-    ensures rule { rule_of result ≡ word name.entry.now }
-    ensures local { result.global ≡ false }
-{
-    Arg::new(alloc, name).action(ArgAction::Set)
-}
-
-/// Returns the option that asks for help.
-fn help_flag<'a>(alloc: Global) -> Arg<'a>
-    ensures rule { rule_of result ≡ help_flag }
-    ensures local { result.global ≡ false }
-{
-    Arg::new(alloc, "help")
-        .long("help")
-        .short('h')
-        .action(ArgAction::SetTrue)
-}
-
-/// Returns a command that can be asked for help.
-fn bare_command<'a>(alloc: Global, name: &'a str) -> Result<Command<'a>, NoMem>
-    ensures shape { IfOk result (λ c.
-        app_of c ≡ record { top = command name.entry.now (help_flag ∷ []); subs = [] }) }
-    ensures local { IfOk result (λ c. (fields_of c).has_globals ≡ false) }
-{
-    Command::new(alloc, name)
-        .disable_help_flag(true)
-        .arg(help_flag(alloc))
 }
 
 /// Returns the command that says how the program is used.
@@ -229,7 +196,8 @@ fn program_command<'a>(alloc: Global) -> Result<Command<'a>, NoMem>
 {
     program_without_repairs(alloc)?
         .subcommand(show_command(alloc)?)?
-        .subcommand(page_command(alloc)?)
+        .subcommand(page_command(alloc)?)?
+        .subcommand(snapshot_command(alloc)?)
 }
 
 /// Returns the command that words name, as `clap` reads them, or `None` if they name none.

@@ -1,9 +1,17 @@
-//! Documents in memory, and runs of the program on them.
+//! Documents and folders in memory, and runs of the program on them.
 ghost use Rattle.std.specs.Prelude.{None};
 
 use casebook_cli::{Documents, Exit, NoMem, Output, Progress, ReadFault, Step, run_with};
+use casebook_folder::Attributes;
+use casebook_folder_cli::{Folders, snapshot_at};
+use casebook_snapshot::{
+    Child, Item, Memory as MemoryListing, MemoryEntry, Reason, Snapshot, SnapshotError,
+};
+use casebook_text::SafeLine;
+use retro_path::{Bytes, Path};
 use retro_rows::{fail, text, utf8};
 use std::alloc::{AllocGlobal, Global};
+use std::cell::Cell;
 use std::test::Fail;
 use std::thread::Threads;
 
@@ -31,9 +39,22 @@ const LATER: &str = r#"{"from":7,"lines":[
 [8,1,"cat /f",[["bytes","/f",["f","6669670a706c756d0a"]],["setstatus",0]],"6669670a706c756d0a"]],
 "log":2,"sessions":[[1,"/",0,[]]],"tree":[["/f","6669670a706c756d0a"]]}"#;
 
-/// The documents that there are.
-#[derive(Clone, Copy, Drop)]
-pub(crate) struct Memory;
+/// The documents and folders that there are, and the last remark that was made.
+#[derive(Drop)]
+pub(crate) struct Memory {
+    alloc: Global,
+    remark: Cell<Option<String>>,
+}
+
+impl Memory {
+    /// Returns the documents and folders. No remark was made yet.
+    pub(crate) fn new(alloc: Global) -> Memory {
+        Memory {
+            alloc,
+            remark: Cell::new(None),
+        }
+    }
+}
 
 /// Returns the bytes of a document.
 fn bytes_of(name: &str) -> Option<&'static [u8]> {
@@ -72,8 +93,69 @@ impl Documents for Memory {
     }
 }
 
+/// Returns a directory's entry of a listing.
+fn entry(alloc: Global, parent: &Path, name: &[u8], item: Item) -> Result<MemoryEntry, NoMem> {
+    let child = Child {
+        parent: parent.copy()?,
+        name: Vec::from_slice(alloc, name)?,
+    };
+    Ok(MemoryEntry { child, item })
+}
+
+/// The mode and owner of what the folder holds.
+const OURS: Attributes = Attributes {
+    mode: 0o644,
+    uid: 7,
+    gid: 8,
+};
+
+/// Returns the folder `folder`: an empty directory `d`, the file `f`, two links, and a directory
+/// whose name isn't UTF-8. Every other name is that of a file.
+fn folder(alloc: Global, name: &str) -> Result<MemoryListing, NoMem> {
+    let mut entries = Vec::new(alloc);
+    if name != "folder" {
+        let file = Item::File(Bytes::new(alloc), OURS);
+        return Ok(MemoryListing::new(alloc, file, entries));
+    }
+    let root = Path::root(alloc);
+    let fig = Bytes::of(Vec::from_slice(alloc, b"fig\n")?);
+    entries.push(entry(alloc, &root, b"\xFF", Item::Dir(OURS))?)?;
+    entries.push(entry(alloc, &root, b"m", Item::Barred(Reason::Link))?)?;
+    entries.push(entry(alloc, &root, b"l", Item::Barred(Reason::Link))?)?;
+    entries.push(entry(alloc, &root, b"f", Item::File(fig, OURS))?)?;
+    entries.push(entry(alloc, &root, b"d", Item::Dir(OURS))?)?;
+    Ok(MemoryListing::new(alloc, Item::Dir(OURS), entries))
+}
+
+impl Folders for Memory {
+    ghost holds = { λ _. None };
+
+    fn snapshot(
+        &self,
+        alloc: Global,
+        name: &str,
+        at: &Path,
+        skip: &[Path],
+    ) -> Result<Snapshot, SnapshotError> {
+        if name == "locked" {
+            return Err(SnapshotError::Failed);
+        }
+        snapshot_at(alloc, folder(alloc, name)?, at, skip)
+    }
+
+    fn now(&self) -> Result<i64, SnapshotError> {
+        Ok(1746637200)
+    }
+}
+
 impl Progress for Memory {
     fn begin(&self, _step: Step) {}
+
+    fn remark(&self, remark: &SafeLine) {
+        if let Ok(line) = text(self.alloc, remark.as_str()) {
+            self.remark.set(Some(line));
+        }
+    }
 }
 
 /// Returns the words of a command line. The program's name isn't among those that are given. `_`
@@ -96,7 +178,8 @@ pub(crate) fn run<'a, T: Threads + Sync + AllocGlobal>(
     words: &'a [String],
     out: &mut Vec<u8>,
 ) -> Exit<'a> {
-    run_with(rt, words, &Memory, false, &mut Output::new(out))
+    let memory = Memory::new(rt.alloc());
+    run_with(rt, words, &memory, false, &mut Output::new(out))
 }
 
 /// Returns what the program writes if it is done.
@@ -120,9 +203,26 @@ pub(crate) fn coloured<T: Threads + Sync + AllocGlobal>(
     let words = words(rt.alloc(), given)?;
     let mut out = Vec::new(rt.alloc());
     let mut output = Output::new(&mut out);
-    match run_with(rt, words.as_slice(), &Memory, true, &mut output) {
+    let memory = Memory::new(rt.alloc());
+    match run_with(rt, words.as_slice(), &memory, true, &mut output) {
         Exit::Done => Ok(text(rt.alloc(), utf8(out.as_slice())?)?),
         _ => fail("the program isn't done"),
+    }
+}
+
+/// Returns the last remark that the program makes.
+pub(crate) fn remarked<T: Threads + Sync + AllocGlobal>(
+    rt: &T,
+    given: &str,
+) -> Result<String, Fail> {
+    let words = words(rt.alloc(), given)?;
+    let memory = Memory::new(rt.alloc());
+    let mut out = Vec::new(rt.alloc());
+    let mut output = Output::new(&mut out);
+    let exit = run_with(rt, words.as_slice(), &memory, false, &mut output);
+    match (exit, memory.remark.replace(None)) {
+        (Exit::Done, Some(line)) => Ok(line),
+        _ => fail("no remark is made"),
     }
 }
 

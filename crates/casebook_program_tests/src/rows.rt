@@ -2,8 +2,8 @@
 //!
 //! The first field of a row has the words of a command line, with spaces between them, or for
 //! `numbers` the filters of `lines log`. In a word `_` is a space.
-use crate::memory::{coloured, ended, refused, written};
-use crate::tables::{LINES, OTHERS, PAGES, REFUSED, REPAIRS, TIMES};
+use crate::memory::{coloured, ended, refused, remarked, written};
+use crate::tables::{LINES, OTHERS, PAGES, REFUSED, REPAIRS, SNAPSHOTS, TIMES};
 use retro_rows::{fail, rows, text};
 use std::alloc::AllocGlobal;
 use std::test::Fail;
@@ -79,6 +79,7 @@ fn called<T: Threads + Sync + AllocGlobal>(
         ("numbers", [filters]) => numbers(rt, filters),
         ("ends", [words]) => ended(rt, words),
         ("refused", [words]) => refused(rt, words),
+        ("remarks", [words]) => remarked(rt, words),
         ("plain", [words]) => plain(rt, words),
         ("adds", [words, more]) => added(rt, words, more),
         ("same", [one, two]) => same(rt, one, two),
@@ -107,8 +108,8 @@ fn lines_and_repairs_are_shown(rt: HostRuntime) -> Result<(), Fail> {
 }
 
 #[test]
-fn pages_checks_and_helps_are_written(rt: HostRuntime) -> Result<(), Fail> {
-    for table in [PAGES, OTHERS] {
+fn pages_checks_snapshots_and_helps_are_written(rt: HostRuntime) -> Result<(), Fail> {
+    for table in [PAGES, OTHERS, SNAPSHOTS] {
         hold(&rt, table)?;
     }
     Ok(())

@@ -191,6 +191,25 @@ begins: help lines :: casebook lines LOG => yes
 begins: lines -h :: casebook lines LOG => yes
 begins: show --help :: casebook show LOG => yes
 begins: help lists :: Lists of lines => yes
+begins: help snapshot :: casebook snapshot FOLDER => yes
+begins: snapshot folder --help :: casebook snapshot FOLDER => yes
+"##;
+
+/// Snapshots of `folder`: parts of the document, and what is said beside it.
+pub(crate) const SNAPSHOTS: &str = r##"
+begins: snapshot folder :: {"attributes":[["/",420,7,8],["/d",420,7,8],["/f",420,7,8]], => yes
+has: snapshot folder :: "root":"folder","skipped":[["/l","link"],["/m","link"], => yes
+has: snapshot folder :: ["/","odd name","ff"]],"snapshot":1,"taken":"2025-05-07T17:00:00Z", => yes
+has: snapshot folder :: Z","tree":[["/d"],["/f","6669670a"]]}%(NL) => yes
+remarks: snapshot folder => paths 3, skipped 3, link 2, odd name 1
+
+begins: snapshot folder --at /srv/x/ :: {"attributes":[["/srv/x",420,7,8],["/srv/x/d", => yes
+has: snapshot folder --at /srv/x :: "tree":[["/srv"],["/srv/x"],["/srv/x/d"],["/srv/x/f", => yes
+remarks: snapshot folder --at /srv/x => paths 5, skipped 3, link 2, odd name 1
+
+has: snapshot folder --skip /d --skip /l :: "skipped":[["/d","asked"],["/l","asked"], => yes
+has: snapshot folder --skip /d --skip /l :: "tree":[["/f","6669670a"]]} => yes
+remarks: snapshot folder --skip /d --skip /l => paths 2, skipped 4, link 1, odd name 1, asked 2
 "##;
 
 /// Words and documents that are refused, with the exit status and the line on standard error.
@@ -243,6 +262,13 @@ refused: lines script => 1 casebook: script: not a log: a key isn't one of such 
 refused: show shape --cancel 1 => 1 casebook: shape: not a log: a line has a wrong form (refusal
   13)
 refused: check none => 3 casebook: none: can't be read
+refused: snapshot => 1 casebook: no FOLDER is given; see casebook help snapshot
+refused: snapshot folder more => 1 casebook: these words are no command with its options; see
+  casebook help
+refused: snapshot file => 1 casebook: file: not a directory
+refused: snapshot locked => 3 casebook: locked: can't be read
+refused: snapshot folder --at srv => 1 casebook: --at: not a path from the root
+refused: snapshot folder --skip /d --skip d => 1 casebook: --skip: not a path from the root
 refused: lines log --about none => 3 casebook: none: can't be read
 refused: lines log --about list%(ESC) => 1 casebook: list⟨U+001B⟩: not UTF-8
 refused: lines log --about no%(ESC)json => 1 casebook: no⟨U+001B⟩json: no JSON text

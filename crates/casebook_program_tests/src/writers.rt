@@ -48,13 +48,9 @@ fn taken<T: Threads + Sync + AllocGlobal>(
         calls: 0,
         fails,
     };
-    match run_with(
-        rt,
-        words.as_slice(),
-        &Memory,
-        false,
-        &mut Output::new(&mut writer),
-    ) {
+    let memory = Memory::new(rt.alloc());
+    let mut output = Output::new(&mut writer);
+    match run_with(rt, words.as_slice(), &memory, false, &mut output) {
         Exit::WriteFailed => Ok(writer.held.len()),
         _ => fail("the program doesn't say that it failed"),
     }

@@ -1,6 +1,7 @@
 -- The command that words name, as `clap` reads them.
 use Rattle.std.specs.Prelude.{List, [], ◌∷◌, Option, Some, None, Result, option_map}
-use Rattle.clap.specs.Words.{App, Kinds, Row, Text, fault_of, first_of, rows_of, subcommand_of}
+use Rattle.clap.specs.Words.{App, Kinds, Row, Text, all_of, fault_of, first_of, rows_of}
+use Rattle.clap.specs.Words.{subcommand_of}
 use Rattle.clap.specs.Matches.{found_of}
 use Rattle.retro_path.specs.OutOfMemory.{UnlessOutOfMemory}
 use Rattle.retro_edge.specs.declared.call.CallFault.{CallFault}
@@ -15,6 +16,10 @@ pub record Call : Type 0 where
 -- the text that a command is given for an option or a word, if there is one
 abbrev pub given : Text → Call → Option Text
 given name call = first_of name call.rows
+
+-- the texts that a command is given for an option that can be given several times, if it is given
+abbrev pub all_given : Text → Call → Option (List Text)
+all_given name call = all_of name call.rows
 
 abbrev pub call_of : Text × List Row → Call
 call_of p = record { name = p.0; rows = p.1 }

@@ -1,3 +1,5 @@
 pub mod Calls
 pub mod Numbers
 pub mod Output
+pub mod Reads
+pub mod Rules

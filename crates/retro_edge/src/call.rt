@@ -1,6 +1,6 @@
 //! The command that the words of a command line name, as `clap` reads them.
 ghost use Rattle.std.specs.Prelude.{◌≡◌, true, map, option_map, string_bytes};
-ghost use Rattle.clap.specs.Words.{app_of, first_of, is_simple_and_free};
+ghost use Rattle.clap.specs.Words.{all_of, app_of, first_of, is_simple_and_free};
 ghost use Rattle.retro_edge.specs.Calls.{Names, call_view, named_in};
 ghost use Rattle.retro_edge.specs.declared.call.CallFault.TheVariants as faults;
 
@@ -41,6 +41,15 @@ impl<'a> CommandCall<'a> {
         ensures { option_map (λ s. s.now) result ≡ first_of name.now (call_view self.now).rows }
     {
         self.given.get_str(name)
+    }
+
+    /// Returns the texts of an option that can be given several times, in order. Returns `None` if
+    /// it isn't given, or if the command doesn't have it.
+    pub fn texts_of(&self, name: &str) -> Option<&[&'a str]>
+        ensures { option_map (λ texts. map (λ s. s.now) texts.now) result
+            ≡ all_of name.now (call_view self.now).rows }
+    {
+        self.given.get_strs(name)
     }
 }
 

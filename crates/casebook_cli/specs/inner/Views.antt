@@ -1,9 +1,10 @@
 -- The values of the code as the definitions have them.
 use Rattle.std.specs.Prelude.{◌≡◌, ℕ, ℤ, ◌++◌, Bool, List, Option, Some, None, Result, Ok, Err, map}
-use Rattle.std.specs.Prelude.{option_map, string_bytes}
+use Rattle.std.specs.Prelude.{option_map}
 use Rattle.regex.specs.Bytes.{regex_pattern}
 use Rattle.retro_tree.specs.OutOfMemory.{UnlessOutOfMemory}
 use Rattle.retro_keep.specs.Recording.{RecordingValue}
+use Rattle.casebook_folder_cli.specs.Views.{request_view as snapshot_view}
 use Rattle.casebook_view.specs.Filters.{FiltersValue}
 use Rattle.casebook_view.specs.Rows.{RowValue, rows_of}
 use Rattle.casebook_view.specs.declared.line_test.LineTest.{LineTest}
@@ -13,7 +14,7 @@ use Rattle.casebook_cli.specs.Bounds.{typed}
 use Rattle.casebook_cli.specs.Inputs.{DocumentValue, InputsValue, SourcesValue}
 use Rattle.casebook_cli.specs.Lines.{HasUser, user_tests}
 use Rattle.casebook_cli.specs.Request.{LinesRequest, PageRequest, Query, RepairRequest, Request}
-use Rattle.casebook_cli.specs.Request.{RoundsValue, ShowRequest, ask, check, help, lines, page, show}
+use Rattle.casebook_cli.specs.Request.{RoundsValue, ShowRequest, ask, check, help, lines, page, show, snapshot}
 use Rattle.casebook_cli.specs.Request.{test_view}
 use Rattle.casebook_cli.specs.Screens.{ScreenValue}
 use Rattle.casebook_cli.specs.declared.answer.Answer.{Answer}
@@ -100,6 +101,7 @@ query_view (queries.Check log) = check log.now
 abbrev pub request_view : RequestCode → Request
 request_view (requests.Help topic) = help topic
 request_view (requests.Ask query) = ask (query_view query)
+request_view (requests.Snapshot request) = snapshot (snapshot_view request)
 
 -- what a fault says of the words: what is wrong with them, or None if memory ran out
 abbrev pub refused : {Y : Type 0} → WordsFault → Option (Result Y Problem)
@@ -143,4 +145,4 @@ screen_view screen = record {
 }
 
 abbrev pub answer_view : Answer → AnswerValue
-answer_view answer = record { text = string_bytes answer.text; is_no = answer.is_no }
+answer_view answer = record { text = answer.text.items; is_no = answer.is_no }

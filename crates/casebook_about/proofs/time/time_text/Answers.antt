@@ -1,5 +1,6 @@
 use Rattle.std.proofs.Common.{FitsSigned, w64}
 use Rattle.std.proofs.lemmas.Int.{to_z-of_z}
+use Rattle.casebook_about.specs.Time.{time_format}
 use Rattle.casebook_about.proofs.TimeLemmas.{shown_so}
 use Rattle.casebook_about.proofs.time.time_text.Goals as goal
 
@@ -7,4 +8,4 @@ pub returns : goal.returns
 returns c =
     let fits : FitsSigned w64 c.args.second = c.ranges.second in
     let instant = simp to_z-of_z at c.in_ok-from_second.ensures.value in
-    shown_so c.args.second c.in_ok-from_second.field-0.nanosecond c.strftime.result instant c.strftime.ensures
+    shown_so time_format c.args.second c.in_ok-from_second.field-0.nanosecond c.strftime.result instant c.strftime.ensures

@@ -1,10 +1,11 @@
 use Rattle.std.proofs.Common.{subst}
 use Rattle.std.proofs.lemmas.Result.{IfErr-weaker, err_from_is_err_and}
+use Rattle.casebook_cli.specs.Answers.{AnswersQuery}
 use Rattle.casebook_cli.specs.Inputs.{AreInputs}
 use Rattle.casebook_cli.specs.Stops.{StopsReading, refused, unread}
-use Rattle.casebook_cli.specs.inner.Views.{inputs_view}
+use Rattle.casebook_cli.specs.inner.Views.{answer_view, inputs_view, query_view}
 use Rattle.casebook_cli.proofs.HarmlessLemmas.{both_ok}
-use Rattle.casebook_cli.proofs.Known.{one}
+use Rattle.casebook_cli.proofs.Known.{of_first, one}
 use Rattle.casebook_cli.proofs.answers.asked_answer.Goals as goal
 
 pub returns-in_err-inputs-clause-err : goal.returns-in_err-inputs-clause-err
@@ -26,11 +27,13 @@ pub returns-clause-ok : goal.returns-clause-ok
 returns-clause-ok g c =
     let inputs = inputs_view c.in_ok-inputs.inputs in
     both_ok _ _ _ c.answer_by.result
-    (λ answer says harmless. one (g.D.Documents.bytes_of c.args.documents.now) _ _ c.in_ok-inputs.ensures.ok
+    (λ answer says harmless. of_first (g.D.Documents.bytes_of c.args.documents.now) (g.D.Folders.holds c.args.documents.now) _
+    (one (g.D.Documents.bytes_of c.args.documents.now) _ (λ at. AnswersQuery c.args.colours at (query_view c.args.query) (answer_view answer))
+    c.in_ok-inputs.ensures.ok
     (λ at are. record {
       inputs = inputs;
       are_inputs = subst (λ sources. AreInputs at sources inputs) c.sources.ensures are;
       answers = says;
       harmless = harmless;
-    }))
+    })))
     c.answer_by.ensures.ok c.answer_by.ensures.harmless

@@ -1,7 +1,8 @@
 use Rattle.std.proofs.Common.{ap, ap₂, codes, ◌≡◌, ◌∙◌}
 use Rattle.std.proofs.lemmas.Result.{IfOk-weaker}
 use Rattle.clap.specs.Words.{App, Shape, app_of, with_subcommand}
-use Rattle.casebook_cli.specs.Words.{show_rules, with_command, without_repairs}
+use Rattle.retro_edge.specs.Rules.{with_command}
+use Rattle.casebook_cli.specs.Words.{page_rules, show_rules, without_repairs}
 use Rattle.casebook_cli.proofs.words.program_command.Goals as goal
 
 abbrev top : App → Shape
@@ -12,7 +13,11 @@ returns c =
     let one : app_of c.in_ok-subcommand.field-0 ≡ with_command without_repairs (codes "show") show_rules =
     c.in_ok-subcommand.ensures.shape c.in_ok-show_command.ensures.local
     ∙ ap₂ with_subcommand c.in_ok-program_without_repairs.ensures (ap top c.in_ok-show_command.ensures.shape) in
-    IfOk-weaker c.subcommand-2.result _ _
-    (λ m h. h.shape c.in_ok-page_command.ensures.local
-    ∙ ap₂ with_subcommand one (ap top c.in_ok-page_command.ensures.shape))
-    c.subcommand-2.ensures
+    let two : app_of c.in_ok-subcommand-2.field-0
+    ≡ with_command (with_command without_repairs (codes "show") show_rules) (codes "page") page_rules =
+    c.in_ok-subcommand-2.ensures.shape c.in_ok-page_command.ensures.local
+    ∙ ap₂ with_subcommand one (ap top c.in_ok-page_command.ensures.shape) in
+    IfOk-weaker c.subcommand-3.result _ _
+    (λ m h. h.shape c.in_ok-snapshot_command.ensures.local
+    ∙ ap₂ with_subcommand two (ap top c.in_ok-snapshot_command.ensures.shape))
+    c.subcommand-3.ensures

@@ -1,7 +1,8 @@
 use Rattle.std.proofs.Common.{ap, ap₂, codes, ◌≡◌, ◌∙◌}
 use Rattle.std.proofs.lemmas.Result.{IfOk-weaker}
 use Rattle.clap.specs.Words.{App, Shape, app_of, with_subcommand}
-use Rattle.casebook_cli.specs.Words.{bare, help_rules, lines_rules, with_command}
+use Rattle.retro_edge.specs.Rules.{with_command}
+use Rattle.casebook_cli.specs.Words.{bare, help_rules, lines_rules}
 use Rattle.casebook_cli.proofs.words.program_without_repairs.Goals as goal
 
 abbrev top : App → Shape

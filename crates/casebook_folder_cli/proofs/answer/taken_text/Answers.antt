@@ -1,0 +1,9 @@
+use Rattle.std.proofs.Common.{FitsSigned, string_bytes, subst, w64}
+use Rattle.std.proofs.lemmas.Int.{to_z-of_z}
+use Rattle.casebook_about.specs.Time.{IsInstantText}
+use Rattle.casebook_folder_cli.proofs.answer.taken_text.Goals as goal
+
+pub returns-in-Ok : goal.returns-in-Ok
+returns-in-Ok c =
+    let fits : FitsSigned w64 c.args.second = c.ranges.second in
+    (c.args.second, subst (λ second. IsInstantText second (string_bytes c.in-Ok.text)) (to_z-of_z w64 c.args.second fits) c.in-Ok.ensures)

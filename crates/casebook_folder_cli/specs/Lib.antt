@@ -1,0 +1,6 @@
+pub mod Answers
+pub mod Folders
+pub mod Paths
+pub mod Remarks
+pub mod Words
+pub mod Views
