@@ -3,7 +3,7 @@ ghost use Rattle.std.specs.Prelude.{None, map};
 ghost use Rattle.casebook_folder.specs.Made.{step_of};
 
 use crate::errors::folder_error;
-use crate::place::{Place, name_in, open_in, opened, place_of};
+use crate::place::{DiskPlace, name_in, open_in, opened, place_of};
 use crate::reading::find_in;
 use crate::target::Target;
 use crate::temporary::{clear, is_temporary};
@@ -38,9 +38,9 @@ impl<'a> Disk<'a> {
     fn find(&self, path: &Path) -> io::Result<Found> {
         let (place, name) = place_of(self.rt, self.alloc, &self.root, path)?;
         match place {
-            Place::In(dir) => find_in(self.rt, self.alloc, &dir, name.as_str()),
-            Place::Missing => Ok(Found::Missing),
-            Place::Blocked(obstacle) => Ok(Found::Blocked(obstacle)),
+            DiskPlace::In(dir) => find_in(self.rt, self.alloc, &dir, name.as_str()),
+            DiskPlace::Missing => Ok(Found::Missing),
+            DiskPlace::Blocked(obstacle) => Ok(Found::Blocked(obstacle)),
         }
     }
 
@@ -48,10 +48,10 @@ impl<'a> Disk<'a> {
     /// stopped run left. A name that isn't UTF-8 isn't among them.
     fn has_child_besides(&self, path: &Path, names: &Listing) -> io::Result<bool> {
         let (place, name) = place_of(self.rt, self.alloc, &self.root, path)?;
-        let Place::In(dir) = place else {
+        let DiskPlace::In(dir) = place else {
             return Ok(true);
         };
-        let Place::In(below) = open_in(self.rt, self.alloc, &dir, name.as_str())? else {
+        let DiskPlace::In(below) = open_in(self.rt, self.alloc, &dir, name.as_str())? else {
             return Ok(true);
         };
         for entry in fs::read_dir(self.rt, name_in(self.alloc, &below, "")?.as_str())? {
@@ -72,7 +72,7 @@ impl<'a> Disk<'a> {
     /// Makes the new node of a path under its temporary name, and looks at the path again.
     /// Returns where the path is, or `None` if it doesn't hold `before`.
     fn prepare(&self, path: &Path, before: &Found, after: &Found) -> io::Result<Option<Target>> {
-        let (Place::In(dir), name) = place_of(self.rt, self.alloc, &self.root, path)? else {
+        let (DiskPlace::In(dir), name) = place_of(self.rt, self.alloc, &self.root, path)? else {
             return Err(io::Error::from(ErrorKind::NotFound));
         };
         if name.is_empty() {

@@ -5,12 +5,20 @@ use crate::NoMem;
 use crate::errors::snapshot_error;
 use crate::item::item_in;
 use crate::names::names_in;
-use crate::place::{Place, open_in, opened, place_of};
+use crate::place::{DiskPlace, dir_at, last_name, opened};
 use casebook_snapshot::{Child, Item, Listing, Reason, SnapshotError};
 use retro_path::Path;
 use std::alloc::Global;
+use std::cell::Cell;
 use std::fs::File;
 use std::io::{self, ErrorKind};
+
+/// A directory that is open, and its path.
+#[derive(Drop)]
+struct OpenDir {
+    path: Path,
+    dir: File,
+}
 
 /// A folder of the file system that is only looked at.
 #[derive(Drop)]
@@ -18,38 +26,56 @@ pub struct DiskListing<'a> {
     rt: &'a HostRuntime,
     alloc: Global,
     root: File,
+    /// The directory that was asked for last. A walk looks at one name of it after another.
+    last: Cell<Option<OpenDir>>,
 }
 
 impl<'a> DiskListing<'a> {
     /// Opens the folder with a name. If the name is that of a link, the folder is where it leads.
     pub fn open(rt: &'a HostRuntime, name: &str) -> io::Result<DiskListing<'a>> {
         let alloc = rt.alloc();
-        let root = opened(rt, alloc, name)?;
-        Ok(DiskListing { rt, alloc, root })
+        Ok(DiskListing {
+            rt,
+            alloc,
+            root: opened(rt, alloc, name)?,
+            last: Cell::new(None),
+        })
+    }
+
+    /// Returns where the directory at a path is. It stays open until another one is asked for.
+    fn dir(&self, path: &Path) -> io::Result<DiskPlace> {
+        if let Some(last) = self.last.replace(None) {
+            if last.path == *path {
+                let dir = last.dir.try_clone()?;
+                self.last.set(Some(last));
+                return Ok(DiskPlace::In(dir));
+            }
+        }
+        let place = dir_at(self.rt, self.alloc, &self.root, path)?;
+        if let DiskPlace::In(dir) = &place {
+            let path = path.copy()?;
+            let dir = dir.try_clone()?;
+            self.last.set(Some(OpenDir { path, dir }));
+        }
+        Ok(place)
     }
 
     /// Returns what is at a path.
     fn find(&self, path: &Path) -> io::Result<Item> {
-        let (place, name) = place_of(self.rt, self.alloc, &self.root, path)?;
-        match place {
-            Place::In(dir) => item_in(self.rt, self.alloc, &dir, name.as_str()),
-            Place::Missing => Ok(Item::Missing),
-            Place::Blocked(_) => Ok(Item::Barred(Reason::Changing)),
+        let name = last_name(self.alloc, path)?;
+        match self.dir(&path.parent(self.alloc)?)? {
+            DiskPlace::In(dir) => item_in(self.rt, self.alloc, &dir, name.as_str()),
+            DiskPlace::Missing => Ok(Item::Missing),
+            DiskPlace::Blocked(_) => Ok(Item::Barred(Reason::Changing)),
         }
     }
 
     /// Returns the names in a directory, or `None` if there is no directory.
     fn names(&self, path: &Path) -> io::Result<Option<Vec<Vec<u8>>>> {
-        let (Place::In(dir), name) = place_of(self.rt, self.alloc, &self.root, path)? else {
-            return Ok(None);
-        };
-        if name.is_empty() {
-            return Ok(Some(names_in(self.rt, self.alloc, &dir)?));
+        match self.dir(path)? {
+            DiskPlace::In(dir) => Ok(Some(names_in(self.rt, self.alloc, &dir)?)),
+            _ => Ok(None),
         }
-        let Place::In(below) = open_in(self.rt, self.alloc, &dir, name.as_str())? else {
-            return Ok(None);
-        };
-        Ok(Some(names_in(self.rt, self.alloc, &below)?))
     }
 }
 

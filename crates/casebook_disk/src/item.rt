@@ -1,6 +1,6 @@
 //! What is at a name, for a snapshot: read without following links.
 use crate::names::see_names;
-use crate::place::{Place, look_at, name_in, open_in};
+use crate::place::{DiskPlace, look_at, name_in, open_in};
 use crate::reading::{FILE_LIMIT, attributes_of, is_unchanged};
 use casebook_snapshot::{Item, Reason};
 use retro_path::Bytes;
@@ -67,9 +67,9 @@ fn open_item(rt: &HostRuntime, alloc: Global, dir: &File) -> io::Result<Item> {
 /// Returns the directory at a name in an open one, if it can be opened and listed.
 fn directory_in(rt: &HostRuntime, alloc: Global, dir: &File, name: &str) -> io::Result<Item> {
     match open_in(rt, alloc, dir, name)? {
-        Place::In(below) => open_item(rt, alloc, &below),
-        Place::Missing => Ok(Item::Missing),
-        Place::Blocked(_) => Ok(Item::Barred(Reason::Changing)),
+        DiskPlace::In(below) => open_item(rt, alloc, &below),
+        DiskPlace::Missing => Ok(Item::Missing),
+        DiskPlace::Blocked(_) => Ok(Item::Barred(Reason::Changing)),
     }
 }
 

@@ -9,7 +9,7 @@ use std::os::unix::fs::MetadataExt;
 
 /// Where a path leads.
 #[derive(Drop)]
-pub(crate) enum Place {
+pub(crate) enum DiskPlace {
     /// Its parent is this open directory.
     In(File),
     /// Its parent is missing, or is a file.
@@ -47,25 +47,52 @@ pub(crate) fn open_in(
     alloc: Global,
     dir: &File,
     name: &str,
-) -> io::Result<Place> {
+) -> io::Result<DiskPlace> {
     let path = name_in(alloc, dir, name)?;
     let Some(there) = look_at(rt, path.as_str())? else {
-        return Ok(Place::Missing);
+        return Ok(DiskPlace::Missing);
     };
     if there.is_file() {
-        return Ok(Place::Missing);
+        return Ok(DiskPlace::Missing);
     }
     if !there.is_dir() || there.dev() != dir.metadata()?.dev() {
-        return Ok(Place::Blocked(Obstacle::Above));
+        return Ok(DiskPlace::Blocked(Obstacle::Above));
     }
     // The slash refuses a pipe or a device that is put there now, without opening it.
     let with_slash = format!(in alloc; "{}/", path.as_str())?;
     let below = fs::open(rt, with_slash.as_str())?;
     let opened = below.metadata()?;
     if opened.dev() == there.dev() && opened.ino() == there.ino() {
-        Ok(Place::In(below))
+        Ok(DiskPlace::In(below))
     } else {
-        Ok(Place::Blocked(Obstacle::Changing))
+        Ok(DiskPlace::Blocked(Obstacle::Changing))
+    }
+}
+
+/// Returns where the directory at a path is, from an open directory.
+pub(crate) fn dir_at(
+    rt: &HostRuntime,
+    alloc: Global,
+    root: &File,
+    path: &Path,
+) -> io::Result<DiskPlace> {
+    let mut dir = root.try_clone()?;
+    for name in path.as_str().split('/') {
+        if !name.is_empty() {
+            match open_in(rt, alloc, &dir, name)? {
+                DiskPlace::In(below) => dir = below,
+                other => return Ok(other),
+            }
+        }
+    }
+    Ok(DiskPlace::In(dir))
+}
+
+/// Returns the last name of a path. The root has none.
+pub(crate) fn last_name(alloc: Global, path: &Path) -> Result<String, NoMem> {
+    match path.last(alloc)? {
+        Some(name) => String::from_str(alloc, name.as_str()),
+        None => Ok(String::new(alloc)),
     }
 }
 
@@ -75,20 +102,7 @@ pub(crate) fn place_of(
     alloc: Global,
     root: &File,
     path: &Path,
-) -> io::Result<(Place, String)> {
-    let mut dir = root.try_clone()?;
-    let mut last = String::new(alloc);
-    for name in path.as_str().split('/') {
-        if name.is_empty() {
-            continue;
-        }
-        if !last.as_str().is_empty() {
-            match open_in(rt, alloc, &dir, last.as_str())? {
-                Place::In(below) => dir = below,
-                other => return Ok((other, last)),
-            }
-        }
-        last = String::from_str(alloc, name)?;
-    }
-    Ok((Place::In(dir), last))
+) -> io::Result<(DiskPlace, String)> {
+    let place = dir_at(rt, alloc, root, &path.parent(alloc)?)?;
+    Ok((place, last_name(alloc, path)?))
 }

@@ -1,5 +1,5 @@
 //! Names that steps change.
-use crate::place::{Place, name_in, open_in};
+use crate::place::{DiskPlace, name_in, open_in};
 use crate::temporary::{clear, clear_all, temporary};
 use casebook_folder::{Attributes, Found, NoMem};
 use std::alloc::Global;
@@ -62,7 +62,7 @@ impl Target {
         builder.mode(0o700);
         builder.create(rt, self.made_at.as_str())?;
         match open_in(rt, alloc, &self.dir, self.temporary.as_str())? {
-            Place::In(made) => complete(&made, a),
+            DiskPlace::In(made) => complete(&made, a),
             _ => Err(io::Error::from(ErrorKind::NotADirectory)),
         }
     }
