@@ -19,8 +19,8 @@ use Rattle.retro_tree.specs.declared.change.Change.TheVariants.{Grow, Put}
 use Rattle.retro_tree.specs.declared.node.Node.{Node}
 use Rattle.retro_tree.proofs.LawLemmas.{parent_of_child}
 use Rattle.retro_tree.proofs.NoteLaws.{same_cells}
-use Rattle.casebook_cause.specs.declared.place.Place.{Place}
-use Rattle.casebook_cause.specs.declared.place.Place.TheVariants as places
+use Rattle.casebook_cause.specs.declared.place.SearchPlace.{SearchPlace}
+use Rattle.casebook_cause.specs.declared.place.SearchPlace.TheVariants as places
 use Rattle.casebook_cause.specs.inner.PlaceOrder.{Entry, entry_cmp, place_cmp, place_exact, place_total}
 use Rattle.casebook_cause.specs.inner.Places.{IsLastOf, has_line, is_at_place}
 
@@ -33,7 +33,7 @@ entry_itself e = ap is_eq (tied_itself entry_total e)
 -- one entry was added to a set, or was there
 module _ (old new : List Entry) (key : Entry) (updates : (e : Entry) → list_any (is_at (entry_cmp e)) new
     ≡ cond (is_at (entry_cmp key) e) true (list_any (is_at (entry_cmp e)) old)) where
-  pub one_kept : (n : ℕ) (p : Place) → has_line n p old ≡ true → has_line n p new ≡ true
+  pub one_kept : (n : ℕ) (p : SearchPlace) → has_line n p old ≡ true → has_line n p new ≡ true
   one_kept n p has =
       updates (p, n) ∙ ap (λ b. cond (is_at (entry_cmp key) (p, n)) true b) has ∙ either (is_at (entry_cmp key) (p, n))
     where
@@ -51,8 +51,8 @@ module _ (old new : List Entry) (key : Entry) (updates : (e : Entry) → list_an
 pub at_all_places : (n : ℕ) (x : Change) (some all : List Entry)
     → ((p : List (List ℕ)) → is_at_place (places.ChildrenOf p) (cell_of x) ≡ true
     → has_line n (places.ChildrenOf p) some ≡ true)
-    → ((m : ℕ) (p : Place) → has_line m p some ≡ true → has_line m p all ≡ true)
-    → has_line n (places.Cell (cell_of x)) all ≡ true → (p : Place) → is_at_place p (cell_of x) ≡ true
+    → ((m : ℕ) (p : SearchPlace) → has_line m p some ≡ true → has_line m p all ≡ true)
+    → has_line n (places.Cell (cell_of x)) all ≡ true → (p : SearchPlace) → is_at_place p (cell_of x) ≡ true
     → has_line n p all ≡ true
 at_all_places n x some all children kept cell (places.Cell c) at =
     subst (λ d. has_line n (places.Cell d) all ≡ true) (sym (same_cells c (cell_of x) at)) cell
@@ -71,8 +71,8 @@ at_children n parent path x entries is (inr grow) has p child =
     (is ∙ parent_of_child p path (subst (λ y. is_at_place (places.ChildrenOf p) (cell_of y) ≡ true) grow.1 child)) has
 
 -- one more change of a line
-pub one_more_change : (n : ℕ) (p : Place) (here later : Bool) (old new : List Entry)
-    → ((m : ℕ) (o : Place) → has_line m o old ≡ true → has_line m o new ≡ true)
+pub one_more_change : (n : ℕ) (p : SearchPlace) (here later : Bool) (old new : List Entry)
+    → ((m : ℕ) (o : SearchPlace) → has_line m o old ≡ true → has_line m o new ≡ true)
     → (here ≡ true → has_line n p new ≡ true) → (has_line n p old ≡ true) ⊎ ((here || later) ≡ true)
     → (has_line n p new ≡ true) ⊎ (later ≡ true)
 one_more_change n p here later old new kept added (inl has) = inl (kept n p has)
@@ -94,20 +94,20 @@ zero_is_least : (n : ℕ) → is_gt (nat_cmp 0 n) ≡ false
 zero_is_least n = grind (arith, common_steps)
 
 -- entries of one place are compared by their numbers
-same_place : (p : Place) (m n : ℕ) → entry_cmp (p, m) (p, n) ≡ nat_cmp m n
+same_place : (p : SearchPlace) (m n : ℕ) → entry_cmp (p, m) (p, n) ≡ nat_cmp m n
 same_place p m n = ap (λ o. ordering_then o (nat_cmp m n)) (tied_itself place_total p)
 
-pub forward : (place p q : Place) (n : ℕ) → p ≡ place → q ≡ place → is_gt (entry_cmp (p, 0) (q, n)) ≡ false
+pub forward : (place p q : SearchPlace) (n : ℕ) → p ≡ place → q ≡ place → is_gt (entry_cmp (p, 0) (q, n)) ≡ false
 forward place p q n is_p is_q =
     subst (λ x. is_gt (entry_cmp (x, 0) (q, n)) ≡ false) (sym is_p)
     (subst (λ x. is_gt (entry_cmp (place, 0) (x, n)) ≡ false) (sym is_q)
     (ap is_gt (same_place place 0 n) ∙ zero_is_least n))
 
-in_range : (place : Place) (k n : ℕ) → k < n → IsInRange entry_cmp (Included (place, 0)) (Excluded (place, n)) (place, k)
+in_range : (place : SearchPlace) (k n : ℕ) → k < n → IsInRange entry_cmp (Included (place, 0)) (Excluded (place, n)) (place, k)
 in_range place k n less =
     (ap is_gt (same_place place 0 k) ∙ zero_is_least k, same_place place k n ∙ less_of_lt k n less)
 
-within : (place : Place) (e : Entry) (n : ℕ) → is_gt (entry_cmp (place, 0) e) ≡ false → entry_cmp e (place, n) ≡ Less
+within : (place : SearchPlace) (e : Entry) (n : ℕ) → is_gt (entry_cmp (place, 0) e) ≡ false → entry_cmp e (place, n) ≡ Less
     → (e.0 ≡ place) × (e.1 < n)
 within place e n from below = by_order (place_cmp place e.0) refl from
   where
@@ -127,7 +127,7 @@ within place e n from below = by_order (place_cmp place e.0) refl from
         )
     by_order orders.Greater o f = absurd (true≢false f)
 
-module _ (s : BTreeSet Entry) (place p q : Place) (n : ℕ) (is_p : p ≡ place) (is_q : q ≡ place) (r : List Entry)
+module _ (s : BTreeSet Entry) (place p q : SearchPlace) (n : ℕ) (is_p : p ≡ place) (is_q : q ≡ place) (r : List Entry)
     (of : IsKeyRangeOf entry_cmp (Included (p, 0)) (Excluded (q, n)) s r) where
   range_of : IsKeyRangeOf entry_cmp (Included (place, 0)) (Excluded (place, n)) s r
   range_of =

@@ -26,7 +26,7 @@ use Rattle.retro_keep.specs.Recording.{RecordingValue, noted_at}
 use Rattle.retro_keep.specs.declared.noted.Noted.{Noted}
 use Rattle.casebook_cause.specs.Cause.{IsAlike, IsCause, notes_of}
 use Rattle.casebook_cause.specs.LineResult.{changes_in}
-use Rattle.casebook_cause.specs.declared.place.Place.{Place}
+use Rattle.casebook_cause.specs.declared.place.SearchPlace.{SearchPlace}
 use Rattle.casebook_cause.specs.inner.Latest.{IsAtMost, IsLatest}
 use Rattle.casebook_cause.specs.inner.PlaceOrder.{Entry}
 use Rattle.casebook_cause.specs.inner.Places.{AreDifferences, HasEntries, HaveEntries, changes_place, has_line}
@@ -150,7 +150,7 @@ module _ (q : Ask) where
 -- ---- lines without entries
 
 -- a line without an entry at some places changes no cell there, or makes the same changes
-unlisted : (k : ℕ) (notes others : List Note) (entries : List Entry) (ps : List Place) → has_line_in ps entries k ≡ false
+unlisted : (k : ℕ) (notes others : List Note) (entries : List Entry) (ps : List SearchPlace) → has_line_in ps entries k ≡ false
     → HasEntries k notes others entries
     → (list_any (λ p. changes_place p notes) ps ≡ false) ⊎ (changes_in notes ≡ changes_in others)
 unlisted k notes others entries [] none has = inl refl
@@ -234,7 +234,7 @@ mapped P Q (Ok x) f h = f x h
 mapped P Q (Err e) f h = tt
 
 module _ {E : Type 0} (q : Ask) (n : ℕ) (one two : RecordingValue) (entries : List Entry)
-    (are : AreDifferences one two entries) (ps : List Place) (is : ps ≡ places_for q) (found : Result (Option ℕ) E)
+    (are : AreDifferences one two entries) (ps : List SearchPlace) (is : ps ≡ places_for q) (found : Result (Option ℕ) E)
     (latest : IfOk found (IsLatest (IsAlike q one two) n (has_line_in ps entries))) where
   all_latest : IfOk found (IsLatest (IsAlike q one two) n (has_line_in (places_for q) entries))
   all_latest = subst (λ os. IfOk found (IsLatest (IsAlike q one two) n (has_line_in os entries))) is latest
@@ -259,7 +259,7 @@ pub no_entries : (others : List (ℕ × Noted)) (entries : List Entry) → HaveE
 no_entries others entries n p changes = absurd (true≢false (sym changes))
 
 pub entries_kept : (lines others : List (ℕ × Noted)) (old new : List Entry)
-    → ((n : ℕ) (p : Place) → has_line n p old ≡ true → has_line n p new ≡ true) → HaveEntries lines others old
+    → ((n : ℕ) (p : SearchPlace) → has_line n p old ≡ true → has_line n p new ≡ true) → HaveEntries lines others old
     → HaveEntries lines others new
 entries_kept lines others old new kept have n p changes = by_part (have n p changes)
   where
@@ -300,7 +300,7 @@ one_more_line lines others l entries have has n = by_part (notes_after n lines l
 
 pub next_line : (lines others : List (ℕ × Noted)) (i : ℕ) (l : ℕ × Noted) (notes those : List Note) (old new : List Entry)
     → i < length lines → l ≡ get_or lines i l → notes ≡ l.1.notes → those ≡ notes_at l.0 others
-    → ((n : ℕ) (p : Place) → has_line n p old ≡ true → has_line n p new ≡ true)
+    → ((n : ℕ) (p : SearchPlace) → has_line n p old ≡ true → has_line n p new ≡ true)
     → HaveEntries (take i lines) others old → HasEntries l.0 notes those new
     → HaveEntries (take (i + 1) lines) others new
 next_line lines others i l notes those old new below item is_notes is_those kept have has =

@@ -4,12 +4,12 @@ ghost use Rattle.retro_tree.specs.Change.{cell_of};
 ghost use Rattle.retro_tree.specs.Path.{PathValue};
 ghost use Rattle.casebook_cause.specs.inner.Places.{HasEntries, HaveEntries, IsLastOf};
 ghost use Rattle.casebook_cause.specs.inner.Places.{changes_place, has_line, is_at_place};
-ghost use Rattle.casebook_cause.specs.declared.place.Place.{Place as PlaceValue};
-ghost use Rattle.casebook_cause.specs.declared.place.Place.TheVariants as PlaceOf;
+ghost use Rattle.casebook_cause.specs.declared.place.SearchPlace.{SearchPlace as PlaceValue};
+ghost use Rattle.casebook_cause.specs.declared.place.SearchPlace.TheVariants as PlaceOf;
 
 use crate::alike::notes_of;
 use crate::another_result::makes_same_changes;
-use crate::place::Place;
+use crate::place::SearchPlace;
 use retro_keep::{Noted, Recording};
 use retro_tree::{Change, NoMem, Note};
 use std::alloc::Global;
@@ -20,7 +20,7 @@ use std::collections::BTreeSet;
 #[derive(Drop)]
 pub(crate) struct DifferingLines {
     /// Ordered by place, and then by number.
-    lines: BTreeSet<(Place, u32)>,
+    lines: BTreeSet<(SearchPlace, u32)>,
 }
 
 impl DifferingLines {
@@ -95,7 +95,7 @@ impl DifferingLines {
             → has_line number p self.new.lines.keys ≡ true) }
     {
         self.add_child(alloc, number, change)?;
-        self.add(Place::Cell(change.cell().to_cell()?), number)
+        self.add(SearchPlace::Cell(change.cell().to_cell()?), number)
     }
 
     /// Adds a line at the children of the parent of the path that a change writes, if it writes
@@ -109,14 +109,14 @@ impl DifferingLines {
     {
         match change {
             Change::Put(path, _) | Change::Grow(path, _) => {
-                self.add(Place::ChildrenOf(path.parent(alloc)?), number)
+                self.add(SearchPlace::ChildrenOf(path.parent(alloc)?), number)
             }
             _ => Ok(()),
         }
     }
 
     /// Adds a line at a place.
-    fn add(&mut self, place: Place, number: u32) -> Result<(), NoMem>
+    fn add(&mut self, place: SearchPlace, number: u32) -> Result<(), NoMem>
         ensures kept { (n : ℕ) (p : PlaceValue)
             → has_line n p self.old.lines.keys ≡ true → has_line n p self.new.lines.keys ≡ true }
         ensures added { OnOk result (has_line number place self.new.lines.keys ≡ true) }
@@ -126,7 +126,7 @@ impl DifferingLines {
     }
 
     /// Returns the last line at a place with a number below another, or `None` if there is none.
-    pub(crate) fn last_below(&self, place: &Place, number: u32) -> Result<Option<u32>, NoMem>
+    pub(crate) fn last_below(&self, place: &SearchPlace, number: u32) -> Result<Option<u32>, NoMem>
         ensures { IfOk result (IsLastOf place.now number self.now.lines.keys) }
     {
         let mut lines = self

@@ -1,7 +1,7 @@
 //! Places: what lines are found by.
 ghost use Rattle.std.specs.Prelude.{◌≡◌, ◌∷◌, [], IfOk};
 ghost use Rattle.retro_tree.specs.declared.cell.Cell.TheVariants.{At};
-ghost use Rattle.casebook_cause.specs.declared.place.Place.TheVariants as PlaceOf;
+ghost use Rattle.casebook_cause.specs.declared.place.SearchPlace.TheVariants as PlaceOf;
 ghost use Rattle.casebook_cause.specs.inner.Places.{places_for};
 
 use retro_tree::{Ask, Cell, NoMem, Path};
@@ -9,27 +9,27 @@ use std::alloc::Global;
 
 /// Cells that are looked up together.
 #[derive(Drop, PartialEq, Eq, PartialOrd, Ord)]
-pub(crate) enum Place {
+pub(crate) enum SearchPlace {
     /// One cell.
     Cell(Cell),
     /// The cells of the children of a path.
     ChildrenOf(Path),
 }
 
-impl Place {
+impl SearchPlace {
     /// Returns a copy.
-    pub(crate) fn copy(&self) -> Result<Place, NoMem>
+    pub(crate) fn copy(&self) -> Result<SearchPlace, NoMem>
         ensures { IfOk result (λ copy. copy ≡ self.now) }
     {
         match self {
-            Place::Cell(cell) => Ok(Place::Cell(cell.copy()?)),
-            Place::ChildrenOf(path) => Ok(Place::ChildrenOf(path.copy()?)),
+            SearchPlace::Cell(cell) => Ok(SearchPlace::Cell(cell.copy()?)),
+            SearchPlace::ChildrenOf(path) => Ok(SearchPlace::ChildrenOf(path.copy()?)),
         }
     }
 }
 
 /// Returns one place.
-fn one_place(alloc: Global, place: Place) -> Result<Vec<Place>, NoMem>
+fn one_place(alloc: Global, place: SearchPlace) -> Result<Vec<SearchPlace>, NoMem>
     ensures { IfOk result (λ places. places.items ≡ place ∷ []) }
 {
     let mut places = Vec::new(alloc);
@@ -38,7 +38,7 @@ fn one_place(alloc: Global, place: Place) -> Result<Vec<Place>, NoMem>
 }
 
 /// Returns two places.
-fn two_places(alloc: Global, one: Place, two: Place) -> Result<Vec<Place>, NoMem>
+fn two_places(alloc: Global, one: SearchPlace, two: SearchPlace) -> Result<Vec<SearchPlace>, NoMem>
     ensures { IfOk result (λ places. places.items ≡ one ∷ two ∷ []) }
 {
     let mut places = Vec::new(alloc);
@@ -48,23 +48,23 @@ fn two_places(alloc: Global, one: Place, two: Place) -> Result<Vec<Place>, NoMem
 }
 
 /// Returns the cell of a path.
-fn at(path: &Path) -> Result<Place, NoMem>
+fn at(path: &Path) -> Result<SearchPlace, NoMem>
     ensures { IfOk result (λ place. place ≡ PlaceOf.Cell (At path.now)) }
 {
-    Ok(Place::Cell(Cell::At(path.copy()?)))
+    Ok(SearchPlace::Cell(Cell::At(path.copy()?)))
 }
 
 /// Returns the places of the cells on which the answer to a query can depend.
-pub(crate) fn places_for(alloc: Global, ask: &Ask) -> Result<Vec<Place>, NoMem>
+pub(crate) fn places_for(alloc: Global, ask: &Ask) -> Result<Vec<SearchPlace>, NoMem>
     ensures { IfOk result (λ places. places.items ≡ places_for ask.now) }
 {
     match ask {
         Ask::Kind(path) | Ask::Bytes(path) => one_place(alloc, at(path)?),
-        Ask::Names(path) => two_places(alloc, at(path)?, Place::ChildrenOf(path.copy()?)),
+        Ask::Names(path) => two_places(alloc, at(path)?, SearchPlace::ChildrenOf(path.copy()?)),
         Ask::CanWrite(path, _) => two_places(alloc, at(path)?, at(&path.parent(alloc)?)?),
         Ask::User(_) => one_place(alloc, at(&Path::passwd(alloc)?)?),
-        Ask::VarOf(sid, name) => one_place(alloc, Place::Cell(Cell::Var(*sid, name.copy()?))),
-        Ask::CwdOf(sid) => one_place(alloc, Place::Cell(Cell::Cwd(*sid))),
-        Ask::StatusOf(sid) => one_place(alloc, Place::Cell(Cell::Status(*sid))),
+        Ask::VarOf(sid, name) => one_place(alloc, SearchPlace::Cell(Cell::Var(*sid, name.copy()?))),
+        Ask::CwdOf(sid) => one_place(alloc, SearchPlace::Cell(Cell::Cwd(*sid))),
+        Ask::StatusOf(sid) => one_place(alloc, SearchPlace::Cell(Cell::Status(*sid))),
     }
 }

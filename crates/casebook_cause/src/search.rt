@@ -6,7 +6,7 @@ ghost use Rattle.casebook_cause.specs.inner.Places.{has_line, has_line_in};
 
 use crate::alike::{changes_alike, notes_of};
 use crate::differing_lines::DifferingLines;
-use crate::place::Place;
+use crate::place::SearchPlace;
 use retro_keep::Recording;
 use retro_tree::{Ask, NoMem};
 
@@ -28,7 +28,7 @@ pub(crate) struct Search<'a> {
 
 impl Search<'_> {
     /// Returns the last line at one of some places that isn't alike.
-    pub(crate) fn last_of(&self, places: &[Place]) -> Result<Option<u32>, NoMem>
+    pub(crate) fn last_of(&self, places: &[SearchPlace]) -> Result<Option<u32>, NoMem>
         ensures { IfOk result (IsLatest
             (IsAlike self.now.ask.now self.now.recorded.now self.now.repaired.now)
             self.now.number (has_line_in places.now self.now.lines.now.lines.keys)) }
@@ -41,7 +41,7 @@ impl Search<'_> {
     }
 
     /// Returns the last line at a place that isn't alike.
-    fn last_at(&self, place: &Place) -> Result<Option<u32>, NoMem>
+    fn last_at(&self, place: &SearchPlace) -> Result<Option<u32>, NoMem>
         ensures { IfOk result (IsLatest
             (IsAlike self.now.ask.now self.now.recorded.now self.now.repaired.now)
             self.now.number (λ k. has_line k place.now self.now.lines.now.lines.keys)) }

@@ -13,7 +13,7 @@ use Rattle.casebook_cli.specs.Lines.{widest_name}
 use Rattle.casebook_cli.specs.Pages.{IsPageOf}
 use Rattle.casebook_cli.specs.Screens.{AreParts, AreSummaryLines, IsJson, IsShownOf, IsTextOf, ScreenValue}
 use Rattle.casebook_cli.specs.declared.screens.Parts.{Parts}
-use Rattle.casebook_cli.specs.declared.shown.Shown.{Shown}
+use Rattle.casebook_cli.specs.declared.shown.ShownPart.{ShownPart}
 
 abbrev pub wide : RecordingValue → Repair → Summary → Labels → Bool → ℕ → ScreenValue
 wide r repair summary labels colours width = record {
@@ -25,7 +25,7 @@ wide r repair summary labels colours width = record {
   colours = colours;
 }
 
-pub at_width : (shown : Shown) (r : RecordingValue) (repair : Repair) (summary : Summary) (labels : Labels)
+pub at_width : (shown : ShownPart) (r : RecordingValue) (repair : Repair) (summary : Summary) (labels : Labels)
     (colours : Bool) (width : ℕ) (text : List ℕ) → width ≡ widest_name labels r.lines
     → IsTextOf shown (wide r repair summary labels colours width) text
     → IsTextOf shown (wide r repair summary labels colours (widest_name labels r.lines)) text
@@ -70,7 +70,7 @@ module _ (s : ScreenValue) (parts : Parts) {r : RecordingValue} {restorations : 
 
 module _ {edits those : List Edit} {r s : RecordingValue} {repair other : Repair} (are_edits : edits ≡ those)
     (is_recording : r ≡ s) (is_repair : repair ≡ other) where
-  pub shown_same : (labels : Labels) (shown : Shown) (colours : Bool) (text : List ℕ)
+  pub shown_same : (labels : Labels) (shown : ShownPart) (colours : Bool) (text : List ℕ)
       → IsShownOf edits r repair labels shown colours text → IsShownOf those s other labels shown colours text
   shown_same labels shown colours text h =
       subst (λ p. IsShownOf those s p labels shown colours text) is_repair

@@ -4,8 +4,8 @@ use Rattle.std.specs.List.{list_all}
 use Rattle.casebook_text.specs.SafeText.{is_safe, is_safe_byte}
 use Rattle.casebook_text.specs.declared.safe_text.Breaks.TheVariants.{Keep}
 use Rattle.casebook_cli.specs.Request.{Query, check, lines, page, show}
-use Rattle.casebook_cli.specs.declared.shown.Shown.{Shown}
-use Rattle.casebook_cli.specs.declared.shown.Shown.TheVariants as parts
+use Rattle.casebook_cli.specs.declared.shown.ShownPart.{ShownPart}
+use Rattle.casebook_cli.specs.declared.shown.ShownPart.TheVariants as parts
 
 -- A text without control codes of ASCII but newlines and tabs. Each other character can be seen and
 -- leaves its neighbours as they are.
@@ -14,7 +14,7 @@ pub record IsHarmless (text : List ℕ) : Type 0 where
   pub characters : IsTrue (list_all (is_safe Keep) (chars text))
 
 -- whether what is shown of a repair has neither colours nor the form for programs
-abbrev pub is_plain_shown : Bool → Shown → Bool
+abbrev pub is_plain_shown : Bool → ShownPart → Bool
 is_plain_shown colours parts.Json = false
 is_plain_shown colours other = not colours
 

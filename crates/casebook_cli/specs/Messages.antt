@@ -18,8 +18,8 @@ use Rattle.casebook_cli.specs.declared.exit.Exit.TheVariants as exits
 use Rattle.casebook_folder_cli.specs.declared.request.FolderProblem.TheVariants as folder_problems
 use Rattle.casebook_cli.specs.declared.problem.Problem.{Problem}
 use Rattle.casebook_cli.specs.declared.problem.Problem.TheVariants as problems
-use Rattle.casebook_cli.specs.declared.searched.Searched.{Searched}
-use Rattle.casebook_cli.specs.declared.searched.Searched.TheVariants.{Text, Shown}
+use Rattle.casebook_cli.specs.declared.searched.SearchedPart.{SearchedPart}
+use Rattle.casebook_cli.specs.declared.searched.SearchedPart.TheVariants.{Text, Outputs}
 use Rattle.casebook_cli.specs.declared.stop.Stop.{Stop}
 use Rattle.casebook_cli.specs.declared.stop.Stop.TheVariants as stops
 
@@ -50,9 +50,9 @@ problem_words (problems.Folder folder_problems.NoFolder) = codes "no FOLDER is g
 problem_words (problems.Folder folder_problems.At) = codes "--at: not a path from the root"
 problem_words (problems.Folder folder_problems.Skip) = codes "--skip: not a path from the root"
 
-unfoldable pub searched_words : Searched → List ℕ
+unfoldable pub searched_words : SearchedPart → List ℕ
 searched_words Text = codes "--text: not a regular expression, or too large a one"
-searched_words Shown = codes "--shown: not a regular expression, or too large a one"
+searched_words Outputs = codes "--shown: not a regular expression, or too large a one"
 
 unfoldable pub part_words : Part → List ℕ
 part_words parts.Document = codes "no object, or a key is missing"

@@ -30,8 +30,8 @@ use Rattle.casebook_cli.specs.declared.help.TheConstants.{PROGRAM, LINES, SHOW, 
 use Rattle.casebook_cli.specs.declared.problem.Problem.{Problem}
 use Rattle.casebook_cli.specs.declared.problem.Problem.TheVariants as problems
 use Rattle.casebook_cli.specs.declared.shown.Extras.{Extras}
-use Rattle.casebook_cli.specs.declared.shown.Shown.{Shown}
-use Rattle.casebook_cli.specs.declared.shown.Shown.TheVariants as parts
+use Rattle.casebook_cli.specs.declared.shown.ShownPart.{ShownPart}
+use Rattle.casebook_cli.specs.declared.shown.ShownPart.TheVariants as parts
 use Rattle.casebook_cli.specs.declared.topic.Topic.{Topic}
 use Rattle.casebook_cli.specs.declared.topic.Topic.TheVariants as topics
 use Rattle.casebook_cli.specs.declared.words.WordsFault.{WordsFault}
@@ -78,7 +78,7 @@ pub record RepairRequest : Type 0 where
 -- which repair is shown, and what of it
 pub record ShowRequest : Type 0 where
   pub repair : RepairRequest
-  pub shown : Shown
+  pub shown : ShownPart
 
 -- the page of which repair, with which title, and whether all lines are on it
 pub record PageRequest : Type 0 where
@@ -352,7 +352,7 @@ show_format (Some text) =
 
 -- one line, if its number is given, and otherwise the summary with what else is asked for; for programs the
 -- summary is all
-abbrev pub shown_as : Bool → Extras → Option ℕ → Result Shown Problem
+abbrev pub shown_as : Bool → Extras → Option ℕ → Result ShownPart Problem
 shown_as false extras None = Ok (parts.Summary extras)
 shown_as false extras (Some number) = Ok (parts.Line number)
 shown_as true extras line =
@@ -361,7 +361,7 @@ shown_as true extras line =
 abbrev pub extras_of : Call → Extras
 extras_of call = record { why = is_given (codes "why") call; diff = is_given (codes "diff") call }
 
-abbrev pub shown_of : Call → Result Shown Problem
+abbrev pub shown_of : Call → Result ShownPart Problem
 shown_of call = do
   line ← read_option problems.Line number_in (given (codes "line") call)
   is_json ← show_format (given (codes "format") call)

@@ -33,8 +33,8 @@ use Rattle.casebook_cli.specs.Colours.{shown_lines}
 use Rattle.casebook_cli.specs.declared.screens.Parts.{Parts}
 use Rattle.casebook_json.specs.Summary.{summary_text}
 use Rattle.casebook_cli.specs.declared.shown.Extras.{Extras}
-use Rattle.casebook_cli.specs.declared.shown.Shown.{Shown}
-use Rattle.casebook_cli.specs.declared.shown.Shown.TheVariants as parts
+use Rattle.casebook_cli.specs.declared.shown.ShownPart.{ShownPart}
+use Rattle.casebook_cli.specs.declared.shown.ShownPart.TheVariants as parts
 
 -- ---- summaries
 
@@ -124,13 +124,13 @@ pub record IsLineText (number : ℕ) (s : ScreenValue) (text : List ℕ) : Type 
   pub exists : noted_at number s.recording.lines ≢ None
   pub is_text : text ≡ shown_lines s.colours (detail_lines s.recording s.repair s.summary s.labels s.width number)
 
-abbrev pub IsTextOf : Shown → ScreenValue → List ℕ → Type 0
+abbrev pub IsTextOf : ShownPart → ScreenValue → List ℕ → Type 0
 IsTextOf (parts.Summary extras) s text = IsScreenText extras s text
 IsTextOf (parts.Line number) s text = IsLineText number s text
 IsTextOf parts.Json s text = IsJson s text
 
 -- The text shows a recording and its repair by edits.
-pub record IsShownOf (edits : List Edit) (r : RecordingValue) (repair : Repair) (labels : Labels) (shown : Shown)
+pub record IsShownOf (edits : List Edit) (r : RecordingValue) (repair : Repair) (labels : Labels) (shown : ShownPart)
     (colours : Bool) (text : List ℕ) : Type 0 where
   pub summary : Summary
   pub is_summary : IsSummary edits r repair summary

@@ -26,10 +26,10 @@ use Rattle.casebook_cli.specs.Repairs.{AreEdits, IsAsked, IsListGiven, lines_in,
 use Rattle.casebook_cli.specs.Request.{LinesRequest, Query, RepairRequest, Request, RoundsValue, ShowRequest, ask, check, help, lines, page, request_in, show}
 use Rattle.casebook_cli.specs.Request.{snapshot}
 use Rattle.casebook_cli.specs.declared.repairs.AskedRepair.{AskedRepair}
-use Rattle.casebook_cli.specs.declared.searched.Searched.{Searched}
-use Rattle.casebook_cli.specs.declared.searched.Searched.TheVariants as searched_in
-use Rattle.casebook_cli.specs.declared.shown.Shown.{Shown}
-use Rattle.casebook_cli.specs.declared.shown.Shown.TheVariants as parts
+use Rattle.casebook_cli.specs.declared.searched.SearchedPart.{SearchedPart}
+use Rattle.casebook_cli.specs.declared.searched.SearchedPart.TheVariants as searched_in
+use Rattle.casebook_cli.specs.declared.shown.ShownPart.{ShownPart}
+use Rattle.casebook_cli.specs.declared.shown.ShownPart.TheVariants as parts
 use Rattle.casebook_cli.specs.declared.stop.Stop.{Stop}
 use Rattle.casebook_cli.specs.declared.stop.Stop.TheVariants as stops
 
@@ -99,14 +99,14 @@ pub record IsNoPattern (given : Option (List ℕ)) : Type 0 where
   pub refused : IsRefusedAs pattern_config text error
 
 -- a pattern is refused
-abbrev pub StopsPattern : Option (List ℕ) → Searched → Stop → Type 0
+abbrev pub StopsPattern : Option (List ℕ) → SearchedPart → Stop → Type 0
 StopsPattern given wanted (stops.BadPattern searched) = (searched ≡ wanted) × IsNoPattern given
 StopsPattern given wanted stops.OutOfMemory = Unit {0}
 StopsPattern given wanted other = ⊥
 
 pub data StopsPatterns (request : LinesRequest) (stop : Stop) : Type 0 where
   no_text : StopsPattern request.text searched_in.Text stop → StopsPatterns request stop
-  no_shown : StopsPattern request.shown searched_in.Shown stop → StopsPatterns request stop
+  no_shown : StopsPattern request.shown searched_in.Outputs stop → StopsPatterns request stop
 
 -- no line is of a session with the name that is given
 abbrev pub StopsUser : Labels → List (ℕ × Noted) → Option (List ℕ) → Stop → Type 0
@@ -181,7 +181,7 @@ IsNoLine number r (stops.NoLine named) = (named ≡ number) × (noted_at number 
 IsNoLine number r stops.OutOfMemory = Unit {0}
 IsNoLine number r other = ⊥
 
-abbrev pub StopsShown : Shown → RecordingValue → Stop → Type 0
+abbrev pub StopsShown : ShownPart → RecordingValue → Stop → Type 0
 StopsShown (parts.Line number) r stop = IsNoLine number r stop
 StopsShown other r stop = stop ≡ stops.OutOfMemory
 

@@ -103,7 +103,7 @@ pub use exit::Exit;
 pub use problem::Problem;
 pub use program::run_with;
 pub use progress::{Progress, Step};
-pub use searched::Searched;
+pub use searched::SearchedPart;
 pub use stop::Stop;
 
 /// What the answer is written to.

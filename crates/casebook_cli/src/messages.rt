@@ -11,7 +11,7 @@ ghost use Rattle.casebook_cli.specs.Messages.{said_of, searched_words, stop_mess
 use crate::NoMem;
 use crate::exit::Exit;
 use crate::problem::Problem;
-use crate::searched::Searched;
+use crate::searched::SearchedPart;
 use crate::stop::Stop;
 use casebook_about::{AboutFault, Part as AboutPart};
 use casebook_folder_cli::FolderProblem;
@@ -56,13 +56,13 @@ fn problem_words(problem: Problem) -> &'static str
 
 /// Returns which pattern is refused, in words.
 #[tactic(auto, unfolding(crate::specs::Messages::searched_words))]
-fn searched_words(searched: Searched) -> &'static str
+fn searched_words(searched: SearchedPart) -> &'static str
     ensures value { result.now ≡ searched_words searched }
     ensures printable { IsTrue (list_all is_printable result.now) }
 {
     match searched {
-        Searched::Text => "--text: not a regular expression, or too large a one",
-        Searched::Shown => "--shown: not a regular expression, or too large a one",
+        SearchedPart::Text => "--text: not a regular expression, or too large a one",
+        SearchedPart::Outputs => "--shown: not a regular expression, or too large a one",
     }
 }
 

@@ -8,7 +8,7 @@ ghost use Rattle.casebook_cli.specs.inner.Views.{filters_by, lines_view};
 
 use crate::NoMem;
 use crate::lines_request::LinesRequest;
-use crate::searched::Searched;
+use crate::searched::SearchedPart;
 use crate::stop::Stop;
 use casebook_view::{Filters, LineTest};
 use regex::bytes::{Matcher, Regex};
@@ -25,7 +25,7 @@ pub(crate) struct Patterns {
 }
 
 /// Returns the pattern that a text is, in which `^` and `$` are the ends of a line.
-fn pattern_of<'a>(alloc: Global, text: &str, searched: Searched) -> Result<Regex, Stop<'a>>
+fn pattern_of<'a>(alloc: Global, text: &str, searched: SearchedPart) -> Result<Regex, Stop<'a>>
     ensures ok { IfOk result (λ pattern. IsPattern text.now (regex_pattern pattern)) }
     ensures err { IfErr result (StopsPattern (Some text.now) searched) }
 {
@@ -40,7 +40,7 @@ fn pattern_of<'a>(alloc: Global, text: &str, searched: Searched) -> Result<Regex
 fn pattern_given<'a>(
     alloc: Global,
     text: Option<&str>,
-    searched: Searched,
+    searched: SearchedPart,
 ) -> Result<Option<Regex>, Stop<'a>>
     ensures ok { IfOk result (λ pattern.
         AreRead (option_map (λ s. s.now) text.entry) (option_map regex_pattern pattern)) }
@@ -72,8 +72,8 @@ impl Patterns {
             AreRead (lines_view request.now).shown (option_map regex_pattern patterns.shown)) }
         ensures err { IfErr result (StopsPatterns (lines_view request.now)) }
     {
-        let text = pattern_given(alloc, request.text, Searched::Text)?;
-        let shown = pattern_given(alloc, request.shown, Searched::Shown)?;
+        let text = pattern_given(alloc, request.text, SearchedPart::Text)?;
+        let shown = pattern_given(alloc, request.shown, SearchedPart::Outputs)?;
         Ok(Patterns { text, shown })
     }
 

@@ -15,7 +15,7 @@ use crate::options::{check_input, is_given, log_of, number_option};
 use crate::problem::Problem;
 use crate::repair_request::{PageRequest, RepairRequest, ShowRequest};
 use crate::rounds::Rounds;
-use crate::shown::{Extras, Shown};
+use crate::shown::{Extras, ShownPart};
 use crate::words::WordsFault;
 use retro_edge::{CommandCall, numbers_in};
 use retro_json::{LogFault, read_replacements};
@@ -134,23 +134,23 @@ fn is_json(text: Option<&str>) -> Result<bool, WordsFault>
 
 /// Returns what is shown of a repair: one line, if its number is given, and otherwise the summary
 /// with what else is asked for. For programs the summary is all.
-fn shown_as(is_json: bool, extras: Extras, line: Option<u32>) -> Result<Shown, WordsFault>
+fn shown_as(is_json: bool, extras: Extras, line: Option<u32>) -> Result<ShownPart, WordsFault>
     ensures { Means (λ shown. shown) result (shown_as is_json extras line) }
 {
     if !is_json {
         return match line {
-            Some(number) => Ok(Shown::Line(number)),
-            None => Ok(Shown::Summary(extras)),
+            Some(number) => Ok(ShownPart::Line(number)),
+            None => Ok(ShownPart::Summary(extras)),
         };
     }
     if extras.why || extras.diff || line.is_some() {
         return Err(WordsFault::Bad(Problem::MixedFormat));
     }
-    Ok(Shown::Json)
+    Ok(ShownPart::Json)
 }
 
 /// Returns what is to be shown of a repair.
-fn shown_of(call: &CommandCall<'_>) -> Result<Shown, WordsFault>
+fn shown_of(call: &CommandCall<'_>) -> Result<ShownPart, WordsFault>
     ensures { Means (λ shown. shown) result (shown_of (call_view call.now)) }
 {
     let line = number_option(call.text_of("line"), Problem::Line)?;

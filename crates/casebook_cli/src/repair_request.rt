@@ -1,6 +1,6 @@
 //! Requests for repairs.
 use crate::rounds::Rounds;
-use crate::shown::Shown;
+use crate::shown::ShownPart;
 use retro_keep::Edit;
 
 /// A request for a repair.
@@ -24,7 +24,7 @@ pub(crate) struct ShowRequest<'a> {
     /// The repair.
     pub(crate) repair: RepairRequest<'a>,
     /// What is shown of it.
-    pub(crate) shown: Shown,
+    pub(crate) shown: ShownPart,
 }
 
 /// A request for the page of a repair.

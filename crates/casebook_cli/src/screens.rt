@@ -12,7 +12,7 @@ use crate::NoMem;
 use crate::colours::shown_lines;
 use crate::repairs::{AskedRepair, summary_of};
 use crate::rows_text::widest_name;
-use crate::shown::{Extras, Shown};
+use crate::shown::{Extras, ShownPart};
 use crate::stop::Stop;
 use casebook_json::summary_json;
 use casebook_screen::{
@@ -146,7 +146,7 @@ impl Screen<'_, '_> {
     }
 
     /// Returns what is to be shown.
-    fn shown<'a>(self, alloc: Global, shown: Shown) -> Result<String, Stop<'a>>
+    fn shown<'a>(self, alloc: Global, shown: ShownPart) -> Result<String, Stop<'a>>
         requires { Rise self.summary.now }
         ensures ok { IfOk result (λ text.
             IsTextOf shown (screen_view self.entry) (string_bytes text)) }
@@ -155,9 +155,9 @@ impl Screen<'_, '_> {
         ensures err { IfErr result (StopsShown shown self.entry.case.now.recording) }
     {
         match shown {
-            Shown::Summary(extras) => Ok(self.text(alloc, extras)?),
-            Shown::Line(number) => self.line(alloc, number),
-            Shown::Json => Ok(self.json(alloc)?),
+            ShownPart::Summary(extras) => Ok(self.text(alloc, extras)?),
+            ShownPart::Line(number) => self.line(alloc, number),
+            ShownPart::Json => Ok(self.json(alloc)?),
         }
     }
 }
@@ -167,7 +167,7 @@ fn text_of_case<'a>(
     alloc: Global,
     case: &Case<'_>,
     labels: &Labels,
-    shown: Shown,
+    shown: ShownPart,
     colours: bool,
 ) -> Result<String, Stop<'a>>
     requires { LinesRise case.now.repair }
@@ -192,7 +192,7 @@ fn text_of_case<'a>(
 pub(crate) fn shown_text<'a>(
     alloc: Global,
     asked: &AskedRepair,
-    shown: Shown,
+    shown: ShownPart,
     colours: bool,
 ) -> Result<String, Stop<'a>>
     requires { LinesRise asked.now.repair }

@@ -2,9 +2,9 @@
 
 /// What a pattern is searched in.
 #[derive(Clone, Copy, Debug, PartialEq, Eq)]
-pub enum Searched {
+pub enum SearchedPart {
     /// The texts of lines.
     Text,
     /// What lines printed.
-    Shown,
+    Outputs,
 }

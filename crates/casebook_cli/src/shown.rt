@@ -2,7 +2,7 @@
 
 /// What is shown of a repair.
 #[derive(Clone, Copy, Debug, Drop, PartialEq, Eq)]
-pub(crate) enum Shown {
+pub(crate) enum ShownPart {
     /// The summary, and more if it is asked for.
     Summary(Extras),
     /// One line in full.

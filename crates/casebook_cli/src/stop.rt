@@ -5,7 +5,7 @@ ghost use Rattle.casebook_cli.specs.declared.stop.Stop.TheVariants as stops;
 
 use crate::NoMem;
 use crate::problem::Problem;
-use crate::searched::Searched;
+use crate::searched::SearchedPart;
 use casebook_about::AboutFault;
 use casebook_text::ListFault;
 use retro_log::Refusal;
@@ -16,7 +16,7 @@ pub enum Stop<'a> {
     /// The command line is refused.
     BadWords(Problem),
     /// What an option gives isn't a regular expression, or is one that is too large.
-    BadPattern(Searched),
+    BadPattern(SearchedPart),
     /// No line is of a session with the name that is asked for.
     NoUser,
     /// A document isn't a log.

@@ -37,7 +37,7 @@ mod head;
 mod html;
 mod laws;
 mod lines;
-mod merged;
+mod merged_texts;
 mod number_tag;
 mod overview;
 mod pair;

@@ -2,7 +2,7 @@
 use crate::NoMem;
 use crate::block::push_block;
 use crate::html::Html;
-use crate::merged::Merged;
+use crate::merged_texts::MergedTexts;
 use crate::tag::Tag;
 use crate::text_line::{Form, TextLine, text_lines};
 use casebook_text::{Mark, SafeLine};
@@ -35,7 +35,7 @@ fn push_more(html: &mut Html, alloc: Global, count: usize) -> Result<(), NoMem> 
 pub(crate) fn push_preview(
     html: &mut Html,
     alloc: Global,
-    merged: &Merged<'_>,
+    merged: &MergedTexts<'_>,
 ) -> Result<(), NoMem> {
     let mut shown = 0_usize;
     if let Some(text) = merged.first(Mark::Removed) {
@@ -64,7 +64,11 @@ fn push_side(html: &mut Html, alloc: Global, lines: &[TextLine<'_>]) -> Result<(
 }
 
 /// Appends two texts side by side: what somebody saw, and would have seen.
-pub(crate) fn push_pair(html: &mut Html, alloc: Global, merged: &Merged<'_>) -> Result<(), NoMem> {
+pub(crate) fn push_pair(
+    html: &mut Html,
+    alloc: Global,
+    merged: &MergedTexts<'_>,
+) -> Result<(), NoMem> {
     html.fixed(Tag::Pair)?;
     html.fixed(Tag::Saw)?;
     let old = merged.old_lines(alloc)?;
@@ -76,7 +80,11 @@ pub(crate) fn push_pair(html: &mut Html, alloc: Global, merged: &Merged<'_>) -> 
 }
 
 /// Appends the diff of two texts, unless it is empty.
-pub(crate) fn push_diff(html: &mut Html, alloc: Global, merged: &Merged<'_>) -> Result<(), NoMem> {
+pub(crate) fn push_diff(
+    html: &mut Html,
+    alloc: Global,
+    merged: &MergedTexts<'_>,
+) -> Result<(), NoMem> {
     let lines = merged.diff(alloc)?;
     if lines.is_empty() {
         return Ok(());

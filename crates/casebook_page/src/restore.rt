@@ -2,7 +2,7 @@
 use crate::NoMem;
 use crate::contents::Contents;
 use crate::html::Html;
-use crate::merged::Merged;
+use crate::merged_texts::MergedTexts;
 use crate::pair::{push_diff, push_preview};
 use crate::shown::{push_link, push_none, push_shown_path};
 use crate::tag::Tag;
@@ -97,7 +97,7 @@ fn push_row(
     let after = contents.case.repair().state().tree();
     let old = file_at(before, &path.path);
     let new = file_at(after, &path.path);
-    let merged = Merged::of(alloc, old, new)?;
+    let merged = MergedTexts::of(alloc, old, new)?;
     html.fixed(row_of(path.change))?;
     push_shown_path(html, alloc, &path.path)?;
     html.fixed(Tag::RowDetail)?;

@@ -2,7 +2,7 @@
 use crate::NoMem;
 use crate::contents::Contents;
 use crate::html::Html;
-use crate::merged::Merged;
+use crate::merged_texts::MergedTexts;
 use crate::number_tag::NumberTag;
 use crate::pair::{push_output, push_pair};
 use crate::shown::{command_of, push_link, push_name, push_paths, push_shown_path};
@@ -123,7 +123,7 @@ impl Rows<'_, '_> {
             return push_output(html, self.alloc, line.output.as_slice());
         }
         let (old, new) = outputs_of(self.contents, line.number);
-        let merged = Merged::of(self.alloc, old, new)?;
+        let merged = MergedTexts::of(self.alloc, old, new)?;
         push_pair(html, self.alloc, &merged)
     }
 

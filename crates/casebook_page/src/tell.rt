@@ -2,7 +2,7 @@
 use crate::NoMem;
 use crate::contents::Contents;
 use crate::html::Html;
-use crate::merged::Merged;
+use crate::merged_texts::MergedTexts;
 use crate::pair::{push_pair, push_preview};
 use crate::shown::{push_command, push_links, push_none, push_shown_path};
 use crate::tag::Tag;
@@ -49,7 +49,7 @@ fn push_inside(
     alloc: Global,
     contents: Contents<'_, '_>,
     group: &Group,
-    merged: &Merged<'_>,
+    merged: &MergedTexts<'_>,
 ) -> Result<(), NoMem> {
     html.fixed(Tag::Small)?;
     if group.lines.len() == 1 {
@@ -74,7 +74,7 @@ fn push_group(
     group: &Group,
 ) -> Result<(), NoMem> {
     let (old, new) = outputs_of(contents, first_of(group));
-    let merged = Merged::of(alloc, old, new)?;
+    let merged = MergedTexts::of(alloc, old, new)?;
     html.fixed(Tag::Subject)?;
     html.number(alloc, group.lines.len() as u64)?;
     html.fixed(Tag::Times)?;

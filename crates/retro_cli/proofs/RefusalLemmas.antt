@@ -6,7 +6,7 @@ use Rattle.retro_redo.specs.declared.repair_fault.RepairFault.{RepairFault}
 use Rattle.retro_redo.specs.declared.repair_fault.RepairFault.TheVariants.{TwoEdits, NoSuchLine, NoCut, TooManyWorkers}
 use Rattle.retro_redo.specs.declared.repair_fault.RepairFault.TheVariants.{BeforeCheckpoint, OutOfMemory}
 use Rattle.retro_rounds.specs.Refusals.{IsAccepted, IsRefusal}
-use Rattle.retro_rounds.specs.declared.request.TheConstants.{MAX_WORKERS}
+use Rattle.retro_rounds.specs.declared.rounds_request.TheConstants.{MAX_WORKERS}
 use Rattle.retro_cli.specs.Program.{repair_refusal}
 use Rattle.retro_cli.specs.Words.{RepairOptions}
 use Rattle.retro_cli.specs.inner.Stop.{Refuses, stop_of_repair}

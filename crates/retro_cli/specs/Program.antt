@@ -21,7 +21,7 @@ use Rattle.retro_redo.specs.Settled.{AreSettled}
 use Rattle.retro_redo.specs.declared.repair.Repair.{Repair}
 use Rattle.retro_redo.specs.declared.repair_fault.RepairFault.TheVariants.{NoCut, TooManyWorkers}
 use Rattle.retro_rounds.specs.Refusals.{are_cuts}
-use Rattle.retro_rounds.specs.declared.request.TheConstants.{MAX_WORKERS}
+use Rattle.retro_rounds.specs.declared.rounds_request.TheConstants.{MAX_WORKERS}
 use Rattle.retro_log.specs.Document.{script_in, log_in}
 use Rattle.retro_log.specs.LogText.{log_text}
 use Rattle.retro_json.specs.NoNul.{recording_without_nul}

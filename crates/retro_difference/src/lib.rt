@@ -6,7 +6,7 @@
 //! ([`LineRun`]), whatever notes the recorded and the repaired state go on by.
 //!
 //! The cells with their values are an overlay. It is exact if it has entries for exactly the cells
-//! in which the states differ, each with the repaired value. [`Combined`] is a view of a combined
+//! in which the states differ, each with the repaired value. [`CombinedView`] is a view of a combined
 //! state: an overlay on the state of another view. [`equiv`] says whether notes hold in the repaired
 //! state.
 //!
@@ -25,13 +25,13 @@
 //! - `next` and `is_used_at` say which line uses one of the cells next, and `numbers_until` which
 //!   lines do so up to a number (`specs/NextUses.antt`). That a line uses one of the cells exactly
 //!   if it is met by the two states is proved where the states are known, in `retro_redo`.
-//! - A `Combined` answers as the state that an overlay makes of a view's. `equiv` is true exactly
+//! - A `CombinedView` answers as the state that an overlay makes of a view's. `equiv` is true exactly
 //!   if notes hold in the state that an exact overlay makes of a view's.
 #![tactic(auto)]
 
 mod advancing;
 mod bytes;
-mod combined;
+mod combined_view;
 mod decision;
 mod difference;
 mod grown_ref;
@@ -45,6 +45,6 @@ mod write;
 mod write_map;
 mod writing;
 
-pub use combined::{Combined, equiv};
+pub use combined_view::{CombinedView, equiv};
 pub use difference::Difference;
 pub use line_run::LineRun;

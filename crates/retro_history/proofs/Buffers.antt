@@ -11,15 +11,15 @@ use Rattle.retro_tree.specs.declared.value_ref.ValueRef.{ValueRef}
 use Rattle.retro_history.specs.inner.Tracks.{TrackValue, version_grown}
 use Rattle.retro_history.specs.inner.Version.{place_value, version_value, IsWithin, EndsAt}
 use Rattle.retro_history.specs.inner.Version.{AreWithin, RangesFit}
-use Rattle.retro_history.specs.declared.place.Place.{Place}
-use Rattle.retro_history.specs.declared.place.Place.TheVariants.{Borrowed, Buffer}
+use Rattle.retro_history.specs.declared.place.ValuePlace.{ValuePlace}
+use Rattle.retro_history.specs.declared.place.ValuePlace.TheVariants.{Borrowed, Buffer}
 use Rattle.retro_history.specs.declared.version.Version.{Version}
 
-pub end_within : (n : ℕ) (s : Place) → EndsAt n s → IsWithin n s
+pub end_within : (n : ℕ) (s : ValuePlace) → EndsAt n s → IsWithin n s
 end_within n (Borrowed v) h = tt
 end_within n (Buffer span) h = (h.0, omega (arith, h.1))
 
-within_more : (n m : ℕ) (s : Place) → n ≤ m → IsWithin n s → IsWithin m s
+within_more : (n m : ℕ) (s : ValuePlace) → n ≤ m → IsWithin n s → IsWithin m s
 within_more n m (Borrowed v) le h = tt
 within_more n m (Buffer span) le h = (h.0, omega (arith, h.1))
 
@@ -48,7 +48,7 @@ range_kept old new s e kept le within =
     ∙ ap (take (e - s))
     (sym (drop-take s rest new) ∙ ap (λ n. drop s (take n new)) whole ∙ ap (drop s) kept)
 
-pub value_kept : (old new : List ℕ) (s : Place) → take (length old) new ≡ old → IsWithin (length old) s
+pub value_kept : (old new : List ℕ) (s : ValuePlace) → take (length old) new ≡ old → IsWithin (length old) s
     → place_value new s ≡ place_value old s
 value_kept old new (Borrowed v) kept h = refl
 value_kept old new (Buffer span) kept h =
@@ -96,11 +96,11 @@ pub whole_fits : (es : List Version) (last : Version) (buffer : List ℕ) (n : �
 whole_fits es last buffer n v h = record { earlier = h.earlier; last = tt }
 
 -- a version with its value at another place
-abbrev pub with_place : Place → Version → Version
+abbrev pub with_place : ValuePlace → Version → Version
 with_place s v = record { number = v.number; checkpoint = v.checkpoint; growths = v.growths; place = s }
 
 -- the versions after the last one is extended
-pub extended_track : (es : List Version) (last : Version) (s : Place) (old new more : List ℕ)
+pub extended_track : (es : List Version) (last : Version) (s : ValuePlace) (old new more : List ℕ)
     → RangesFit es last old → take (length old) new ≡ old
     → place_value new s ≡ value_grown more (place_value old last.place)
     → ◌≡◌ {A = TrackValue}

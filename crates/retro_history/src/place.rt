@@ -7,7 +7,7 @@ use retro_tree::{NoMem, ValueRef};
 
 /// Where the value of a version is stored.
 #[derive(Clone, Copy)]
-pub(crate) enum Place<'a> {
+pub(crate) enum ValuePlace<'a> {
     /// In the recording.
     Borrowed(ValueRef<'a>),
     /// In the buffer of the track: a file that has grown.
@@ -23,12 +23,12 @@ pub(crate) struct Span {
     pub(crate) end: usize,
 }
 
-impl<'a> Place<'a> {
+impl<'a> ValuePlace<'a> {
     /// Appends bytes to the value and returns its new place. A file in the recording is first
     /// copied to the end of the buffer. A file in the buffer must end where the buffer ends. A
     /// value that can't grow is returned unchanged. The buffer keeps the bytes that it has, also if
     /// allocation fails.
-    pub(crate) fn extend(self, buffer: &mut Vec<u8>, more: &[u8]) -> Result<Place<'a>, NoMem>
+    pub(crate) fn extend(self, buffer: &mut Vec<u8>, more: &[u8]) -> Result<ValuePlace<'a>, NoMem>
         requires { EndsAt (length buffer.old.items) self }
         ensures value { IfOk result (λ new. place_value buffer.new.items new
             ≡ value_grown more.now (place_value buffer.old.items self.entry)) }
@@ -37,17 +37,17 @@ impl<'a> Place<'a> {
         ensures err { OnErr result (EndsAt (length buffer.new.items) self.entry) }
     {
         let start = match self {
-            Place::Borrowed(ValueRef::Missing) => buffer.len(),
-            Place::Borrowed(ValueRef::File(bytes)) => {
+            ValuePlace::Borrowed(ValueRef::Missing) => buffer.len(),
+            ValuePlace::Borrowed(ValueRef::File(bytes)) => {
                 let start = buffer.len();
                 buffer.extend_from_slice(bytes)?;
                 start
             }
-            Place::Buffer(span) => span.start,
-            Place::Borrowed(_) => return Ok(self),
+            ValuePlace::Buffer(span) => span.start,
+            ValuePlace::Borrowed(_) => return Ok(self),
         };
         buffer.extend_from_slice(more)?;
-        Ok(Place::Buffer(Span {
+        Ok(ValuePlace::Buffer(Span {
             start,
             end: buffer.len(),
         }))

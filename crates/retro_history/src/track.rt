@@ -10,7 +10,7 @@ ghost use Rattle.retro_history.specs.inner.Tracks.{version_grown, version_of_lin
 ghost use Rattle.retro_tree.specs.declared.value.Value.TheVariants.{Node as NodeValue};
 ghost use Rattle.retro_history.specs.inner.History.{version_parts, version_ref_parts};
 
-use crate::place::Place;
+use crate::place::ValuePlace;
 use crate::version::Version;
 use crate::version_ref::VersionRef;
 use retro_tree::{Change, NoMem, Node, ValueRef};
@@ -58,7 +58,7 @@ impl<'a> Track<'a> {
                 number: 0,
                 checkpoint: 0,
                 growths: 0,
-                place: Place::Borrowed(first),
+                place: ValuePlace::Borrowed(first),
             },
             buffer: Vec::new(alloc),
         }
@@ -104,7 +104,7 @@ impl<'a> Track<'a> {
             number,
             checkpoint: number,
             growths: 0,
-            place: Place::Borrowed(value),
+            place: ValuePlace::Borrowed(value),
         };
         Ok(())
     }

@@ -4,7 +4,7 @@ ghost use Rattle.retro_history.specs.inner.Tracks.{next_version};
 ghost use Rattle.retro_history.specs.inner.Version.{IsWithin, version_value};
 ghost use Rattle.retro_history.specs.inner.History.{version_parts, version_ref_parts};
 
-use crate::place::Place;
+use crate::place::ValuePlace;
 use crate::version_ref::VersionRef;
 use retro_tree::ValueRef;
 
@@ -21,7 +21,7 @@ pub(crate) struct Version<'a> {
     /// How many growths lead from that checkpoint to this version. A checkpoint has 0.
     pub(crate) growths: u8,
     /// Where the value is stored.
-    pub(crate) place: Place<'a>,
+    pub(crate) place: ValuePlace<'a>,
 }
 
 impl<'a> Version<'a> {
@@ -48,8 +48,8 @@ impl<'a> Version<'a> {
         ensures { version_ref_parts result ≡ version_parts (version_value buffer.now self.entry) }
     {
         let value = match self.place {
-            Place::Borrowed(value) => value,
-            Place::Buffer(span) => ValueRef::File(&buffer[span.start..span.end]),
+            ValuePlace::Borrowed(value) => value,
+            ValuePlace::Buffer(span) => ValueRef::File(&buffer[span.start..span.end]),
         };
         VersionRef {
             checkpoint: self.checkpoint,

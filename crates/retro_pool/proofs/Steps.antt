@@ -8,8 +8,8 @@ use Rattle.crossbeam_deque.specs.Tasks.{Pushes, Takes, Finds, Forks, Merges, Lea
 use Rattle.crossbeam_deque.proofs.Lists.{at_set}
 use Rattle.std.proofs.lemmas.List.{length-map}
 use Rattle.std.proofs.lemmas.Bool.{ne_eqb}
-use Rattle.retro_pool.specs.declared.known.Known.{Known}
-use Rattle.retro_pool.specs.declared.known.Returned.{Returned}
+use Rattle.retro_pool.specs.declared.seat_knowledge.SeatKnowledge.{SeatKnowledge}
+use Rattle.retro_pool.specs.declared.seat_knowledge.Returned.{Returned}
 use Rattle.std.specs.List.{AllByRecursion}
 use Rattle.retro_pool.specs.Turns.{Turn, jobs_of, taken_by}
 use Rattle.retro_pool.specs.inner.Rule.{FollowsRule, IsSeated, IsOwner, HasReturned, AreApart, Sees}
@@ -19,28 +19,28 @@ use Rattle.retro_pool.proofs.Counts.{all_map, all_snoc, jobs_of_snoc, taken_by_s
 use Rattle.retro_pool.proofs.Counts.{taken_by_short, taken_by_none, taken_by_alone}
 
 abbrev Views : Type 0
-Views = List Known
+Views = List SeatKnowledge
 
 -- two passes of one seat are one pass
 one_port : (port_of : ℕ → Option ℕ) (a b i j : ℕ) → port_of a ≡ some i → port_of b ≡ some j → a ≡ b → i ≡ j
 one_port port_of a b i j p q e = some-injective i j (sym p ∙ ap port_of e ∙ q)
 
 -- what holds of the view put in, and of the others, holds of all
-each_set : (F : ℕ → Known → Type 0) (views : Views) (port : ℕ) (w : Known) → F port w
-    → ((j : ℕ) (u : Known) → j ≢ port → get_elem? views j ≡ some u → F j u)
-    → (j : ℕ) (u : Known) → get_elem? (set views port w) j ≡ some u → F j u
+each_set : (F : ℕ → SeatKnowledge → Type 0) (views : Views) (port : ℕ) (w : SeatKnowledge) → F port w
+    → ((j : ℕ) (u : SeatKnowledge) → j ≢ port → get_elem? views j ≡ some u → F j u)
+    → (j : ℕ) (u : SeatKnowledge) → get_elem? (set views port w) j ≡ some u → F j u
 each_set F views port w mine others j u e = ⊎_elim
-    (λ (x : (j ≡ port) × (w ≡ u)). subst (λ (y : ℕ × Known). F y.0 y.1) (λ i. (sym x.0 i, x.1 i)) mine)
+    (λ (x : (j ≡ port) × (w ≡ u)). subst (λ (y : ℕ × SeatKnowledge). F y.0 y.1) (λ i. (sym x.0 i, x.1 i)) mine)
     (λ (x : (j ≢ port) × (get_elem? views j ≡ some u)). others j u x.0 x.1) (at_set views port j w u e)
 
 -- the one view there is
-only : (F : ℕ → Known → Type 0) (a : Known) → F 0 a → (j : ℕ) (u : Known) → get_elem? (a ∷ []) j ≡ some u → F j u
+only : (F : ℕ → SeatKnowledge → Type 0) (a : SeatKnowledge) → F 0 a → (j : ℕ) (u : SeatKnowledge) → get_elem? (a ∷ []) j ≡ some u → F j u
 only F a f zero u e = subst (F 0) (some-injective a u e) f
 only F a f (suc j) u e = absurd (some-ne-none u (sym e))
 
 -- what holds of each view, and of one more at the end, holds of all
-each_snoc : (F : ℕ → Known → Type 0) (views : Views) (w : Known)
-    → ((j : ℕ) (u : Known) → get_elem? views j ≡ some u → F j u) → F (length views) w → (j : ℕ) (u : Known)
+each_snoc : (F : ℕ → SeatKnowledge → Type 0) (views : Views) (w : SeatKnowledge)
+    → ((j : ℕ) (u : SeatKnowledge) → get_elem? views j ≡ some u → F j u) → F (length views) w → (j : ℕ) (u : SeatKnowledge)
     → get_elem? (views ++ w ∷ []) j ≡ some u → F j u
 each_snoc F [] w old new j u e = only F w new j u e
 each_snoc F (v ∷ vs) w old new zero u e = old zero u e
@@ -63,10 +63,10 @@ begins = record {
       (λ _. record { live = refl; first = refl; seats_is = refl; dealt_is = refl; back_is = tt; apart = tt });
 }
 
-pub deals : (port : ℕ) (v : Known) (x : ℕ) → v.live ≡ true → v.owns ≡ true → length v.dealt < v.room
+pub deals : (port : ℕ) (v : SeatKnowledge) (x : ℕ) → v.live ≡ true → v.owns ≡ true → length v.dealt < v.room
     → Pushes FollowsRule port v (x ∷ []) (λ w. w ≡ dealt_more v (x ∷ []))
 deals port v x live own free items views h at =
-    let w : Known = dealt_more v (x ∷ []) in let me = h.sits port v at live in let mine = h.owns port v at own in (
+    let w : SeatKnowledge = dealt_more v (x ∷ []) in let me = h.sits port v at live in let mine = h.owns port v at own in (
       w,
       record {
         turns = h.turns;
@@ -98,12 +98,12 @@ deals port v x live own free items views h at =
     )
 
 -- a job that any seat takes
-pub takes : (port : ℕ) (v : Known) → v.live ≡ true
+pub takes : (port : ℕ) (v : SeatKnowledge) → v.live ≡ true
     → Takes FollowsRule port v 1 (λ xs w. (w ≡ taken_more v xs) × (length w.taken ≤ v.room))
 takes port v live [] items views some_left few h at = absurd (omega arith)
 takes port v live (x ∷ y ∷ ys) items views some_left few h at = absurd (omega arith)
 takes port v live (x ∷ []) items views some_left few h at =
-    let w : Known = taken_more v (x ∷ []) in
+    let w : SeatKnowledge = taken_more v (x ∷ []) in
     let me = h.sits port v at live in
     let turns : List Turn = h.turns ++ (v.seat, x) ∷ [] in
     let line : h.dealt ≡ jobs_of turns ++ items = h.line
@@ -113,10 +113,10 @@ takes port v live (x ∷ []) items views some_left few h at =
     ∙ sym (taken_by_same v.seat h.turns x) in
     let else : (s : ℕ) → s ≢ v.seat → taken_by s turns ≡ taken_by s h.turns =
     λ s n. taken_by_other s h.turns v.seat x (λ e. n (sym e)) in
-    let apart : (j : ℕ) (u : Known) → j ≢ port → get_elem? views j ≡ some u → u.live ≡ true
+    let apart : (j : ℕ) (u : SeatKnowledge) → j ≢ port → get_elem? views j ≡ some u → u.live ≡ true
     → u.seat ≢ v.seat = λ j u other e l same. other
     (one_port h.port_of u.seat v.seat j port (h.sits j u e l).at me.at same) in
-    let owned : (u : Known) → IsOwner h.turns h.dealt h.seats h.port_of u
+    let owned : (u : SeatKnowledge) → IsOwner h.turns h.dealt h.seats h.port_of u
     → IsOwner turns h.dealt h.seats h.port_of u = λ u o. record {
       live = o.live;
       first = o.first;
@@ -181,17 +181,17 @@ takes port v live (x ∷ []) items views some_left few h at =
     )
 
 -- the room is fixed before anything is dealt
-pub opens : (room port : ℕ) (v : Known) → v ≡ owner 1 0 [] [] []
+pub opens : (room port : ℕ) (v : SeatKnowledge) → v ≡ owner 1 0 [] [] []
     → Forks FollowsRule port v (owner v.seats room v.dealt v.taken v.back) nobody
 opens room port v is items views h at =
-    let live : v.live ≡ true = ap (λ (u : Known). u.live) is in
-    let own : v.owns ≡ true = ap (λ (u : Known). u.owns) is in
-    let w : Known = owner v.seats room v.dealt v.taken v.back in
+    let live : v.live ≡ true = ap (λ (u : SeatKnowledge). u.live) is in
+    let own : v.owns ≡ true = ap (λ (u : SeatKnowledge). u.owns) is in
+    let w : SeatKnowledge = owner v.seats room v.dealt v.taken v.back in
     let me = h.sits port v at live in
     let mine = h.owns port v at own in
-    let one : h.seats ≡ 1 = sym mine.seats_is ∙ ap (λ (u : Known). u.seats) is in
-    let none_dealt : h.dealt ≡ [] = sym mine.dealt_is ∙ ap (λ (u : Known). u.dealt) is in
-    let alone : (j : ℕ) (u : Known) → get_elem? views j ≡ some u → u.live ≡ true
+    let one : h.seats ≡ 1 = sym mine.seats_is ∙ ap (λ (u : SeatKnowledge). u.seats) is in
+    let none_dealt : h.dealt ≡ [] = sym mine.dealt_is ∙ ap (λ (u : SeatKnowledge). u.dealt) is in
+    let alone : (j : ℕ) (u : SeatKnowledge) → get_elem? views j ≡ some u → u.live ≡ true
     → j ≡ port = λ j u e l. let s = h.sits j u e l in
     one_port h.port_of u.seat v.seat j port s.at me.at (omega (arith, s.within, me.within, one)) in record {
       turns = h.turns;
@@ -230,11 +230,11 @@ opens room port v is items views h at =
     }
 
 -- a seat for one thief more
-pub seats_one : (port : ℕ) (v : Known) → v.live ≡ true → v.owns ≡ true
+pub seats_one : (port : ℕ) (v : SeatKnowledge) → v.live ≡ true → v.owns ≡ true
     → Forks FollowsRule port v (one_seat_more v) (thief v.seats v.room [])
 seats_one port v live own items views h at =
-    let w : Known = one_seat_more v in
-    let new : Known = thief v.seats v.room [] in
+    let w : SeatKnowledge = one_seat_more v in
+    let new : SeatKnowledge = thief v.seats v.room [] in
     let vs : Views = set views port w in
     let me = h.sits port v at live in
     let mine = h.owns port v at own in
@@ -243,9 +243,9 @@ seats_one port v live own items views h at =
     λ s lt. ap (λ b. cond b (some (length vs)) (h.port_of s)) (ne_eqb s h.seats (λ e. absurd (omega arith))) in
     let here : port_of v.seats ≡ some (length vs) =
     ap (λ b. cond b (some (length vs)) (h.port_of v.seats)) (eq-eqb v.seats h.seats mine.seats_is) in
-    let S : ℕ → Known → Type 0 = λ j u. u.live ≡ true → IsSeated h.turns (h.seats + 1) h.room port_of j u in
-    let O : ℕ → Known → Type 0 = λ j u. u.owns ≡ true → IsOwner h.turns h.dealt (h.seats + 1) port_of u in
-    let back : (u : Known) → AllByRecursion (HasReturned h.turns h.seats h.port_of) u.back
+    let S : ℕ → SeatKnowledge → Type 0 = λ j u. u.live ≡ true → IsSeated h.turns (h.seats + 1) h.room port_of j u in
+    let O : ℕ → SeatKnowledge → Type 0 = λ j u. u.owns ≡ true → IsOwner h.turns h.dealt (h.seats + 1) port_of u in
+    let back : (u : SeatKnowledge) → AllByRecursion (HasReturned h.turns h.seats h.port_of) u.back
     → AllByRecursion (HasReturned h.turns (h.seats + 1) port_of) u.back = λ u.
     all_map (HasReturned h.turns h.seats h.port_of) (HasReturned h.turns (h.seats + 1) port_of) u.back
     (λ b l. record {
@@ -309,10 +309,10 @@ apart_snoc [] k a n = (tt, tt)
 apart_snoc (x ∷ xs) k a n = (all_snoc (λ (y : Returned). x.seat ≢ y.seat) xs k a.0 n.0, apart_snoc xs k a.1 n.1)
 
 -- a thief's list is known to the owner, and its pass is spent
-pub takes_in : (port : ℕ) (v : Known) (other : ℕ) (w : Known) → v.live ≡ true → v.owns ≡ true
+pub takes_in : (port : ℕ) (v : SeatKnowledge) (other : ℕ) (w : SeatKnowledge) → v.live ≡ true → v.owns ≡ true
     → w.live ≡ true → Merges FollowsRule port v other w (one_more_back v w) nobody
 takes_in port v other w live own theirs items views h at two at' =
-    let both : Known = one_more_back v w in
+    let both : SeatKnowledge = one_more_back v w in
     let vs : Views = set views port both in
     let me = h.sits port v at live in
     let mine = h.owns port v at own in
@@ -323,7 +323,7 @@ takes_in port v other w live own theirs items views h at two at' =
     let else : (s : ℕ) → s ≢ w.seat → port_of s ≡ h.port_of s =
     λ s n. ap (λ b. cond b none (h.port_of s)) (ne_eqb s w.seat n) in
     let gone : port_of w.seat ≡ none = ap (λ b. cond b none (h.port_of w.seat)) (eq-eqb w.seat w.seat refl) in
-    let apart : (j : ℕ) (u : Known) → j ≢ other → get_elem? views j ≡ some u → u.live ≡ true
+    let apart : (j : ℕ) (u : SeatKnowledge) → j ≢ other → get_elem? views j ≡ some u → u.live ≡ true
     → u.seat ≢ w.seat = λ j u n e l same. n (one_port h.port_of u.seat w.seat j other
     (h.sits j u e l).at its.at same) in
     let mine_apart : v.seat ≢ w.seat = apart port v (λ e. two (sym e)) at live in
@@ -337,10 +337,10 @@ takes_in port v other w live own theirs items views h at two at' =
     } in
     let fresh : (b : Returned) → HasReturned h.turns h.seats h.port_of b
     → b.seat ≢ w.seat = λ b l same. some-ne-none other (sym its.at ∙ (ap h.port_of (sym same) ∙ l.gone)) in
-    let S : ℕ → Known → Type 0 = λ j u. u.live ≡ true → IsSeated h.turns h.seats h.room port_of j u in
-    let O : ℕ → Known → Type 0 = λ j u. u.owns ≡ true → IsOwner h.turns h.dealt h.seats port_of u in
-    let S' : ℕ → Known → Type 0 = λ j u. j ≢ other → S j u in
-    let sat : (j : ℕ) (u : Known) → get_elem? vs j ≡ some u → S' j u = each_set S' views port both
+    let S : ℕ → SeatKnowledge → Type 0 = λ j u. u.live ≡ true → IsSeated h.turns h.seats h.room port_of j u in
+    let O : ℕ → SeatKnowledge → Type 0 = λ j u. u.owns ≡ true → IsOwner h.turns h.dealt h.seats port_of u in
+    let S' : ℕ → SeatKnowledge → Type 0 = λ j u. j ≢ other → S j u in
+    let sat : (j : ℕ) (u : SeatKnowledge) → get_elem? vs j ≡ some u → S' j u = each_set S' views port both
     (λ _ _. record {
       at = else v.seat mine_apart ∙ me.at;
       within = me.within;
@@ -355,7 +355,7 @@ takes_in port v other w live own theirs items views h at two at' =
       room_is = s.room_is;
       taken_is = s.taken_is;
     }) in
-    let owned : (j : ℕ) (u : Known) → get_elem? vs j ≡ some u → O j u = each_set O views port both
+    let owned : (j : ℕ) (u : SeatKnowledge) → get_elem? vs j ≡ some u → O j u = each_set O views port both
     (λ _. record {
       live = live;
       first = mine.first;
@@ -384,7 +384,7 @@ takes_in port v other w live own theirs items views h at two at' =
       owns = each_set O vs other nobody (λ o. absurd (true≢false (sym o))) (λ j u n e. owned j u e);
     }
 
-pub looks : (port : ℕ) (v : Known) → v.live ≡ true → v.owns ≡ true → Learns FollowsRule port v (Sees v)
+pub looks : (port : ℕ) (v : SeatKnowledge) → v.live ≡ true → v.owns ≡ true → Learns FollowsRule port v (Sees v)
 looks port v live own items views h at =
     let me = h.sits port v at live in
     let mine = h.owns port v at own in record {
@@ -404,7 +404,7 @@ looks port v live own items views h at =
     }
 
 -- where there is one seat, it has taken all that was dealt once the deque is empty
-pub finds : (port : ℕ) (v : Known) → v.live ≡ true → v.owns ≡ true
+pub finds : (port : ℕ) (v : SeatKnowledge) → v.live ≡ true → v.owns ≡ true
     → Finds FollowsRule port v (v.seats ≡ 1 → v.taken ≡ v.dealt)
 finds port v live own views h at = λ one.
     let me = h.sits port v at live in

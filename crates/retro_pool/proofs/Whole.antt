@@ -7,8 +7,8 @@ use Rattle.std.specs.List.{IsDistinct, AllByRecursion, list_any}
 use Rattle.std.proofs.lemmas.List.{length-map, get_or-set_other, get_or-set_same}
 use Rattle.std.proofs.lemmas.Bool.Decides.{eqb_tells}
 use Rattle.std.proofs.lemmas.Map.Steps.{length-le_from_distinct_below}
-use Rattle.retro_pool.specs.declared.known.Known.{Known}
-use Rattle.retro_pool.specs.declared.known.Returned.{Returned}
+use Rattle.retro_pool.specs.declared.seat_knowledge.SeatKnowledge.{SeatKnowledge}
+use Rattle.retro_pool.specs.declared.seat_knowledge.Returned.{Returned}
 use Rattle.retro_pool.specs.Turns.{Turn, jobs_of, taken_by, IsShared}
 use Rattle.retro_pool.specs.inner.Rule.{AreApart, Sees, ArePlaced, returned, thief, one_more_back}
 use Rattle.retro_pool.specs.Seats.{OwnerValue, ThiefValue, all_taken, IsSettled}
@@ -115,7 +115,7 @@ empty : (items : List ℕ) → length items ≡ 0 → items ≡ []
 empty [] e = refl
 empty (x ∷ xs) e = absurd (omega arith)
 
-pub whole : (v : Known) (items : List ℕ) (lists : List (List ℕ)) → Sees v items → ArePlaced v lists
+pub whole : (v : SeatKnowledge) (items : List ℕ) (lists : List (List ℕ)) → Sees v items → ArePlaced v lists
     → length v.back + 1 ≡ v.seats → length v.taken + held v.back ≡ length v.dealt
     → IsShared v.seats v.dealt (λ s. slice_index_or lists s [])
 unfolding IsDistinct
@@ -182,7 +182,7 @@ apart_last [] k a = tt
 apart_last (h ∷ hs) k a = (all_last (λ (x : Returned). h.seat ≢ x.seat) hs k a.0, apart_last hs k a.1)
 
 -- a list that came back is put into its place
-pub placed_more : (v w : Known) (k : Returned) (items : List ℕ) (lists : List (List ℕ)) → ArePlaced v lists
+pub placed_more : (v w : SeatKnowledge) (k : Returned) (items : List ℕ) (lists : List (List ℕ)) → ArePlaced v lists
     → Sees w items → w.live ≡ true → w.owns ≡ true → w.seats ≡ v.seats → w.taken ≡ v.taken
     → w.back ≡ v.back ++ k ∷ [] → ArePlaced w (set lists k.seat k.taken)
 placed_more v w k items lists p sees live owns seats taken more =
@@ -206,7 +206,7 @@ placed_more v w k items lists p sees live owns seats taken more =
           (get_or-set_same lists k.seat k.taken [] inside));
     }
 
-pub within : (v w : Known) (k : Returned) (items : List ℕ) → Sees w items → w.back ≡ v.back ++ k ∷ []
+pub within : (v w : SeatKnowledge) (k : Returned) (items : List ℕ) → Sees w items → w.back ≡ v.back ++ k ∷ []
     → k.seat < w.seats
 within v w k items sees more = (all_last (λ (h : Returned). (0 < h.seat) × (h.seat < w.seats)
     × (h.taken ≡ taken_by h.seat sees.turns)) v.back k
@@ -214,23 +214,23 @@ within v w k items sees more = (all_last (λ (h : Returned). (0 < h.seat) × (h.
     × (h.taken ≡ taken_by h.seat sees.turns)) l) more sees.back_is)).1
 
 -- the same, over the steps of the code
-pub comes_in : (v a l p : Known) (number room : ℕ) (taken items : List ℕ) (lists : List (List ℕ))
+pub comes_in : (v a l p : SeatKnowledge) (number room : ℕ) (taken items : List ℕ) (lists : List (List ℕ))
     → ArePlaced v lists → a ≡ one_more_back v p → l ≡ a → p ≡ thief number room taken → Sees a items
     → (number < length lists) × ArePlaced l (set lists number taken)
 comes_in v a l p number room taken items lists placed joined same is sees =
     let k : Returned = returned number taken in
-    let more : a.back ≡ v.back ++ k ∷ [] = ap (λ (x : Known). x.back) joined
-    ∙ ap (λ (q : Known). v.back ++ returned q.seat q.taken ∷ []) is in
-    let seats : a.seats ≡ v.seats = ap (λ (x : Known). x.seats) joined in
+    let more : a.back ≡ v.back ++ k ∷ [] = ap (λ (x : SeatKnowledge). x.back) joined
+    ∙ ap (λ (q : SeatKnowledge). v.back ++ returned q.seat q.taken ∷ []) is in
+    let seats : a.seats ≡ v.seats = ap (λ (x : SeatKnowledge). x.seats) joined in
     let lt = within v a k items sees more in (
       omega (arith, lt, seats, placed.count),
-      subst (λ (x : Known). ArePlaced x (set lists number taken)) (sym same)
-          (placed_more v a k items lists placed sees (ap (λ (x : Known). x.live) joined
-          ∙ placed.live) (ap (λ (x : Known). x.owns) joined ∙ placed.owns) seats
-          (ap (λ (x : Known). x.taken) joined) more),
+      subst (λ (x : SeatKnowledge). ArePlaced x (set lists number taken)) (sym same)
+          (placed_more v a k items lists placed sees (ap (λ (x : SeatKnowledge). x.live) joined
+          ∙ placed.live) (ap (λ (x : SeatKnowledge). x.owns) joined ∙ placed.owns) seats
+          (ap (λ (x : SeatKnowledge). x.taken) joined) more),
     )
 
-pub settled : (o : OwnerValue) (ts : List ThiefValue) (v : Known) (items : List ℕ) (lists : List (List ℕ))
+pub settled : (o : OwnerValue) (ts : List ThiefValue) (v : SeatKnowledge) (items : List ℕ) (lists : List (List ℕ))
     → ArePlaced v lists → Sees v items → v.dealt ≡ o.dealt → v.taken ≡ o.taken → v.seats ≡ o.thieves + 1
     → v.back ≡ map (λ (t : ThiefValue). returned t.number t.taken) ts → length ts ≡ o.thieves
     → all_taken o ts ≡ length o.dealt → IsSettled o ts lists

@@ -1,7 +1,7 @@
 pub mod Turns
 pub mod Seats
 pub mod BoardFault
-pub mod Taken
+pub mod TakeOutcome
 pub mod Jobs
 pub mod Guesses
 pub mod Work

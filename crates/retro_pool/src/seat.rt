@@ -1,9 +1,9 @@
 //! Seats from which jobs are taken.
 ghost use Rattle.std.specs.Prelude.{◌≡◌, ℕ, List, [], ◌∷◌, ◌++◌};
-ghost use Rattle.retro_pool.specs.Taken.{IfGot};
+ghost use Rattle.retro_pool.specs.TakeOutcome.{IfGot};
 
 use crate::owner::Owner;
-use crate::taken::Taken;
+use crate::take_outcome::TakeOutcome;
 use crate::thief::Thief;
 
 /// A seat of a board from which jobs are taken.
@@ -15,7 +15,7 @@ pub trait Seat {
     ghost taken: { Self → List ℕ };
 
     /// Takes the first job that is left.
-    fn take(&mut self) -> Taken
+    fn take(&mut self) -> TakeOutcome
         ensures board { board self.new ≡ board self.old }
         ensures taken { IfGot result (λ job. taken self.new ≡ taken self.old ++ job ∷ [])
             (taken self.new ≡ taken self.old) };
@@ -26,7 +26,7 @@ impl Seat for Thief {
 
     ghost taken = { λ t. t.taken };
 
-    fn take(&mut self) -> Taken {
+    fn take(&mut self) -> TakeOutcome {
         self.steal()
     }
 }
@@ -36,10 +36,10 @@ impl Seat for Owner {
 
     ghost taken = { λ o. o.taken };
 
-    fn take(&mut self) -> Taken {
+    fn take(&mut self) -> TakeOutcome {
         match self.next() {
-            Some(job) => Taken::Got(job),
-            None => Taken::Bare,
+            Some(job) => TakeOutcome::Got(job),
+            None => TakeOutcome::Bare,
         }
     }
 }

@@ -3,12 +3,12 @@ ghost use Rattle.std.specs.Prelude.{◌≡◌, ◌+◌, [], ◌∷◌, ◌++◌,
 ghost use Rattle.crossbeam_deque.specs.Handles.{SameWorker, worker_deque, worker_flavor};
 ghost use Rattle.crossbeam_deque.specs.Handles.{worker_index, worker_view};
 ghost use Rattle.retro_pool.specs.Seats.{new_thief};
-ghost use Rattle.retro_pool.specs.Taken.{IfGot};
+ghost use Rattle.retro_pool.specs.TakeOutcome.{IfGot};
 ghost use Rattle.retro_pool.specs.inner.Rule.{owner};
 
 use crate::job::Job;
 use crate::rule::{AddSeat, Queue, QueueEnd, Steal, ThiefPass};
-use crate::taken::Taken;
+use crate::take_outcome::TakeOutcome;
 use retro_tree::NoMem;
 use std::alloc::Global;
 use std::marker::Model;
@@ -77,7 +77,7 @@ impl Thief {
     }
 
     /// Takes the first job that is left. Takes no memory, and doesn't wait.
-    pub fn steal(&mut self) -> Taken
+    pub fn steal(&mut self) -> TakeOutcome
         ensures board { self.new.board ≡ self.old.board }
         ensures number { self.new.number ≡ self.old.number }
         ensures taken { IfGot result (λ job. self.new.taken ≡ self.old.taken ++ job ∷ [])
@@ -89,10 +89,10 @@ impl Thief {
                     Ok(()) => {}
                     Err(_) => unreachable!(),
                 }
-                Taken::Got(Job::new(number))
+                TakeOutcome::Got(Job::new(number))
             }
-            crossbeam_deque::Steal::Empty => Taken::Bare,
-            crossbeam_deque::Steal::Retry => Taken::Busy,
+            crossbeam_deque::Steal::Empty => TakeOutcome::Bare,
+            crossbeam_deque::Steal::Retry => TakeOutcome::Busy,
         }
     }
 }

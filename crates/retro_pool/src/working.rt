@@ -7,7 +7,7 @@ ghost use Rattle.retro_pool.specs.Work.{HasWorked};
 use crate::guess::Guess;
 use crate::job::Job;
 use crate::seat::Seat;
-use crate::taken::Taken;
+use crate::take_outcome::TakeOutcome;
 use retro_redo::{Gate, Ground};
 use std::alloc::Global;
 
@@ -55,9 +55,9 @@ fn take_job<S: Seat>(seat: &mut S) -> Option<Job>
 {
     for _ in 0..MAX_BUSY {
         match seat.take() {
-            Taken::Got(job) => return Some(job),
-            Taken::Bare => return None,
-            Taken::Busy => {}
+            TakeOutcome::Got(job) => return Some(job),
+            TakeOutcome::Bare => return None,
+            TakeOutcome::Busy => {}
         }
     }
     None

@@ -2,7 +2,7 @@
 ghost use Rattle.std.specs.Prelude.{◌≡◌, ◌<◌, ℕ, All, vec_len};
 
 use crate::grounds::{LINES, jobs_of};
-use retro_pool::{Board, BoardFault, Job, Owner, Seat, Taken, Thief, settle};
+use retro_pool::{Board, BoardFault, Job, Owner, Seat, TakeOutcome, Thief, settle};
 use retro_rows::fail;
 use std::test::Fail;
 
@@ -34,9 +34,9 @@ fn steal(thief: &mut Thief) -> Result<u32, &'static str>
 {
     for _ in 0..1000 {
         match thief.take() {
-            Taken::Got(job) => return Ok(job.give_back()),
-            Taken::Bare => return Err("bare"),
-            Taken::Busy => {}
+            TakeOutcome::Got(job) => return Ok(job.give_back()),
+            TakeOutcome::Bare => return Err("bare"),
+            TakeOutcome::Busy => {}
         }
     }
     Err("busy")

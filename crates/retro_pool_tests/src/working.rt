@@ -5,7 +5,7 @@ use crate::boards::deal_all;
 use crate::grounds::{LINES, jobs_of, jobs_on, recording_of, settle_first};
 use retro_history::History;
 use retro_keep::Edit;
-use retro_pool::{Board, Guess, Seat, Taken, Thief, work};
+use retro_pool::{Board, Guess, Seat, TakeOutcome, Thief, work};
 use retro_redo::{Gate, Ground, Quiet, Repairer, Turn};
 use retro_rows::{fail, text, utf8};
 use retro_tree::{NoMem, Text};
@@ -22,8 +22,8 @@ impl Seat for Busy {
 
     ghost taken = { λ _. [] };
 
-    fn take(&mut self) -> Taken {
-        Taken::Busy
+    fn take(&mut self) -> TakeOutcome {
+        TakeOutcome::Busy
     }
 }
 

@@ -4,14 +4,14 @@ ghost use Rattle.retro_tree.specs.Overlay.{Fits, Overlays};
 ghost use Rattle.retro_keep.specs.Recorded.{recorded_before};
 ghost use Rattle.retro_redo.specs.Ground.{shown_at};
 
-use retro_difference::Combined;
+use retro_difference::CombinedView;
 use retro_history::{At, History};
 use retro_keep::{Edits, Recording};
 use retro_tree::Overlay;
 use std::marker::Model;
 
 /// A view of a combined state: the overlay of a repair on the recorded state before a line.
-pub type Shown<'g, 'a> = Combined<'g, At<'g, 'a>>;
+pub type Shown<'g, 'a> = CombinedView<'g, At<'g, 'a>>;
 
 /// What a repair lends for guesses, which are runs of lines ahead of their turns.
 ///
@@ -102,6 +102,6 @@ impl<'g, 'a, 'e> Ground<'g, 'a, 'e> {
         ensures overlays { Overlays self.now.overlay (recorded_before number self.now.recording)
             result }
     {
-        Combined::new(self.history.at(number), self.overlay)
+        CombinedView::new(self.history.at(number), self.overlay)
     }
 }

@@ -8,7 +8,7 @@ use Rattle.retro_redo.specs.Editing.{AreAccepted, edits_of_lines}
 use Rattle.retro_redo.specs.declared.repair_fault.RepairFault.{RepairFault}
 use Rattle.retro_redo.specs.declared.repair_fault.RepairFault.TheVariants.{NoSuchLine, NoCut, TooManyWorkers}
 use Rattle.retro_redo.specs.declared.repair_fault.RepairFault.TheVariants.{TwoEdits, BeforeCheckpoint, OutOfMemory}
-use Rattle.retro_rounds.specs.declared.request.TheConstants.{MAX_WORKERS}
+use Rattle.retro_rounds.specs.declared.rounds_request.TheConstants.{MAX_WORKERS}
 
 -- whether numbers of lines cut a recording into pieces: there is a number, and none is zero
 abbrev pub are_cuts : List ℕ → Bool

@@ -1,5 +1,5 @@
 //! Seats of a round's board.
-use retro_pool::{Owner, Seat, Taken, Thief};
+use retro_pool::{Owner, Seat, TakeOutcome, Thief};
 
 /// The owner's seat or a thief's.
 #[derive(Drop)]
@@ -15,7 +15,7 @@ impl Seat for AnySeat {
 
     ghost taken = { taken_from };
 
-    fn take(&mut self) -> Taken {
+    fn take(&mut self) -> TakeOutcome {
         match self {
             AnySeat::Owner(owner) => owner.take(),
             AnySeat::Thief(thief) => thief.take(),

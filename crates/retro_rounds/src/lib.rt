@@ -38,9 +38,9 @@ mod guesses;
 mod jobs;
 mod pieces;
 mod repairing;
-mod request;
 mod rounds;
+mod rounds_request;
 mod worker;
 
 pub use repairing::repair;
-pub use request::MAX_WORKERS;
+pub use rounds_request::MAX_WORKERS;

@@ -11,8 +11,8 @@ ghost use Rattle.retro_rounds.specs.Tally.{IsTally};
 ghost use Rattle.retro_rounds.specs.inner.Rounds.{IsTallied};
 
 use crate::crew::Crew;
-use crate::request::Request;
 use crate::rounds::Rounds;
+use crate::rounds_request::RoundsRequest;
 use retro_history::History;
 use retro_keep::{Edit, Recording};
 use retro_redo::{Gate, Repair, RepairFault, Repairer, Steps, Tally};
@@ -58,7 +58,7 @@ pub fn repair<R: Threads + Sync, G: Gate + Sync>(
     ensures refused { IfErr result (λ fault.
         IsRefusal workers cuts.now edits.now recording.now fault) }
 {
-    let request = Request {
+    let request = RoundsRequest {
         recording,
         edits,
         cuts,
@@ -77,7 +77,7 @@ pub fn repair<R: Threads + Sync, G: Gate + Sync>(
 fn settle_all<'a, R: Threads + Sync, G: Gate + Sync>(
     rt: &R,
     alloc: Global,
-    request: &Request<'a>,
+    request: &RoundsRequest<'a>,
     gate: &G,
 ) -> Result<(Steps<'a, 'a>, Tally), RepairFault>
     requires cuts { are_cuts request.now.cuts.now ≡ true }

@@ -7,12 +7,12 @@ use Rattle.std.specs.FinMap.{IsAntisymmetric}
 use Rattle.std.specs.declared.cmp.Ordering.{Ordering}
 use Rattle.retro_tree.specs.CellOrder.{cell_exact}
 use Rattle.retro_tree.specs.Order.{path_exact}
-use Rattle.casebook_cause.specs.declared.place.Place.{Place}
-use Rattle.casebook_cause.specs.declared.place.Place.TheVariants as places
-use Rattle.casebook_cause.specs.contracts.place.PlaceOrd.TheImpl as place_ord
-use Rattle.casebook_cause.specs.contracts.place.PlaceOrd.TheImpl.Laws as place_laws
+use Rattle.casebook_cause.specs.declared.place.SearchPlace.{SearchPlace}
+use Rattle.casebook_cause.specs.declared.place.SearchPlace.TheVariants as places
+use Rattle.casebook_cause.specs.contracts.place.SearchPlaceOrd.TheImpl as place_ord
+use Rattle.casebook_cause.specs.contracts.place.SearchPlaceOrd.TheImpl.Laws as place_laws
 
-abbrev pub place_cmp : Place → Place → Ordering
+abbrev pub place_cmp : SearchPlace → SearchPlace → Ordering
 place_cmp = (place_ord.ghosts).cmp
 
 pub place_total : IsTotalOrder place_cmp
@@ -27,7 +27,7 @@ place_exact (places.ChildrenOf p) (places.ChildrenOf q) e = ap places.ChildrenOf
 
 -- a place, and the number of a line
 abbrev pub Entry : Type 0
-Entry = Place × ℕ
+Entry = SearchPlace × ℕ
 
 -- entries are ordered by place, and then by number
 abbrev pub entry_cmp : Entry → Entry → Ordering

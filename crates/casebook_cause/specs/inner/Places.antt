@@ -16,24 +16,24 @@ use Rattle.retro_keep.specs.declared.noted.Noted.{Noted}
 use Rattle.retro_keep.specs.inner.RecordingCode.{coded_recording}
 use Rattle.casebook_cause.specs.Cause.{TwoRecordings, notes_of}
 use Rattle.casebook_cause.specs.LineResult.{changes_in}
-use Rattle.casebook_cause.specs.declared.place.Place.{Place}
-use Rattle.casebook_cause.specs.declared.place.Place.TheVariants as places
+use Rattle.casebook_cause.specs.declared.place.SearchPlace.{SearchPlace}
+use Rattle.casebook_cause.specs.declared.place.SearchPlace.TheVariants as places
 use Rattle.casebook_cause.specs.inner.PlaceOrder.{Entry, entry_cmp}
 
 -- ---- places
 
 -- whether a cell is at a place
-abbrev pub is_at_place : Place → Cell → Bool
+abbrev pub is_at_place : SearchPlace → Cell → Bool
 is_at_place (places.Cell c) d = cell_eq c d
 is_at_place (places.ChildrenOf p) (cells.At q) = is_child p q
 is_at_place (places.ChildrenOf p) _ = false
 
 -- whether notes change a cell at a place
-abbrev pub changes_place : Place → List Note → Bool
+abbrev pub changes_place : SearchPlace → List Note → Bool
 changes_place p notes = list_any (λ x. is_at_place p (cell_of x)) (changes_in notes)
 
 -- the places of the cells on which the answer to a query can depend
-abbrev pub places_for : Ask → List Place
+abbrev pub places_for : Ask → List SearchPlace
 places_for (asks.Kind p) = places.Cell (cells.At p) ∷ []
 places_for (asks.Bytes p) = places.Cell (cells.At p) ∷ []
 places_for (asks.Names p) = places.Cell (cells.At p) ∷ places.ChildrenOf p ∷ []
@@ -46,14 +46,14 @@ places_for (asks.StatusOf sid) = places.Cell (cells.Status sid) ∷ []
 -- ---- the lines at a place
 
 -- whether there is an entry of a line at a place, or at one of some places
-abbrev pub has_line : ℕ → Place → List Entry → Bool
+abbrev pub has_line : ℕ → SearchPlace → List Entry → Bool
 has_line n p entries = list_any (is_at (entry_cmp (p, n))) entries
 
-abbrev pub has_line_in : List Place → List Entry → ℕ → Bool
+abbrev pub has_line_in : List SearchPlace → List Entry → ℕ → Bool
 has_line_in ps entries n = list_any (λ p. has_line n p entries) ps
 
 -- the last line at a place below a number, or None if there is none
-abbrev pub IsLastOf : Place → ℕ → List Entry → Option ℕ → Type 0
+abbrev pub IsLastOf : SearchPlace → ℕ → List Entry → Option ℕ → Type 0
 IsLastOf p n entries None = (k : ℕ) → k < n → has_line k p entries ≡ false
 IsLastOf p n entries (Some m) =
     (m < n) × (has_line m p entries ≡ true) × ((k : ℕ) → k < n → has_line k p entries ≡ true → k ≤ m)
@@ -64,7 +64,7 @@ IsLastOf p n entries (Some m) =
 -- notes.
 abbrev pub HasEntries : ℕ → List Note → List Note → List Entry → Type 0
 HasEntries n notes others entries =
-    (p : Place) → changes_place p notes ≡ true
+    (p : SearchPlace) → changes_place p notes ≡ true
     → (has_line n p entries ≡ true) ⊎ (changes_in notes ≡ changes_in others)
 
 -- the notes of the line with a number; none if no line has the number

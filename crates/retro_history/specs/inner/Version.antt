@@ -5,12 +5,12 @@ use Rattle.retro_tree.specs.declared.value.Value.TheVariants as values
 use Rattle.retro_tree.specs.declared.node.Node.TheVariants as nodes
 use Rattle.retro_tree.specs.ValueRef.{ref_value}
 use Rattle.retro_history.specs.inner.Tracks.{VersionValue}
-use Rattle.retro_history.specs.declared.place.Place.{Place}
-use Rattle.retro_history.specs.declared.place.Place.TheVariants.{Borrowed, Buffer}
+use Rattle.retro_history.specs.declared.place.ValuePlace.{ValuePlace}
+use Rattle.retro_history.specs.declared.place.ValuePlace.TheVariants.{Borrowed, Buffer}
 use Rattle.retro_history.specs.declared.version.Version.{Version}
 
 -- the value at a place
-abbrev pub place_value : List ℕ → Place → Value
+abbrev pub place_value : List ℕ → ValuePlace → Value
 place_value buffer (Borrowed v) = ref_value v
 place_value buffer (Buffer span) =
     values.Node (nodes.File (take (span.end - span.start) (drop span.start buffer)))
@@ -25,12 +25,12 @@ version_value buffer v = record {
 }
 
 -- a range is within the first n bytes of a buffer
-abbrev pub IsWithin : ℕ → Place → Type 0
+abbrev pub IsWithin : ℕ → ValuePlace → Type 0
 IsWithin n (Borrowed v) = Unit {0}
 IsWithin n (Buffer span) = (span.start ≤ span.end) × (span.end ≤ n)
 
 -- a range ends where the n bytes of a buffer end
-abbrev pub EndsAt : ℕ → Place → Type 0
+abbrev pub EndsAt : ℕ → ValuePlace → Type 0
 EndsAt n (Borrowed v) = Unit {0}
 EndsAt n (Buffer span) = (span.start ≤ span.end) × (span.end ≡ n)
 

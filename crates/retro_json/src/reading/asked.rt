@@ -4,6 +4,7 @@ ghost use Rattle.retro_value.specs.Borrowed.{value_data};
 ghost use Rattle.retro_json.specs.NotesPart.{bytes_cells, can_write_cells, cwd_cells, kind_cells};
 ghost use Rattle.retro_json.specs.NotesPart.{names_cells, status_cells, user_note_cells, var_cells};
 
+use crate::accepted;
 use crate::fault::{Part, Refusal};
 use crate::reading::fields::{
     kind_field, listing_field, node_field, or_null, path_field, permit_field, text_field,
@@ -19,42 +20,34 @@ use std::alloc::Global;
 pub fn kind_note(alloc: Global, rest: &[Value<'_>]) -> Result<OrRefusal<Note>, NoMem>
     ensures { IfOk result (λ note. note ≡ kind_cells (map value_data rest.now)) }
 {
-    match rest {
-        [path, kind] => match both(path_field(alloc, path)?, kind_field(kind)) {
-            Ok((path, kind)) => Ok(Ok(Note::Asked(Ask::Kind(path), Answer::Kind(kind)))),
-            Err(refusal) => Ok(Err(refusal)),
-        },
-        _ => Ok(Err(Refusal::WrongShape(Part::Lines))),
-    }
+    let [path, kind] = rest else {
+        return Ok(Err(Refusal::WrongShape(Part::Lines)));
+    };
+    let (path, kind) = accepted!(both(path_field(alloc, path)?, kind_field(kind)));
+    Ok(Ok(Note::Asked(Ask::Kind(path), Answer::Kind(kind))))
 }
 
 /// Reads the note `["bytes",path,node]`. `rest` is what follows the tag.
 pub fn bytes_note(alloc: Global, rest: &[Value<'_>]) -> Result<OrRefusal<Note>, NoMem>
     ensures { IfOk result (λ note. note ≡ bytes_cells (map value_data rest.now)) }
 {
-    match rest {
-        [path, node] => match both(path_field(alloc, path)?, node_field(alloc, node)?) {
-            Ok((path, node)) => Ok(Ok(Note::Asked(Ask::Bytes(path), Answer::Bytes(node)))),
-            Err(refusal) => Ok(Err(refusal)),
-        },
-        _ => Ok(Err(Refusal::WrongShape(Part::Lines))),
-    }
+    let [path, node] = rest else {
+        return Ok(Err(Refusal::WrongShape(Part::Lines)));
+    };
+    let (path, node) = accepted!(both(path_field(alloc, path)?, node_field(alloc, node)?));
+    Ok(Ok(Note::Asked(Ask::Bytes(path), Answer::Bytes(node))))
 }
 
 /// Reads the note `["names",path,null|[name,..]]`. `rest` is what follows the tag.
 pub fn names_note(alloc: Global, rest: &[Value<'_>]) -> Result<OrRefusal<Note>, NoMem>
     ensures { IfOk result (λ note. note ≡ names_cells (map value_data rest.now)) }
 {
-    match rest {
-        [path, names] => {
-            let listing = or_null(names, listing_field(alloc, names)?);
-            match both(path_field(alloc, path)?, listing) {
-                Ok((path, names)) => Ok(Ok(Note::Asked(Ask::Names(path), Answer::Names(names)))),
-                Err(refusal) => Ok(Err(refusal)),
-            }
-        }
-        _ => Ok(Err(Refusal::WrongShape(Part::Lines))),
-    }
+    let [path, names] = rest else {
+        return Ok(Err(Refusal::WrongShape(Part::Lines)));
+    };
+    let listing = or_null(names, listing_field(alloc, names)?);
+    let (path, names) = accepted!(both(path_field(alloc, path)?, listing));
+    Ok(Ok(Note::Asked(Ask::Names(path), Answer::Names(names))))
 }
 
 /// Reads the note `["canwrite",path,n,"yes"|"noparent"|"notdir"|"isdir"|"toolarge"]`, where `n` is
@@ -62,75 +55,56 @@ pub fn names_note(alloc: Global, rest: &[Value<'_>]) -> Result<OrRefusal<Note>, 
 pub fn can_write_note(alloc: Global, rest: &[Value<'_>]) -> Result<OrRefusal<Note>, NoMem>
     ensures { IfOk result (λ note. note ≡ can_write_cells (map value_data rest.now)) }
 {
-    match rest {
-        [path, more, permit] => {
-            let answer = both(u32_in(Part::Lines, more), permit_field(permit));
-            match both(path_field(alloc, path)?, answer) {
-                Ok((path, (more, permit))) => Ok(Ok(Note::Asked(
-                    Ask::CanWrite(path, more),
-                    Answer::CanWrite(permit),
-                ))),
-                Err(refusal) => Ok(Err(refusal)),
-            }
-        }
-        _ => Ok(Err(Refusal::WrongShape(Part::Lines))),
-    }
+    let [path, more, permit] = rest else {
+        return Ok(Err(Refusal::WrongShape(Part::Lines)));
+    };
+    let answer = both(u32_in(Part::Lines, more), permit_field(permit));
+    let (path, (more, permit)) = accepted!(both(path_field(alloc, path)?, answer));
+    Ok(Ok(Note::Asked(Ask::CanWrite(path, more), Answer::CanWrite(permit))))
 }
 
 /// Reads the note `["user",name,null|[number,home]]`. `rest` is what follows the tag.
 pub fn user_note(alloc: Global, rest: &[Value<'_>]) -> Result<OrRefusal<Note>, NoMem>
     ensures { IfOk result (λ note. note ≡ user_note_cells (map value_data rest.now)) }
 {
-    match rest {
-        [name, user] => {
-            let user = or_null(user, user_field(alloc, user)?);
-            match both(text_field(alloc, name)?, user) {
-                Ok((name, user)) => Ok(Ok(Note::Asked(Ask::User(name), Answer::User(user)))),
-                Err(refusal) => Ok(Err(refusal)),
-            }
-        }
-        _ => Ok(Err(Refusal::WrongShape(Part::Lines))),
-    }
+    let [name, user] = rest else {
+        return Ok(Err(Refusal::WrongShape(Part::Lines)));
+    };
+    let user = or_null(user, user_field(alloc, user)?);
+    let (name, user) = accepted!(both(text_field(alloc, name)?, user));
+    Ok(Ok(Note::Asked(Ask::User(name), Answer::User(user))))
 }
 
 /// Reads the note `["var",name,null|value]` of a session. `rest` is what follows the tag.
 pub fn var_note(alloc: Global, sid: u32, rest: &[Value<'_>]) -> Result<OrRefusal<Note>, NoMem>
     ensures { IfOk result (λ note. note ≡ var_cells sid (map value_data rest.now)) }
 {
-    match rest {
-        [name, value] => {
-            let value = or_null(value, value_field(alloc, value)?);
-            match both(var_field(alloc, name)?, value) {
-                Ok((name, value)) => Ok(Ok(Note::Asked(Ask::VarOf(sid, name), Answer::Var(value)))),
-                Err(refusal) => Ok(Err(refusal)),
-            }
-        }
-        _ => Ok(Err(Refusal::WrongShape(Part::Lines))),
-    }
+    let [name, value] = rest else {
+        return Ok(Err(Refusal::WrongShape(Part::Lines)));
+    };
+    let value = or_null(value, value_field(alloc, value)?);
+    let (name, value) = accepted!(both(var_field(alloc, name)?, value));
+    Ok(Ok(Note::Asked(Ask::VarOf(sid, name), Answer::Var(value))))
 }
 
 /// Reads the note `["cwd",path]` of a session. `rest` is what follows the tag.
 pub fn cwd_note(alloc: Global, sid: u32, rest: &[Value<'_>]) -> Result<OrRefusal<Note>, NoMem>
     ensures { IfOk result (λ note. note ≡ cwd_cells sid (map value_data rest.now)) }
 {
-    match rest {
-        [path] => match path_field(alloc, path)? {
-            Ok(path) => Ok(Ok(Note::Asked(Ask::CwdOf(sid), Answer::Cwd(path)))),
-            Err(refusal) => Ok(Err(refusal)),
-        },
-        _ => Ok(Err(Refusal::WrongShape(Part::Lines))),
-    }
+    let [path] = rest else {
+        return Ok(Err(Refusal::WrongShape(Part::Lines)));
+    };
+    let path = accepted!(path_field(alloc, path)?);
+    Ok(Ok(Note::Asked(Ask::CwdOf(sid), Answer::Cwd(path))))
 }
 
 /// Reads the note `["status",n]` of a session. `rest` is what follows the tag.
 pub fn status_note(sid: u32, rest: &[Value<'_>]) -> OrRefusal<Note>
     ensures { result ≡ status_cells sid (map value_data rest.now) }
 {
-    match rest {
-        [status] => {
-            let status = u8_in(Part::Lines, status)?;
-            Ok(Note::Asked(Ask::StatusOf(sid), Answer::Status(status)))
-        }
-        _ => Err(Refusal::WrongShape(Part::Lines)),
-    }
+    let [status] = rest else {
+        return Err(Refusal::WrongShape(Part::Lines));
+    };
+    let status = u8_in(Part::Lines, status)?;
+    Ok(Note::Asked(Ask::StatusOf(sid), Answer::Status(status)))
 }

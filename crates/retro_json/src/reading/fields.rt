@@ -12,6 +12,7 @@ ghost use Rattle.retro_json.specs.LogFields.{permit_field, tagged_node, user_cel
 ghost use Rattle.retro_json.specs.LogFields.{value_field, var_field, written_name};
 ghost use Rattle.retro_json.specs.declared.fault.Part.TheVariants.{Lines};
 
+use crate::accepted;
 use crate::fault::{Part, Refusal};
 use crate::reading::hex_text::bytes_in;
 use crate::reading::path::{is_written_name, path_in};
@@ -39,20 +40,16 @@ pub fn or_null<T: Drop>(value: &Value<'_>, field: OrRefusal<T>) -> OrRefusal<Opt
 pub fn text_field(alloc: Global, value: &Value<'_>) -> Result<OrRefusal<Text>, NoMem>
     ensures { IfOk result (λ text. text ≡ text_in Lines (value_data value.now)) }
 {
-    match text(Part::Lines, value) {
-        Ok(text) => Ok(Ok(Text::of(String::from_str(alloc, text)?))),
-        Err(refusal) => Ok(Err(refusal)),
-    }
+    let text = accepted!(text(Part::Lines, value));
+    Ok(Ok(Text::of(String::from_str(alloc, text)?)))
 }
 
 /// Reads bytes from a text of hexadecimal digits of either case.
 pub fn hex_field(alloc: Global, value: &Value<'_>) -> Result<OrRefusal<Bytes>, NoMem>
     ensures { IfOk result (λ bytes. bytes ≡ hex_field (value_data value.now)) }
 {
-    match text(Part::Lines, value) {
-        Ok(text) => Ok(bytes_in(alloc, text)?.ok_or(Refusal::BadHex)),
-        Err(refusal) => Ok(Err(refusal)),
-    }
+    let text = accepted!(text(Part::Lines, value));
+    Ok(bytes_in(alloc, text)?.ok_or(Refusal::BadHex))
 }
 
 /// Reads a path.
@@ -80,13 +77,8 @@ fn written_name<'a>(value: &Value<'a>) -> OrRefusal<&'a str>
 fn name_field(alloc: Global, value: &Value<'_>) -> Result<OrRefusal<Name>, NoMem>
     ensures { IfOk result (λ name. name ≡ name_field (value_data value.now)) }
 {
-    match written_name(value) {
-        Ok(name) => match Name::of(String::from_str(alloc, name)?) {
-            Some(name) => Ok(Ok(name)),
-            None => Ok(Err(Refusal::OverLimit)),
-        },
-        Err(refusal) => Ok(Err(refusal)),
-    }
+    let name = accepted!(written_name(value));
+    Ok(Name::of(String::from_str(alloc, name)?).ok_or(Refusal::OverLimit))
 }
 
 /// Reads names of a listing, or returns their worst refusal.
@@ -107,14 +99,9 @@ fn read_names(alloc: Global, items: &[Value<'_>]) -> Result<OrRefusal<Vec<Name>>
 pub fn listing_field(alloc: Global, value: &Value<'_>) -> Result<OrRefusal<Listing>, NoMem>
     ensures { IfOk result (λ names. names ≡ listing_field (value_data value.now)) }
 {
-    let items = match cells(Part::Lines, value) {
-        Ok(items) => items,
-        Err(refusal) => return Ok(Err(refusal)),
-    };
-    match read_names(alloc, items)? {
-        Ok(names) => Ok(Ok(Listing::of(names))),
-        Err(refusal) => Ok(Err(refusal)),
-    }
+    let items = accepted!(cells(Part::Lines, value));
+    let names = accepted!(read_names(alloc, items)?);
+    Ok(Ok(Listing::of(names)))
 }
 
 /// Reads the kind of a node: `"missing"`, `"dir"` or `"file"`.
@@ -149,16 +136,11 @@ pub fn permit_field(value: &Value<'_>) -> OrRefusal<Permit>
 fn file_field(alloc: Global, value: &Value<'_>) -> Result<OrRefusal<Node>, NoMem>
     ensures { IfOk result (λ node. node ≡ file_field (value_data value.now)) }
 {
-    match hex_field(alloc, value)? {
-        Ok(bytes) => {
-            if bytes.len() as u64 <= FILE_LIMIT {
-                Ok(Ok(Node::File(bytes)))
-            } else {
-                Ok(Err(Refusal::OverLimit))
-            }
-        }
-        Err(refusal) => Ok(Err(refusal)),
+    let bytes = accepted!(hex_field(alloc, value)?);
+    if bytes.len() as u64 > FILE_LIMIT {
+        return Ok(Err(Refusal::OverLimit));
     }
+    Ok(Ok(Node::File(bytes)))
 }
 
 /// Reads the node `["d"]` or `["f","hex"]`. `rest` is what follows the tag.
@@ -166,20 +148,8 @@ fn tagged_node(alloc: Global, tag: &str, rest: &[Value<'_>]) -> Result<OrRefusal
     ensures { IfOk result (λ node. node ≡ tagged_node tag.now (map value_data rest.now)) }
 {
     match rest {
-        [] => {
-            if tag == "d" {
-                Ok(Ok(Node::Dir))
-            } else {
-                Ok(Err(Refusal::WrongShape(Part::Lines)))
-            }
-        }
-        [hex] => {
-            if tag == "f" {
-                file_field(alloc, hex)
-            } else {
-                Ok(Err(Refusal::WrongShape(Part::Lines)))
-            }
-        }
+        [] if tag == "d" => Ok(Ok(Node::Dir)),
+        [hex] if tag == "f" => file_field(alloc, hex),
         _ => Ok(Err(Refusal::WrongShape(Part::Lines))),
     }
 }
@@ -188,13 +158,11 @@ fn tagged_node(alloc: Global, tag: &str, rest: &[Value<'_>]) -> Result<OrRefusal
 fn node_of_cells(alloc: Global, cells: &[Value<'_>]) -> Result<OrRefusal<Node>, NoMem>
     ensures { IfOk result (λ node. node ≡ node_cells (map value_data cells.now)) }
 {
-    match cells {
-        [] => Ok(Ok(Node::Missing)),
-        [tag, rest @ ..] => match text(Part::Lines, tag) {
-            Ok(tag) => tagged_node(alloc, tag, rest),
-            Err(refusal) => Ok(Err(refusal)),
-        },
-    }
+    let [tag, rest @ ..] = cells else {
+        return Ok(Ok(Node::Missing));
+    };
+    let tag = accepted!(text(Part::Lines, tag));
+    tagged_node(alloc, tag, rest)
 }
 
 /// Reads a node: `[]` for a missing one, `["d"]` for a directory, `["f","hex"]` for a file.
@@ -202,10 +170,7 @@ fn node_of_cells(alloc: Global, cells: &[Value<'_>]) -> Result<OrRefusal<Node>, 
 pub fn node_field(alloc: Global, value: &Value<'_>) -> Result<OrRefusal<Node>, NoMem>
     ensures { IfOk result (λ node. node ≡ node_field (value_data value.now)) }
 {
-    match cells(Part::Lines, value) {
-        Ok(cells) => node_of_cells(alloc, cells),
-        Err(refusal) => Ok(Err(refusal)),
-    }
+    node_of_cells(alloc, accepted!(cells(Part::Lines, value)))
 }
 
 /// Returns the number of a user and the text of the home directory, from the items of the array.
@@ -227,43 +192,27 @@ fn user_parts<'a>(cells: &[Value<'a>]) -> OrRefusal<(u32, &'a str)>
 pub fn user_field(alloc: Global, value: &Value<'_>) -> Result<OrRefusal<User>, NoMem>
     ensures { IfOk result (λ user. user ≡ user_field (value_data value.now)) }
 {
-    let cells = match cells(Part::Lines, value) {
-        Ok(cells) => cells,
-        Err(refusal) => return Ok(Err(refusal)),
-    };
-    match user_parts(cells) {
-        Ok((number, home)) => {
-            let home = Text::of(String::from_str(alloc, home)?);
-            Ok(Ok(User { number, home }))
-        }
-        Err(refusal) => Ok(Err(refusal)),
-    }
+    let cells = accepted!(cells(Part::Lines, value));
+    let (number, home) = accepted!(user_parts(cells));
+    let home = Text::of(String::from_str(alloc, home)?);
+    Ok(Ok(User { number, home }))
 }
 
 /// Reads the name of a variable that a line may assign.
 pub fn var_field(alloc: Global, value: &Value<'_>) -> Result<OrRefusal<VarName>, NoMem>
     ensures { IfOk result (λ name. name ≡ var_field (value_data value.now)) }
 {
-    match text(Part::Lines, value) {
-        Ok(text) => match VarName::of(alloc, text)? {
-            Some(name) => Ok(Ok(name)),
-            None => Ok(Err(Refusal::WrongShape(Part::Lines))),
-        },
-        Err(refusal) => Ok(Err(refusal)),
-    }
+    let text = accepted!(text(Part::Lines, value));
+    Ok(VarName::of(alloc, text)?.ok_or(Refusal::WrongShape(Part::Lines)))
 }
 
 /// Reads the value of a variable. Refuses a value over `VALUE_LIMIT`.
 pub fn value_field(alloc: Global, value: &Value<'_>) -> Result<OrRefusal<Text>, NoMem>
     ensures { IfOk result (λ text. text ≡ value_field (value_data value.now)) }
 {
-    match text(Part::Lines, value) {
-        Ok(text) => {
-            if text.len() > VALUE_LIMIT {
-                return Ok(Err(Refusal::OverLimit));
-            }
-            Ok(Ok(Text::of(String::from_str(alloc, text)?)))
-        }
-        Err(refusal) => Ok(Err(refusal)),
+    let text = accepted!(text(Part::Lines, value));
+    if text.len() > VALUE_LIMIT {
+        return Ok(Err(Refusal::OverLimit));
     }
+    Ok(Ok(Text::of(String::from_str(alloc, text)?)))
 }

@@ -5,6 +5,7 @@ ghost use Rattle.retro_json.specs.ReadsAs.{seen};
 ghost use Rattle.retro_json.specs.Worst.{every};
 ghost use Rattle.retro_json.specs.NotesPart.{note_cells, note_of, notes_field, tagged_note};
 
+use crate::accepted;
 use crate::fault::{Part, Refusal};
 use crate::reading::asked::{
     bytes_note, can_write_note, cwd_note, kind_note, names_note, status_note, user_note, var_note,
@@ -48,13 +49,11 @@ fn tagged_note(
 fn note_of_cells(alloc: Global, sid: u32, cells: &[Value<'_>]) -> Result<OrRefusal<Note>, NoMem>
     ensures { IfOk result (λ note. note ≡ note_cells sid (map value_data cells.now)) }
 {
-    match cells {
-        [] => Ok(Err(Refusal::WrongShape(Part::Lines))),
-        [tag, rest @ ..] => match text(Part::Lines, tag) {
-            Ok(tag) => tagged_note(alloc, sid, tag, rest),
-            Err(refusal) => Ok(Err(refusal)),
-        },
-    }
+    let [tag, rest @ ..] = cells else {
+        return Ok(Err(Refusal::WrongShape(Part::Lines)));
+    };
+    let tag = accepted!(text(Part::Lines, tag));
+    tagged_note(alloc, sid, tag, rest)
 }
 
 /// Reads a note of a session.
@@ -62,10 +61,7 @@ fn note_of_cells(alloc: Global, sid: u32, cells: &[Value<'_>]) -> Result<OrRefus
 fn read_note(alloc: Global, sid: u32, value: &Value<'_>) -> Result<OrRefusal<Note>, NoMem>
     ensures { IfOk result (λ note. note ≡ note_of sid (value_data value.now)) }
 {
-    match cells(Part::Lines, value) {
-        Ok(cells) => note_of_cells(alloc, sid, cells),
-        Err(refusal) => Ok(Err(refusal)),
-    }
+    note_of_cells(alloc, sid, accepted!(cells(Part::Lines, value)))
 }
 
 /// Reads notes of a session, or returns their worst refusal.
@@ -87,12 +83,7 @@ fn read_items(alloc: Global, sid: u32, items: &[Value<'_>]) -> Result<OrRefusal<
 pub fn notes_field(alloc: Global, sid: u32, value: &Value<'_>) -> Result<OrRefusal<Notes>, NoMem>
     ensures { IfOk result (λ notes. notes ≡ notes_field sid (value_data value.now)) }
 {
-    let items = match cells(Part::Lines, value) {
-        Ok(items) => items,
-        Err(refusal) => return Ok(Err(refusal)),
-    };
-    match read_items(alloc, sid, items)? {
-        Ok(notes) => Ok(Ok(Notes::of(alloc, notes)?)),
-        Err(refusal) => Ok(Err(refusal)),
-    }
+    let items = accepted!(cells(Part::Lines, value));
+    let notes = accepted!(read_items(alloc, sid, items)?);
+    Ok(Ok(Notes::of(alloc, notes)?))
 }

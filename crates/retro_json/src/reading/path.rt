@@ -7,6 +7,7 @@ ghost use Rattle.retro_tree.specs.Name.{AllNames};
 ghost use Rattle.retro_json.specs.NoNul.{have_no_nul};
 ghost use Rattle.retro_json.specs.declared.fault.Refusal.TheVariants.{OverLimit, WrongShape};
 
+use crate::accepted;
 use crate::fault::{Part, Refusal};
 use crate::reading::shape::text;
 use crate::reading::worst::OrRefusal;
@@ -111,10 +112,7 @@ fn path_of(alloc: Global, part: Part, names: &[&str]) -> Result<OrRefusal<Path>,
 pub fn path_in(alloc: Global, part: Part, value: &Value<'_>) -> Result<OrRefusal<Path>, NoMem>
     ensures { IfOk result (λ path. path ≡ path_in part (value_data value.now)) }
 {
-    let text = match text(part, value) {
-        Ok(text) => text,
-        Err(refusal) => return Ok(Err(refusal)),
-    };
+    let text = accepted!(text(part, value));
     let parts = split_path(alloc, text)?;
     match names_of_parts(parts.as_slice()) {
         Some(names) => path_of(alloc, part, names),

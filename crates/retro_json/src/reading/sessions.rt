@@ -19,6 +19,7 @@ ghost use Rattle.retro_json.specs.SessionsPart.{vars_of_entries};
 ghost use Rattle.retro_json.specs.Views.{row_view, session_view};
 ghost use Rattle.retro_json.specs.Worst.{both, every};
 
+use crate::accepted;
 use crate::fault::{LogFault, Part, Refusal};
 use crate::reading::path::path_in;
 use crate::reading::shape::{cells, text, u8_in, u32_in};
@@ -53,16 +54,15 @@ pub struct Row {
 fn var_of_cells(alloc: Global, cells: &[Value<'_>]) -> Result<OrRefusal<(VarName, Text)>, NoMem>
     ensures { IfOk result (λ var. var ≡ var_cells (map value_data cells.now)) }
 {
-    match cells {
-        [name, value] => match (text(Part::Sessions, name), text(Part::Sessions, value)) {
-            (Ok(name), Ok(value)) => match VarName::of(alloc, name)? {
-                Some(name) => Ok(Ok((name, Text::of(String::from_str(alloc, value)?)))),
-                None => Ok(Err(Refusal::WrongShape(Part::Sessions))),
-            },
-            _ => Ok(Err(Refusal::WrongShape(Part::Sessions))),
-        },
-        _ => Ok(Err(Refusal::WrongShape(Part::Sessions))),
-    }
+    let [name, value] = cells else {
+        return Ok(Err(Refusal::WrongShape(Part::Sessions)));
+    };
+    let name = accepted!(text(Part::Sessions, name));
+    let value = accepted!(text(Part::Sessions, value));
+    let Some(name) = VarName::of(alloc, name)? else {
+        return Ok(Err(Refusal::WrongShape(Part::Sessions)));
+    };
+    Ok(Ok((name, Text::of(String::from_str(alloc, value)?))))
 }
 
 /// Reads a variable: `[name,value]`. The length of the value isn't tested.
@@ -70,10 +70,7 @@ fn var_of_cells(alloc: Global, cells: &[Value<'_>]) -> Result<OrRefusal<(VarName
 fn read_var(alloc: Global, value: &Value<'_>) -> Result<OrRefusal<(VarName, Text)>, NoMem>
     ensures { IfOk result (λ var. var ≡ var_of (value_data value.now)) }
 {
-    match cells(Part::Sessions, value) {
-        Ok(cells) => var_of_cells(alloc, cells),
-        Err(refusal) => Ok(Err(refusal)),
-    }
+    var_of_cells(alloc, accepted!(cells(Part::Sessions, value)))
 }
 
 /// Reads variables, or returns their worst refusal.
@@ -130,16 +127,13 @@ fn fitting_map(
     ensures { IfOk result (λ read. seen (λ values. map.from_entries values.entries) read
         ≡ vars_of_entries vars.items) }
 {
-    match var_map(alloc, vars)? {
-        Some(values) => {
-            if values_fit(&values) {
-                Ok(Ok(values))
-            } else {
-                Ok(Err(Refusal::OverLimit))
-            }
-        }
-        None => Ok(Err(Refusal::WrongShape(Part::Sessions))),
+    let Some(values) = var_map(alloc, vars)? else {
+        return Ok(Err(Refusal::WrongShape(Part::Sessions)));
+    };
+    if !values_fit(&values) {
+        return Ok(Err(Refusal::OverLimit));
     }
+    Ok(Ok(values))
 }
 
 /// Reads the variables of a session.
@@ -148,14 +142,9 @@ fn vars_in(alloc: Global, value: &Value<'_>) -> Result<OrRefusal<BTreeMap<VarNam
     ensures { IfOk result (λ read. seen (λ values. map.from_entries values.entries) read
         ≡ vars_of (value_data value.now)) }
 {
-    let items = match cells(Part::Sessions, value) {
-        Ok(items) => items,
-        Err(refusal) => return Ok(Err(refusal)),
-    };
-    match read_vars(alloc, items)? {
-        Ok(vars) => fitting_map(alloc, vars),
-        Err(refusal) => Ok(Err(refusal)),
-    }
+    let items = accepted!(cells(Part::Sessions, value));
+    let vars = accepted!(read_vars(alloc, items)?);
+    fitting_map(alloc, vars)
 }
 
 /// Reads a session from its working directory, its status and its variables, or returns their
@@ -171,26 +160,20 @@ fn session_in(
 {
     let cwd = path_in(alloc, Part::Sessions, cwd)?;
     let status = u8_in(Part::Sessions, status);
-    match both(cwd, both(status, vars_in(alloc, vars)?)) {
-        Ok((cwd, (status, vars))) => Ok(Ok(SessionParts { cwd, status, vars })),
-        Err(refusal) => Ok(Err(refusal)),
-    }
+    let (cwd, (status, vars)) = accepted!(both(cwd, both(status, vars_in(alloc, vars)?)));
+    Ok(Ok(SessionParts { cwd, status, vars }))
 }
 
 /// Reads a row from the items of its array.
 fn row_of_cells(alloc: Global, cells: &[Value<'_>]) -> Result<OrRefusal<Row>, NoMem>
     ensures { IfOk result (λ row. seen row_view row ≡ row_cells (map value_data cells.now)) }
 {
-    match cells {
-        [sid, cwd, status, vars] => match u32_in(Part::Sessions, sid) {
-            Ok(sid) => {
-                let session = session_in(alloc, cwd, status, vars)?;
-                Ok(Ok(Row { sid, session }))
-            }
-            Err(refusal) => Ok(Err(refusal)),
-        },
-        _ => Ok(Err(Refusal::WrongShape(Part::Sessions))),
-    }
+    let [sid, cwd, status, vars] = cells else {
+        return Ok(Err(Refusal::WrongShape(Part::Sessions)));
+    };
+    let sid = accepted!(u32_in(Part::Sessions, sid));
+    let session = session_in(alloc, cwd, status, vars)?;
+    Ok(Ok(Row { sid, session }))
 }
 
 /// Reads a row of the sessions. A fault of the session itself is kept in the row, so that the rows'
@@ -199,10 +182,7 @@ fn row_of_cells(alloc: Global, cells: &[Value<'_>]) -> Result<OrRefusal<Row>, No
 pub fn read_session_row(alloc: Global, value: &Value<'_>) -> Result<OrRefusal<Row>, NoMem>
     ensures { IfOk result (λ row. seen row_view row ≡ row_of (value_data value.now)) }
 {
-    match cells(Part::Sessions, value) {
-        Ok(cells) => row_of_cells(alloc, cells),
-        Err(refusal) => Ok(Err(refusal)),
-    }
+    row_of_cells(alloc, accepted!(cells(Part::Sessions, value)))
 }
 
 /// Reads a row, and frees its value.
@@ -271,14 +251,10 @@ fn with_row(state: OrRefusal<State>, row: Row) -> Result<OrRefusal<State>, NoMem
     ensures { IfOk result (λ more. more ≡ seen (λ p. put_session row.sid p.1 p.0)
         (both state (seen session_view row.session))) }
 {
-    match both(state, row.session) {
-        Ok((mut state, session)) => {
-            let SessionParts { cwd, status, vars } = session;
-            state.add_session(row.sid, cwd, status, vars)?;
-            Ok(Ok(state))
-        }
-        Err(refusal) => Ok(Err(refusal)),
-    }
+    let (mut state, session) = accepted!(both(state, row.session));
+    let SessionParts { cwd, status, vars } = session;
+    state.add_session(row.sid, cwd, status, vars)?;
+    Ok(Ok(state))
 }
 
 /// Returns a state without sessions, with the sessions of these rows added, or the worst refusal

@@ -13,6 +13,7 @@ ghost use Rattle.retro_json.specs.ReadsAs.{ReadsAs, seen};
 ghost use Rattle.retro_json.specs.TreePart.{file_in, root_entry, row_cells, row_of};
 ghost use Rattle.retro_json.specs.Rows.{IsReadOf, tree_of_rows, tree_rows};
 
+use crate::accepted;
 use crate::fault::{LogFault, Part, Refusal};
 use crate::reading::hex_text::bytes_in;
 use crate::reading::path::path_in;
@@ -27,19 +28,14 @@ use std::alloc::Global;
 fn file_in(alloc: Global, value: &Value<'_>) -> Result<OrRefusal<Entry>, NoMem>
     ensures { IfOk result (λ entry. entry ≡ file_in (value_data value.now)) }
 {
-    let hex = match text(Part::Tree, value) {
-        Ok(hex) => hex,
-        Err(refusal) => return Ok(Err(refusal)),
+    let hex = accepted!(text(Part::Tree, value));
+    let Some(bytes) = bytes_in(alloc, hex)? else {
+        return Ok(Err(Refusal::BadHex));
     };
-    match bytes_in(alloc, hex)? {
-        Some(bytes) => {
-            if bytes.len() as u64 > FILE_LIMIT {
-                return Ok(Err(Refusal::OverLimit));
-            }
-            Ok(Ok(Entry::File(bytes)))
-        }
-        None => Ok(Err(Refusal::BadHex)),
+    if bytes.len() as u64 > FILE_LIMIT {
+        return Ok(Err(Refusal::OverLimit));
     }
+    Ok(Ok(Entry::File(bytes)))
 }
 
 /// Reads a row from the items of its array.
@@ -47,10 +43,7 @@ fn row_of_cells(alloc: Global, cells: &[Value<'_>]) -> Result<OrRefusal<(Path, E
     ensures { IfOk result (λ row. row ≡ row_cells (map value_data cells.now)) }
 {
     match cells {
-        [path] => match path_in(alloc, Part::Tree, path)? {
-            Ok(path) => Ok(Ok((path, Entry::Dir))),
-            Err(refusal) => Ok(Err(refusal)),
-        },
+        [path] => Ok(Ok((accepted!(path_in(alloc, Part::Tree, path)?), Entry::Dir))),
         [path, hex] => Ok(both(path_in(alloc, Part::Tree, path)?, file_in(alloc, hex)?)),
         _ => Ok(Err(Refusal::WrongShape(Part::Tree))),
     }
@@ -61,10 +54,7 @@ fn row_of_cells(alloc: Global, cells: &[Value<'_>]) -> Result<OrRefusal<(Path, E
 pub fn read_tree_row(alloc: Global, value: &Value<'_>) -> Result<OrRefusal<(Path, Entry)>, NoMem>
     ensures { IfOk result (λ row. row ≡ row_of (value_data value.now)) }
 {
-    match cells(Part::Tree, value) {
-        Ok(cells) => row_of_cells(alloc, cells),
-        Err(refusal) => Ok(Err(refusal)),
-    }
+    row_of_cells(alloc, accepted!(cells(Part::Tree, value)))
 }
 
 /// Reads a row, and frees its value.

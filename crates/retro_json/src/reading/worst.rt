@@ -3,11 +3,24 @@ ghost use Rattle.std.specs.Prelude.{◌≡◌, IfOk};
 ghost use Rattle.retro_json.specs.ReadsAs.{seen};
 ghost use Rattle.retro_json.specs.Worst.{both, with_item, worse};
 
+use crate::accepted;
 use crate::fault::Refusal;
 use retro_tree::NoMem;
 
 /// A value that was read, or why it is refused.
 pub type OrRefusal<T> = Result<T, Refusal>;
+
+/// Is the value of an [`OrRefusal`], or returns its refusal from a function that reads a part of a
+/// document: `?` is for running out of memory there.
+#[macro_export]
+macro_rules! accepted {
+    ($read:expr) => {
+        match $read {
+            Ok(value) => value,
+            Err(refusal) => return Ok(Err(refusal)),
+        }
+    };
+}
 
 /// Returns the worse of two refusals of one part. A wrong shape is worse than bad hex, and bad hex
 /// is worse than a broken limit.
@@ -42,11 +55,7 @@ pub fn with_item<T: Drop>(
     ensures { IfOk result (λ all. seen (λ v. v.items) all
         ≡ with_item (seen (λ v. v.items) items) item) }
 {
-    match both(items, item) {
-        Ok((mut items, item)) => {
-            items.push(item)?;
-            Ok(Ok(items))
-        }
-        Err(refusal) => Ok(Err(refusal)),
-    }
+    let (mut items, item) = accepted!(both(items, item));
+    items.push(item)?;
+    Ok(Ok(items))
 }

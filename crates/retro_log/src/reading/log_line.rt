@@ -7,7 +7,7 @@ ghost use Rattle.retro_log.specs.inner.Parts.Kind.{log};
 use crate::reading::line::Line;
 use crate::reading::script_line::read_head;
 use json::Value;
-use retro_json::{OrRefusal, Part, Refusal, both, cells, hex_field, notes_field};
+use retro_json::{OrRefusal, Part, Refusal, accepted, both, cells, hex_field, notes_field};
 use retro_keep::{Noted, ScriptLine};
 use retro_tree::NoMem;
 use std::alloc::Global;
@@ -24,31 +24,26 @@ fn with_run(
         ≡ with_run head (value_data notes.now) (value_data output.now)) }
 {
     let ScriptLine { number, sid, text } = head;
-    match both(notes_field(alloc, sid, notes)?, hex_field(alloc, output)?) {
-        Ok((notes, output)) => {
-            let noted = Noted {
-                sid,
-                text,
-                notes,
-                output,
-            };
-            Ok(Ok((number, noted)))
-        }
-        Err(refusal) => Ok(Err(refusal)),
-    }
+    let fields = both(notes_field(alloc, sid, notes)?, hex_field(alloc, output)?);
+    let (notes, output) = accepted!(fields);
+    let noted = Noted {
+        sid,
+        text,
+        notes,
+        output,
+    };
+    Ok(Ok((number, noted)))
 }
 
 /// Reads a line from the items of its array.
 fn line_of_cells(alloc: Global, cells: &[Value<'_>]) -> Result<OrRefusal<(u32, Noted)>, NoMem>
     ensures { IfOk result (λ line. line ≡ log_line_cells (map value_data cells.now)) }
 {
-    match cells {
-        [number, sid, text, notes, output] => match read_head(alloc, number, sid, text)? {
-            Ok(head) => with_run(alloc, head, notes, output),
-            Err(refusal) => Ok(Err(refusal)),
-        },
-        _ => Ok(Err(Refusal::WrongShape(Part::Lines))),
-    }
+    let [number, sid, text, notes, output] = cells else {
+        return Ok(Err(Refusal::WrongShape(Part::Lines)));
+    };
+    let head = accepted!(read_head(alloc, number, sid, text)?);
+    with_run(alloc, head, notes, output)
 }
 
 /// Reads a line of a log: `[number,sid,text,notes,"hex"]`.
@@ -56,10 +51,7 @@ fn line_of_cells(alloc: Global, cells: &[Value<'_>]) -> Result<OrRefusal<(u32, N
 pub fn read_log_line(alloc: Global, value: &Value<'_>) -> Result<OrRefusal<(u32, Noted)>, NoMem>
     ensures { IfOk result (λ line. line ≡ log_line_of (value_data value.now)) }
 {
-    match cells(Part::Lines, value) {
-        Ok(cells) => line_of_cells(alloc, cells),
-        Err(refusal) => Ok(Err(refusal)),
-    }
+    line_of_cells(alloc, accepted!(cells(Part::Lines, value)))
 }
 
 impl Line for (u32, Noted) {

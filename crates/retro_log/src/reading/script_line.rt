@@ -7,7 +7,7 @@ ghost use Rattle.retro_log.specs.inner.Parts.Kind.{script};
 
 use crate::reading::line::Line;
 use json::Value;
-use retro_json::{OrRefusal, Part, Refusal, cells, text, u32_in};
+use retro_json::{OrRefusal, Part, Refusal, accepted, cells, text, u32_in};
 use retro_keep::ScriptLine;
 use retro_tree::{NoMem, Text};
 use std::alloc::Global;
@@ -41,14 +41,12 @@ pub fn read_head(
     ensures { IfOk result (λ head. head
         ≡ head_of (value_data number.now) (value_data sid.now) (value_data text.now)) }
 {
-    match head_parts(number, sid, text) {
-        Ok((number, sid, text)) => Ok(Ok(ScriptLine {
-            number,
-            sid,
-            text: Text::of(String::from_str(alloc, text)?),
-        })),
-        Err(refusal) => Ok(Err(refusal)),
-    }
+    let (number, sid, text) = accepted!(head_parts(number, sid, text));
+    Ok(Ok(ScriptLine {
+        number,
+        sid,
+        text: Text::of(String::from_str(alloc, text)?),
+    }))
 }
 
 /// Reads a line from the items of its array.
@@ -66,10 +64,7 @@ fn line_of_cells(alloc: Global, cells: &[Value<'_>]) -> Result<OrRefusal<ScriptL
 pub fn read_script_line(alloc: Global, value: &Value<'_>) -> Result<OrRefusal<ScriptLine>, NoMem>
     ensures { IfOk result (λ line. line ≡ line_of (value_data value.now)) }
 {
-    match cells(Part::Lines, value) {
-        Ok(cells) => line_of_cells(alloc, cells),
-        Err(refusal) => Ok(Err(refusal)),
-    }
+    line_of_cells(alloc, accepted!(cells(Part::Lines, value)))
 }
 
 impl Line for ScriptLine {

@@ -5,14 +5,14 @@ use Rattle.std.specs.List.{AllByRecursion}
 use mathlib.Core.Option.{Option, some, none}
 use lib.ListN.{get_elem?}
 use Rattle.retro_pool.specs.Turns.{Turn, jobs_of, taken_by}
-use Rattle.retro_pool.specs.declared.known.Known.{Known}
-use Rattle.retro_pool.specs.declared.known.Returned.{Returned}
+use Rattle.retro_pool.specs.declared.seat_knowledge.SeatKnowledge.{SeatKnowledge}
+use Rattle.retro_pool.specs.declared.seat_knowledge.Returned.{Returned}
 
 -- ---- what seats know
 
 -- what the owner of a board knows, by the number of seats, the room, the dealt jobs, its own jobs
 -- and the lists that came back
-abbrev pub owner : ℕ → ℕ → List ℕ → List ℕ → List Returned → Known
+abbrev pub owner : ℕ → ℕ → List ℕ → List ℕ → List Returned → SeatKnowledge
 owner seats room dealt taken back = record {
   live = true;
   owns = true;
@@ -25,7 +25,7 @@ owner seats room dealt taken back = record {
 }
 
 -- what a thief knows, by its number, the room and its jobs
-abbrev pub thief : ℕ → ℕ → List ℕ → Known
+abbrev pub thief : ℕ → ℕ → List ℕ → SeatKnowledge
 thief seat room taken = record {
   live = true;
   owns = false;
@@ -38,7 +38,7 @@ thief seat room taken = record {
 }
 
 -- what is known where no seat is: the seat came back, or there never was one
-abbrev pub nobody : Known
+abbrev pub nobody : SeatKnowledge
 nobody = record {
   live = false;
   owns = false;
@@ -57,7 +57,7 @@ returned seat taken = record { seat = seat; taken = taken }
 -- ---- what seats know after a step
 
 -- more jobs were dealt
-abbrev pub dealt_more : Known → List ℕ → Known
+abbrev pub dealt_more : SeatKnowledge → List ℕ → SeatKnowledge
 dealt_more v xs = record {
   live = v.live;
   owns = v.owns;
@@ -70,7 +70,7 @@ dealt_more v xs = record {
 }
 
 -- more jobs were taken
-abbrev pub taken_more : Known → List ℕ → Known
+abbrev pub taken_more : SeatKnowledge → List ℕ → SeatKnowledge
 taken_more v xs = record {
   live = v.live;
   owns = v.owns;
@@ -83,7 +83,7 @@ taken_more v xs = record {
 }
 
 -- one more seat was given away
-abbrev pub one_seat_more : Known → Known
+abbrev pub one_seat_more : SeatKnowledge → SeatKnowledge
 one_seat_more v = record {
   live = v.live;
   owns = v.owns;
@@ -96,7 +96,7 @@ one_seat_more v = record {
 }
 
 -- one more thief came back
-abbrev pub one_more_back : Known → Known → Known
+abbrev pub one_more_back : SeatKnowledge → SeatKnowledge → SeatKnowledge
 one_more_back v w = record {
   live = v.live;
   owns = v.owns;
@@ -118,7 +118,7 @@ AreApart (h ∷ hs) = AllByRecursion (λ k. h.seat ≢ k.seat) hs × AreApart hs
 -- What a seat knows agrees with the turns, and the seat is at the port that `port_of` says. So
 -- there is one port for each seat.
 pub record IsSeated (turns : List Turn) (seats room : ℕ) (port_of : ℕ → Option ℕ) (port : ℕ)
-    (v : Known) : Type 0 where
+    (v : SeatKnowledge) : Type 0 where
   pub at : port_of v.seat ≡ some port
   pub within : v.seat < seats
   pub room_is : v.room ≡ room
@@ -133,7 +133,7 @@ pub record HasReturned (turns : List Turn) (seats : ℕ) (port_of : ℕ → Opti
 
 -- What the owner knows beyond what every seat knows agrees with the turns.
 pub record IsOwner (turns : List Turn) (dealt : List ℕ) (seats : ℕ) (port_of : ℕ → Option ℕ)
-    (v : Known) : Type 0 where
+    (v : SeatKnowledge) : Type 0 where
   pub live : v.live ≡ true
   pub first : v.seat ≡ 0
   pub seats_is : v.seats ≡ seats
@@ -144,7 +144,7 @@ pub record IsOwner (turns : List Turn) (dealt : List ℕ) (seats : ℕ) (port_of
 -- The rule. The dealt jobs are those that were taken, followed by those in the queue. Each turn is
 -- of one of the seats, no more jobs were dealt than there is room for, and what each seat knows
 -- agrees with this.
-pub record FollowsRule (items : List ℕ) (views : List Known) : Type 0 where
+pub record FollowsRule (items : List ℕ) (views : List SeatKnowledge) : Type 0 where
   pub turns : List Turn
   pub dealt : List ℕ
   pub seats : ℕ
@@ -153,15 +153,15 @@ pub record FollowsRule (items : List ℕ) (views : List Known) : Type 0 where
   pub line : dealt ≡ jobs_of turns ++ items
   pub fits : length dealt ≤ room
   pub theirs : AllByRecursion (λ t. t.0 < seats) turns
-  pub sits : (port : ℕ) (v : Known) → get_elem? views port ≡ some v → v.live ≡ true
+  pub sits : (port : ℕ) (v : SeatKnowledge) → get_elem? views port ≡ some v → v.live ≡ true
       → IsSeated turns seats room port_of port v
-  pub owns : (port : ℕ) (v : Known) → get_elem? views port ≡ some v → v.owns ≡ true
+  pub owns : (port : ℕ) (v : SeatKnowledge) → get_elem? views port ≡ some v → v.owns ≡ true
       → IsOwner turns dealt seats port_of v
 
 -- ---- what the owner learns
 
 -- What the owner knows agrees with some turns, and the jobs in the queue were dealt and not taken.
-pub record Sees (v : Known) (items : List ℕ) : Type 0 where
+pub record Sees (v : SeatKnowledge) (items : List ℕ) : Type 0 where
   pub turns : List Turn
   pub line : v.dealt ≡ jobs_of turns ++ items
   pub theirs : AllByRecursion (λ t. t.0 < v.seats) turns
@@ -171,7 +171,7 @@ pub record Sees (v : Known) (items : List ℕ) : Type 0 where
   pub apart : AreApart v.back
 
 -- the owner's list and those that came back are in the places of their seats
-pub record ArePlaced (v : Known) (lists : List (List ℕ)) : Type 0 where
+pub record ArePlaced (v : SeatKnowledge) (lists : List (List ℕ)) : Type 0 where
   pub live : v.live ≡ true
   pub owns : v.owns ≡ true
   pub count : length lists ≡ v.seats

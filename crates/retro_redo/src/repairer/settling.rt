@@ -17,7 +17,7 @@ use crate::line::Line;
 use crate::settlement::Settlement;
 use crate::step::{Step, go_over};
 use crate::verdict::SettledLine;
-use retro_difference::{Combined, equiv};
+use retro_difference::{CombinedView, equiv};
 use retro_shell::{Run, run_line};
 use retro_tree::NoMem;
 use std::alloc::Global;
@@ -164,7 +164,7 @@ impl<'h, 'a, 'e> Repairer<'h, 'a, 'e> {
         ensures holds { IfOk result (λ run. Holds run.notes (repaired_now self.now)) }
     {
         let text = line.text();
-        let repaired = Combined::new(self.recorded(line.number), self.difference.overlay());
+        let repaired = CombinedView::new(self.recorded(line.number), self.difference.overlay());
         gate.begin(line.number, Turn::Place);
         let run = run_line(alloc, &repaired, line.noted.sid, text.as_str());
         gate.end(line.number, Turn::Place);

@@ -1,6 +1,6 @@
 use Rattle.std.proofs.Common.{◌≡◌, ◌+◌, ◌++◌, [], append-nil, ap, sym, ◌∙◌, arith, map}
 use Rattle.crossbeam_deque.specs.Handles.{worker_view}
-use Rattle.retro_pool.specs.declared.known.Known.{Known}
+use Rattle.retro_pool.specs.declared.seat_knowledge.SeatKnowledge.{SeatKnowledge}
 use Rattle.retro_pool.specs.inner.Rule.{returned}
 use Rattle.retro_pool.proofs.Steps.{looks}
 use Rattle.retro_pool.proofs.Whole.{settled}
@@ -21,7 +21,7 @@ returns c =
     ∙ (ap (λ l. c.loop-thief.yielded ++ l) none_left ∙ append-nil c.loop-thief.yielded) in
     settled c.args.owner c.args.thieves.items (worker_view c.loop-thief.queue) _ _ i.2 c.len_as.ensures.rule.2
     (i.4 ∙ ap (λ (v : OwnerValue). v.dealt) c.owner.view_is)
-    (i.5 ∙ (ap (λ (v : Known). v.taken) o ∙ ap (λ (v : OwnerValue). v.taken) c.owner.view_is))
-    (i.6 ∙ (ap (λ (v : Known). v.seats) o ∙ ap (λ (v : OwnerValue). v.thieves + 1) c.owner.view_is))
+    (i.5 ∙ (ap (λ (v : SeatKnowledge). v.taken) o ∙ ap (λ (v : OwnerValue). v.taken) c.owner.view_is))
+    (i.6 ∙ (ap (λ (v : SeatKnowledge). v.seats) o ∙ ap (λ (v : OwnerValue). v.thieves + 1) c.owner.view_is))
     (i.7 ∙ sym (ap (map (λ (t : ThiefValue). returned t.number t.taken)) all))
     (omega (arith, c.requires.count)) c.requires.total

@@ -1,7 +1,7 @@
 use Rattle.std.proofs.Common.{◌≡◌, ◌∙◌, subst, true}
 use Rattle.retro_tree.specs.declared.cell.Cell.{Cell}
 use Rattle.retro_tree.proofs.Results.{on_ok}
-use Rattle.casebook_cause.specs.declared.place.Place.TheVariants as places
+use Rattle.casebook_cause.specs.declared.place.SearchPlace.TheVariants as places
 use Rattle.casebook_cause.specs.inner.Places.{has_line}
 use Rattle.casebook_cause.proofs.PlaceEntries.{at_all_places}
 use Rattle.casebook_cause.proofs.differing_lines.DifferingLines.add_change.Goals as goal

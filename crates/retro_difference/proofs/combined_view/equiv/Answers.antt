@@ -1,5 +1,5 @@
 use Rattle.retro_difference.proofs.Holding.{holds_in_repaired}
-use Rattle.retro_difference.proofs.combined.equiv.Goals as goal
+use Rattle.retro_difference.proofs.combined_view.equiv.Goals as goal
 
 pub returns : goal.returns
 returns g c =

@@ -10,7 +10,7 @@ const CONTEXT: usize = 3;
 
 /// Two texts, merged line by line.
 #[derive(Drop)]
-pub(crate) struct Merged<'a> {
+pub(crate) struct MergedTexts<'a> {
     /// The lines of both texts, each with its mark.
     lines: Vec<TextLine<'a>>,
     /// The parts that differ, with lines around them.
@@ -55,14 +55,18 @@ fn with_marks<'a>(
     Ok(merged)
 }
 
-impl<'a> Merged<'a> {
+impl<'a> MergedTexts<'a> {
     /// Returns two texts, merged.
-    pub(crate) fn of(alloc: Global, old: &'a [u8], new: &'a [u8]) -> Result<Merged<'a>, NoMem> {
+    pub(crate) fn of(
+        alloc: Global,
+        old: &'a [u8],
+        new: &'a [u8],
+    ) -> Result<MergedTexts<'a>, NoMem> {
         let (marks, hunks) = compare(alloc, old, new)?;
         let old = text_lines(alloc, old)?;
         let new = text_lines(alloc, new)?;
         let lines = with_marks(alloc, marks.as_slice(), old.as_slice(), new.as_slice())?;
-        Ok(Merged { lines, hunks })
+        Ok(MergedTexts { lines, hunks })
     }
 
     /// Returns the first line with a mark.

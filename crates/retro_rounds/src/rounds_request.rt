@@ -11,7 +11,7 @@ pub const MAX_WORKERS: usize = 16;
 
 /// What is to be repaired, with which edits, and in which pieces.
 #[derive(Clone, Copy)]
-pub(crate) struct Request<'a> {
+pub(crate) struct RoundsRequest<'a> {
     pub(crate) recording: &'a Recording,
     /// The edits of lines. An edit may be in the list twice.
     pub(crate) edits: &'a [Edit],
@@ -21,7 +21,7 @@ pub(crate) struct Request<'a> {
     pub(crate) workers: usize,
 }
 
-impl Request<'_> {
+impl RoundsRequest<'_> {
     /// Returns `Ok` if the request can be answered, and otherwise the first refusal: too many
     /// workers, no cuts or a zero among them, the least number that two different edits name, the
     /// least edited number, from 1 on, that is below the one at which the recording begins, or the

@@ -10,7 +10,7 @@ pub struct Returned {
 }
 
 /// What a seat knows.
-pub struct Known {
+pub struct SeatKnowledge {
     /// Whether this is the knowledge of a seat. A thief that came back knows nothing.
     pub live: bool,
     /// Whether this is the knowledge of the owner. What is said of `seats`, `dealt` and `back`

@@ -16,12 +16,12 @@ use std::marker::Model;
 /// overlay has the entry's value, and every other cell has the value in the view. Each entry of the
 /// overlay fits its cell, so the combined state is the one that a commit of the overlay makes.
 #[derive(Drop)]
-pub struct Combined<'a, V: View + Drop> {
+pub struct CombinedView<'a, V: View + Drop> {
     view: V,
     overlay: &'a Overlay,
 }
 
-impl<'a, V: View + Drop> Model for Combined<'a, V> {
+impl<'a, V: View + Drop> Model for CombinedView<'a, V> {
     ghost use Rattle.retro_tree.specs.Overlay.{Fits};
     ghost use Rattle.retro_tree.specs.Commit.{committed};
     ghost use Rattle.retro_tree.specs.declared.state.State.{State};
@@ -36,17 +36,17 @@ impl<'a, V: View + Drop> Model for Combined<'a, V> {
     ghost invariant = { λ a. Fits a.overlay.now };
 }
 
-impl<'a, V: View + Drop> Combined<'a, V> {
+impl<'a, V: View + Drop> CombinedView<'a, V> {
     /// Combines a view and an overlay. Takes no memory.
     pub fn new(view: V, overlay: &'a Overlay) -> Self
         requires { Fits overlay.now }
         ensures { result ≡ committed overlay.now (V.state view) }
     {
-        Combined { view, overlay }
+        CombinedView { view, overlay }
     }
 }
 
-impl<'a, V: View + Drop> View for Combined<'a, V> {
+impl<'a, V: View + Drop> View for CombinedView<'a, V> {
     ghost state = { λ v. v };
 
     #[tactic(auto, using(retro_tree::proofs::Fitting::fits_overlays))]
@@ -72,6 +72,6 @@ pub fn equiv<V: View>(
     ensures { IfOk result (λ b. (t : State) → IsExact overlay.now (V.state view.now) t
         → SameSessions (V.state view.now) t → IsTrue b ↔ Holds notes.now t) }
 {
-    let repaired = Combined::new(view, overlay);
+    let repaired = CombinedView::new(view, overlay);
     holds(alloc, notes, &repaired)
 }

@@ -2,7 +2,7 @@
 use crate::job::Job;
 
 /// What taking a job from a seat returns.
-pub enum Taken {
+pub enum TakeOutcome {
     /// The first job that was left.
     Got(Job),
     /// No job was left at one moment of the call.
