@@ -1,5 +1,3 @@
-pub mod Merging
-pub mod Changes
 pub mod Results
 pub mod Failing
 pub mod Parts

@@ -1,4 +1,3 @@
-pub mod ChangedPaths
 pub mod LineResult
 pub mod FailingNote
 pub mod Compensations

@@ -1,5 +1,4 @@
 -- Definitions that only private contracts, invariants and proofs name.
-pub mod Merge
 pub mod Numbers
 pub mod Latest
 pub mod PlaceOrder

@@ -18,7 +18,7 @@ use Rattle.retro_redo.specs.declared.repair.Repair.{Repair}
 use Rattle.retro_redo.specs.declared.step.Step.{Step}
 use Rattle.retro_redo.specs.declared.verdict.SettledLine.{SettledLine}
 use Rattle.retro_redo.specs.declared.verdict.Verdict.TheVariants.{Redone}
-use Rattle.casebook_cause.specs.ChangedPaths.{AreChangedPaths, path_in}
+use Rattle.casebook_changes.specs.ChangedPaths.{AreChangedPaths, path_in}
 use Rattle.casebook_cause.specs.Compensations.{leaks, tellings}
 use Rattle.casebook_view.specs.Effects.{effect_value, effects_of}
 use Rattle.casebook_view.specs.Fates.{AreFates}

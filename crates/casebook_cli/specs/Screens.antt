@@ -7,7 +7,7 @@ use Rattle.retro_keep.specs.Script.{rises_from}
 use Rattle.retro_keep.specs.declared.edit.Edit.{Edit}
 use Rattle.retro_redo.specs.Repair.{repaired_state}
 use Rattle.retro_redo.specs.declared.repair.Repair.{Repair}
-use Rattle.casebook_cause.specs.ChangedPaths.{AreChangedPaths, path_in}
+use Rattle.casebook_changes.specs.ChangedPaths.{AreChangedPaths, path_in}
 use Rattle.casebook_cause.specs.Compensations.{leaks, tellings}
 use Rattle.casebook_view.specs.Effects.{effect_value, effects_of}
 use Rattle.casebook_view.specs.Fates.{AreFates}

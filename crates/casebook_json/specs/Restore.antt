@@ -1,9 +1,9 @@
 -- What is to be restored, as JSON.
 use Rattle.std.specs.Prelude.{ℕ, List, Option, Some, None, codes}
 use Rattle.serde_json.specs.Data.{Data, string, object, no_members, member}
-use Rattle.casebook_cause.specs.declared.changed_path.PathChange.{PathChange}
-use Rattle.casebook_cause.specs.declared.changed_path.PathChange.TheVariants.{Added}
-use Rattle.casebook_cause.specs.declared.changed_path.PathChange.TheVariants.{Removed, Modified}
+use Rattle.casebook_changes.specs.declared.changed_path.PathChange.{PathChange}
+use Rattle.casebook_changes.specs.declared.changed_path.PathChange.TheVariants.{Added}
+use Rattle.casebook_changes.specs.declared.changed_path.PathChange.TheVariants.{Removed, Modified}
 use Rattle.casebook_screen.specs.declared.restoration.Extent.{Extent}
 use Rattle.casebook_screen.specs.declared.restoration.Extent.TheVariants.{Directory}
 use Rattle.casebook_screen.specs.declared.restoration.Extent.TheVariants.{EmptyFile, Lines}

@@ -6,7 +6,7 @@ ghost use Rattle.casebook_json.specs.Restore.{restoration_data};
 
 use crate::NoMem;
 use crate::value::{number_or_null, path_value};
-use casebook_cause::PathChange;
+use casebook_changes::PathChange;
 use casebook_screen::{Extent, Restoration};
 use serde_json::{Value, json};
 use std::alloc::Global;

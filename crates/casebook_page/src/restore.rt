@@ -6,7 +6,7 @@ use crate::merged_texts::MergedTexts;
 use crate::pair::{push_diff, push_preview};
 use crate::shown::{push_link, push_none, push_shown_path};
 use crate::tag::Tag;
-use casebook_cause::{ChangedPath, PathChange};
+use casebook_changes::{ChangedPath, PathChange};
 use retro_tree::{Ask, Entry, Path, Tree};
 use std::alloc::Global;
 

@@ -1,7 +1,7 @@
 -- Lines that are made of parts, one part after another.
 use Rattle.std.proofs.Common.{◌≡◌, ℕ, ◌+◌, ◌<◌, ◌≤◌, List, [], ◌∷◌, ◌++◌, ap, append_assoc, drop, get_or, length, map, refl, subst, sym, ◌∙◌}
 use Rattle.std.proofs.lemmas.List.{append-nil, drop_all, drop_more}
-use Rattle.casebook_cause.specs.declared.changed_path.ChangedPath.{ChangedPath}
+use Rattle.casebook_changes.specs.declared.changed_path.ChangedPath.{ChangedPath}
 use Rattle.retro_tree.specs.Tree.{Tree}
 use Rattle.casebook_screen.specs.Diffs.{AreParts, IsPathDiff}
 

@@ -1,7 +1,7 @@
 -- Restorations, one after another.
 use Rattle.std.proofs.Common.{◌≡◌, ℕ, ◌≤◌, List, [], ◌++◌, Option, Some, None, refl, sym, subst, drop, length}
 use Rattle.std.proofs.lemmas.List.{append-nil, drop_all}
-use Rattle.casebook_cause.specs.declared.changed_path.ChangedPath.{ChangedPath}
+use Rattle.casebook_changes.specs.declared.changed_path.ChangedPath.{ChangedPath}
 use Rattle.retro_tree.specs.Tree.{Tree}
 use Rattle.casebook_screen.specs.Restorations.{AreRestorations, IsExtentBy, IsLines}
 use Rattle.casebook_screen.specs.declared.restoration.Extent.{Extent}

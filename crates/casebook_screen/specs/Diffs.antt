@@ -2,7 +2,7 @@
 use Rattle.std.specs.Prelude.{◌≡◌, ℕ, Bool, true, false, ◌||◌, List, [], ◌∷◌, ◌++◌, Option, Some, None}
 use Rattle.std.specs.Prelude.{codes, decimal}
 use Rattle.std.specs.FinMap as map_of
-use Rattle.casebook_cause.specs.declared.changed_path.ChangedPath.{ChangedPath}
+use Rattle.casebook_changes.specs.declared.changed_path.ChangedPath.{ChangedPath}
 use Rattle.casebook_words.specs.FileLines.{lines_at, shown_lines}
 use Rattle.casebook_words.specs.Words.{path_words}
 use Rattle.retro_keep.specs.Recording.{RecordingValue, last_state}

@@ -3,9 +3,9 @@ use Rattle.std.specs.Prelude.{◌≡◌, ℕ, Bool, List, [], ◌∷◌, ◌++�
 use Rattle.std.specs.Prelude.{Option, Some, None, true, false}
 use Rattle.std.specs.FinMap as map_of
 use Rattle.std.specs.List.{list_any}
-use Rattle.casebook_cause.specs.declared.changed_path.ChangedPath.{ChangedPath}
-use Rattle.casebook_cause.specs.declared.changed_path.PathChange.{PathChange}
-use Rattle.casebook_cause.specs.declared.changed_path.PathChange.TheVariants.{Added, Removed, Modified}
+use Rattle.casebook_changes.specs.declared.changed_path.ChangedPath.{ChangedPath}
+use Rattle.casebook_changes.specs.declared.changed_path.PathChange.{PathChange}
+use Rattle.casebook_changes.specs.declared.changed_path.PathChange.TheVariants.{Added, Removed, Modified}
 use Rattle.casebook_text.specs.Diff.{in_new, in_old, marked}
 use Rattle.casebook_text.specs.Hunks.{Marked, count_in}
 use Rattle.casebook_words.specs.FileLines.{is_added, is_removed, lines_at}

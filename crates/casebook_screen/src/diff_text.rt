@@ -11,7 +11,7 @@ ghost use Rattle.casebook_screen.specs.Diffs.{IsPathDiff, has_file, is_file, out
 
 use crate::NoMem;
 use crate::unified::unified_lines;
-use casebook_cause::ChangedPath;
+use casebook_changes::ChangedPath;
 use casebook_text::SafeLine;
 use casebook_view::Case;
 use casebook_words::{FileLines, push_path};

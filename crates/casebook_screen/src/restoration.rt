@@ -8,7 +8,7 @@ ghost use Rattle.casebook_screen.specs.Restorations.{AreCounts, AreRestorations,
 ghost use Rattle.casebook_screen.specs.Restorations.{IsRestoration, kind_of, lone_file};
 
 use crate::NoMem;
-use casebook_cause::{ChangedPath, PathChange};
+use casebook_changes::{ChangedPath, PathChange};
 use casebook_view::Case;
 use casebook_words::{FileLines, count_added, count_removed};
 use retro_tree::{Bytes, Entry, Path, Tree};

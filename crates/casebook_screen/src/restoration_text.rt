@@ -10,7 +10,7 @@ ghost use Rattle.casebook_screen.specs.Restorations.{restorations_head, widest};
 use crate::NoMem;
 use crate::layout::push_padded;
 use crate::restoration::{Extent, Restoration};
-use casebook_cause::PathChange;
+use casebook_changes::PathChange;
 use casebook_text::SafeLine;
 use casebook_words::push_path;
 use retro_tree::Path;

@@ -2,14 +2,14 @@
 ghost use Rattle.std.specs.Prelude.{◌≡◌, ◌||◌, IfOk, OnOk, map};
 ghost use Rattle.std.specs.List.{filter};
 ghost use Rattle.retro_tree.specs.Path.{PathValue};
-ghost use Rattle.casebook_cause.specs.ChangedPaths.{path_in};
+ghost use Rattle.casebook_changes.specs.ChangedPaths.{path_in};
 ghost use Rattle.casebook_view.specs.Unknown.{is_doubtful, is_writer};
 ghost use Rattle.casebook_view.specs.inner.Obstacles.{has_path};
 
 use crate::NoMem;
 use crate::case::Case;
 use crate::path_set::PathSet;
-use casebook_cause::ChangedPath;
+use casebook_changes::ChangedPath;
 use casebook_profile::UnknownLine;
 use retro_tree::Path;
 use std::alloc::Global;

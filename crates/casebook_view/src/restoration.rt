@@ -2,11 +2,11 @@
 ghost use Rattle.std.specs.Prelude.{IfOk};
 ghost use Rattle.retro_keep.specs.Recording.{last_state};
 ghost use Rattle.retro_redo.specs.Repair.{repaired_state};
-ghost use Rattle.casebook_cause.specs.ChangedPaths.{AreChangedPaths};
+ghost use Rattle.casebook_changes.specs.ChangedPaths.{AreChangedPaths};
 
 use crate::NoMem;
 use crate::case::Case;
-use casebook_cause::{ChangedPath, changed_paths};
+use casebook_changes::{ChangedPath, changed_paths};
 use std::alloc::Global;
 
 /// Returns the paths in which the recorded and the repaired machine differ at the end, in order of

@@ -1,6 +1,6 @@
 //! The paths in which two trees differ.
 use crate::words::push_item;
-use casebook_cause::{ChangedPath, PathChange, changed_paths};
+use casebook_changes::{ChangedPath, PathChange, changed_paths};
 use retro_rows::{fail, path, path_text, text};
 use retro_tree::{Bytes, NoMem, Node, State};
 use std::alloc::Global;

@@ -1,5 +1,5 @@
 //! The words of values in rows.
-use casebook_cause::PathChange;
+use casebook_changes::PathChange;
 use casebook_view::{Fate, Obstacle, Subject, WriteKind};
 use retro_tree::NoMem;
 

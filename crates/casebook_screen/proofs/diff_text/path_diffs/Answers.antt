@@ -1,6 +1,6 @@
 use Rattle.std.proofs.Common.{arith}
 use Rattle.casebook_screen.specs.Diffs.{IsPathDiff}
-use Rattle.casebook_cause.specs.declared.changed_path.ChangedPath.{ChangedPath}
+use Rattle.casebook_changes.specs.declared.changed_path.ChangedPath.{ChangedPath}
 use Rattle.casebook_screen.proofs.Parting.{parts_all, parts_more}
 use Rattle.casebook_screen.proofs.diff_text.path_diffs.Goals as goal
 

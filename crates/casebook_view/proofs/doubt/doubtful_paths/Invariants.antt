@@ -1,7 +1,7 @@
 -- The paths so far, and those among the changes that are left.
 use Rattle.std.proofs.Common.{◌≡◌, ◌++◌, drop, map}
 use Rattle.std.specs.List.{filter}
-use Rattle.casebook_cause.specs.ChangedPaths.{path_in}
+use Rattle.casebook_changes.specs.ChangedPaths.{path_in}
 use Rattle.casebook_view.specs.Unknown.{is_doubtful}
 use Rattle.casebook_view.proofs.doubt.doubtful_paths.Given as goal
 

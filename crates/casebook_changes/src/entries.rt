@@ -1,7 +1,7 @@
 //! The entries of a tree, read one by one.
 ghost use Rattle.std.specs.Prelude.{◌≡◌, option_map};
 ghost use Rattle.std.specs.FinMap as map;
-ghost use Rattle.casebook_cause.specs.inner.Merge.{entry_of, first_of, rest_of};
+ghost use Rattle.casebook_changes.specs.inner.Merge.{entry_of, first_of, rest_of};
 
 use retro_tree::{Entry, Path, Tree};
 use std::collections::btree_map::Iter;
@@ -20,7 +20,7 @@ impl<'a> Model for Entries<'a> {
     ghost use Rattle.retro_tree.specs.Path.{PathValue};
     ghost use Rattle.retro_tree.specs.declared.entry.Entry.{Entry};
     ghost use Rattle.retro_tree.specs.inner.Entry.{coded_entry};
-    ghost use Rattle.casebook_cause.specs.inner.Merge.{entry_of, from_first};
+    ghost use Rattle.casebook_changes.specs.inner.Merge.{entry_of, from_first};
 
     ghost Value = { List (PathValue × Entry) };
 

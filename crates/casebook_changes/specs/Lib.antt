@@ -1,0 +1,2 @@
+pub mod ChangedPaths
+pub mod inner
