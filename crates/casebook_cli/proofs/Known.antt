@@ -18,3 +18,10 @@ pub of_second : {A B : Type 0} (o : Option A) (p : Option B) (Q : B → Type 0) 
     → IfSome o (λ x. IfSome p Q)
 of_second None p Q h = tt
 of_second (Some x) p Q h = h
+
+-- from a fact of each to a fact of both
+pub both : {A B : Type 0} (o : Option A) (p : Option B) (P : A → Type 0) (Q : B → Type 0) (R : A → B → Type 0)
+    → IfSome o P → IfSome p Q → ((x : A) (y : B) → P x → Q y → R x y) → IfSome o (λ x. IfSome p (R x))
+both None p P Q R h k f = tt
+both (Some x) None P Q R h k f = tt
+both (Some x) (Some y) P Q R h k f = f x y h k

@@ -1,18 +1,23 @@
 -- The answers to requests.
-use Rattle.std.specs.Prelude.{◌≡◌, ℕ, Bool, false, IsTrue, List}
+use Rattle.std.specs.Prelude.{◌≡◌, ℕ, Bool, false, IsTrue, List, Ok}
 use Rattle.casebook_snapshot.specs.declared.snapshot.Snapshot.{Snapshot}
 use Rattle.casebook_folder_cli.specs.Answers.{IsSnapshotOf}
+use Rattle.casebook_folder_cli.specs.Comparing.{IsCompareAnswer}
 use Rattle.casebook_folder_cli.specs.Folders.{AllFolders}
 use Rattle.casebook_folder_cli.specs.Words.{SnapshotValue}
+use Rattle.casebook_folder_cli.specs.declared.comparing.CompareAnswer.{CompareAnswer}
+use Rattle.casebook_text.specs.SafeLine.{text_of_lines}
+use Rattle.retro_keep.specs.Recording.{RecordingValue}
+use Rattle.retro_log.specs.Document.{log_in}
 use Rattle.casebook_cli.specs.Checks.{IsChecked}
 use Rattle.casebook_cli.specs.Documents.{AllDocuments}
 use Rattle.casebook_cli.specs.Harmless.{IsHarmless, is_plain}
-use Rattle.casebook_cli.specs.Inputs.{AreInputs, InputsValue}
+use Rattle.casebook_cli.specs.Inputs.{AreInputs, DocumentValue, InputsValue, IsDocument}
 use Rattle.casebook_cli.specs.Lines.{AreLines}
 use Rattle.casebook_cli.specs.Pages.{IsPage}
 use Rattle.casebook_cli.specs.Repairs.{sources_of}
 use Rattle.casebook_cli.specs.Request.{Query, Request, ask, check, help, help_text, lines, page, show}
-use Rattle.casebook_cli.specs.Request.{snapshot}
+use Rattle.casebook_cli.specs.Request.{CompareValue, compare, snapshot}
 use Rattle.casebook_cli.specs.Screens.{IsShown}
 
 -- an answer: its text, and whether it says that what was asked about isn't in order
@@ -48,7 +53,22 @@ abbrev pub AnswersSnapshot : AllFolders → SnapshotValue → AnswerValue → Ty
 AnswersSnapshot folders request answer =
     Says (λ text. (s : Snapshot) × IsSnapshotOf folders request s text) answer
 
+-- The answer to a comparison: what it says of the recording of the log and of a snapshot of the
+-- folder, and no if a path isn't as recorded. It is harmless on a terminal.
+pub record AnswersCompare (at : AllDocuments) (folders : AllFolders) (request : CompareValue) (answer : AnswerValue)
+    : Type 0 where
+  pub document : DocumentValue
+  pub is_document : IsDocument at request.log document
+  pub recording : RecordingValue
+  pub is_recording : log_in document.bytes ≡ Ok recording
+  pub compared : CompareAnswer
+  pub is_compared : IsCompareAnswer folders request.folder recording compared
+  pub text : answer.text ≡ text_of_lines compared.lines.items
+  pub is_no : answer.is_no ≡ compared.is_no
+  pub harmless : IsHarmless answer.text
+
 abbrev pub Answers : Bool → AllDocuments → AllFolders → Request → AnswerValue → Type 0
 Answers colours at folders (help topic) answer = answer ≡ saying (help_text topic)
 Answers colours at folders (ask query) answer = AnswersQuery colours at query answer
 Answers colours at folders (snapshot request) answer = AnswersSnapshot folders request answer
+Answers colours at folders (compare request) answer = AnswersCompare at folders request answer

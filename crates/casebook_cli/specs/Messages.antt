@@ -46,7 +46,7 @@ problem_words problems.Line = codes "--line: not a number of a line"
 problem_words problems.Format = codes "--format: not text, tsv or numbers"
 problem_words problems.RepairFormat = codes "--format: not text or json"
 problem_words problems.MixedFormat = codes "--format json has no --why, --diff or --line"
-problem_words (problems.Folder folder_problems.NoFolder) = codes "no FOLDER is given; see casebook help snapshot"
+problem_words (problems.Folder folder_problems.NoFolder) = codes "no FOLDER is given; see casebook help"
 problem_words (problems.Folder folder_problems.At) = codes "--at: not a path from the root"
 problem_words (problems.Folder folder_problems.Skip) = codes "--skip: not a path from the root"
 

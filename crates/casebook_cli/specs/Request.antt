@@ -26,7 +26,8 @@ use Rattle.casebook_cli.specs.declared.bound.Bound.{Bound}
 use Rattle.casebook_cli.specs.declared.bounds.Bounds.{Bounds}
 use Rattle.casebook_cli.specs.declared.format.Format.{Format}
 use Rattle.casebook_cli.specs.declared.format.Format.TheVariants as formats
-use Rattle.casebook_cli.specs.declared.help.TheConstants.{PROGRAM, LINES, SHOW, PAGE, CHECK, SNAPSHOT, LISTS, DOCUMENTS, REFUSALS, PROFILE}
+use Rattle.casebook_cli.specs.declared.folder_help.TheConstants.{COMPARE, SNAPSHOT}
+use Rattle.casebook_cli.specs.declared.help.TheConstants.{PROGRAM, LINES, SHOW, PAGE, CHECK, LISTS, DOCUMENTS, REFUSALS, PROFILE}
 use Rattle.casebook_cli.specs.declared.problem.Problem.{Problem}
 use Rattle.casebook_cli.specs.declared.problem.Problem.TheVariants as problems
 use Rattle.casebook_cli.specs.declared.shown.Extras.{Extras}
@@ -94,10 +95,16 @@ pub data Query : Type 0 where
   page : PageRequest → Query
   check : Text → Query
 
+-- which recording is compared with which folder, and how the folder's snapshot is taken
+pub record CompareValue : Type 0 where
+  pub log : Text
+  pub folder : SnapshotValue
+
 pub data Request : Type 0 where
   help : Topic → Request
   ask : Query → Request
   snapshot : SnapshotValue → Request
+  compare : CompareValue → Request
 
 -- ---- steps, of which the first problem ends them
 
@@ -118,6 +125,7 @@ topic_in text =
     else if is_text (codes "page") text then Some topics.Page
     else if is_text (codes "check") text then Some topics.Check
     else if is_text (codes "snapshot") text then Some topics.Snapshot
+    else if is_text (codes "compare") text then Some topics.Compare
     else if is_text (codes "lists") text then Some topics.Lists
     else if is_text (codes "documents") text then Some topics.Documents
     else if is_text (codes "refusals") text then Some topics.Refusals
@@ -140,6 +148,7 @@ help_text topics.Show = SHOW.now
 help_text topics.Page = PAGE.now
 help_text topics.Check = CHECK.now
 help_text topics.Snapshot = SNAPSHOT.now
+help_text topics.Compare = COMPARE.now
 help_text topics.Lists = LISTS.now
 help_text topics.Documents = DOCUMENTS.now
 help_text topics.Refusals = REFUSALS.now
@@ -396,12 +405,21 @@ abbrev pub folder_result : Result SnapshotValue FolderProblem → Result Request
 folder_result (Ok request) = Ok (snapshot request)
 folder_result (Err problem) = Err (problems.Folder problem)
 
+abbrev pub compare_with : Text → Result SnapshotValue FolderProblem → Result CompareValue Problem
+compare_with log (Ok folder) = Ok (record { log = log; folder = folder })
+compare_with log (Err problem) = Err (problems.Folder problem)
+
+-- what `compare` asks for
+abbrev pub compare_in : Call → Result CompareValue Problem
+compare_in call = log_given call >>= (λ log. compare_with log (snapshot_in call))
+
 -- the request of a command
 unfoldable pub command_request : Call → Result Request Problem
 command_request call =
     if is_given (codes "help") call then Ok (help (topic_or_program (topic_in call.name)))
     else if is_text (codes "help") call.name then result_map help (topic_asked (given (codes "command") call))
     else if is_text (codes "snapshot") call.name then folder_result (snapshot_in call)
+    else if is_text (codes "compare") call.name then result_map compare (compare_in call)
     else result_map ask (query_in call)
 
 abbrev pub request_of : Named → Result Request Problem

@@ -19,12 +19,12 @@ use Rattle.casebook_text.specs.Item.{Line}
 use Rattle.casebook_text.specs.Lists.{lines_of_list}
 use Rattle.casebook_words.specs.declared.labels.Labels.{Labels}
 use Rattle.casebook_cli.specs.Documents.{AllDocuments}
-use Rattle.casebook_cli.specs.Inputs.{AreInputs, DocumentValue, InputsValue, SourcesValue}
+use Rattle.casebook_cli.specs.Inputs.{AreInputs, DocumentValue, InputsValue, IsDocument, SourcesValue}
 use Rattle.casebook_cli.specs.Labels.{AreLabels, IsAbout}
 use Rattle.casebook_cli.specs.Lines.{pattern_config, sessions_named}
 use Rattle.casebook_cli.specs.Repairs.{AreEdits, IsAsked, IsListGiven, lines_in, sources_of}
 use Rattle.casebook_cli.specs.Request.{LinesRequest, Query, RepairRequest, Request, RoundsValue, ShowRequest, ask, check, help, lines, page, request_in, show}
-use Rattle.casebook_cli.specs.Request.{snapshot}
+use Rattle.casebook_cli.specs.Request.{CompareValue, compare, snapshot}
 use Rattle.casebook_cli.specs.declared.repairs.AskedRepair.{AskedRepair}
 use Rattle.casebook_cli.specs.declared.searched.SearchedPart.{SearchedPart}
 use Rattle.casebook_cli.specs.declared.searched.SearchedPart.TheVariants as searched_in
@@ -211,10 +211,18 @@ StopsSnapshot folder (stops.NotADirectory name) = name.now ≡ folder
 StopsSnapshot folder stops.OutOfMemory = Unit {0}
 StopsSnapshot folder other = ⊥
 
+-- there is no comparison: the log can't be read or isn't one, or there is no snapshot of the folder
+pub data StopsCompare (at : AllDocuments) (request : CompareValue) (stop : Stop) : Type 0 where
+  no_document : IsUnread at request.log stop → StopsCompare at request stop
+  no_log : (document : DocumentValue) → IsDocument at request.log document → StopsLog document stop
+      → StopsCompare at request stop
+  no_folder : StopsSnapshot request.folder.folder stop → StopsCompare at request stop
+
 abbrev pub Stops : AllDocuments → Request → Stop → Type 0
 Stops at (help topic) stop = stop ≡ stops.OutOfMemory
 Stops at (ask query) stop = StopsQuery at query stop
 Stops at (snapshot request) stop = StopsSnapshot request.folder stop
+Stops at (compare request) stop = StopsCompare at request stop
 
 -- words make no request
 abbrev pub IsBadWords : List (List ℕ) → Stop → Type 0

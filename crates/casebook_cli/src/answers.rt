@@ -1,19 +1,18 @@
 //! Answers to requests.
 ghost use Rattle.std.specs.Prelude.{◌≡◌, IfOk, IfErr, IfSome, IsTrue, string_bytes};
-ghost use Rattle.casebook_cli.specs.Answers.{Answers, AnswersBy, AnswersSnapshot, saying};
+ghost use Rattle.casebook_cli.specs.Answers.{Answers, AnswersBy, saying};
 ghost use Rattle.casebook_cli.specs.Harmless.{IsHarmless, is_plain, is_plain_shown};
 ghost use Rattle.casebook_cli.specs.Pages.{IsPage};
 ghost use Rattle.casebook_cli.specs.Request.{ask, help_text};
 ghost use Rattle.casebook_cli.specs.Screens.{IsShown};
 ghost use Rattle.casebook_cli.specs.Stops.{Stops, StopsAsked, StopsBy, StopsQuery, StopsShow};
-ghost use Rattle.casebook_cli.specs.Stops.{StopsSnapshot};
-ghost use Rattle.casebook_folder_cli.specs.Views.{request_view as snapshot_view};
 ghost use Rattle.casebook_cli.specs.inner.Views.{answer_view, inputs_view, page_view, query_view};
 ghost use Rattle.casebook_cli.specs.inner.Views.{repair_view, request_view, show_view};
 
 use crate::NoMem;
 use crate::answer::Answer;
 use crate::checks::check_answer;
+use crate::comparing::compare_text;
 use crate::documents::Documents;
 use crate::help::help_text;
 use crate::lines_answer::lines_text;
@@ -25,11 +24,11 @@ use crate::repair_request::{PageRequest, ShowRequest};
 use crate::repairs::asked_repair;
 use crate::request::Request;
 use crate::screens::shown_text;
+use crate::snapshots::snapshot_text;
 use crate::sources::Inputs;
 use crate::stop::Stop;
 use crate::topic::Topic;
-use casebook_folder_cli::{Folders, SnapshotRequest, snapshot_answer};
-use casebook_snapshot::SnapshotError;
+use casebook_folder_cli::Folders;
 use std::alloc::{AllocGlobal, Global};
 use std::thread::Threads;
 
@@ -115,40 +114,6 @@ fn help_answer(alloc: Global, topic: Topic) -> Result<Answer, NoMem>
     Ok(Answer::of(String::from_str(alloc, help_text(topic))?))
 }
 
-/// Returns why there is no snapshot of the folder with a name.
-fn snapshot_stop(name: &str, error: SnapshotError) -> Stop<'_>
-    ensures { StopsSnapshot name.entry.now result }
-{
-    match error {
-        SnapshotError::NoMem => Stop::OutOfMemory,
-        SnapshotError::Failed => Stop::ReadFailed(name),
-        SnapshotError::NotADirectory => Stop::NotADirectory(name),
-    }
-}
-
-/// Returns the document of a snapshot, and tells what is said beside it.
-fn snapshot_text<'a, D: Documents + Folders + Progress>(
-    alloc: Global,
-    documents: &D,
-    request: SnapshotRequest<'a>,
-) -> Result<Answer, Stop<'a>>
-    ensures ok { IfOk result (λ answer. IfSome (D.bytes_of documents.now) (λ at.
-        IfSome (D.holds documents.now) (λ folders.
-        AnswersSnapshot folders (snapshot_view request.entry) (answer_view answer)))) }
-    ensures err { IfErr result (StopsSnapshot (snapshot_view request.entry).folder) }
-{
-    match snapshot_answer(alloc, documents, &request) {
-        Ok(answer) => {
-            documents.remark(&answer.remark);
-            Ok(Answer {
-                text: answer.document,
-                is_no: false,
-            })
-        }
-        Err(error) => Err(snapshot_stop(request.folder, error)),
-    }
-}
-
 /// Returns the answer to a request, with colours if they are wanted.
 pub(crate) fn answer<'a, R: Threads + Sync + AllocGlobal, D: Documents + Folders + Progress>(
     rt: &R,
@@ -166,5 +131,6 @@ pub(crate) fn answer<'a, R: Threads + Sync + AllocGlobal, D: Documents + Folders
         Request::Help(topic) => Ok(help_answer(rt.alloc(), topic)?),
         Request::Ask(query) => asked_answer(rt, documents, query, colours),
         Request::Snapshot(request) => snapshot_text(rt.alloc(), documents, request),
+        Request::Compare(request) => compare_text(rt.alloc(), documents, request),
     }
 }

@@ -1,17 +1,17 @@
 //! The request that the words of the command line make.
 ghost use Rattle.std.specs.Prelude.{◌≡◌, map, option_map, string_bytes};
-ghost use Rattle.casebook_cli.specs.Request.{command_request, query_in};
+ghost use Rattle.casebook_cli.specs.Request.{command_request, compare_in, query_in};
 ghost use Rattle.casebook_cli.specs.Request.{request_in, topic_asked, topic_in};
 ghost use Rattle.casebook_cli.specs.Request.{topic_or_program};
 ghost use Rattle.retro_edge.specs.Calls.{call_view};
-ghost use Rattle.casebook_cli.specs.inner.Views.{Means, query_view, request_view};
+ghost use Rattle.casebook_cli.specs.inner.Views.{Means, compare_view, query_view, request_view};
 
 use crate::line_options::lines_request;
 use crate::options::{is_given, log_of};
 use crate::problem::Problem;
 use crate::query::Query;
 use crate::repair_options::{page_request, show_request};
-use crate::request::Request;
+use crate::request::{CompareRequest, Request};
 use crate::topic::Topic;
 use crate::words::{WordsFault, call_in};
 use casebook_folder_cli::snapshot_request;
@@ -29,6 +29,7 @@ fn topic_of(text: &str) -> Option<Topic>
         "page" => Some(Topic::Page),
         "check" => Some(Topic::Check),
         "snapshot" => Some(Topic::Snapshot),
+        "compare" => Some(Topic::Compare),
         "lists" => Some(Topic::Lists),
         "documents" => Some(Topic::Documents),
         "refusals" => Some(Topic::Refusals),
@@ -71,6 +72,18 @@ fn query_of<'a>(alloc: Global, call: &CommandCall<'a>) -> Result<Query<'a>, Word
     }
 }
 
+/// Returns what the command `compare` asks for.
+fn compare_request<'a>(
+    alloc: Global,
+    call: &CommandCall<'a>,
+) -> Result<CompareRequest<'a>, WordsFault>
+    ensures { Means compare_view result (compare_in (call_view call.now)) }
+{
+    let log = log_of(call)?;
+    let folder = snapshot_request(alloc, call)?;
+    Ok(CompareRequest { log, folder })
+}
+
 /// Returns the request of a command.
 #[tactic(auto, unfolding(crate::specs::Request::command_request))]
 fn command_request<'a>(alloc: Global, call: &CommandCall<'a>) -> Result<Request<'a>, WordsFault>
@@ -84,6 +97,9 @@ fn command_request<'a>(alloc: Global, call: &CommandCall<'a>) -> Result<Request<
     }
     if call.name == "snapshot" {
         return Ok(Request::Snapshot(snapshot_request(alloc, call)?));
+    }
+    if call.name == "compare" {
+        return Ok(Request::Compare(compare_request(alloc, call)?));
     }
     Ok(Request::Ask(query_of(alloc, call)?))
 }

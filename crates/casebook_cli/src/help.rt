@@ -2,6 +2,7 @@
 ghost use Rattle.std.specs.Prelude.{◌≡◌};
 ghost use Rattle.casebook_cli.specs.Request.{help_text};
 
+use crate::folder_help::{COMPARE, SNAPSHOT};
 use crate::topic::Topic;
 
 /// Help on the program.
@@ -27,7 +28,10 @@ says which lines retro's shell didn't understand. It changes nothing.
         another document, whether it is a script, and why it is refused.
     casebook snapshot FOLDER [--at PATH] [--skip PATH]..
         What is in a folder, as a document.
-    casebook help [lines|show|page|check|snapshot|lists|documents|refusals|profile]
+    casebook compare LOG FOLDER [--at PATH] [--skip PATH]..
+        Whether what a log has at its end is what a folder holds.
+    casebook help [lines|show|page|check|snapshot|compare|
+                   lists|documents|refusals|profile]
         This text, or more on a command, on lists of lines, on the documents that
         casebook reads, on why it refuses them, or on what a line may be.
 
@@ -247,35 +251,6 @@ Exit status: 0 a recording or a script, 4 another log, or neither log nor script
 If a log isn't as its lines run, what was recorded is only what its notes say.
 ";
 
-/// Help on the command `snapshot`.
-const SNAPSHOT: &str = "\
-casebook snapshot FOLDER [--at PATH] [--skip PATH]..
-
-Writes what is in a folder as a document: directories, and files of at most
-1,048,576 bytes, with modes and owners. Its `tree` is the tree of a script. Nothing
-is changed, no link is followed, and no device and no pipe is opened.
-
-    --at PATH      puts the folder at PATH; at / if it isn't given
-    --skip PATH    leaves out PATH, and what is below it. It can be given several
-                   times. PATH is a path in the document.
-
-What isn't in the tree is listed in the document with its reason:
-
-    link, device, pipe, socket, null device
-    other file system    it is the root of another file system
-    too large            it has more than 1,048,576 bytes
-    name too long        it has more than 255 bytes
-    odd name             it isn't UTF-8
-    unreadable           the system refuses to read it
-    changing             it changed each of the three times that it was read
-    asked                it is a PATH of --skip
-
-Standard error has one line that counts the paths of the tree and, by their
-reasons, what was skipped. What other users do in the folder meanwhile can't lead
-out of it, but a file in the document may be one of a moment, and its neighbour one
-of another.
-";
-
 /// Help on lists of lines.
 const LISTS: &str = "\
 Lists of lines
@@ -395,6 +370,7 @@ pub(crate) fn help_text(topic: Topic) -> &'static str
         Topic::Page => PAGE,
         Topic::Check => CHECK,
         Topic::Snapshot => SNAPSHOT,
+        Topic::Compare => COMPARE,
         Topic::Lists => LISTS,
         Topic::Documents => DOCUMENTS,
         Topic::Refusals => REFUSALS,

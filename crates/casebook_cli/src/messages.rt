@@ -46,9 +46,7 @@ fn problem_words(problem: Problem) -> &'static str
         Problem::Format => "--format: not text, tsv or numbers",
         Problem::RepairFormat => "--format: not text or json",
         Problem::MixedFormat => "--format json has no --why, --diff or --line",
-        Problem::Folder(FolderProblem::NoFolder) => {
-            "no FOLDER is given; see casebook help snapshot"
-        }
+        Problem::Folder(FolderProblem::NoFolder) => "no FOLDER is given; see casebook help",
         Problem::Folder(FolderProblem::At) => "--at: not a path from the root",
         Problem::Folder(FolderProblem::Skip) => "--skip: not a path from the root",
     }

@@ -11,7 +11,7 @@ use crate::stop::Stop;
 use std::alloc::Global;
 
 /// Reads the document with a name.
-fn read_document<'a, D: Documents>(
+pub(crate) fn read_document<'a, D: Documents>(
     alloc: Global,
     documents: &D,
     name: &'a str,

@@ -15,6 +15,8 @@ pub(crate) enum Topic {
     Check,
     /// The command `snapshot`.
     Snapshot,
+    /// The command `compare`.
+    Compare,
     /// Lists of lines.
     Lists,
     /// The documents that the program reads.

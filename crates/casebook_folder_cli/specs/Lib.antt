@@ -1,4 +1,5 @@
 pub mod Answers
+pub mod Comparing
 pub mod Folders
 pub mod Paths
 pub mod Remarks

@@ -13,6 +13,11 @@ use Rattle.casebook_folder_cli.specs.declared.request.FolderProblem.TheVariants 
 abbrev pub snapshot_rules : List Rule
 snapshot_rules = help_flag ∷ word (codes "folder") ∷ option (codes "at") ∷ options (codes "skip") ∷ []
 
+-- of `compare`: the log, and then as of `snapshot`
+abbrev pub compare_rules : List Rule
+compare_rules =
+    help_flag ∷ word (codes "log") ∷ word (codes "folder") ∷ option (codes "at") ∷ options (codes "skip") ∷ []
+
 -- the snapshot of which folder, which is put at a path, without which paths
 pub record SnapshotValue : Type 0 where
   pub folder : Text

@@ -3,7 +3,7 @@
 //! The first field of a row has the words of a command line, with spaces between them, or for
 //! `numbers` the filters of `lines log`. In a word `_` is a space.
 use crate::memory::{coloured, ended, refused, remarked, written};
-use crate::tables::{LINES, OTHERS, PAGES, REFUSED, REPAIRS, SNAPSHOTS, TIMES};
+use crate::tables::{COMPARISONS, LINES, OTHERS, PAGES, REFUSED, REPAIRS, SNAPSHOTS, TIMES};
 use retro_rows::{fail, rows, text};
 use std::alloc::AllocGlobal;
 use std::test::Fail;
@@ -108,8 +108,8 @@ fn lines_and_repairs_are_shown(rt: HostRuntime) -> Result<(), Fail> {
 }
 
 #[test]
-fn pages_checks_snapshots_and_helps_are_written(rt: HostRuntime) -> Result<(), Fail> {
-    for table in [PAGES, OTHERS, SNAPSHOTS] {
+fn pages_checks_folders_and_helps_are_written(rt: HostRuntime) -> Result<(), Fail> {
+    for table in [PAGES, OTHERS, SNAPSHOTS, COMPARISONS] {
         hold(&rt, table)?;
     }
     Ok(())

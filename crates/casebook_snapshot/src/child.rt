@@ -19,7 +19,7 @@ pub struct Child {
 
 /// The path of a child, or the reason why it has none.
 #[derive(Drop)]
-pub(crate) enum ChildPath {
+pub enum ChildPath {
     /// The path.
     Is(Path),
     /// No path has such a name.
@@ -40,7 +40,7 @@ impl Child {
 
     /// Returns the path of the child, or the reason to skip it that follows from its name.
     #[tactic(auto, using(crate::proofs::Names::names))]
-    pub(crate) fn path(&self, alloc: Global) -> Result<ChildPath, NoMem>
+    pub fn path(&self, alloc: Global) -> Result<ChildPath, NoMem>
         ensures { IfOk result (λ path. path ≡ child_path self.now) }
     {
         if self.name.len() > NAME_LIMIT {

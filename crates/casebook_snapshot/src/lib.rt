@@ -42,7 +42,7 @@ mod snapshot;
 mod visit;
 mod walking;
 
-pub use child::Child;
+pub use child::{Child, ChildPath};
 pub use error::SnapshotError;
 pub use item::{Item, Row};
 pub use laws::{snapshots_are_complete, snapshots_are_lawful};

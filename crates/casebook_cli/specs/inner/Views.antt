@@ -14,8 +14,8 @@ use Rattle.casebook_cli.specs.Bounds.{typed}
 use Rattle.casebook_cli.specs.Inputs.{DocumentValue, InputsValue, SourcesValue}
 use Rattle.casebook_cli.specs.Lines.{HasUser, user_tests}
 use Rattle.casebook_cli.specs.Request.{LinesRequest, PageRequest, Query, RepairRequest, Request}
-use Rattle.casebook_cli.specs.Request.{RoundsValue, ShowRequest, ask, check, help, lines, page, show, snapshot}
-use Rattle.casebook_cli.specs.Request.{test_view}
+use Rattle.casebook_cli.specs.Request.{CompareValue, RoundsValue, ShowRequest, ask, check, compare, help, lines, page, show}
+use Rattle.casebook_cli.specs.Request.{snapshot, test_view}
 use Rattle.casebook_cli.specs.Screens.{ScreenValue}
 use Rattle.casebook_cli.specs.declared.answer.Answer.{Answer}
 use Rattle.casebook_cli.specs.declared.document.Document.{Document}
@@ -27,6 +27,7 @@ use Rattle.casebook_cli.specs.declared.query.Query.TheVariants as queries
 use Rattle.casebook_cli.specs.declared.repair_request.PageRequest.{PageRequest as PageCode}
 use Rattle.casebook_cli.specs.declared.repair_request.RepairRequest.{RepairRequest as RepairCode}
 use Rattle.casebook_cli.specs.declared.repair_request.ShowRequest.{ShowRequest as ShowCode}
+use Rattle.casebook_cli.specs.declared.request.CompareRequest.{CompareRequest}
 use Rattle.casebook_cli.specs.declared.request.Request.{Request as RequestCode}
 use Rattle.casebook_cli.specs.declared.request.Request.TheVariants as requests
 use Rattle.casebook_cli.specs.declared.rounds.Rounds.{Rounds as RoundsCode}
@@ -98,10 +99,14 @@ query_view (queries.Show request) = show (show_view request)
 query_view (queries.Page request) = page (page_view request)
 query_view (queries.Check log) = check log.now
 
+abbrev pub compare_view : CompareRequest → CompareValue
+compare_view request = record { log = request.log.now; folder = snapshot_view request.folder }
+
 abbrev pub request_view : RequestCode → Request
 request_view (requests.Help topic) = help topic
 request_view (requests.Ask query) = ask (query_view query)
 request_view (requests.Snapshot request) = snapshot (snapshot_view request)
+request_view (requests.Compare request) = compare (compare_view request)
 
 -- what a fault says of the words: what is wrong with them, or None if memory ran out
 abbrev pub refused : {Y : Type 0} → WordsFault → Option (Result Y Problem)

@@ -1,6 +1,6 @@
 use Rattle.std.proofs.Common.{refl}
 use Rattle.casebook_cli.proofs.Known.{of_second, one}
-use Rattle.casebook_cli.proofs.answers.snapshot_text.Goals as goal
+use Rattle.casebook_cli.proofs.snapshots.snapshot_text.Goals as goal
 
 pub returns-in-Ok-clause-ok : goal.returns-in-Ok-clause-ok
 returns-in-Ok-clause-ok g c =

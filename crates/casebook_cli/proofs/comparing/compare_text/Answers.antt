@@ -1,0 +1,28 @@
+use Rattle.std.proofs.lemmas.Result.{err_from_is_err_and}
+use Rattle.casebook_cli.specs.Stops.{StopsCompare}
+use Rattle.casebook_cli.specs.inner.Views.{document_view}
+use Rattle.casebook_cli.proofs.Known.{both, one}
+use Rattle.casebook_cli.proofs.comparing.compare_text.Goals as goal
+
+pub returns-in_err-recording-clause-err : goal.returns-in_err-recording-clause-err
+returns-in_err-recording-clause-err g c =
+    let p = err_from_is_err_and c.from_residual-in_err-recording.result c.from_residual-in_err-recording.ensures.1 in
+    rw (p.1, p.2)
+    (one (g.D.Documents.bytes_of c.args.documents.now) _ _ c.in_ok-log.ensures.ok
+    (λ at is. StopsCompare.no_log (document_view c.in_ok-log.log) is c.in_err-recording.ensures.err))
+
+pub returns-in-Ok-clause-ok : goal.returns-in-Ok-clause-ok
+returns-in-Ok-clause-ok g c =
+    both (g.D.Documents.bytes_of c.args.documents.now) (g.D.Folders.holds c.args.documents.now) _ _ _
+    c.in_ok-log.ensures.ok c.in-Ok.ensures
+    (λ at folders is compared. record {
+      document = document_view c.in_ok-log.log;
+      is_document = is;
+      recording = c.in_ok-recording.recording;
+      is_recording = c.in_ok-recording.ensures.ok;
+      compared = c.in-Ok.answer;
+      is_compared = compared;
+      text = c.in_ok-shown-in-Ok.ensures.text;
+      is_no = c.in_ok-shown-in-Ok.ensures.no;
+      harmless = c.in_ok-shown-in-Ok.ensures.harmless;
+    })

@@ -1,0 +1,57 @@
+//! Comparisons of recordings with folders.
+ghost use Rattle.std.specs.Prelude.{◌≡◌, IfOk, IfErr, IfSome};
+ghost use Rattle.casebook_text.specs.SafeLine.{text_of_lines};
+ghost use Rattle.casebook_cli.specs.Answers.{AnswersCompare};
+ghost use Rattle.casebook_cli.specs.Harmless.{IsHarmless};
+ghost use Rattle.casebook_cli.specs.Stops.{StopsCompare};
+ghost use Rattle.casebook_cli.specs.inner.Views.{answer_view, compare_view};
+
+use crate::NoMem;
+use crate::answer::Answer;
+use crate::documents::Documents;
+use crate::plain::plain_lines;
+use crate::progress::{Progress, Step};
+use crate::reading::read_document;
+use crate::recordings::recording_of;
+use crate::request::CompareRequest;
+use crate::snapshots::snapshot_stop;
+use crate::stop::Stop;
+use casebook_folder_cli::{CompareAnswer, Folders, compare_answer};
+use std::alloc::Global;
+
+/// Returns what a comparison says, as an answer.
+fn shown(alloc: Global, compared: &CompareAnswer) -> Result<Answer, NoMem>
+    ensures text { IfOk result (λ answer.
+        answer.text.items ≡ text_of_lines compared.now.lines.items) }
+    ensures no { IfOk result (λ answer. answer.is_no ≡ compared.now.is_no) }
+    ensures harmless { IfOk result (λ answer. IsHarmless answer.text.items) }
+{
+    Ok(Answer {
+        text: plain_lines(alloc, compared.lines.as_slice())?.into_bytes(),
+        is_no: compared.is_no,
+    })
+}
+
+/// Returns what a comparison finds, and tells what is said of the folder's snapshot beside it.
+pub(crate) fn compare_text<'a, D: Documents + Folders + Progress>(
+    alloc: Global,
+    documents: &D,
+    request: CompareRequest<'a>,
+) -> Result<Answer, Stop<'a>>
+    ensures ok { IfOk result (λ answer. IfSome (D.bytes_of documents.now) (λ at.
+        IfSome (D.holds documents.now) (λ folders.
+        AnswersCompare at folders (compare_view request.entry) (answer_view answer)))) }
+    ensures err { IfErr result (λ stop. IfSome (D.bytes_of documents.now) (λ at.
+        StopsCompare at (compare_view request.entry) stop)) }
+{
+    let log = read_document(alloc, documents, request.log)?;
+    documents.begin(Step::Reading(log.bytes.len()));
+    let recording = recording_of(alloc, &log)?;
+    match compare_answer(alloc, documents, &request.folder, &recording) {
+        Ok(answer) => {
+            documents.remark(&answer.remark);
+            Ok(shown(alloc, &answer)?)
+        }
+        Err(error) => Err(snapshot_stop(request.folder.folder, error)),
+    }
+}

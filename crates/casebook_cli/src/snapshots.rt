@@ -1,0 +1,48 @@
+//! Snapshots of folders.
+ghost use Rattle.std.specs.Prelude.{IfOk, IfErr, IfSome};
+ghost use Rattle.casebook_folder_cli.specs.Views.{request_view as snapshot_view};
+ghost use Rattle.casebook_cli.specs.Answers.{AnswersSnapshot};
+ghost use Rattle.casebook_cli.specs.Stops.{StopsSnapshot};
+ghost use Rattle.casebook_cli.specs.inner.Views.{answer_view};
+
+use crate::answer::Answer;
+use crate::documents::Documents;
+use crate::progress::Progress;
+use crate::stop::Stop;
+use casebook_folder_cli::{Folders, SnapshotRequest, snapshot_answer};
+use casebook_snapshot::SnapshotError;
+use std::alloc::Global;
+
+/// Returns why there is no snapshot of the folder with a name.
+pub(crate) fn snapshot_stop(name: &str, error: SnapshotError) -> Stop<'_>
+    ensures { StopsSnapshot name.entry.now result }
+{
+    match error {
+        SnapshotError::NoMem => Stop::OutOfMemory,
+        SnapshotError::Failed => Stop::ReadFailed(name),
+        SnapshotError::NotADirectory => Stop::NotADirectory(name),
+    }
+}
+
+/// Returns the document of a snapshot, and tells what is said beside it.
+pub(crate) fn snapshot_text<'a, D: Documents + Folders + Progress>(
+    alloc: Global,
+    documents: &D,
+    request: SnapshotRequest<'a>,
+) -> Result<Answer, Stop<'a>>
+    ensures ok { IfOk result (λ answer. IfSome (D.bytes_of documents.now) (λ at.
+        IfSome (D.holds documents.now) (λ folders.
+        AnswersSnapshot folders (snapshot_view request.entry) (answer_view answer)))) }
+    ensures err { IfErr result (StopsSnapshot (snapshot_view request.entry).folder) }
+{
+    match snapshot_answer(alloc, documents, &request) {
+        Ok(answer) => {
+            documents.remark(&answer.remark);
+            Ok(Answer {
+                text: answer.document,
+                is_no: false,
+            })
+        }
+        Err(error) => Err(snapshot_stop(request.folder, error)),
+    }
+}

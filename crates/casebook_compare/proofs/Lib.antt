@@ -1,0 +1,3 @@
+pub mod PathSets
+pub mod Folders
+pub mod Kept

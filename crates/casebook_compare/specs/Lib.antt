@@ -1,0 +1,4 @@
+pub mod Coverage
+pub mod Comparison
+pub mod Words
+pub mod inner
