@@ -4,6 +4,7 @@ use Rattle.std.specs.Prelude.{count_by, is_some}
 use Rattle.std.specs.BTreeMap as tree
 use Rattle.std.specs.BTreeMap.{BTreeMap}
 use Rattle.std.specs.FinMap as finmap
+use Rattle.std.specs.List.{filter_map}
 use Rattle.std.specs.List.Sorted.{IsStrictlySortedBy}
 use Rattle.retro_path.specs.Order.{path_cmp, text_eq}
 use Rattle.retro_path.specs.Path.{PathValue, below}
@@ -18,7 +19,9 @@ use Rattle.casebook_snapshot.specs.Snapshots.{entry_of, node_at}
 use Rattle.casebook_snapshot.specs.declared.item.Row.{Row}
 use Rattle.casebook_snapshot.specs.declared.snapshot.Snapshot.{Snapshot}
 use Rattle.casebook_compare.specs.Coverage.{is_covered}
+use Rattle.casebook_compare.specs.Unread.{unread_of}
 use Rattle.casebook_compare.specs.declared.comparison.Comparison.{Comparison}
+use Rattle.casebook_compare.specs.declared.unread.UnreadPath.{UnreadPath}
 
 -- a tree has the nodes of some rows, and no others
 abbrev pub IsTreeOf : BTreeMap PathValue Row → Tree → Type 0
@@ -46,16 +49,19 @@ pub record AreDifferent (recorded : Tree) (s : Snapshot) (at : PathValue) (chang
   pub exact : (p : PathValue) (change : PathChange) → (change_at p changed ≡ Some change)
       ↔ ((is_covered at s.skipped.items p ≡ true) × IsChange change (node_in p recorded) (node_at s p))
 
-abbrev pub are_some : List ChangedPath → Bool
-are_some [] = false
-are_some (c ∷ changed) = true
+abbrev pub are_any : List ChangedPath → List UnreadPath → Bool
+are_any [] [] = false
+are_any [] (u ∷ unread) = true
+are_any (c ∷ changed) unread = true
 
--- whether a path isn't as recorded
+-- whether a path isn't as recorded, or was skipped though it is recorded
 abbrev pub has_differences : Comparison → Bool
-has_differences c = are_some c.different.items
+has_differences c = are_any c.different.items c.unread.items
 
--- The folder's tree, how many of its paths are as recorded, and which paths aren't.
+-- The folder's tree, how many of its paths are as recorded, which paths aren't, and which recorded
+-- ones the snapshot skipped.
 pub record IsComparison (recorded : Tree) (s : Snapshot) (at : PathValue) (c : Comparison) : Type 0 where
   pub folder : IsTreeOf s.rows c.folder.tree
   pub same : c.same ≡ count_by (is_same_row recorded at) s.rows.entries
   pub different : AreDifferent recorded s at c.different.items
+  pub unread : c.unread.items ≡ filter_map (unread_of recorded) s.skipped.items

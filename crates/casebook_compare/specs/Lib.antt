@@ -1,4 +1,5 @@
 pub mod Coverage
+pub mod Unread
 pub mod Comparison
 pub mod Words
 pub mod inner

@@ -8,10 +8,12 @@ use Rattle.retro_tree.specs.declared.cell.Cell.TheVariants as cells
 use Rattle.retro_keep.specs.Recording.{RecordingValue, last_state}
 use Rattle.retro_history.specs.Index.{written_at}
 use Rattle.casebook_changes.specs.declared.changed_path.ChangedPath.{ChangedPath}
+use Rattle.casebook_snapshot_json.specs.Reasons.{reason_text}
 use Rattle.casebook_text.specs.Lists.{comma}
 use Rattle.casebook_words.specs.Difference.{difference_words}
-use Rattle.casebook_words.specs.Words.{path_words}
+use Rattle.casebook_words.specs.Words.{answer_words, path_words}
 use Rattle.casebook_compare.specs.declared.comparison.Comparison.{Comparison}
+use Rattle.casebook_compare.specs.declared.unread.UnreadPath.{UnreadPath}
 
 -- the last three of some numbers
 abbrev pub last_of : List ℕ → List ℕ
@@ -33,9 +35,16 @@ difference_line r folder p =
     ++ difference_words (Bytes (node_in p (last_state r.lines r.first).tree)) (Bytes (node_in p folder))
     ++ writers_words (written_at (cells.At p) r.lines)
 
-unfoldable pub head_line : ℕ → ℕ → List ℕ
-head_line same different =
+-- What is recorded at a path that was skipped, why it was, and the last lines that wrote to it.
+unfoldable pub unread_line : RecordingValue → UnreadPath → List ℕ
+unread_line r u =
+    path_words u.path ++ codes ": " ++ answer_words (Bytes (node_in u.path (last_state r.lines r.first).tree))
+    ++ codes " / skipped, " ++ reason_text u.reason ++ writers_words (written_at (cells.At u.path) r.lines)
+
+unfoldable pub head_line : ℕ → ℕ → ℕ → List ℕ
+head_line same different unread =
     codes "as recorded " ++ decimal same ++ codes ", not as recorded " ++ decimal different
+    ++ codes ", skipped " ++ decimal unread
 
 abbrev pub end_line : List ℕ
 end_line =
@@ -44,8 +53,10 @@ end_line =
 abbrev pub line_of_change : RecordingValue → Tree → ChangedPath → List ℕ
 line_of_change r folder c = difference_line r folder c.path
 
--- A comparison in lines: how many paths are as recorded, each that isn't, and what isn't compared.
+-- A comparison in lines: how many paths are as recorded, each that isn't, each recorded one that was
+-- skipped, and what isn't compared.
 unfoldable pub comparison_lines : RecordingValue → Comparison → List (List ℕ)
 comparison_lines r c =
-    head_line c.same (length c.different.items)
-    ∷ map (line_of_change r c.folder.tree) c.different.items ++ end_line ∷ []
+    head_line c.same (length c.different.items) (length c.unread.items)
+    ∷ map (line_of_change r c.folder.tree) c.different.items ++ map (unread_line r) c.unread.items
+    ++ end_line ∷ []

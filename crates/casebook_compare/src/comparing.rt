@@ -10,6 +10,7 @@ ghost use Rattle.casebook_compare.specs.Comparison.{same_entries};
 use crate::NoMem;
 use crate::comparison::Comparison;
 use crate::coverage::Coverage;
+use crate::unread::unread_paths;
 use casebook_changes::changed_paths;
 use casebook_snapshot::{Row, Snapshot};
 use retro_tree::{Entry, Node, Path, State, Tree};
@@ -74,9 +75,11 @@ pub fn compare(
     let changed = changed_paths(alloc, recorded, folder.tree())?;
     let coverage = Coverage::of(alloc, at, snapshot.skipped.as_slice())?;
     let different = coverage.covered(alloc, changed)?;
+    let unread = unread_paths(alloc, recorded, snapshot.skipped.as_slice())?;
     Ok(Comparison {
         folder,
         same,
         different,
+        unread,
     })
 }

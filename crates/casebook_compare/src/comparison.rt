@@ -2,6 +2,7 @@
 ghost use Rattle.std.specs.Prelude.{◌≡◌};
 ghost use Rattle.casebook_compare.specs.Comparison.{has_differences};
 
+use crate::unread::UnreadPath;
 use casebook_changes::ChangedPath;
 use retro_tree::State;
 
@@ -15,16 +16,18 @@ pub struct Comparison {
     /// The paths that aren't, in order of paths. `Added` are those that only the folder has, and
     /// `Removed` those that it lacks.
     pub different: Vec<ChangedPath>,
+    /// The recorded paths that the snapshot skipped, though nobody asked for it, in its order.
+    pub unread: Vec<UnreadPath>,
 }
 
 impl Comparison {
-    /// Returns whether a path isn't as recorded.
+    /// Returns whether a path isn't as recorded, or was skipped though it is recorded.
     pub fn has_differences(&self) -> bool
         ensures { result ≡ has_differences self.now }
     {
-        match self.different.as_slice() {
-            [] => false,
-            [_, ..] => true,
+        match (self.different.as_slice(), self.unread.as_slice()) {
+            ([], []) => false,
+            _ => true,
         }
     }
 }

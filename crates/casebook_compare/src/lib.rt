@@ -4,7 +4,7 @@
 //! [`comparison_lines`] says it to people, with the last lines that wrote to each of them.
 //!
 //! A snapshot tells nothing of what it skipped, nor of what isn't below the path at which the folder
-//! is put. So these paths aren't compared.
+//! is put. So these paths aren't compared, but those that are recorded and were skipped are named.
 //!
 //! If allocation fails, calls return `NoMem`.
 //!
@@ -15,7 +15,8 @@
 //! - `compare` names exactly the paths in which the recorded tree and the folder differ, of those of
 //!   which the snapshot tells what is there, each once and with how they differ, in order of paths
 //!   [`different` of `IsComparison`]. It counts the paths of the folder that are as recorded
-//!   [`same`], and returns the folder's tree [`folder`].
+//!   [`same`], names the recorded ones that the snapshot skipped [`unread`], and returns the folder's
+//!   tree [`folder`].
 //! - `comparison_lines` returns the lines of `specs/Words.antt`. Each is a `SafeLine`, so its
 //!   characters are harmless.
 #![tactic(auto)]
@@ -23,10 +24,12 @@
 mod comparing;
 mod comparison;
 mod coverage;
+mod unread;
 mod words;
 
 pub use comparing::compare;
 pub use comparison::Comparison;
+pub use unread::UnreadPath;
 pub use words::comparison_lines;
 
 /// Allocation failed.

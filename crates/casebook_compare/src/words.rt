@@ -2,13 +2,15 @@
 ghost use Rattle.std.specs.Prelude.{◌≡◌, ◌++◌, IfOk, OnOk, map};
 ghost use Rattle.casebook_compare.specs.Words.{comparison_lines, difference_line, end_line};
 ghost use Rattle.casebook_compare.specs.Words.{head_line, last_of, last_words, line_of_change};
-ghost use Rattle.casebook_compare.specs.Words.{writers_words};
+ghost use Rattle.casebook_compare.specs.Words.{unread_line, writers_words};
 
 use crate::NoMem;
 use crate::comparison::Comparison;
+use crate::unread::UnreadPath;
 use casebook_changes::ChangedPath;
+use casebook_snapshot_json::reason_text;
 use casebook_text::{SafeLine, list_of_numbers};
-use casebook_words::{push_difference, push_path};
+use casebook_words::{push_answer, push_difference, push_path};
 use retro_history::History;
 use retro_keep::Recording;
 use retro_tree::{Answer, Cell, Path, Tree};
@@ -69,16 +71,40 @@ fn difference_line(
     Ok(line)
 }
 
-/// Returns how many paths are as recorded, and how many aren't.
+/// Returns what is recorded at a path that was skipped, why it was, and the last lines that wrote to
+/// it.
+#[tactic(auto, unfolding(crate::specs::Words::unread_line))]
+fn unread_line(alloc: Global, history: &History<'_>, unread: &UnreadPath) -> Result<SafeLine, NoMem>
+    ensures { IfOk result (λ line. line ≡ unread_line history.now unread.now) }
+{
+    let path = &unread.path;
+    let recorded = Answer::Bytes(history.recording().last().tree().node(path)?);
+    let mut line = SafeLine::new(alloc);
+    push_path(alloc, &mut line, path)?;
+    line.push_ascii(": ")?;
+    push_answer(alloc, &mut line, &recorded)?;
+    line.push_ascii(" / skipped, ")?;
+    line.push_ascii(reason_text(unread.reason))?;
+    push_writers(
+        alloc,
+        &mut line,
+        history.written_by(&Cell::At(path.copy()?)),
+    )?;
+    Ok(line)
+}
+
+/// Returns how many paths are as recorded, how many aren't, and how many recorded ones were skipped.
 #[tactic(auto, unfolding(crate::specs::Words::head_line))]
-fn head_line(alloc: Global, same: usize, different: usize) -> Result<SafeLine, NoMem>
-    ensures { IfOk result (λ line. line ≡ head_line same different) }
+fn head_line(alloc: Global, same: usize, different: usize, unread: usize) -> Result<SafeLine, NoMem>
+    ensures { IfOk result (λ line. line ≡ head_line same different unread) }
 {
     let mut line = SafeLine::new(alloc);
     line.push_ascii("as recorded ")?;
     line.push_number(alloc, same as u64)?;
     line.push_ascii(", not as recorded ")?;
     line.push_number(alloc, different as u64)?;
+    line.push_ascii(", skipped ")?;
+    line.push_number(alloc, unread as u64)?;
     Ok(line)
 }
 
@@ -111,8 +137,25 @@ fn push_differences(
     Ok(())
 }
 
+/// Appends a line for each recorded path that was skipped.
+fn push_unread(
+    alloc: Global,
+    lines: &mut Vec<SafeLine>,
+    history: &History<'_>,
+    unread: &[UnreadPath],
+) -> Result<(), NoMem>
+    ensures { OnOk result (lines.new.items ≡ lines.old.items
+        ++ map (unread_line history.now) unread.now) }
+{
+    for one in unread {
+        lines.push(unread_line(alloc, history, one)?)?;
+    }
+    Ok(())
+}
+
 /// Returns a comparison of a recording with a folder in lines: how many paths are as recorded, each
-/// path that isn't, with the last lines that wrote to it, and what isn't compared.
+/// path that isn't, and each recorded one that was skipped, with the last lines that wrote to it, and
+/// what isn't compared.
 #[tactic(auto, unfolding(crate::specs::Words::comparison_lines))]
 pub fn comparison_lines(
     alloc: Global,
@@ -124,8 +167,9 @@ pub fn comparison_lines(
 {
     let history = History::of(alloc, recording)?;
     let changed = comparison.different.as_slice();
+    let unread = comparison.unread.as_slice();
     let mut lines = Vec::new(alloc);
-    lines.push(head_line(alloc, comparison.same, changed.len())?)?;
+    lines.push(head_line(alloc, comparison.same, changed.len(), unread.len())?)?;
     push_differences(
         alloc,
         &mut lines,
@@ -133,6 +177,7 @@ pub fn comparison_lines(
         comparison.folder.tree(),
         changed,
     )?;
+    push_unread(alloc, &mut lines, &history, unread)?;
     lines.push(end_line(alloc)?)?;
     Ok(lines)
 }

@@ -39,6 +39,13 @@ const LATER: &str = r#"{"from":7,"lines":[
 [8,1,"cat /f",[["bytes","/f",["f","6669670a706c756d0a"]],["setstatus",0]],"6669670a706c756d0a"]],
 "log":2,"sessions":[[1,"/",0,[]]],"tree":[["/f","6669670a706c756d0a"]]}"#;
 
+/// A log of two lines that write to `/m` and `/l`, at which the folder `folder` has links.
+const NAMED: &str = r#"{"from":1,"lines":[
+[1,1,"mkdir /m",[["kind","/m","missing"],["kind","/","dir"],["put","/m",["d"]],["setstatus",0]],""],
+[2,1,"echo a > /l",[["canwrite","/l",0,"yes"],["put","/l",["f",""]],["canwrite","/l",2,"yes"],
+["grow","/l","610a"],["setstatus",0]],""]],
+"log":2,"sessions":[[1,"/",0,[]]],"tree":[["/f","6669670a"]]}"#;
+
 /// The documents and folders that there are, and the last remark that was made.
 #[derive(Drop)]
 pub(crate) struct Memory {
@@ -62,6 +69,7 @@ fn bytes_of(name: &str) -> Option<&'static [u8]> {
         "log" | "-" | "\u{1B}[2J" => Some(LOG.as_bytes()),
         "forged" => Some(FORGED.as_bytes()),
         "odd" => Some(ODD.as_bytes()),
+        "named" => Some(NAMED.as_bytes()),
         "about" => Some(
             br#"{"about":1,"sessions":[[1,"ann"],[2,"guest"]],"lines":[[1,1746528600],[2,1746528720]]}"#,
         ),

@@ -217,33 +217,43 @@ remarks: snapshot folder --skip /d --skip /l => paths 2, skipped 4, link 1, odd 
 /// Comparisons of logs with `folder`: the exit status, what is written, and what is said beside it.
 pub(crate) const COMPARISONS: &str = r##"
 ends: compare log folder =>
-| 4 as recorded 2, not as recorded 1
+| 4 as recorded 2, not as recorded 1, skipped 0
 | /d: no such file / a directory; no line wrote to it
 | Paths are shown as recorded / as in the folder. What was overwritten before the end isn't compared.
 
 ends: compare log folder --skip /d =>
-| 0 as recorded 2, not as recorded 0
+| 0 as recorded 2, not as recorded 0, skipped 0
 | Paths are shown as recorded / as in the folder. What was overwritten before the end isn't compared.
 
 ends: compare later folder --skip /d =>
-| 4 as recorded 1, not as recorded 1
+| 4 as recorded 1, not as recorded 1, skipped 0
 | /f line 2: plum / ends before it; no line wrote to it
 | Paths are shown as recorded / as in the folder. What was overwritten before the end isn't compared.
 
 ends: compare log folder --at /f --skip /f/f =>
-| 4 as recorded 0, not as recorded 2
+| 4 as recorded 0, not as recorded 2, skipped 0
 | /f: 1 line, 4 bytes / a directory; last written by 1
 | /f/d: no such file / a directory; no line wrote to it
 | Paths are shown as recorded / as in the folder. What was overwritten before the end isn't compared.
 
 ends: compare log folder --at /l --skip /l/d --skip /l/f =>
-| 4 as recorded 0, not as recorded 1
+| 4 as recorded 0, not as recorded 1, skipped 0
 | /l: no such file / a directory; no line wrote to it
 | Paths are shown as recorded / as in the folder. What was overwritten before the end isn't compared.
 
 ends: compare log folder --skip / =>
-| 4 as recorded 2, not as recorded 1
+| 4 as recorded 2, not as recorded 1, skipped 0
 | /d: no such file / a directory; no line wrote to it
+| Paths are shown as recorded / as in the folder. What was overwritten before the end isn't compared.
+
+ends: compare named folder --skip /d =>
+| 4 as recorded 2, not as recorded 0, skipped 2
+| /l: 1 line, 2 bytes / skipped, link; last written by 2
+| /m: a directory / skipped, link; last written by 1
+| Paths are shown as recorded / as in the folder. What was overwritten before the end isn't compared.
+
+ends: compare named folder --skip /d --skip /l --skip /m =>
+| 0 as recorded 2, not as recorded 0, skipped 0
 | Paths are shown as recorded / as in the folder. What was overwritten before the end isn't compared.
 
 same: compare - folder --skip /d :: compare log folder --skip /d => yes

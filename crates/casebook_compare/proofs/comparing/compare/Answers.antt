@@ -1,7 +1,8 @@
 use Rattle.std.proofs.Common.{◌∙◌, ap, subst}
-use Rattle.std.specs.List.{filter}
+use Rattle.std.specs.List.{filter, filter_map}
 use Rattle.casebook_changes.specs.ChangedPaths.{AreChangedPaths}
 use Rattle.casebook_compare.specs.Coverage.{is_listed}
+use Rattle.casebook_compare.specs.Unread.{unread_of}
 use Rattle.casebook_compare.specs.inner.PathSets.{is_covered_by}
 use Rattle.casebook_compare.proofs.Kept.{are_different}
 use Rattle.casebook_compare.proofs.comparing.compare.Goals as goal
@@ -20,4 +21,5 @@ returns c =
           (c.in_ok-different.ensures
           ∙ ap (λ at. filter (λ one. is_covered_by at keys one.path) c.in_ok-changed.changed.items)
           c.in_ok-coverage.ensures.at);
+      unread = c.in_ok-unread.ensures ∙ ap (filter_map (unread_of c.args.recorded.now)) c.as_slice-2.ensures.value;
     }
