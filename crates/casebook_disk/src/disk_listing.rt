@@ -12,12 +12,22 @@ use std::alloc::Global;
 use std::cell::Cell;
 use std::fs::File;
 use std::io::{self, ErrorKind};
+use std::os::unix::fs::MetadataExt;
 
-/// A directory that is open, and its path.
+/// A directory that is open, its path, and the number of its file system.
 #[derive(Drop)]
 struct OpenDir {
     path: Path,
     dir: File,
+    device: u64,
+}
+
+impl OpenDir {
+    /// Returns an open directory, which is at a path.
+    fn of(path: Path, dir: File) -> io::Result<OpenDir> {
+        let device = dir.metadata()?.dev();
+        Ok(OpenDir { path, dir, device })
+    }
 }
 
 /// A folder of the file system that is only looked at.
@@ -42,38 +52,50 @@ impl<'a> DiskListing<'a> {
         })
     }
 
-    /// Returns where the directory at a path is. It stays open until another one is asked for.
-    fn dir(&self, path: &Path) -> io::Result<DiskPlace> {
-        if let Some(last) = self.last.replace(None) {
-            if last.path == *path {
-                let dir = last.dir.try_clone()?;
-                self.last.set(Some(last));
-                return Ok(DiskPlace::In(dir));
-            }
+    /// Takes the directory that was asked for last, if it is the one at a path.
+    fn take_last(&self, path: &Path) -> Option<OpenDir> {
+        match self.last.replace(None) {
+            Some(last) if last.path == *path => Some(last),
+            _ => None,
         }
-        let place = dir_at(self.rt, self.alloc, &self.root, path)?;
-        if let DiskPlace::In(dir) = &place {
-            let path = path.copy()?;
-            let dir = dir.try_clone()?;
-            self.last.set(Some(OpenDir { path, dir }));
-        }
-        Ok(place)
+    }
+
+    /// Returns what is at a name in an open directory, which stays open until another one is asked
+    /// for.
+    fn find_in(&self, open: OpenDir, name: &str) -> io::Result<Item> {
+        let item = item_in(self.rt, self.alloc, &open.dir, open.device, name);
+        self.last.set(Some(open));
+        item
     }
 
     /// Returns what is at a path.
     fn find(&self, path: &Path) -> io::Result<Item> {
         let name = last_name(self.alloc, path)?;
-        match self.dir(&path.parent(self.alloc)?)? {
-            DiskPlace::In(dir) => item_in(self.rt, self.alloc, &dir, name.as_str()),
+        let parent = path.parent(self.alloc)?;
+        if let Some(open) = self.take_last(&parent) {
+            return self.find_in(open, name.as_str());
+        }
+        match dir_at(self.rt, self.alloc, &self.root, &parent)? {
+            DiskPlace::In(dir) => self.find_in(OpenDir::of(parent, dir)?, name.as_str()),
             DiskPlace::Missing => Ok(Item::Missing),
             DiskPlace::Blocked(_) => Ok(Item::Barred(Reason::Changing)),
         }
     }
 
+    /// Returns the names in an open directory, which stays open until another one is asked for.
+    fn names_of(&self, open: OpenDir) -> io::Result<Option<Vec<Vec<u8>>>> {
+        let names = names_in(self.rt, self.alloc, &open.dir);
+        self.last.set(Some(open));
+        Ok(Some(names?))
+    }
+
     /// Returns the names in a directory, or `None` if there is no directory.
     fn names(&self, path: &Path) -> io::Result<Option<Vec<Vec<u8>>>> {
-        match self.dir(path)? {
-            DiskPlace::In(dir) => Ok(Some(names_in(self.rt, self.alloc, &dir)?)),
+        if let Some(open) = self.take_last(path) {
+            return self.names_of(open);
+        }
+        match dir_at(self.rt, self.alloc, &self.root, path)? {
+            DiskPlace::In(dir) => self.names_of(OpenDir::of(path.copy()?, dir)?),
             _ => Ok(None),
         }
     }

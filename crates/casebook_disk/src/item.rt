@@ -24,8 +24,9 @@ fn read_once(
     if !is_unchanged(there, &file.metadata()?) {
         return Ok(None);
     }
-    let mut bytes = Vec::new(alloc);
-    let mut part = file.take(there.len().saturating_add(1));
+    let most = there.len().saturating_add(1);
+    let mut bytes = Vec::with_capacity(alloc, most as usize)?;
+    let mut part = file.take(most);
     part.read_to_end(&mut bytes)?;
     let file = part.into_inner();
     if bytes.len() as u64 != there.len() || !is_unchanged(there, &file.metadata()?) {
@@ -34,8 +35,9 @@ fn read_once(
     Ok(Some(Item::File(Bytes::of(bytes), attributes_of(there))))
 }
 
-/// Returns what is at a name in an open directory, if it isn't a directory or a file that is read.
-fn reason_of(there: &Metadata, dir: &Metadata) -> Option<Reason> {
+/// Returns why what is at a name in an open directory is skipped, if it isn't a directory or a file
+/// that is read. The directory is on the file system with this number.
+fn reason_of(there: &Metadata, device: u64) -> Option<Reason> {
     let kind = there.file_type();
     if kind.is_symlink() {
         return Some(Reason::Link);
@@ -49,7 +51,7 @@ fn reason_of(there: &Metadata, dir: &Metadata) -> Option<Reason> {
     if !kind.is_dir() && !kind.is_file() {
         return Some(Reason::Device);
     }
-    if there.dev() != dir.dev() {
+    if there.dev() != device {
         return Some(Reason::OtherFileSystem);
     }
     if kind.is_file() && there.len() > FILE_LIMIT {
@@ -74,18 +76,23 @@ fn directory_in(rt: &HostRuntime, alloc: Global, dir: &File, name: &str) -> io::
 }
 
 /// Returns what is at a name in an open directory, without following links. A file that changes
-/// while it is read is read again.
-pub(crate) fn item_in(rt: &HostRuntime, alloc: Global, dir: &File, name: &str) -> io::Result<Item> {
+/// while it is read is read again. The directory is on the file system with this number.
+pub(crate) fn item_in(
+    rt: &HostRuntime,
+    alloc: Global,
+    dir: &File,
+    device: u64,
+    name: &str,
+) -> io::Result<Item> {
     if name.is_empty() {
         return open_item(rt, alloc, dir);
     }
-    let above = dir.metadata()?;
     let path = name_in(alloc, dir, name)?;
     for _ in 0..TRIES {
         let Some(there) = look_at(rt, path.as_str())? else {
             return Ok(Item::Missing);
         };
-        if let Some(reason) = reason_of(&there, &above) {
+        if let Some(reason) = reason_of(&there, device) {
             return Ok(Item::Barred(reason));
         }
         if there.is_dir() {
