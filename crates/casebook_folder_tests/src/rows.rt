@@ -2,6 +2,8 @@
 use crate::calls::{applied, kept, planned, put, taken};
 use crate::stops::stops;
 use crate::tables::{APPLIED, KEPT, PLANS, PUTS, STOPS};
+use crate::undo_calls::{read, read_bytes, written};
+use crate::undo_tables::{READ, WRITTEN};
 use retro_rows::{fail, rows};
 use std::alloc::Global;
 use std::test::Fail;
@@ -14,6 +16,9 @@ fn called(alloc: Global, call: &str, given: &[String]) -> Result<String, Fail> {
         ("stops", [old, new, folder]) => stops(alloc, old, new, folder),
         ("rows", [paths]) => taken(alloc, paths),
         ("put", [folder, at, before, after]) => put(alloc, folder, at, before, after),
+        ("undo", [at, rows]) => written(alloc, at, rows),
+        ("read", [text]) => read(alloc, text),
+        ("bytes", [numbers]) => read_bytes(alloc, numbers),
         ("kept", [old, new, folder, old2, new2, folder2]) => {
             kept(alloc, [old, new, folder], [old2, new2, folder2])
         }
@@ -33,7 +38,7 @@ fn hold(alloc: Global, table: &str) -> Result<(), Fail> {
 
 #[test]
 fn rows_hold(rt: HostRuntime) -> Result<(), Fail> {
-    for table in [PLANS, APPLIED, STOPS, KEPT, PUTS] {
+    for table in [PLANS, APPLIED, STOPS, KEPT, PUTS, WRITTEN, READ] {
         hold(rt.alloc(), table)?;
     }
     Ok(())

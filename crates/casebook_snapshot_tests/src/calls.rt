@@ -2,6 +2,8 @@
 use crate::texts::{memory, row_text, skipped_text};
 use casebook_folder::Attributes;
 use casebook_snapshot::{Child, Item, Listing, Memory, MemoryEntry, Placed, Snapshot, walk};
+use casebook_snapshot_json::write_snapshot;
+use casebook_snapshot_read::{SnapshotDocument, read_snapshot};
 use retro_path::{NoMem, Path};
 use retro_rows::{fail, path};
 use std::alloc::Global;
@@ -60,6 +62,48 @@ pub fn snapshot(alloc: Global, folder: &str, skip: &str) -> Result<String, Fail>
 pub fn placed(alloc: Global, folder: &str, at: &str, skip: &str) -> Result<String, Fail> {
     let listing = Placed::new(alloc, memory(alloc, folder)?, path(alloc, at)?);
     walked(alloc, &listing, skip)
+}
+
+/// Returns a document as a text: its snapshot, the path and the name of its folder, and its time.
+fn document_text(alloc: Global, document: &SnapshotDocument) -> Result<String, NoMem> {
+    format!(in alloc;
+        "{}; at {}/ of {}, {}",
+        snapshot_text(alloc, &document.snapshot)?.as_str(),
+        document.at.as_str(),
+        document.root.as_str(),
+        document.taken.as_str()
+    )
+}
+
+/// Reads a document. A `!` in it is the byte 255, which isn't UTF-8.
+pub fn read(alloc: Global, text: &str) -> Result<String, Fail> {
+    let mut bytes = Vec::new(alloc);
+    for byte in text.as_bytes() {
+        bytes.push(if *byte == b'!' { 255 } else { *byte })?;
+    }
+    match read_snapshot(alloc, bytes.as_slice()) {
+        Ok(document) => Ok(document_text(alloc, &document)?),
+        Err(fault) => Ok(format!(in alloc; "{fault}")?),
+    }
+}
+
+/// Reads the document of a folder that is put at a path, and returns its text.
+pub fn again(alloc: Global, folder: &str, at: &str) -> Result<String, Fail> {
+    let at = path(alloc, at)?;
+    let listing = Placed::new(alloc, memory(alloc, folder)?, at.copy()?);
+    let Ok(snapshot) = walk(alloc, &listing, &[]) else {
+        return fail("no snapshot");
+    };
+    let text = write_snapshot(alloc, &snapshot, &at, "home", "now")?;
+    let Ok(document) = read_snapshot(alloc, text.as_slice()) else {
+        return fail("the document isn't read");
+    };
+    let (root, taken) = (document.root.as_str(), document.taken.as_str());
+    let twice = write_snapshot(alloc, &document.snapshot, &document.at, root, taken)?;
+    if twice.as_slice() != text.as_slice() {
+        return fail("another document");
+    }
+    Ok(document_text(alloc, &document)?)
 }
 
 /// Returns a directory of the root user.

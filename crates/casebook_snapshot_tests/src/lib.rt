@@ -1,4 +1,5 @@
-//! Tests of `casebook_snapshot` over a listing in memory, over public items alone.
+//! Tests of `casebook_snapshot` over a listing in memory, and of `casebook_snapshot_read`, over
+//! public items alone.
 //!
 //! A folder is a list of a path each and what is there, as `texts.rt` reads them. What rows want is
 //! worked out by hand, from what a tree can hold and from the paths to skip.
@@ -6,6 +7,8 @@
 
 #[cfg(test)]
 mod calls;
+#[cfg(test)]
+mod documents;
 #[cfg(test)]
 mod rows;
 #[cfg(test)]

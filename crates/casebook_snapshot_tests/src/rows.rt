@@ -1,5 +1,6 @@
 //! The call that each row names, and the test that makes these calls.
-use crate::calls::{nested, placed, snapshot};
+use crate::calls::{again, nested, placed, read, snapshot};
+use crate::documents::{AGAIN, READ, REFUSED};
 use crate::tables::{KEPT, LARGE, PLACED, SKIPPED};
 use retro_rows::{fail, rows};
 use std::alloc::Global;
@@ -10,6 +11,8 @@ fn called(alloc: Global, call: &str, given: &[String]) -> Result<String, Fail> {
     match (call, given) {
         ("snapshot", [folder, skip]) => snapshot(alloc, folder, skip),
         ("placed", [folder, at, skip]) => placed(alloc, folder, at, skip),
+        ("read", [text]) => read(alloc, text),
+        ("again", [folder, at]) => again(alloc, folder, at),
         ("deep", [count]) => nested(alloc, count, true),
         ("wide", [count]) => nested(alloc, count, false),
         _ => fail("no such call"),
@@ -28,7 +31,7 @@ fn hold(alloc: Global, table: &str) -> Result<(), Fail> {
 
 #[test]
 fn rows_hold(rt: HostRuntime) -> Result<(), Fail> {
-    for table in [KEPT, SKIPPED, PLACED, LARGE] {
+    for table in [KEPT, SKIPPED, PLACED, LARGE, READ, AGAIN, REFUSED] {
         hold(rt.alloc(), table)?;
     }
     Ok(())

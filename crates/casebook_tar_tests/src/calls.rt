@@ -1,22 +1,14 @@
 //! The calls of rows.
-use crate::streams::{changed, stream, summed};
+use crate::streams::{changed, stream, summed, text_or_hex};
 use casebook_tar::{Member, MemberKind, read_members};
-use retro_rows::{text, utf8};
+use retro_rows::utf8;
 use std::alloc::Global;
 use std::test::Fail;
-
-/// Returns a name, or its hexadecimal digits if it isn't UTF-8.
-fn name_text(alloc: Global, name: &[u8]) -> Result<String, Fail> {
-    match str::from_utf8(name) {
-        Ok(name) => Ok(text(alloc, name)?),
-        Err(_) => Ok(format!(in alloc; "hex {}", hex::encode(alloc, name)?.as_str())?),
-    }
-}
 
 /// Returns a member as text: its mode, owner and group, size, kind, name, what it leads to, and its
 /// bytes if there are at most 8.
 fn member_text(alloc: Global, member: &Member, bytes: &[u8]) -> Result<String, Fail> {
-    let name = name_text(alloc, member.name.as_slice())?;
+    let name = text_or_hex(alloc, member.name.as_slice())?;
     let data = member.contents.of(bytes);
     let mut out = format!(in alloc;
         "{:o} {}/{} {} {:?} {}",

@@ -1,6 +1,8 @@
 //! The call that each row names, and the test that makes these calls.
 use crate::calls::{field, first, members, with};
 use crate::tables::{FAULTS, LONG, PLAIN, RECORDS, SPARSE};
+use crate::tree_calls::{list, look, tree};
+use crate::tree_tables::{KEPT, LINKS, LISTED, REFUSED, SKIPPED, TWICE};
 use retro_rows::{fail, rows};
 use std::alloc::Global;
 use std::test::Fail;
@@ -12,6 +14,9 @@ fn called(alloc: Global, call: &str, given: &[String]) -> Result<String, Fail> {
         ("first", [parts, count]) => first(alloc, parts, count),
         ("with", [parts, at, new]) => with(alloc, parts, at, new),
         ("field", [parts, header, at, new]) => field(alloc, parts, header, at, new),
+        ("tree", [parts]) => tree(alloc, parts),
+        ("list", [parts, path]) => list(alloc, parts, path),
+        ("look", [parts, path]) => look(alloc, parts, path),
         _ => fail("no such call"),
     }
 }
@@ -29,6 +34,14 @@ fn hold(alloc: Global, table: &str) -> Result<(), Fail> {
 #[test]
 fn rows_hold(rt: HostRuntime) -> Result<(), Fail> {
     for table in [PLAIN, LONG, SPARSE, RECORDS, FAULTS] {
+        hold(rt.alloc(), table)?;
+    }
+    Ok(())
+}
+
+#[test]
+fn tree_rows_hold(rt: HostRuntime) -> Result<(), Fail> {
+    for table in [KEPT, TWICE, LINKS, SKIPPED, REFUSED, LISTED] {
         hold(rt.alloc(), table)?;
     }
     Ok(())

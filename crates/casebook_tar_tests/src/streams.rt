@@ -1,6 +1,5 @@
 //! Streams, as texts of their parts.
-use casebook_tar::NoMem;
-use retro_rows::fail;
+use retro_rows::text;
 use std::alloc::Global;
 use std::test::Fail;
 
@@ -55,4 +54,12 @@ pub fn summed(alloc: Global, bytes: &[u8], at: usize) -> Result<Vec<u8>, Fail> {
     }
     let digits = format!(in alloc; "{sum:06o}\0 ")?;
     changed(alloc, blank.as_slice(), field, digits.as_str().as_bytes())
+}
+
+/// Returns a name, or its hexadecimal digits if it isn't UTF-8.
+pub fn text_or_hex(alloc: Global, name: &[u8]) -> Result<String, Fail> {
+    match str::from_utf8(name) {
+        Ok(name) => Ok(text(alloc, name)?),
+        Err(_) => Ok(format!(in alloc; "hex {}", hex::encode(alloc, name)?.as_str())?),
+    }
 }

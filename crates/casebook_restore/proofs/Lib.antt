@@ -1,0 +1,4 @@
+pub mod Carried
+pub mod Changes
+pub mod Obstacles
+pub mod Placing

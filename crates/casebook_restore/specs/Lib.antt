@@ -1,0 +1,7 @@
+pub mod Carrying
+pub mod Choices
+pub mod Restores
+pub mod RowPlans
+pub mod Views
+pub mod Words
+pub mod inner

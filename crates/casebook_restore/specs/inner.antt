@@ -1,0 +1,2 @@
+-- Definitions that only private contracts, invariants and proofs name.
+pub mod Placed

@@ -1,0 +1,9 @@
+pub mod RowLemmas
+pub mod Puts
+pub mod Lookups
+pub mod Steps
+pub mod Ordered
+pub mod Odd
+pub mod Ends
+pub mod Texts
+pub mod RowsTrip

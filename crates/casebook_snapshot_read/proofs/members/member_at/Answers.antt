@@ -1,0 +1,11 @@
+use Rattle.std.proofs.Common.{option_map, sym, ap, ◌∙◌}
+use Rattle.json.specs.Value.{value_view}
+use Rattle.retro_value.specs.Borrowed.{data_of}
+use Rattle.casebook_snapshot_read.proofs.Lookups.{get_of_value, map_twice}
+use Rattle.casebook_snapshot_read.proofs.members.member_at.Goals as goal
+
+pub returns : goal.returns
+returns c =
+    sym (map_twice (λ v. value_view v.now) data_of c.get.result)
+    ∙ ap (option_map data_of) c.get.ensures
+    ∙ sym (get_of_value c.args.key.now (value_view c.args.value.now))
