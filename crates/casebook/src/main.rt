@@ -4,14 +4,17 @@
 ghost use Rattle.std.specs.Prelude.{None};
 
 use casebook_cli::{Documents, Exit, Output, Problem, Progress, ReadFault, Step, Stop, run_with};
-use casebook_disk::DiskListing;
-use casebook_folder_cli::{Folders, snapshot_at};
-use casebook_snapshot::{Snapshot, SnapshotError};
+use casebook_disk::{Disk, DiskListing, write_new_file};
+use casebook_folder::FolderError;
+use casebook_folder_cli::{Folders, Mounts, Owner};
+use casebook_restore::PlacedFolder;
+use casebook_snapshot::SnapshotError;
 use casebook_text::SafeLine;
 use retro_path::Path;
 use std::alloc::Global;
 use std::cell::Cell;
 use std::io::{ErrorKind, Read, Write};
+use std::os::unix::fs::MetadataExt;
 use std::process::ExitCode;
 use std::time::{SystemTime, UNIX_EPOCH};
 use std::{env, fs};
@@ -86,6 +89,14 @@ impl Documents for Files<'_> {
     }
 }
 
+/// Returns why an undo file couldn't be read or written.
+fn undo_fault_of(error: std::io::Error) -> FolderError {
+    match error.kind() {
+        ErrorKind::OutOfMemory => FolderError::NoMem,
+        _ => FolderError::Failed,
+    }
+}
+
 /// Returns why a folder couldn't be opened.
 fn folder_fault_of(error: std::io::Error) -> SnapshotError {
     match error.kind() {
@@ -95,19 +106,31 @@ fn folder_fault_of(error: std::io::Error) -> SnapshotError {
     }
 }
 
-impl Folders for Files<'_> {
+impl<'a> Folders for Files<'a> {
+    type Listed = DiskListing<'a>;
+
+    type Opened = PlacedFolder<Disk<'a>>;
+
     ghost holds = { λ _. None };
 
-    fn snapshot(
+    fn list(
         &self,
-        alloc: Global,
+        _alloc: Global,
         name: &str,
-        at: &Path,
-        skip: &[Path],
-    ) -> Result<Snapshot, SnapshotError> {
-        match DiskListing::open(self.rt, name) {
-            Ok(listing) => snapshot_at(alloc, listing, at, skip),
-            Err(error) => Err(folder_fault_of(error)),
+        mounts: Mounts,
+    ) -> Result<Self::Listed, SnapshotError> {
+        match (DiskListing::open(self.rt, name), mounts) {
+            (Ok(listing), Mounts::Skipped) => Ok(listing),
+            (Ok(listing), Mounts::Entered) => Ok(listing.entering_mounts()),
+            (Err(error), _) => Err(folder_fault_of(error)),
+        }
+    }
+
+    fn file(&self, alloc: Global, name: &str) -> Result<Vec<u8>, SnapshotError> {
+        match self.read(alloc, name) {
+            Ok(bytes) => Ok(bytes),
+            Err(ReadFault::NoMem) => Err(SnapshotError::NoMem),
+            Err(ReadFault::Unreadable) => Err(SnapshotError::Failed),
         }
     }
 
@@ -118,6 +141,39 @@ impl Folders for Files<'_> {
         match now.duration_since(UNIX_EPOCH) {
             Ok(since) => Ok(since.as_secs() as i64),
             Err(_) => Err(SnapshotError::Failed),
+        }
+    }
+
+    fn open(&self, alloc: Global, name: &str, at: &Path) -> Result<Self::Opened, SnapshotError> {
+        match Disk::open(self.rt, name) {
+            Ok(disk) => Ok(PlacedFolder::new(alloc, disk, at.copy()?)),
+            Err(error) => Err(folder_fault_of(error)),
+        }
+    }
+
+    fn owner(&self) -> Result<Owner, SnapshotError> {
+        // The system shows each process as a directory of the user who runs it.
+        match fs::metadata(self.rt, "/proc/self") {
+            Ok(process) => Ok(Owner {
+                uid: process.uid(),
+                gid: process.gid(),
+            }),
+            Err(error) => Err(folder_fault_of(error)),
+        }
+    }
+
+    fn undo_file(&self, _alloc: Global, name: &str) -> Result<Option<Vec<u8>>, FolderError> {
+        match fs::read(self.rt, name) {
+            Ok(bytes) => Ok(Some(bytes)),
+            Err(error) if error.kind() == ErrorKind::NotFound => Ok(None),
+            Err(error) => Err(undo_fault_of(error)),
+        }
+    }
+
+    fn keep(&self, alloc: Global, name: &str, text: &[u8]) -> Result<(), FolderError> {
+        match write_new_file(self.rt, alloc, name, text) {
+            Ok(()) => Ok(()),
+            Err(error) => Err(undo_fault_of(error)),
         }
     }
 }

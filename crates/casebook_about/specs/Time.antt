@@ -27,7 +27,8 @@ IsInstantText second text = IsShownIn instant_format second text
 abbrev pub whole_second : ℤ → ℤ
 whole_second n = int_div n (pos 1_000_000_000)
 
--- the second of the instant that a text names as `jiff` reads it, with a date, a time of day and an offset (RFC 3339)
+-- the second of the instant that a text names as `jiff` reads it, with a date, a time of day and an
+-- offset (RFC 3339)
 abbrev pub instant_in : List ℕ → Option ℤ
 instant_in text = option_map whole_second (result_ok (parse_timestamp text))
 
@@ -35,7 +36,8 @@ abbrev pub or_else : Option ℤ → Option ℤ → Option ℤ
 or_else (Some second) other = Some second
 or_else None other = other
 
--- the second that a text names: with an offset of its own, or in UTC, or as a date's first second in UTC
+-- the second that a text names: with an offset of its own, or in UTC, or as a date's first second
+-- in UTC
 unfoldable pub second_in : List ℕ → Option ℤ
 second_in text =
     or_else (instant_in text)

@@ -1,4 +1,5 @@
--- A cause is a line of the recording, so it has a verdict. It isn't kept, so it is cancelled or redone.
+-- A cause is a line of the recording, so it has a verdict. It isn't kept, so it is cancelled or
+-- redone.
 use Rattle.std.proofs.Common.{◌≡◌, ◌∙◌, ◌==◌, ◌⊎◌, inl, inr, ℕ, Bool, true, false, List, [], ◌∷◌, ◌++◌, map, length}
 use Rattle.std.proofs.Common.{Option, Some, None, refl, sym, ap}
 use Rattle.std.specs.Bool.{if◌then◌else◌}

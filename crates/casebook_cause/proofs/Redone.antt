@@ -39,8 +39,8 @@ pub first_edited : (k l : ℕ × Noted) (text : List ℕ) (ks : Lines) (more : L
     → script_line k ≡ record { number = l.0; sid = l.1.sid; text = text }
 first_edited k l text ks more e = cc
 
--- No edited line is below a number if no line is: for a line that isn't below it, and for lines that
--- come after such a line.
+-- No edited line is below a number if no line is: for a line that isn't below it, and for lines
+-- that come after such a line.
 none_at : (edit : ℕ → Option Edit) (n : ℕ) (l : ℕ × Noted) (lines now : Lines) → n ≤ l.0
     → ((ks : Lines) → AreEdited edit lines ks → lines_below n ks ≡ []) → AreEdited edit (l ∷ lines) now
     → lines_below n now ≡ []

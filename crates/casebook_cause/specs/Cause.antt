@@ -34,8 +34,8 @@ changes_at q n r = changes_for q (notes_of (noted_at n r.lines))
 abbrev pub IsAlike : Ask → RecordingValue → RecordingValue → ℕ → Type 0
 IsAlike q one two n = changes_at q n one ≡ changes_at q n two
 
--- The cause of what a query answers before a line: the last line before it that changes the cells of
--- the query differently in one recording than in another.
+-- The cause of what a query answers before a line: the last line before it that changes the cells
+-- of the query differently in one recording than in another.
 pub record IsCause (q : Ask) (n : ℕ) (one two : RecordingValue) (m : ℕ) : Type 0 where
   pub earlier : m < n
   pub otherwise : ¬ (IsAlike q one two m)

@@ -26,8 +26,8 @@ is_cancelled lines n = list_any (is_cancelled_line n) lines
 abbrev pub is_leak : Repair → CompensationValue → Bool
 is_leak repair c = is_cancelled repair.lines.items c.number
 
--- the compensations of cancelled lines in the repair of a recording, and those of all other lines, in
--- order
+-- the compensations of cancelled lines in the repair of a recording, and those of all other lines,
+-- in order
 abbrev pub leaks : RecordingValue → Repair → List CompensationValue
 leaks r repair = filter (is_leak repair) (compensations_in r repair)
 

@@ -1,8 +1,8 @@
 //! What a person asks of a repair: whom to tell, and why a line was run again.
 //!
 //! [`has_another_result`] compares two runs of a line. [`first_failing_note`] says where the notes
-//! of a line part with a state. [`Differences::cause_of`] names the line that changed the answer to a
-//! query. [`leaks`] and [`tellings`] separate the compensations of a repair.
+//! of a line part with a state. [`Differences::cause_of`] names the line that changed the answer to
+//! a query. [`leaks`] and [`tellings`] separate the compensations of a repair.
 //!
 //! Nothing is repaired here: everything is read from a repair and from recordings.
 //!

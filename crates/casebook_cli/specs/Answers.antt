@@ -1,24 +1,29 @@
 -- The answers to requests.
-use Rattle.std.specs.Prelude.{◌≡◌, ℕ, Bool, false, IsTrue, List, Ok}
+use Rattle.std.specs.Prelude.{◌≡◌, ℕ, Bool, false, IsTrue, List, Ok, Some}
 use Rattle.casebook_snapshot.specs.declared.snapshot.Snapshot.{Snapshot}
 use Rattle.casebook_folder_cli.specs.Answers.{IsSnapshotOf}
 use Rattle.casebook_folder_cli.specs.Comparing.{IsCompareAnswer}
 use Rattle.casebook_folder_cli.specs.Folders.{AllFolders}
+use Rattle.casebook_folder_cli.specs.RestoreWords.{UndoValue}
+use Rattle.casebook_folder_cli.specs.Restoring.{IsRestoreAnswer, IsUndoAnswer}
 use Rattle.casebook_folder_cli.specs.Words.{SnapshotValue}
 use Rattle.casebook_folder_cli.specs.declared.comparing.CompareAnswer.{CompareAnswer}
+use Rattle.casebook_folder_cli.specs.declared.restoring.RestoreAnswer.{RestoreAnswer}
 use Rattle.casebook_text.specs.SafeLine.{text_of_lines}
-use Rattle.retro_keep.specs.Recording.{RecordingValue}
+use Rattle.retro_keep.specs.Recording.{RecordingValue, last_state}
 use Rattle.retro_log.specs.Document.{log_in}
+use Rattle.retro_redo.specs.Repair.{repaired_state}
 use Rattle.casebook_cli.specs.Checks.{IsChecked}
 use Rattle.casebook_cli.specs.Documents.{AllDocuments}
 use Rattle.casebook_cli.specs.Harmless.{IsHarmless, is_plain}
 use Rattle.casebook_cli.specs.Inputs.{AreInputs, DocumentValue, InputsValue, IsDocument}
 use Rattle.casebook_cli.specs.Lines.{AreLines}
 use Rattle.casebook_cli.specs.Pages.{IsPage}
-use Rattle.casebook_cli.specs.Repairs.{sources_of}
+use Rattle.casebook_cli.specs.Repairs.{IsAsked, repair_sources, sources_of}
 use Rattle.casebook_cli.specs.Request.{Query, Request, ask, check, help, help_text, lines, page, show}
-use Rattle.casebook_cli.specs.Request.{CompareValue, compare, snapshot}
+use Rattle.casebook_cli.specs.Request.{CompareValue, FolderRepair, RepairRequest, compare, restore, snapshot, undo}
 use Rattle.casebook_cli.specs.Screens.{IsShown}
+use Rattle.casebook_cli.specs.declared.repairs.AskedRepair.{AskedRepair}
 
 -- an answer: its text, and whether it says that what was asked about isn't in order
 pub record AnswerValue : Type 0 where
@@ -62,9 +67,38 @@ pub record AnswersCompare (at : AllDocuments) (folders : AllFolders) (request : 
   pub recording : RecordingValue
   pub is_recording : log_in document.bytes ≡ Ok recording
   pub compared : CompareAnswer
-  pub is_compared : IsCompareAnswer folders request.folder recording compared
+  pub is_compared : IsCompareAnswer folders request.snapshot recording compared
   pub text : answer.text ≡ text_of_lines compared.lines.items
   pub is_no : answer.is_no ≡ compared.is_no
+  pub harmless : IsHarmless answer.text
+
+-- The repair that is asked for of the documents that it names.
+pub record IsRepairOf (at : AllDocuments) (request : RepairRequest) (asked : AskedRepair) : Type 0 where
+  pub inputs : InputsValue
+  pub are_inputs : AreInputs at (repair_sources request) inputs
+  pub is_asked : IsAsked inputs request asked
+
+-- The answer to a restore: what it says of the plan that brings the folder from the end of the
+-- recording to that of the repair, and no if a path isn't ready. It is harmless on a terminal.
+pub record AnswersRestore (at : AllDocuments) (folders : AllFolders) (request : FolderRepair) (answer : AnswerValue)
+    : Type 0 where
+  pub asked : AskedRepair
+  pub is_repair : IsRepairOf at request.repair asked
+  pub restored : RestoreAnswer
+  pub is_restored : IsRestoreAnswer folders request.folder
+      (last_state asked.recording.lines asked.recording.first).tree (repaired_state asked.repair).tree restored
+  pub text : answer.text ≡ text_of_lines restored.lines.items
+  pub is_no : answer.is_no ≡ restored.is_no
+  pub harmless : IsHarmless answer.text
+
+-- The same for a restore that is taken back by its undo file.
+pub record AnswersUndo (folders : AllFolders) (request : UndoValue) (answer : AnswerValue) : Type 0 where
+  pub bytes : List ℕ
+  pub is_file : folders.undo_files request.undo ≡ Some bytes
+  pub undone : RestoreAnswer
+  pub is_undone : IsUndoAnswer folders request bytes undone
+  pub text : answer.text ≡ text_of_lines undone.lines.items
+  pub is_no : answer.is_no ≡ undone.is_no
   pub harmless : IsHarmless answer.text
 
 abbrev pub Answers : Bool → AllDocuments → AllFolders → Request → AnswerValue → Type 0
@@ -72,3 +106,5 @@ Answers colours at folders (help topic) answer = answer ≡ saying (help_text to
 Answers colours at folders (ask query) answer = AnswersQuery colours at query answer
 Answers colours at folders (snapshot request) answer = AnswersSnapshot folders request answer
 Answers colours at folders (compare request) answer = AnswersCompare at folders request answer
+Answers colours at folders (restore request) answer = AnswersRestore at folders request answer
+Answers colours at folders (undo request) answer = AnswersUndo folders request answer

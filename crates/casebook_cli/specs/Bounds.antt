@@ -53,8 +53,8 @@ abbrev pub has_times : Bounds → Bool
 has_times bounds =
     is_some (option_and_then second_of bounds.from) || is_some (option_and_then second_of bounds.to)
 
--- whether lines were typed between bounds, by their numbers: of several times of a line the last one
--- counts
+-- whether lines were typed between bounds, by their numbers: of several times of a line the last
+-- one counts
 abbrev pub with_time : Bounds → FinMap nat_cmp Bool → ℕ × ℤ → FinMap nat_cmp Bool
 with_time bounds lines time = map.insert lines time.0 (is_between bounds time.1)
 

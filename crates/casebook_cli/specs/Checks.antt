@@ -50,7 +50,8 @@ pub record SaysYes (name : List ℕ) (r : RecordingValue) (text : List ℕ) : Ty
   pub is_recording : IsRecordingOf (recordings.script_in r) r
   pub shown : text ≡ counted_text name (codes "a recording of its ") (length r.lines)
 
--- The answer says that a log isn't as its lines run, and how the first line that isn't as noted differs.
+-- The answer says that a log isn't as its lines run, and how the first line that isn't as noted
+-- differs.
 pub record SaysNo (name : List ℕ) (r : RecordingValue) (text : List ℕ) : Type 0 where
   pub unlike : Unlike
   pub first : IsFirstUnlike r unlike
@@ -63,7 +64,8 @@ SaysOf true name r text = SaysNo name r text
 abbrev pub IsCheckedAs : List ℕ → RecordingValue → Answer → Type 0
 IsCheckedAs name r answer = SaysOf answer.is_no name r answer.text.items
 
--- The answer says that a document is refused, after words of what it isn't, and a place where it breaks the rule.
+-- The answer says that a document is refused, after words of what it isn't, and a place where it
+-- breaks the rule.
 pub record SaysWhere (IsPlace : Place → Type 0) (name words : List ℕ) (refusal : Refusal) (is_no : Bool) (text : List ℕ)
     : Type 0 where
   pub place : Place

@@ -8,6 +8,8 @@ use Rattle.casebook_cli.specs.declared.stop.Stop.TheVariants as stops
 abbrev pub stop_status : Stop → ℕ
 stop_status stops.OutOfMemory = 2
 stop_status (stops.ReadFailed name) = 3
+stop_status (stops.UndoFailed name) = 3
+stop_status (stops.Unfinished name) = 3
 stop_status other = 1
 
 abbrev pub status_of : Exit → ℕ

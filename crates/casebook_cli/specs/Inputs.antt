@@ -7,7 +7,8 @@ pub record DocumentValue : Type 0 where
   pub name : List ℕ
   pub bytes : List ℕ
 
--- the names of the log, of the document with the list of lines to cancel, and of that with names and times
+-- the names of the log, of the document with the list of lines to cancel, and of that with names
+-- and times
 pub record SourcesValue : Type 0 where
   pub log : List ℕ
   pub list : Option (List ℕ)

@@ -117,7 +117,8 @@ rows_text formats.Numbers labels width rows = numbers_text rows
 
 -- ---- the answer
 
--- The text shows exactly the lines of the log that pass the filters and were typed between the bounds, in order.
+-- The text shows exactly the lines of the log that pass the filters and were typed between the
+-- bounds, in order.
 pub record AreLines (inputs : InputsValue) (request : LinesRequest) (text : List ℕ) : Type 0 where
   pub recording : RecordingValue
   pub log : log_in inputs.log.bytes ≡ Ok recording

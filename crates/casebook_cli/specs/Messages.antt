@@ -15,6 +15,7 @@ use Rattle.casebook_about.specs.declared.fault.AboutFault.TheVariants as faults
 use Rattle.casebook_about.specs.declared.fault.Part.TheVariants as about_parts
 use Rattle.casebook_cli.specs.declared.exit.Exit.{Exit}
 use Rattle.casebook_cli.specs.declared.exit.Exit.TheVariants as exits
+use Rattle.casebook_folder_cli.specs.FileFaults.{fault_line}
 use Rattle.casebook_folder_cli.specs.declared.request.FolderProblem.TheVariants as folder_problems
 use Rattle.casebook_cli.specs.declared.problem.Problem.{Problem}
 use Rattle.casebook_cli.specs.declared.problem.Problem.TheVariants as problems
@@ -46,9 +47,21 @@ problem_words problems.Line = codes "--line: not a number of a line"
 problem_words problems.Format = codes "--format: not text, tsv or numbers"
 problem_words problems.RepairFormat = codes "--format: not text or json"
 problem_words problems.MixedFormat = codes "--format json has no --why, --diff or --line"
-problem_words (problems.Folder folder_problems.NoFolder) = codes "no FOLDER is given; see casebook help"
+problem_words (problems.Folder folder_problems.NoFolder) = codes "no FOLDER and no --tar FILE is given; see casebook help"
+problem_words (problems.Folder folder_problems.SeveralSources) = codes "FOLDER and --tar are two sources; give one"
+problem_words (problems.Folder folder_problems.MountsOfFile) = codes "--mounts needs a FOLDER"
+problem_words (problems.Folder folder_problems.TakenDocument) =
+    codes "--snapshot needs no FOLDER, --tar, --mounts, --at and --skip"
 problem_words (problems.Folder folder_problems.At) = codes "--at: not a path from the root"
 problem_words (problems.Folder folder_problems.Skip) = codes "--skip: not a path from the root"
+problem_words (problems.Folder folder_problems.InputTwice) = codes "- is standard input, which can be named once"
+problem_words (problems.Folder folder_problems.NoRoot) = codes "no --root FOLDER is given; see casebook help restore"
+problem_words (problems.Folder folder_problems.Only) = codes "--only: not a path from the root"
+problem_words (problems.Folder folder_problems.NoUndo) =
+    codes "--apply needs --undo FILE, a file that isn't there yet"
+problem_words (problems.Folder folder_problems.NoApply) = codes "--undo needs --apply where a LOG is given"
+problem_words (problems.Folder folder_problems.Mixed) =
+    codes "--undo without a LOG has --root and --apply alone"
 
 unfoldable pub searched_words : SearchedPart → List ℕ
 searched_words Text = codes "--text: not a regular expression, or too large a one"
@@ -161,6 +174,13 @@ stop_message (stops.BadRepair number) = repair_message number
 stop_message stops.OutOfMemory = said (codes "out of memory")
 stop_message (stops.ReadFailed name) = said_of name.now (codes "can't be read")
 stop_message (stops.NotADirectory name) = said_of name.now (codes "not a directory")
+stop_message (stops.BadFile name fault) = said_of name.now (fault_line fault)
+stop_message (stops.UndoFailed name) = said_of name.now (codes "this undo file can't be read or written")
+stop_message (stops.BadUndo name) = said_of name.now (codes "not an undo file")
+stop_message (stops.OtherUndo name) = said_of name.now (codes "the undo file of another restore")
+stop_message (stops.FolderChanged name) = said_of name.now (codes "changed meanwhile; nothing was restored")
+stop_message (stops.Unfinished name) =
+    said_of name.now (codes "restored in part; run this again, or take it back by the undo file")
 
 -- the line for standard error, empty if an answer was written
 unfoldable pub message_of : Exit → List ℕ

@@ -25,7 +25,8 @@ pub record Wrote (answer : AnswerValue) (is_no : Bool) (old new : Option Text) :
   pub says : answer.is_no ≡ is_no
   pub written : Appends old new answer.text
 
--- how the program ends that has an answer: `old` and `new` are what the writer held before and after
+-- how the program ends that has an answer: `old` and `new` are what the writer held before and
+-- after
 abbrev pub Ends : AnswerValue → Option Text → Option Text → Exit → Type 0
 Ends answer old new exits.Done = Wrote answer false old new
 Ends answer old new exits.No = Wrote answer true old new

@@ -14,7 +14,8 @@ use Rattle.retro_text.specs.Numbers.{number_in}
 use Rattle.casebook_view.specs.declared.line_test.LineTest.{LineTest}
 use Rattle.casebook_view.specs.declared.line_test.LineTest.TheVariants.{Sessions, From, To, Reads, Writes, Touches}
 use Rattle.casebook_view.specs.declared.path_test.PathTest.{PathTest}
-use Rattle.casebook_folder_cli.specs.Words.{SnapshotValue, snapshot_in}
+use Rattle.casebook_folder_cli.specs.RestoreWords.{RestoreValue, UndoValue, restore_in, undo_in}
+use Rattle.casebook_folder_cli.specs.Words.{ComparedValue, SnapshotValue, compared_in, snapshot_in}
 use Rattle.casebook_folder_cli.specs.declared.request.FolderFault.{FolderFault}
 use Rattle.casebook_folder_cli.specs.declared.request.FolderFault.TheVariants as folder_faults
 use Rattle.casebook_folder_cli.specs.declared.request.FolderProblem.{FolderProblem}
@@ -26,8 +27,9 @@ use Rattle.casebook_cli.specs.declared.bound.Bound.{Bound}
 use Rattle.casebook_cli.specs.declared.bounds.Bounds.{Bounds}
 use Rattle.casebook_cli.specs.declared.format.Format.{Format}
 use Rattle.casebook_cli.specs.declared.format.Format.TheVariants as formats
-use Rattle.casebook_cli.specs.declared.folder_help.TheConstants.{COMPARE, SNAPSHOT}
-use Rattle.casebook_cli.specs.declared.help.TheConstants.{PROGRAM, LINES, SHOW, PAGE, CHECK, LISTS, DOCUMENTS, REFUSALS, PROFILE}
+use Rattle.casebook_cli.specs.declared.folder_help.TheConstants.{COMPARE, RESTORE, SNAPSHOT}
+use Rattle.casebook_cli.specs.declared.document_help.TheConstants.{DOCUMENTS, LISTS, PROFILE, REFUSALS}
+use Rattle.casebook_cli.specs.declared.help.TheConstants.{PROGRAM, LINES, SHOW, PAGE, CHECK}
 use Rattle.casebook_cli.specs.declared.problem.Problem.{Problem}
 use Rattle.casebook_cli.specs.declared.problem.Problem.TheVariants as problems
 use Rattle.casebook_cli.specs.declared.shown.Extras.{Extras}
@@ -40,8 +42,8 @@ use Rattle.casebook_cli.specs.declared.words.WordsFault.TheVariants as faults
 
 -- ---- requests
 
--- a test that lines pass: one of these sessions ran the line, its number is at least or at most so much, or it
--- read or wrote such a path or did either
+-- a test that lines pass: one of these sessions ran the line, its number is at least or at most so
+-- much, or it read or wrote such a path or did either
 pub data Test : Type 0 where
   of_sessions : List ℕ → Test
   at_least : ℕ → Test
@@ -50,8 +52,8 @@ pub data Test : Type 0 where
   wrote_path : PathTest → Test
   touched_path : PathTest → Test
 
--- which lines of which log are shown, and how: those of a user, if one is given, that pass tests and were typed
--- between bounds
+-- which lines of which log are shown, and how: those of a user, if one is given, that pass tests
+-- and were typed between bounds
 pub record LinesRequest : Type 0 where
   pub log : Text
   pub about : Option Text
@@ -63,12 +65,14 @@ pub record LinesRequest : Type 0 where
   pub is_unknown : Bool
   pub format : Format
 
--- how lines are run ahead in parallel: by so many threads beside the first one, and in pieces of so many lines
+-- how lines are run ahead in parallel: by so many threads beside the first one, and in pieces of so
+-- many lines
 pub record RoundsValue : Type 0 where
   pub workers : ℕ
   pub cuts : List ℕ
 
--- the repair of which log, without which lines, with which lines replaced, run how, and which names and times
+-- the repair of which log, without which lines, with which lines replaced, run how, and which names
+-- and times
 pub record RepairRequest : Type 0 where
   pub log : Text
   pub cancel : Text
@@ -87,24 +91,31 @@ pub record PageRequest : Type 0 where
   pub title : Option Text
   pub all : Bool
 
--- a question about documents: which lines are in a log, what a repair would do, that as a page, and whether a
--- document is a recording of its lines, or a script
+-- a question about documents: which lines are in a log, what a repair would do, that as a page, and
+-- whether a document is a recording of its lines, or a script
 pub data Query : Type 0 where
   lines : LinesRequest → Query
   show : ShowRequest → Query
   page : PageRequest → Query
   check : Text → Query
 
--- which recording is compared with which folder, and how the folder's snapshot is taken
+-- which recording is compared with which snapshot
 pub record CompareValue : Type 0 where
   pub log : Text
-  pub folder : SnapshotValue
+  pub snapshot : ComparedValue
+
+-- which repair is brought into which folder
+pub record FolderRepair : Type 0 where
+  pub repair : RepairRequest
+  pub folder : RestoreValue
 
 pub data Request : Type 0 where
   help : Topic → Request
   ask : Query → Request
   snapshot : SnapshotValue → Request
   compare : CompareValue → Request
+  restore : FolderRepair → Request
+  undo : UndoValue → Request
 
 -- ---- steps, of which the first problem ends them
 
@@ -126,6 +137,7 @@ topic_in text =
     else if is_text (codes "check") text then Some topics.Check
     else if is_text (codes "snapshot") text then Some topics.Snapshot
     else if is_text (codes "compare") text then Some topics.Compare
+    else if is_text (codes "restore") text then Some topics.Restore
     else if is_text (codes "lists") text then Some topics.Lists
     else if is_text (codes "documents") text then Some topics.Documents
     else if is_text (codes "refusals") text then Some topics.Refusals
@@ -149,6 +161,7 @@ help_text topics.Page = PAGE.now
 help_text topics.Check = CHECK.now
 help_text topics.Snapshot = SNAPSHOT.now
 help_text topics.Compare = COMPARE.now
+help_text topics.Restore = RESTORE.now
 help_text topics.Lists = LISTS.now
 help_text topics.Documents = DOCUMENTS.now
 help_text topics.Refusals = REFUSALS.now
@@ -195,8 +208,8 @@ is_slash (Some b) = b == slash
 abbrev pub ends_with_slash : Text → Bool
 ends_with_slash text = is_slash (slice_get text (length text - 1))
 
--- The path that a text names, which begins at the root. The paths below it count too if the text ends
--- with a slash.
+-- The path that a text names, which begins at the root. The paths below it count too if the text
+-- ends with a slash.
 unfoldable pub path_in : Text → Option PathTest
 path_in text = if begins_at_root text then test_of (ends_with_slash text) (resolve [] text) else None
 
@@ -359,8 +372,8 @@ show_format (Some text) =
     if is_text (codes "text") text then Ok false
     else if is_text (codes "json") text then Ok true else Err problems.RepairFormat
 
--- one line, if its number is given, and otherwise the summary with what else is asked for; for programs the
--- summary is all
+-- one line, if its number is given, and otherwise the summary with what else is asked for; for
+-- programs the summary is all
 abbrev pub shown_as : Bool → Extras → Option ℕ → Result ShownPart Problem
 shown_as false extras None = Ok (parts.Summary extras)
 shown_as false extras (Some number) = Ok (parts.Line number)
@@ -405,21 +418,46 @@ abbrev pub folder_result : Result SnapshotValue FolderProblem → Result Request
 folder_result (Ok request) = Ok (snapshot request)
 folder_result (Err problem) = Err (problems.Folder problem)
 
-abbrev pub compare_with : Text → Result SnapshotValue FolderProblem → Result CompareValue Problem
-compare_with log (Ok folder) = Ok (record { log = log; folder = folder })
+abbrev pub compare_with : Text → Result ComparedValue FolderProblem → Result CompareValue Problem
+compare_with log (Ok compared) = Ok (record { log = log; snapshot = compared })
 compare_with log (Err problem) = Err (problems.Folder problem)
 
 -- what `compare` asks for
 abbrev pub compare_in : Call → Result CompareValue Problem
-compare_in call = log_given call >>= (λ log. compare_with log (snapshot_in call))
+compare_in call = log_given call >>= (λ log. compare_with log (compared_in (is_given (codes "mounts") call) call))
+
+abbrev pub in_folder : {A B : Type 0} → (A → B) → Result A FolderProblem → Result B Problem
+in_folder f (Ok x) = Ok (f x)
+in_folder f (Err problem) = Err (problems.Folder problem)
+
+abbrev pub into_folder : RepairRequest → RestoreValue → FolderRepair
+into_folder repair folder = record { repair = repair; folder = folder }
+
+-- which repair `restore` brings into which folder
+abbrev pub folder_repair_in : Call → Result FolderRepair Problem
+folder_repair_in call = do
+  repair ← repair_request call
+  in_folder (into_folder repair) (restore_in (is_given (codes "apply") call) call)
+
+-- `restore` takes a restore back if it has an undo file, and no log
+abbrev pub is_undo : Call → Bool
+is_undo call = is_none (given (codes "log") call) && is_some (given (codes "undo") call)
+
+-- what `restore` asks for
+abbrev pub restore_asked : Call → Result Request Problem
+restore_asked call =
+    if is_undo call then in_folder undo (undo_in (is_given (codes "apply") call) call)
+    else result_map restore (folder_repair_in call)
 
 -- the request of a command
 unfoldable pub command_request : Call → Result Request Problem
 command_request call =
     if is_given (codes "help") call then Ok (help (topic_or_program (topic_in call.name)))
     else if is_text (codes "help") call.name then result_map help (topic_asked (given (codes "command") call))
-    else if is_text (codes "snapshot") call.name then folder_result (snapshot_in call)
+    else if is_text (codes "snapshot") call.name
+    then folder_result (snapshot_in (is_given (codes "mounts") call) call)
     else if is_text (codes "compare") call.name then result_map compare (compare_in call)
+    else if is_text (codes "restore") call.name then restore_asked call
     else result_map ask (query_in call)
 
 abbrev pub request_of : Named → Result Request Problem

@@ -59,8 +59,8 @@ pub record IsSummary (edits : List Edit) (r : RecordingValue) (repair : Repair) 
   pub effects : map effect_value summary.effects.items ≡ effects_of r summary.reasons.items summary.fates.items
   pub rise : Rise summary
 
--- what is shown of a repair, and how: the recording, its repair, what that would do, names and times, the width of the
--- column of names, and whether the terminal has colours
+-- what is shown of a repair, and how: the recording, its repair, what that would do, names and
+-- times, the width of the column of names, and whether the terminal has colours
 pub record ScreenValue : Type 0 where
   pub recording : RecordingValue
   pub repair : Repair
@@ -69,8 +69,8 @@ pub record ScreenValue : Type 0 where
   pub width : ℕ
   pub colours : Bool
 
--- What a summary shows beside what the repair would do. It says that the log is as its lines run only if it is a
--- recording of them.
+-- What a summary shows beside what the repair would do. It says that the log is as its lines run
+-- only if it is a recording of them.
 pub record IsSheet (s : ScreenValue) (restorations : List Restoration) (groups : List Group) (is_recording : Bool)
     : Type 0 where
   pub are_restorations : AreRestorations (last_state s.recording.lines s.recording.first).tree

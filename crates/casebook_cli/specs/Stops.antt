@@ -22,9 +22,11 @@ use Rattle.casebook_cli.specs.Documents.{AllDocuments}
 use Rattle.casebook_cli.specs.Inputs.{AreInputs, DocumentValue, InputsValue, IsDocument, SourcesValue}
 use Rattle.casebook_cli.specs.Labels.{AreLabels, IsAbout}
 use Rattle.casebook_cli.specs.Lines.{pattern_config, sessions_named}
-use Rattle.casebook_cli.specs.Repairs.{AreEdits, IsAsked, IsListGiven, lines_in, sources_of}
+use Rattle.casebook_cli.specs.Repairs.{AreEdits, IsAsked, IsListGiven, lines_in, repair_sources, sources_of}
 use Rattle.casebook_cli.specs.Request.{LinesRequest, Query, RepairRequest, Request, RoundsValue, ShowRequest, ask, check, help, lines, page, request_in, show}
-use Rattle.casebook_cli.specs.Request.{CompareValue, compare, snapshot}
+use Rattle.casebook_folder_cli.specs.Sources.{source_name}
+use Rattle.casebook_folder_cli.specs.Words.{compared_name}
+use Rattle.casebook_cli.specs.Request.{CompareValue, FolderRepair, compare, restore, snapshot, undo}
 use Rattle.casebook_cli.specs.declared.repairs.AskedRepair.{AskedRepair}
 use Rattle.casebook_cli.specs.declared.searched.SearchedPart.{SearchedPart}
 use Rattle.casebook_cli.specs.declared.searched.SearchedPart.TheVariants as searched_in
@@ -204,25 +206,55 @@ pub data StopsQuery (at : AllDocuments) (query : Query) (stop : Stop) : Type 0 w
   refused : (inputs : InputsValue) → AreInputs at (sources_of query) inputs → StopsBy inputs query stop
       → StopsQuery at query stop
 
--- there is no snapshot of the folder with a name
+-- there is no snapshot of the folder or the file with a name
 abbrev pub StopsSnapshot : List ℕ → Stop → Type 0
-StopsSnapshot folder (stops.ReadFailed name) = name.now ≡ folder
-StopsSnapshot folder (stops.NotADirectory name) = name.now ≡ folder
-StopsSnapshot folder stops.OutOfMemory = Unit {0}
-StopsSnapshot folder other = ⊥
+StopsSnapshot source (stops.ReadFailed name) = name.now ≡ source
+StopsSnapshot source (stops.NotADirectory name) = name.now ≡ source
+StopsSnapshot source (stops.BadFile name fault) = name.now ≡ source
+StopsSnapshot source stops.OutOfMemory = Unit {0}
+StopsSnapshot source other = ⊥
 
--- there is no comparison: the log can't be read or isn't one, or there is no snapshot of the folder
+-- there is no comparison: the log can't be read or isn't one, or there is no snapshot
 pub data StopsCompare (at : AllDocuments) (request : CompareValue) (stop : Stop) : Type 0 where
   no_document : IsUnread at request.log stop → StopsCompare at request stop
   no_log : (document : DocumentValue) → IsDocument at request.log document → StopsLog document stop
       → StopsCompare at request stop
-  no_folder : StopsSnapshot request.folder.folder stop → StopsCompare at request stop
+  no_snapshot : StopsSnapshot (compared_name request.snapshot) stop → StopsCompare at request stop
+
+-- the name of an undo file, if one is given
+abbrev pub undo_name : Option (List ℕ) → List ℕ
+undo_name None = []
+undo_name (Some name) = name
+
+-- a folder isn't restored, by its name and that of the undo file
+abbrev pub StopsFolder : List ℕ → List ℕ → Stop → Type 0
+StopsFolder root file (stops.ReadFailed name) = name.now ≡ root
+StopsFolder root file (stops.NotADirectory name) = name.now ≡ root
+StopsFolder root file (stops.UndoFailed name) = name.now ≡ file
+StopsFolder root file (stops.BadUndo name) = name.now ≡ file
+StopsFolder root file (stops.OtherUndo name) = name.now ≡ file
+StopsFolder root file (stops.FolderChanged name) = name.now ≡ root
+StopsFolder root file (stops.Unfinished name) = name.now ≡ root
+StopsFolder root file stops.OutOfMemory = Unit {0}
+StopsFolder root file other = ⊥
+
+-- there is no repair of the documents that are named
+pub data StopsRepairOf (at : AllDocuments) (request : RepairRequest) (stop : Stop) : Type 0 where
+  no_documents : StopsReading at (repair_sources request) stop → StopsRepairOf at request stop
+  no_repair_of : (inputs : InputsValue) → AreInputs at (repair_sources request) inputs
+      → StopsAsked inputs request stop → StopsRepairOf at request stop
+
+pub data StopsRestore (at : AllDocuments) (request : FolderRepair) (stop : Stop) : Type 0 where
+  not_repaired : StopsRepairOf at request.repair stop → StopsRestore at request stop
+  not_restored : StopsFolder request.folder.root (undo_name request.folder.undo) stop → StopsRestore at request stop
 
 abbrev pub Stops : AllDocuments → Request → Stop → Type 0
 Stops at (help topic) stop = stop ≡ stops.OutOfMemory
 Stops at (ask query) stop = StopsQuery at query stop
-Stops at (snapshot request) stop = StopsSnapshot request.folder stop
+Stops at (snapshot request) stop = StopsSnapshot (source_name request.source) stop
 Stops at (compare request) stop = StopsCompare at request stop
+Stops at (restore request) stop = StopsRestore at request stop
+Stops at (undo request) stop = StopsFolder request.root request.undo stop
 
 -- words make no request
 abbrev pub IsBadWords : List (List ℕ) → Stop → Type 0

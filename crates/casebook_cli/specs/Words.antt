@@ -2,6 +2,7 @@
 use Rattle.std.specs.Prelude.{List, [], ◌∷◌, ◌++◌, true, codes}
 use Rattle.clap.specs.Words.{App, Rule, new_app}
 use Rattle.retro_edge.specs.Rules.{flag, help_flag, option, with_command, word}
+use Rattle.casebook_folder_cli.specs.RestoreWords.{restore_rules}
 use Rattle.casebook_folder_cli.specs.Words.{compare_rules, snapshot_rules}
 
 -- ---- the command line
@@ -9,7 +10,8 @@ use Rattle.casebook_folder_cli.specs.Words.{compare_rules, snapshot_rules}
 abbrev pub help_rules : List Rule
 help_rules = help_flag ∷ word (codes "command") ∷ []
 
--- of `lines`: the log and the options of numbers, those of paths and of users, those of patterns, and all
+-- of `lines`: the log and the options of numbers, those of paths and of users, those of patterns,
+-- and all
 abbrev pub number_rules : List Rule
 number_rules =
     help_flag ∷ word (codes "log") ∷ option (codes "session") ∷ option (codes "from") ∷ option (codes "to") ∷ []
@@ -66,6 +68,8 @@ abbrev pub program : App
 program =
     with_command
     (with_command
+    (with_command
     (with_command (with_command without_repairs (codes "show") show_rules) (codes "page") page_rules)
     (codes "snapshot") snapshot_rules)
-    (codes "compare") compare_rules
+    (codes "compare") compare_rules)
+    (codes "restore") restore_rules

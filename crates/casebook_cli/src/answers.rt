@@ -23,6 +23,7 @@ use crate::reading::read_inputs;
 use crate::repair_request::{PageRequest, ShowRequest};
 use crate::repairs::asked_repair;
 use crate::request::Request;
+use crate::restores::{restore_text, undo_text};
 use crate::screens::shown_text;
 use crate::snapshots::snapshot_text;
 use crate::sources::Inputs;
@@ -132,5 +133,7 @@ pub(crate) fn answer<'a, R: Threads + Sync + AllocGlobal, D: Documents + Folders
         Request::Ask(query) => asked_answer(rt, documents, query, colours),
         Request::Snapshot(request) => snapshot_text(rt.alloc(), documents, request),
         Request::Compare(request) => compare_text(rt.alloc(), documents, request),
+        Request::Restore(request) => restore_text(rt, documents, request),
+        Request::Undo(request) => undo_text(rt.alloc(), documents, request),
     }
 }

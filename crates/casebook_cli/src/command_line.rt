@@ -1,20 +1,22 @@
 //! The request that the words of the command line make.
 ghost use Rattle.std.specs.Prelude.{◌≡◌, map, option_map, string_bytes};
-ghost use Rattle.casebook_cli.specs.Request.{command_request, compare_in, query_in};
+ghost use Rattle.casebook_cli.specs.Request.{command_request, compare_in, folder_repair_in};
+ghost use Rattle.casebook_cli.specs.Request.{is_undo, query_in, restore_asked};
 ghost use Rattle.casebook_cli.specs.Request.{request_in, topic_asked, topic_in};
 ghost use Rattle.casebook_cli.specs.Request.{topic_or_program};
 ghost use Rattle.retro_edge.specs.Calls.{call_view};
-ghost use Rattle.casebook_cli.specs.inner.Views.{Means, compare_view, query_view, request_view};
+ghost use Rattle.casebook_cli.specs.inner.Views.{Means, compare_view, folder_repair_view};
+ghost use Rattle.casebook_cli.specs.inner.Views.{query_view, request_view};
 
 use crate::line_options::lines_request;
 use crate::options::{is_given, log_of};
 use crate::problem::Problem;
 use crate::query::Query;
-use crate::repair_options::{page_request, show_request};
-use crate::request::{CompareRequest, Request};
+use crate::repair_options::{page_request, repair_request, show_request};
+use crate::request::{CompareRequest, FolderRepair, Request};
 use crate::topic::Topic;
 use crate::words::{WordsFault, call_in};
-use casebook_folder_cli::snapshot_request;
+use casebook_folder_cli::{compared_snapshot, restore_request, snapshot_request, undo_request};
 use retro_edge::{CallFault, CommandCall};
 use std::alloc::Global;
 
@@ -30,6 +32,7 @@ fn topic_of(text: &str) -> Option<Topic>
         "check" => Some(Topic::Check),
         "snapshot" => Some(Topic::Snapshot),
         "compare" => Some(Topic::Compare),
+        "restore" => Some(Topic::Restore),
         "lists" => Some(Topic::Lists),
         "documents" => Some(Topic::Documents),
         "refusals" => Some(Topic::Refusals),
@@ -80,8 +83,34 @@ fn compare_request<'a>(
     ensures { Means compare_view result (compare_in (call_view call.now)) }
 {
     let log = log_of(call)?;
-    let folder = snapshot_request(alloc, call)?;
-    Ok(CompareRequest { log, folder })
+    let snapshot = compared_snapshot(alloc, call, is_given(call, "mounts"))?;
+    Ok(CompareRequest { log, snapshot })
+}
+
+/// Returns whether the command `restore` takes a restore back: it has an undo file, and no log.
+fn is_undo(call: &CommandCall<'_>) -> bool
+    ensures { result ≡ is_undo (call_view call.now) }
+{
+    call.text_of("log").is_none() && call.text_of("undo").is_some()
+}
+
+/// Returns which repair the command `restore` brings into which folder.
+fn folder_repair<'a>(alloc: Global, call: &CommandCall<'a>) -> Result<FolderRepair<'a>, WordsFault>
+    ensures { Means folder_repair_view result (folder_repair_in (call_view call.now)) }
+{
+    let repair = repair_request(alloc, call)?;
+    let folder = restore_request(alloc, call, is_given(call, "apply"))?;
+    Ok(FolderRepair { repair, folder })
+}
+
+/// Returns what the command `restore` asks for.
+fn restore_of<'a>(alloc: Global, call: &CommandCall<'a>) -> Result<Request<'a>, WordsFault>
+    ensures { Means request_view result (restore_asked (call_view call.now)) }
+{
+    if is_undo(call) {
+        return Ok(Request::Undo(undo_request(call, is_given(call, "apply"))?));
+    }
+    Ok(Request::Restore(folder_repair(alloc, call)?))
 }
 
 /// Returns the request of a command.
@@ -96,10 +125,14 @@ fn command_request<'a>(alloc: Global, call: &CommandCall<'a>) -> Result<Request<
         return Ok(Request::Help(topic_asked(call.text_of("command"))?));
     }
     if call.name == "snapshot" {
-        return Ok(Request::Snapshot(snapshot_request(alloc, call)?));
+        let is_entered = is_given(call, "mounts");
+        return Ok(Request::Snapshot(snapshot_request(alloc, call, is_entered)?));
     }
     if call.name == "compare" {
         return Ok(Request::Compare(compare_request(alloc, call)?));
+    }
+    if call.name == "restore" {
+        return restore_of(alloc, call);
     }
     Ok(Request::Ask(query_of(alloc, call)?))
 }

@@ -1,4 +1,4 @@
-//! Comparisons of recordings with folders.
+//! Comparisons of recordings with snapshots.
 ghost use Rattle.std.specs.Prelude.{◌≡◌, IfOk, IfErr, IfSome};
 ghost use Rattle.casebook_text.specs.SafeLine.{text_of_lines};
 ghost use Rattle.casebook_cli.specs.Answers.{AnswersCompare};
@@ -32,7 +32,7 @@ fn shown(alloc: Global, compared: &CompareAnswer) -> Result<Answer, NoMem>
     })
 }
 
-/// Returns what a comparison finds, and tells what is said of the folder's snapshot beside it.
+/// Returns what a comparison finds, and tells what is said of the snapshot beside it.
 pub(crate) fn compare_text<'a, D: Documents + Folders + Progress>(
     alloc: Global,
     documents: &D,
@@ -47,11 +47,11 @@ pub(crate) fn compare_text<'a, D: Documents + Folders + Progress>(
     let log = read_document(alloc, documents, request.log)?;
     documents.begin(Step::Reading(log.bytes.len()));
     let recording = recording_of(alloc, &log)?;
-    match compare_answer(alloc, documents, &request.folder, &recording) {
+    match compare_answer(alloc, documents, &request.snapshot, &recording) {
         Ok(answer) => {
             documents.remark(&answer.remark);
             Ok(shown(alloc, &answer)?)
         }
-        Err(error) => Err(snapshot_stop(request.folder.folder, error)),
+        Err(fault) => Err(snapshot_stop(request.snapshot.name(), fault)),
     }
 }

@@ -2,13 +2,20 @@
 
 /// Help on the command `snapshot`.
 pub(crate) const SNAPSHOT: &str = "\
-casebook snapshot FOLDER [--at PATH] [--skip PATH]..
+casebook snapshot FOLDER [--mounts] [--at PATH] [--skip PATH]..
+casebook snapshot --tar FILE        [--at PATH] [--skip PATH]..
 
-Writes what is in a folder as a document: directories, and files of at most
-1,048,576 bytes, with modes and owners. Its `tree` is the tree of a script. Nothing
-is changed, no link is followed, and no device and no pipe is opened.
+Writes what is in a folder, or in a stream that tar wrote, as a document: directories,
+and files of at most 1,048,576 bytes, with modes and owners. Its `tree` is the tree
+of a script. Nothing is changed, no link is followed, and no device and no pipe is
+opened.
 
-    --at PATH      puts the folder at PATH; at / if it isn't given
+    --mounts       also looks at other file systems that are mounted in the folder.
+                   Skip /proc and /sys then.
+    --tar FILE     reads FILE, or standard input if it is -, as in
+                   ssh host tar -cf - -C /srv . | casebook snapshot --tar - --at /srv
+                   The stream can't be packed; gzip -dc unpacks one.
+    --at PATH      puts the folder or the stream at PATH; at / if it isn't given
     --skip PATH    leaves out PATH, and what is below it. It can be given several
                    times. PATH is a path in the document.
 
@@ -19,7 +26,7 @@ What isn't in the tree is listed in the document with its reason:
     too large            it has more than 1,048,576 bytes
     name too long        it has more than 255 bytes
     odd name             it isn't UTF-8
-    unreadable           the system refuses to read it
+    unreadable           the system refuses to read it; in a stream a sparse file
     changing             it changed each of the three times that it was read
     asked                it is a PATH of --skip
 
@@ -31,11 +38,15 @@ of another.
 
 /// Help on the command `compare`.
 pub(crate) const COMPARE: &str = "\
-casebook compare LOG FOLDER [--at PATH] [--skip PATH]..
+casebook compare LOG FOLDER [--mounts] [--at PATH] [--skip PATH]..
+casebook compare LOG --tar FILE        [--at PATH] [--skip PATH]..
+casebook compare LOG --snapshot DOCUMENT
 
 Says whether a log explains what a folder holds: whether the directories and files
 that the log has at its end are those of the folder. Nothing is changed.
 
+    --mounts, --tar FILE    as in casebook help snapshot
+    --snapshot DOCUMENT     what casebook snapshot wrote, in place of a folder
     --at PATH      the folder is the log's directory PATH; / if it isn't given
     --skip PATH    leaves out PATH, and what is below it. It can be given several
                    times. PATH is a path of the log.
@@ -55,4 +66,45 @@ show.
 
 Exit status: 0 each path is as recorded, 4 one isn't, or was skipped though the log
 has it.
+";
+
+/// Help on the command `restore`.
+pub(crate) const RESTORE: &str = "\
+casebook restore LOG --cancel LIST [--replace LIST] --root FOLDER [--at PATH]
+                 [--only PATH].. [--apply --undo FILE]
+casebook restore --undo FILE --root FOLDER [--apply]
+
+Brings a folder from what a log has at its end to what its repair has there: the
+files and directories in which the two differ, and nothing else. Without --apply
+nothing is changed: standard output is the plan.
+
+    --root FOLDER   the folder, such as a mounted copy of the machine's files
+    --at PATH       the folder is the log's directory PATH; / if it isn't given
+    --only PATH     restores PATH, what is below it, and the directories that it
+                    needs above it. It can be given several times.
+    --apply         carries the plan out
+    --undo FILE     a new file, which gets what the folder holds before that. Without
+                    a LOG, what a run with this FILE did is taken back.
+
+LIST and --replace are as in casebook help lists and casebook help show.
+
+Each path of the plan has a line:
+
+    ready     the folder holds what the log has at its end: this will be changed
+    done      it holds what the repair has: there is nothing to do
+    differs   it holds neither
+    blocked   a link, a device, a mount or something else is in the way
+
+If one differs or is blocked, nothing is changed at all. A file that is changed keeps
+its mode and owner; one that comes back gets the mode 0600, a directory 0700, and the
+user who runs this. Its time, its ACL and its other names are lost.
+
+No link is followed, and nothing outside of FOLDER is changed. Each file is written
+beside its path and renamed over it, so each path holds its old or its new file at any
+moment, or nothing while it becomes a directory or stops to be one. After an
+interruption run the same command with the same FILE again, or take it back by it.
+Somebody who changes a file just before it is renamed over loses that change: restore
+a copy, or with nobody else at work.
+
+Exit status: 0 each path is ready or done, 4 one isn't.
 ";

@@ -27,8 +27,8 @@
 //!   `IsRepairBy`]. The repair is exact if the log is a recording of its lines, and otherwise what
 //!   choices for its lines come to, whether lines are run ahead or not. The summary says that the
 //!   log is as its lines run only if it is a recording of them; that it never says no of what
-//!   `retro record` wrote is only tested. The numbers of the lines of which the summary speaks rise,
-//!   so reasons, single lines and the JSON are as the clauses of the crates below define them
+//!   `retro record` wrote is only tested. The numbers of the lines of which the summary speaks
+//!   rise, so reasons, single lines and the JSON are as the clauses of the crates below define them
 //!   [`rise` of `IsSummary`].
 //! - With colours, each line of what `show` writes for people stands between two codes that its
 //!   first byte chooses (`specs/Colours.antt`), and everything else is the same. What `lines`,
@@ -60,6 +60,7 @@ mod colours;
 mod command_line;
 mod comparing;
 mod document;
+mod document_help;
 mod documents;
 mod exit;
 mod folder_help;
@@ -87,6 +88,7 @@ mod repair_options;
 mod repair_request;
 mod repairs;
 mod request;
+mod restores;
 mod rounds;
 mod rows_text;
 mod screens;

@@ -2,6 +2,7 @@
 ghost use Rattle.std.specs.Prelude.{◌≡◌, ◌++◌, [], IfOk, IsTrue, OnOk};
 ghost use Rattle.std.specs.List.{list_all};
 ghost use Rattle.casebook_text.specs.SafeText.{is_printable};
+ghost use Rattle.casebook_folder_cli.specs.FileFaults.{fault_line};
 ghost use Rattle.casebook_cli.specs.Messages.{about, about_message, about_words, counted};
 ghost use Rattle.casebook_cli.specs.Messages.{item_words, list_message, log_message, message_of};
 ghost use Rattle.casebook_cli.specs.Messages.{number_words, numbered_words, part_words, problem_words};
@@ -14,7 +15,7 @@ use crate::problem::Problem;
 use crate::searched::SearchedPart;
 use crate::stop::Stop;
 use casebook_about::{AboutFault, Part as AboutPart};
-use casebook_folder_cli::FolderProblem;
+use casebook_folder_cli::{FileFault, FolderProblem};
 use casebook_text::{ItemFault, ListFault, SafeLine};
 use retro_log::{Part, Refusal};
 use std::alloc::Global;
@@ -46,9 +47,25 @@ fn problem_words(problem: Problem) -> &'static str
         Problem::Format => "--format: not text, tsv or numbers",
         Problem::RepairFormat => "--format: not text or json",
         Problem::MixedFormat => "--format json has no --why, --diff or --line",
-        Problem::Folder(FolderProblem::NoFolder) => "no FOLDER is given; see casebook help",
+        Problem::Folder(FolderProblem::NoFolder) =>
+            "no FOLDER and no --tar FILE is given; see casebook help",
+        Problem::Folder(FolderProblem::SeveralSources) =>
+            "FOLDER and --tar are two sources; give one",
+        Problem::Folder(FolderProblem::MountsOfFile) => "--mounts needs a FOLDER",
+        Problem::Folder(FolderProblem::TakenDocument) =>
+            "--snapshot needs no FOLDER, --tar, --mounts, --at and --skip",
         Problem::Folder(FolderProblem::At) => "--at: not a path from the root",
         Problem::Folder(FolderProblem::Skip) => "--skip: not a path from the root",
+        Problem::Folder(FolderProblem::InputTwice) =>
+            "- is standard input, which can be named once",
+        Problem::Folder(FolderProblem::NoRoot) =>
+            "no --root FOLDER is given; see casebook help restore",
+        Problem::Folder(FolderProblem::Only) => "--only: not a path from the root",
+        Problem::Folder(FolderProblem::NoUndo) =>
+            "--apply needs --undo FILE, a file that isn't there yet",
+        Problem::Folder(FolderProblem::NoApply) => "--undo needs --apply where a LOG is given",
+        Problem::Folder(FolderProblem::Mixed) =>
+            "--undo without a LOG has --root and --apply alone",
     }
 }
 
@@ -286,6 +303,16 @@ fn about_message(alloc: Global, name: &str, fault: AboutFault) -> Result<SafeLin
     Ok(line)
 }
 
+/// Returns why a file holds no snapshot, after its name.
+#[tactic(auto, unfolding(crate::specs::Messages::said_of))]
+fn file_message(alloc: Global, name: &str, fault: FileFault) -> Result<SafeLine, NoMem>
+    ensures { IfOk result (λ line. line ≡ said_of name.now (fault_line fault)) }
+{
+    let mut line = told_of(alloc, name, "")?;
+    line.push_line(&fault.line(alloc)?)?;
+    Ok(line)
+}
+
 /// Returns a text with a number, after the program's name.
 #[tactic(auto, unfolding(crate::specs::Messages::said))]
 fn told_number(alloc: Global, words: &str, number: u32) -> Result<SafeLine, NoMem>
@@ -316,6 +343,20 @@ fn stop_message(alloc: Global, stop: Stop<'_>) -> Result<SafeLine, NoMem>
         Stop::OutOfMemory => told(alloc, "out of memory"),
         Stop::ReadFailed(name) => told_of(alloc, name, "can't be read"),
         Stop::NotADirectory(name) => told_of(alloc, name, "not a directory"),
+        Stop::BadFile(name, fault) => file_message(alloc, name, fault),
+        Stop::UndoFailed(name) => told_of(alloc, name, "this undo file can't be read or written"),
+        Stop::BadUndo(name) => told_of(alloc, name, "not an undo file"),
+        Stop::OtherUndo(name) => told_of(alloc, name, "the undo file of another restore"),
+        Stop::FolderChanged(name) => told_of(
+            alloc,
+            name,
+            "changed meanwhile; nothing was restored",
+        ),
+        Stop::Unfinished(name) => told_of(
+            alloc,
+            name,
+            "restored in part; run this again, or take it back by the undo file",
+        ),
     }
 }
 

@@ -77,8 +77,8 @@ impl Patterns {
         Ok(Patterns { text, shown })
     }
 
-    /// Returns the filters of these patterns and of tests. `is_unknown` says whether only lines pass
-    /// that aren't understood.
+    /// Returns the filters of these patterns and of tests. `is_unknown` says whether only lines
+    /// pass that aren't understood.
     pub(crate) fn filters(
         &self,
         alloc: Global,

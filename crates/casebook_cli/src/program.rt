@@ -67,8 +67,8 @@ fn written<'a, W: Write>(answer: &Answer, output: &mut Output<W>) -> Exit<'a>
 }
 
 /// Runs the program: reads the command line, whose first word is the program's name, reads the
-/// documents and folders that it names, and writes the answer, with the codes of `specs/Colours.antt` if
-/// `colours` are wanted. Returns how the program ends.
+/// documents and folders that it names, and writes the answer, with the codes of
+/// `specs/Colours.antt` if `colours` are wanted. Returns how the program ends.
 pub fn run_with<'a, R: Threads + Sync + AllocGlobal, D: Documents + Folders + Progress, W: Write>(
     rt: &R,
     words: &'a [String],

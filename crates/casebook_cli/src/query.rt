@@ -28,7 +28,7 @@ fn document_named(given: &str) -> Option<&str>
 }
 
 /// Returns the documents that a repair needs.
-fn repair_sources<'a>(request: &RepairRequest<'a>) -> Sources<'a>
+pub(crate) fn repair_sources<'a>(request: &RepairRequest<'a>) -> Sources<'a>
     ensures { sources_view result ≡ repair_sources (repair_view request.now) }
 {
     Sources {

@@ -99,7 +99,7 @@ fn rounds_given(alloc: Global, call: &CommandCall<'_>) -> Result<Option<Rounds>,
 }
 
 /// Returns which repair is asked for.
-fn repair_request<'a>(
+pub(crate) fn repair_request<'a>(
     alloc: Global,
     call: &CommandCall<'a>,
 ) -> Result<RepairRequest<'a>, WordsFault>

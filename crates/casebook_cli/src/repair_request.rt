@@ -8,7 +8,8 @@ use retro_keep::Edit;
 pub(crate) struct RepairRequest<'a> {
     /// The name of the log.
     pub(crate) log: &'a str,
-    /// The list of the lines that are cancelled. After `@` it is the name of a document with a list.
+    /// The list of the lines that are cancelled. After `@` it is the name of a document with a
+    /// list.
     pub(crate) cancel: &'a str,
     /// The edits of the lines whose text is replaced.
     pub(crate) replacements: Vec<Edit>,

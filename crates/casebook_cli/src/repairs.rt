@@ -116,8 +116,8 @@ fn edits_of<'a>(
     Ok(edits)
 }
 
-/// Returns the repair of the log of some documents that is asked for. The list of the lines to leave
-/// out may be in one of the documents.
+/// Returns the repair of the log of some documents that is asked for. The list of the lines to
+/// leave out may be in one of the documents.
 pub(crate) fn asked_repair<'a, R: Threads + Sync + AllocGlobal, P: Progress>(
     rt: &R,
     progress: &P,

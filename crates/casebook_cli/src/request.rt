@@ -1,15 +1,25 @@
 //! Requests.
 use crate::query::Query;
+use crate::repair_request::RepairRequest;
 use crate::topic::Topic;
-use casebook_folder_cli::SnapshotRequest;
+use casebook_folder_cli::{ComparedSnapshot, RestoreRequest, SnapshotRequest, UndoRequest};
 
-/// Which recording is compared with which folder.
+/// Which recording is compared with which snapshot.
 #[derive(Drop)]
 pub(crate) struct CompareRequest<'a> {
     /// The name of the log.
     pub(crate) log: &'a str,
-    /// The folder, and how its snapshot is taken.
-    pub(crate) folder: SnapshotRequest<'a>,
+    /// The snapshot, which is taken or read.
+    pub(crate) snapshot: ComparedSnapshot<'a>,
+}
+
+/// Which repair is brought into which folder.
+#[derive(Drop)]
+pub(crate) struct FolderRepair<'a> {
+    /// The repair.
+    pub(crate) repair: RepairRequest<'a>,
+    /// The folder, and whether it is changed.
+    pub(crate) folder: RestoreRequest<'a>,
 }
 
 /// What the program is asked to do.
@@ -19,8 +29,12 @@ pub(crate) enum Request<'a> {
     Help(Topic),
     /// Answer a question about documents.
     Ask(Query<'a>),
-    /// Take a snapshot of a folder.
+    /// Take a snapshot of a folder or of a stream.
     Snapshot(SnapshotRequest<'a>),
-    /// Compare a recording with a folder.
+    /// Compare a recording with a snapshot.
     Compare(CompareRequest<'a>),
+    /// Bring a repair into a folder.
+    Restore(FolderRepair<'a>),
+    /// Take a restore back.
+    Undo(UndoRequest<'a>),
 }

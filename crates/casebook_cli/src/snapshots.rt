@@ -1,5 +1,6 @@
-//! Snapshots of folders.
+//! Snapshots of folders and of streams.
 ghost use Rattle.std.specs.Prelude.{IfOk, IfErr, IfSome};
+ghost use Rattle.casebook_folder_cli.specs.Sources.{source_name};
 ghost use Rattle.casebook_folder_cli.specs.Views.{request_view as snapshot_view};
 ghost use Rattle.casebook_cli.specs.Answers.{AnswersSnapshot};
 ghost use Rattle.casebook_cli.specs.Stops.{StopsSnapshot};
@@ -9,18 +10,18 @@ use crate::answer::Answer;
 use crate::documents::Documents;
 use crate::progress::Progress;
 use crate::stop::Stop;
-use casebook_folder_cli::{Folders, SnapshotRequest, snapshot_answer};
-use casebook_snapshot::SnapshotError;
+use casebook_folder_cli::{Folders, SnapshotRequest, SourceFault, snapshot_answer};
 use std::alloc::Global;
 
-/// Returns why there is no snapshot of the folder with a name.
-pub(crate) fn snapshot_stop(name: &str, error: SnapshotError) -> Stop<'_>
+/// Returns why there is no snapshot of the folder or the file with a name.
+pub(crate) fn snapshot_stop(name: &str, fault: SourceFault) -> Stop<'_>
     ensures { StopsSnapshot name.entry.now result }
 {
-    match error {
-        SnapshotError::NoMem => Stop::OutOfMemory,
-        SnapshotError::Failed => Stop::ReadFailed(name),
-        SnapshotError::NotADirectory => Stop::NotADirectory(name),
+    match fault {
+        SourceFault::NoMem => Stop::OutOfMemory,
+        SourceFault::Unreadable => Stop::ReadFailed(name),
+        SourceFault::NotADirectory => Stop::NotADirectory(name),
+        SourceFault::BadFile(fault) => Stop::BadFile(name, fault),
     }
 }
 
@@ -33,7 +34,8 @@ pub(crate) fn snapshot_text<'a, D: Documents + Folders + Progress>(
     ensures ok { IfOk result (λ answer. IfSome (D.bytes_of documents.now) (λ at.
         IfSome (D.holds documents.now) (λ folders.
         AnswersSnapshot folders (snapshot_view request.entry) (answer_view answer)))) }
-    ensures err { IfErr result (StopsSnapshot (snapshot_view request.entry).folder) }
+    ensures err { IfErr result
+        (StopsSnapshot (source_name (snapshot_view request.entry).source)) }
 {
     match snapshot_answer(alloc, documents, &request) {
         Ok(answer) => {
@@ -43,6 +45,6 @@ pub(crate) fn snapshot_text<'a, D: Documents + Folders + Progress>(
                 is_no: false,
             })
         }
-        Err(error) => Err(snapshot_stop(request.folder, error)),
+        Err(fault) => Err(snapshot_stop(request.source.name(), fault)),
     }
 }

@@ -7,6 +7,7 @@ use crate::NoMem;
 use crate::problem::Problem;
 use crate::searched::SearchedPart;
 use casebook_about::AboutFault;
+use casebook_folder_cli::FileFault;
 use casebook_text::ListFault;
 use retro_log::Refusal;
 
@@ -39,6 +40,18 @@ pub enum Stop<'a> {
     ReadFailed(&'a str),
     /// What is named as a folder isn't one.
     NotADirectory(&'a str),
+    /// A file isn't a stream of tar of which a snapshot can be taken, or not the document of one.
+    BadFile(&'a str, FileFault),
+    /// An undo file couldn't be read or written.
+    UndoFailed(&'a str),
+    /// What is named as an undo file isn't one.
+    BadUndo(&'a str),
+    /// An undo file has other rows than the plan.
+    OtherUndo(&'a str),
+    /// A path of a folder holds something else than when it was looked at. Nothing was changed.
+    FolderChanged(&'a str),
+    /// A part of a folder is restored, and then a step failed.
+    Unfinished(&'a str),
 }
 
 impl<'a> From<NoMem> for Stop<'a> {
@@ -50,8 +63,8 @@ impl<'a> From<NoMem> for Stop<'a> {
 }
 
 impl Stop<'_> {
-    /// Returns the exit status of the process: 1 if words or documents are refused, 2 if memory ran
-    /// out, 3 if a document couldn't be read.
+    /// Returns the exit status of the process: 1 if words, documents or a folder are refused, 2 if
+    /// memory ran out, 3 if a read or a write failed.
     pub(crate) fn status(self) -> u8
         ensures { result ≡ stop_status self.entry }
     {
@@ -66,9 +79,13 @@ impl Stop<'_> {
             | Stop::BadList(_)
             | Stop::NoLine(_)
             | Stop::BadRepair(_)
-            | Stop::NotADirectory(_) => 1,
+            | Stop::NotADirectory(_)
+            | Stop::BadFile(_, _)
+            | Stop::BadUndo(_)
+            | Stop::OtherUndo(_)
+            | Stop::FolderChanged(_) => 1,
             Stop::OutOfMemory => 2,
-            Stop::ReadFailed(_) => 3,
+            Stop::ReadFailed(_) | Stop::UndoFailed(_) | Stop::Unfinished(_) => 3,
         }
     }
 }

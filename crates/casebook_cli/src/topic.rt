@@ -17,6 +17,8 @@ pub(crate) enum Topic {
     Snapshot,
     /// The command `compare`.
     Compare,
+    /// The command `restore`.
+    Restore,
     /// Lists of lines.
     Lists,
     /// The documents that the program reads.

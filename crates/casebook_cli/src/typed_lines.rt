@@ -12,8 +12,8 @@ use std::alloc::Global;
 use std::collections::BTreeMap;
 use std::marker::Model;
 
-/// Whether lines were typed between bounds, by their numbers. Of several times of a line the last one
-/// counts, which is also the one that is shown.
+/// Whether lines were typed between bounds, by their numbers. Of several times of a line the last
+/// one counts, which is also the one that is shown.
 #[derive(Drop)]
 pub(crate) struct TypedLines {
     between: BTreeMap<u32, bool>,

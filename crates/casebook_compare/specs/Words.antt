@@ -27,8 +27,8 @@ abbrev pub writers_words : List ℕ → List ℕ
 writers_words [] = codes "; no line wrote to it"
 writers_words (n ∷ ns) = last_words (n ∷ ns)
 
--- How a path of a folder differs from what is recorded: what was recorded, what is in the folder, and
--- the last lines that wrote to it.
+-- How a path of a folder differs from what is recorded: what was recorded, what is in the folder,
+-- and the last lines that wrote to it.
 unfoldable pub difference_line : RecordingValue → Tree → PathValue → List ℕ
 difference_line r folder p =
     path_words p
@@ -53,8 +53,8 @@ end_line =
 abbrev pub line_of_change : RecordingValue → Tree → ChangedPath → List ℕ
 line_of_change r folder c = difference_line r folder c.path
 
--- A comparison in lines: how many paths are as recorded, each that isn't, each recorded one that was
--- skipped, and what isn't compared.
+-- A comparison in lines: how many paths are as recorded, each that isn't, each recorded one that
+-- was skipped, and what isn't compared.
 unfoldable pub comparison_lines : RecordingValue → Comparison → List (List ℕ)
 comparison_lines r c =
     head_line c.same (length c.different.items) (length c.unread.items)

@@ -53,8 +53,8 @@ fn skipped_paths(alloc: Global, skipped: &[SkippedPath]) -> Result<BTreeSet<Path
 }
 
 impl<'a> Coverage<'a> {
-    /// Returns the paths of which a snapshot tells something that has skipped some, of a folder that
-    /// is put at a path.
+    /// Returns the paths of which a snapshot tells something that has skipped some, of a folder
+    /// that is put at a path.
     pub(crate) fn of(
         alloc: Global,
         at: &'a Path,

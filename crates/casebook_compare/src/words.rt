@@ -71,8 +71,8 @@ fn difference_line(
     Ok(line)
 }
 
-/// Returns what is recorded at a path that was skipped, why it was, and the last lines that wrote to
-/// it.
+/// Returns what is recorded at a path that was skipped, why it was, and the last lines that wrote
+/// to it.
 #[tactic(auto, unfolding(crate::specs::Words::unread_line))]
 fn unread_line(alloc: Global, history: &History<'_>, unread: &UnreadPath) -> Result<SafeLine, NoMem>
     ensures { IfOk result (λ line. line ≡ unread_line history.now unread.now) }
@@ -93,7 +93,8 @@ fn unread_line(alloc: Global, history: &History<'_>, unread: &UnreadPath) -> Res
     Ok(line)
 }
 
-/// Returns how many paths are as recorded, how many aren't, and how many recorded ones were skipped.
+/// Returns how many paths are as recorded, how many aren't, and how many recorded ones were
+/// skipped.
 #[tactic(auto, unfolding(crate::specs::Words::head_line))]
 fn head_line(alloc: Global, same: usize, different: usize, unread: usize) -> Result<SafeLine, NoMem>
     ensures { IfOk result (λ line. line ≡ head_line same different unread) }
@@ -154,8 +155,8 @@ fn push_unread(
 }
 
 /// Returns a comparison of a recording with a folder in lines: how many paths are as recorded, each
-/// path that isn't, and each recorded one that was skipped, with the last lines that wrote to it, and
-/// what isn't compared.
+/// path that isn't, and each recorded one that was skipped, with the last lines that wrote to it,
+/// and what isn't compared.
 #[tactic(auto, unfolding(crate::specs::Words::comparison_lines))]
 pub fn comparison_lines(
     alloc: Global,

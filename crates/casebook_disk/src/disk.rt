@@ -5,6 +5,7 @@ ghost use Rattle.casebook_folder.specs.Made.{step_of};
 use crate::errors::folder_error;
 use crate::place::{DiskPlace, name_in, open_in, opened, place_of};
 use crate::reading::find_in;
+use crate::scope::Scope;
 use crate::target::Target;
 use crate::temporary::{clear, is_temporary};
 use casebook_folder::{Folder, FolderError, Found, MadeStep, Obstacle, push_step};
@@ -51,7 +52,8 @@ impl<'a> Disk<'a> {
         let DiskPlace::In(dir) = place else {
             return Ok(true);
         };
-        let DiskPlace::In(below) = open_in(self.rt, self.alloc, &dir, name.as_str())? else {
+        let scope = Scope::of(&dir)?;
+        let DiskPlace::In(below) = open_in(self.rt, self.alloc, &dir, name.as_str(), scope)? else {
             return Ok(true);
         };
         for entry in fs::read_dir(self.rt, name_in(self.alloc, &below, "")?.as_str())? {
@@ -79,7 +81,11 @@ impl<'a> Disk<'a> {
             return Err(io::Error::from(ErrorKind::InvalidInput));
         }
         let target = Target::of(self.alloc, dir, name)?;
-        target.make(self.rt, self.alloc, after)?;
+        if let Err(error) = target.make(self.rt, self.alloc, after) {
+            // A part of it may be there, as on a full disk. If it can't be removed, it stays.
+            let _ = clear(self.rt, target.made_at.as_str());
+            return Err(error);
+        }
         if !self.find(path)?.is_same(before) {
             clear(self.rt, target.made_at.as_str())?;
             return Ok(None);

@@ -6,28 +6,19 @@ use crate::errors::snapshot_error;
 use crate::item::item_in;
 use crate::names::names_in;
 use crate::place::{DiskPlace, dir_at, last_name, opened};
+use crate::scope::Scope;
 use casebook_snapshot::{Child, Item, Listing, Reason, SnapshotError};
 use retro_path::Path;
 use std::alloc::Global;
 use std::cell::Cell;
 use std::fs::File;
 use std::io::{self, ErrorKind};
-use std::os::unix::fs::MetadataExt;
 
-/// A directory that is open, its path, and the number of its file system.
+/// A directory that is open, and its path.
 #[derive(Drop)]
 struct OpenDir {
     path: Path,
     dir: File,
-    device: u64,
-}
-
-impl OpenDir {
-    /// Returns an open directory, which is at a path.
-    fn of(path: Path, dir: File) -> io::Result<OpenDir> {
-        let device = dir.metadata()?.dev();
-        Ok(OpenDir { path, dir, device })
-    }
 }
 
 /// A folder of the file system that is only looked at.
@@ -36,20 +27,30 @@ pub struct DiskListing<'a> {
     rt: &'a HostRuntime,
     alloc: Global,
     root: File,
+    scope: Scope,
     /// The directory that was asked for last. A walk looks at one name of it after another.
     last: Cell<Option<OpenDir>>,
 }
 
 impl<'a> DiskListing<'a> {
-    /// Opens the folder with a name. If the name is that of a link, the folder is where it leads.
+    /// Opens the folder with a name, on its file system. If the name is that of a link, the folder is
+    /// where it leads.
     pub fn open(rt: &'a HostRuntime, name: &str) -> io::Result<DiskListing<'a>> {
         let alloc = rt.alloc();
+        let root = opened(rt, alloc, name)?;
         Ok(DiskListing {
             rt,
             alloc,
-            root: opened(rt, alloc, name)?,
+            scope: Scope::of(&root)?,
+            root,
             last: Cell::new(None),
         })
+    }
+
+    /// Looks also at what other file systems hold that are mounted in the folder.
+    pub fn entering_mounts(mut self) -> DiskListing<'a> {
+        self.scope = Scope::All;
+        self
     }
 
     /// Takes the directory that was asked for last, if it is the one at a path.
@@ -63,7 +64,7 @@ impl<'a> DiskListing<'a> {
     /// Returns what is at a name in an open directory, which stays open until another one is asked
     /// for.
     fn find_in(&self, open: OpenDir, name: &str) -> io::Result<Item> {
-        let item = item_in(self.rt, self.alloc, &open.dir, open.device, name);
+        let item = item_in(self.rt, self.alloc, &open.dir, self.scope, name);
         self.last.set(Some(open));
         item
     }
@@ -75,8 +76,8 @@ impl<'a> DiskListing<'a> {
         if let Some(open) = self.take_last(&parent) {
             return self.find_in(open, name.as_str());
         }
-        match dir_at(self.rt, self.alloc, &self.root, &parent)? {
-            DiskPlace::In(dir) => self.find_in(OpenDir::of(parent, dir)?, name.as_str()),
+        match dir_at(self.rt, self.alloc, &self.root, &parent, self.scope)? {
+            DiskPlace::In(dir) => self.find_in(OpenDir { path: parent, dir }, name.as_str()),
             DiskPlace::Missing => Ok(Item::Missing),
             DiskPlace::Blocked(_) => Ok(Item::Barred(Reason::Changing)),
         }
@@ -94,8 +95,11 @@ impl<'a> DiskListing<'a> {
         if let Some(open) = self.take_last(path) {
             return self.names_of(open);
         }
-        match dir_at(self.rt, self.alloc, &self.root, path)? {
-            DiskPlace::In(dir) => self.names_of(OpenDir::of(path.copy()?, dir)?),
+        match dir_at(self.rt, self.alloc, &self.root, path, self.scope)? {
+            DiskPlace::In(dir) => {
+                let path = path.copy()?;
+                self.names_of(OpenDir { path, dir })
+            }
             _ => Ok(None),
         }
     }

@@ -2,12 +2,13 @@
 use crate::names::see_names;
 use crate::place::{DiskPlace, look_at, name_in, open_in};
 use crate::reading::{FILE_LIMIT, attributes_of, is_unchanged};
+use crate::scope::Scope;
 use casebook_snapshot::{Item, Reason};
 use retro_path::Bytes;
 use std::alloc::Global;
 use std::fs::{self, File, Metadata};
 use std::io::{self, Read};
-use std::os::unix::fs::{FileTypeExt, MetadataExt};
+use std::os::unix::fs::FileTypeExt;
 
 /// How often a file that changes while it is read is read at most.
 const TRIES: u32 = 3;
@@ -36,8 +37,8 @@ fn read_once(
 }
 
 /// Returns why what is at a name in an open directory is skipped, if it isn't a directory or a file
-/// that is read. The directory is on the file system with this number.
-fn reason_of(there: &Metadata, device: u64) -> Option<Reason> {
+/// that is read, on these file systems.
+fn reason_of(there: &Metadata, scope: Scope) -> Option<Reason> {
     let kind = there.file_type();
     if kind.is_symlink() {
         return Some(Reason::Link);
@@ -51,7 +52,7 @@ fn reason_of(there: &Metadata, device: u64) -> Option<Reason> {
     if !kind.is_dir() && !kind.is_file() {
         return Some(Reason::Device);
     }
-    if there.dev() != device {
+    if !scope.has(there) {
         return Some(Reason::OtherFileSystem);
     }
     if kind.is_file() && there.len() > FILE_LIMIT {
@@ -67,8 +68,14 @@ fn open_item(rt: &HostRuntime, alloc: Global, dir: &File) -> io::Result<Item> {
 }
 
 /// Returns the directory at a name in an open one, if it can be opened and listed.
-fn directory_in(rt: &HostRuntime, alloc: Global, dir: &File, name: &str) -> io::Result<Item> {
-    match open_in(rt, alloc, dir, name)? {
+fn directory_in(
+    rt: &HostRuntime,
+    alloc: Global,
+    dir: &File,
+    scope: Scope,
+    name: &str,
+) -> io::Result<Item> {
+    match open_in(rt, alloc, dir, name, scope)? {
         DiskPlace::In(below) => open_item(rt, alloc, &below),
         DiskPlace::Missing => Ok(Item::Missing),
         DiskPlace::Blocked(_) => Ok(Item::Barred(Reason::Changing)),
@@ -76,12 +83,12 @@ fn directory_in(rt: &HostRuntime, alloc: Global, dir: &File, name: &str) -> io::
 }
 
 /// Returns what is at a name in an open directory, without following links. A file that changes
-/// while it is read is read again. The directory is on the file system with this number.
+/// while it is read is read again. What isn't on these file systems isn't looked into.
 pub(crate) fn item_in(
     rt: &HostRuntime,
     alloc: Global,
     dir: &File,
-    device: u64,
+    scope: Scope,
     name: &str,
 ) -> io::Result<Item> {
     if name.is_empty() {
@@ -92,11 +99,11 @@ pub(crate) fn item_in(
         let Some(there) = look_at(rt, path.as_str())? else {
             return Ok(Item::Missing);
         };
-        if let Some(reason) = reason_of(&there, device) {
+        if let Some(reason) = reason_of(&there, scope) {
             return Ok(Item::Barred(reason));
         }
         if there.is_dir() {
-            return directory_in(rt, alloc, dir, name);
+            return directory_in(rt, alloc, dir, scope, name);
         }
         if let Some(item) = read_once(rt, alloc, path.as_str(), &there)? {
             return Ok(item);

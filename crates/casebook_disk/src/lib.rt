@@ -33,8 +33,7 @@
 //! Nothing is proved of what a disk holds, since no contract says that. Proved is that `Disk` keeps
 //! the steps for which it is asked, in their order, that `Changed` is returned only before a step,
 //! and what each `Folder` and `Listing` promises besides. What `DiskListing` finds in real folders
-//! is tested by `checks/folders`. `Disk` is to be tested with real folders; no test of the
-//! repository does so yet. No program uses either.
+//! is tested by `checks/folders`, and what `Disk` does in them by `checks/restores`.
 #![tactic(auto)]
 
 mod disk;
@@ -42,13 +41,16 @@ mod disk_listing;
 mod errors;
 mod item;
 mod names;
+mod new_file;
 mod place;
 mod reading;
+mod scope;
 mod target;
 mod temporary;
 
 pub use disk::Disk;
 pub use disk_listing::DiskListing;
+pub use new_file::write_new_file;
 
 /// Allocation failed.
 pub use retro_path::NoMem;

@@ -1,4 +1,5 @@
 //! Places: the directories that paths are in, opened without following links.
+use crate::scope::Scope;
 use casebook_folder::{NoMem, Obstacle};
 use retro_path::Path;
 use std::alloc::Global;
@@ -41,12 +42,13 @@ pub(crate) fn look_at(rt: &HostRuntime, name: &str) -> io::Result<Option<Metadat
     }
 }
 
-/// Opens a directory in an open one, if it is a directory of the same file system and no link.
+/// Opens a directory in an open one, if it is a directory of these file systems and no link.
 pub(crate) fn open_in(
     rt: &HostRuntime,
     alloc: Global,
     dir: &File,
     name: &str,
+    scope: Scope,
 ) -> io::Result<DiskPlace> {
     let path = name_in(alloc, dir, name)?;
     let Some(there) = look_at(rt, path.as_str())? else {
@@ -55,7 +57,7 @@ pub(crate) fn open_in(
     if there.is_file() {
         return Ok(DiskPlace::Missing);
     }
-    if !there.is_dir() || there.dev() != dir.metadata()?.dev() {
+    if !there.is_dir() || !scope.has(&there) {
         return Ok(DiskPlace::Blocked(Obstacle::Above));
     }
     // The slash refuses a pipe or a device that is put there now, without opening it.
@@ -69,17 +71,18 @@ pub(crate) fn open_in(
     }
 }
 
-/// Returns where the directory at a path is, from an open directory.
+/// Returns where the directory at a path is, from an open directory, on these file systems.
 pub(crate) fn dir_at(
     rt: &HostRuntime,
     alloc: Global,
     root: &File,
     path: &Path,
+    scope: Scope,
 ) -> io::Result<DiskPlace> {
     let mut dir = root.try_clone()?;
     for name in path.as_str().split('/') {
         if !name.is_empty() {
-            match open_in(rt, alloc, &dir, name)? {
+            match open_in(rt, alloc, &dir, name, scope)? {
                 DiskPlace::In(below) => dir = below,
                 other => return Ok(other),
             }
@@ -96,13 +99,14 @@ pub(crate) fn last_name(alloc: Global, path: &Path) -> Result<String, NoMem> {
     }
 }
 
-/// Returns where a path leads from an open directory, and its last name. The root has none.
+/// Returns where a path leads from an open directory on its file system, and its last name. The root
+/// has none.
 pub(crate) fn place_of(
     rt: &HostRuntime,
     alloc: Global,
     root: &File,
     path: &Path,
 ) -> io::Result<(DiskPlace, String)> {
-    let place = dir_at(rt, alloc, root, &path.parent(alloc)?)?;
+    let place = dir_at(rt, alloc, root, &path.parent(alloc)?, Scope::of(root)?)?;
     Ok((place, last_name(alloc, path)?))
 }

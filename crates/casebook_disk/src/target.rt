@@ -1,5 +1,6 @@
 //! Names that steps change.
 use crate::place::{DiskPlace, name_in, open_in};
+use crate::scope::Scope;
 use crate::temporary::{clear, clear_all, temporary};
 use casebook_folder::{Attributes, Found, NoMem};
 use std::alloc::Global;
@@ -61,7 +62,13 @@ impl Target {
         let mut builder = DirBuilder::new();
         builder.mode(0o700);
         builder.create(rt, self.made_at.as_str())?;
-        match open_in(rt, alloc, &self.dir, self.temporary.as_str())? {
+        match open_in(
+            rt,
+            alloc,
+            &self.dir,
+            self.temporary.as_str(),
+            Scope::of(&self.dir)?,
+        )? {
             DiskPlace::In(made) => complete(&made, a),
             _ => Err(io::Error::from(ErrorKind::NotADirectory)),
         }

@@ -1,5 +1,6 @@
 //! Temporary names, under which new nodes are made.
 use crate::place::{DiskPlace, look_at, name_in, open_in};
+use crate::scope::Scope;
 use retro_path::{NAME_LIMIT, NoMem};
 use std::alloc::Global;
 use std::fs::{self, File};
@@ -59,7 +60,7 @@ pub(crate) fn clear(rt: &HostRuntime, temporary: &str) -> io::Result<()> {
 
 /// Removes what stopped runs left under temporary names in a directory of an open one.
 pub(crate) fn clear_all(rt: &HostRuntime, alloc: Global, dir: &File, name: &str) -> io::Result<()> {
-    let DiskPlace::In(below) = open_in(rt, alloc, dir, name)? else {
+    let DiskPlace::In(below) = open_in(rt, alloc, dir, name, Scope::of(dir)?)? else {
         return Ok(());
     };
     for entry in fs::read_dir(rt, name_in(alloc, &below, "")?.as_str())? {

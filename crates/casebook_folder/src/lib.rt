@@ -25,8 +25,8 @@
 //!   is to hold, and the state that follows. Mode and owner stay those of what is found, if that is
 //!   of the new kind. What is behind a link or another obstacle is blocked, and so is a directory
 //!   that has to go and has a child that the recorded tree doesn't have [`seen`].
-//! - `Rows::of_plan` returns exactly the rows for which the folder is ready, if it is ready for each
-//!   row of the plan or done with it. They begin with what the folder holds
+//! - `Rows::of_plan` returns exactly the rows for which the folder is ready, if it is ready for
+//!   each row of the plan or done with it. They begin with what the folder holds
 //!   (`plans_see_the_folder`). `Rows` are in order of their paths, so each path has one at most
 //!   (`rows_are_distinct`).
 //! - `Rows::fit` is true exactly if each kept row is that of one of the plan's changes and the

@@ -5,3 +5,9 @@ pub mod Paths
 pub mod Remarks
 pub mod Words
 pub mod Views
+pub mod Faults
+pub mod RestoreWords
+pub mod Restoring
+pub mod FileFaults
+pub mod Sources
+pub mod Taking

@@ -1,11 +1,14 @@
 //! Answers to requests for snapshots.
-ghost use Rattle.std.specs.Prelude.{IfOk, IfSome, string_bytes};
+ghost use Rattle.std.specs.Prelude.{IfErr, IfOk, IfSome, string_bytes};
 ghost use Rattle.casebook_folder_cli.specs.Answers.{IsInstant, IsSnapshotAnswer};
+ghost use Rattle.casebook_folder_cli.specs.Taking.{IsNotTaken};
 ghost use Rattle.casebook_folder_cli.specs.Views.{request_view};
 
 use crate::folders::Folders;
 use crate::remark::snapshot_words;
 use crate::request::SnapshotRequest;
+use crate::source_fault::SourceFault;
+use crate::taking::taken;
 use casebook_about::instant_text;
 use casebook_snapshot::SnapshotError;
 use casebook_snapshot_json::write_snapshot;
@@ -38,15 +41,16 @@ pub fn snapshot_answer<F: Folders>(
     alloc: Global,
     folders: &F,
     request: &SnapshotRequest<'_>,
-) -> Result<SnapshotAnswer, SnapshotError>
-    ensures { IfOk result (λ answer. IfSome (F.holds folders.now) (λ at.
+) -> Result<SnapshotAnswer, SourceFault>
+    ensures ok { IfOk result (λ answer. IfSome (F.holds folders.now) (λ at.
         IsSnapshotAnswer at (request_view request.now) answer)) }
+    ensures err { IfErr result (λ fault. IfSome (F.holds folders.now) (λ at.
+        IsNotTaken at (request_view request.now).source fault)) }
 {
-    let taken = taken_text(alloc, folders.now()?)?;
-    let name = request.folder;
-    let at = &request.at;
-    let snapshot = folders.snapshot(alloc, name, at, request.skip.as_slice())?;
-    let document = write_snapshot(alloc, &snapshot, at, name, taken.as_str())?;
+    let time = taken_text(alloc, folders.now()?)?;
+    let snapshot = taken(alloc, folders, request)?;
+    let name = request.source.name();
+    let document = write_snapshot(alloc, &snapshot, &request.at, name, time.as_str())?;
     let remark = snapshot_words(alloc, &snapshot)?;
     Ok(SnapshotAnswer { document, remark })
 }

@@ -1,13 +1,15 @@
 //! Answers to requests for comparisons.
-ghost use Rattle.std.specs.Prelude.{IfOk, IfSome};
+ghost use Rattle.std.specs.Prelude.{IfErr, IfOk, IfSome};
 ghost use Rattle.casebook_folder_cli.specs.Comparing.{IsCompareAnswer};
-ghost use Rattle.casebook_folder_cli.specs.Views.{request_view};
+ghost use Rattle.casebook_folder_cli.specs.Taking.{IsNotCompared};
+ghost use Rattle.casebook_folder_cli.specs.Views.{compared_view};
 
 use crate::folders::Folders;
 use crate::remark::snapshot_words;
-use crate::request::SnapshotRequest;
+use crate::request::ComparedSnapshot;
+use crate::source_fault::SourceFault;
+use crate::taking::{PlacedSnapshot, compared};
 use casebook_compare::{compare, comparison_lines};
-use casebook_snapshot::SnapshotError;
 use casebook_text::SafeLine;
 use retro_keep::Recording;
 use std::alloc::Global;
@@ -23,20 +25,21 @@ pub struct CompareAnswer {
     pub remark: SafeLine,
 }
 
-/// Takes a snapshot of a folder, and compares it with what a recording has at its end.
+/// Takes or reads a snapshot, and compares it with what a recording has at its end.
 pub fn compare_answer<F: Folders>(
     alloc: Global,
     folders: &F,
-    request: &SnapshotRequest<'_>,
+    request: &ComparedSnapshot<'_>,
     recording: &Recording,
-) -> Result<CompareAnswer, SnapshotError>
-    ensures { IfOk result (λ answer. IfSome (F.holds folders.now) (λ at.
-        IsCompareAnswer at (request_view request.now) recording.now answer)) }
+) -> Result<CompareAnswer, SourceFault>
+    ensures ok { IfOk result (λ answer. IfSome (F.holds folders.now) (λ at.
+        IsCompareAnswer at (compared_view request.now) recording.now answer)) }
+    ensures err { IfErr result (λ fault. IfSome (F.holds folders.now) (λ at.
+        IsNotCompared at (compared_view request.now) fault)) }
 {
-    let at = &request.at;
-    let snapshot = folders.snapshot(alloc, request.folder, at, request.skip.as_slice())?;
+    let PlacedSnapshot { snapshot, at } = compared(alloc, folders, request)?;
     let remark = snapshot_words(alloc, &snapshot)?;
-    let comparison = compare(alloc, recording.last().tree(), snapshot, at)?;
+    let comparison = compare(alloc, recording.last().tree(), snapshot, &at)?;
     Ok(CompareAnswer {
         lines: comparison_lines(alloc, recording, &comparison)?,
         is_no: comparison.has_differences(),

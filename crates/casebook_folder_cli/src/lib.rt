@@ -2,11 +2,13 @@
 //!
 //! A program names [`snapshot_command`] among its commands, makes a [`SnapshotRequest`] of what the
 //! command is given, and answers it by [`snapshot_answer`] over its [`Folders`]. It does the same
-//! with [`compare_command`] and [`compare_answer`], for a recording and the same request.
+//! with [`compare_command`] and [`compare_answer`], for a recording and the same request. With
+//! [`restore_command`] it makes a [`RestoreRequest`] or an [`UndoRequest`], which are answered by
+//! [`restore_answer`], from a recorded tree to a repaired one, and by [`undo_answer`].
 //!
 //! If allocation fails, calls return `NoMem`, alone or as a variant of their error.
 //!
-//! Start reading at `folders.rt`, `request.rt`, `answer.rt` and `comparing.rt`.
+//! Start reading at `folders.rt`, `request.rt`, `answer.rt`, `comparing.rt` and `restoring.rt`.
 //!
 //! # What is proved
 //!
@@ -19,22 +21,47 @@
 //!   system nothing is known.
 //! - The answer to a comparison says exactly which paths of the folder aren't as the recording has
 //!   them at its end, of those that the snapshot didn't skip [`IsCompareAnswer`].
-//! - Why there is no answer has an exit status and a line of harmless characters.
+//! - The answer to a restore is the plan of `casebook_restore` for the folder as it was when it was
+//!   opened, in lines, and says no exactly if the folder is neither ready for one of the plan's
+//!   paths nor done with it [`IsRestoreAnswer`]; that of one that is taken back likewise, for the
+//!   rows of its undo file [`IsUndoAnswer`]. Only if each path is ready or done, and if that is
+//!   asked for, is the plan carried out, by `carry_out` of `casebook_restore`; after another fault
+//!   than `Unfinished` no step is made. That the rows are in the undo file before the first step is
+//!   only tested.
 #![tactic(auto)]
 
 mod answer;
 mod comparing;
+mod file_fault;
 mod folders;
 mod paths;
 mod remark;
 mod request;
+mod restore_fault;
+mod restore_requests;
+mod restoring;
+mod source;
+mod source_fault;
+mod taking;
+mod undo_rows;
+mod undoing;
 mod words;
 
 pub use answer::{SnapshotAnswer, snapshot_answer};
 pub use comparing::{CompareAnswer, compare_answer};
-pub use folders::{Folders, snapshot_at};
-pub use request::{FolderFault, FolderProblem, SnapshotRequest, snapshot_request};
-pub use words::{compare_command, snapshot_command};
+pub use file_fault::FileFault;
+pub use folders::{Folders, Owner, snapshot_at};
+pub use request::{
+    ComparedSnapshot, FolderFault, FolderProblem, SnapshotRequest, compared_snapshot,
+    snapshot_request,
+};
+pub use restore_fault::RestoreFault;
+pub use restore_requests::{RestoreRequest, UndoRequest, restore_request, undo_request};
+pub use restoring::{RestoreAnswer, restore_answer};
+pub use source::{Mounts, Source};
+pub use source_fault::SourceFault;
+pub use undoing::undo_answer;
+pub use words::{compare_command, restore_command, snapshot_command};
 
 /// Allocation failed.
 pub use retro_path::NoMem;

@@ -1,8 +1,8 @@
 //! Trees and folders, read from texts and shown as texts.
 //!
-//! A field has entries that `, ` separates: `/d dir`, `/f file ab`, `/l blocked Link`. In a folder a
-//! mode in octal digits may follow, and then an owner and a group: `/f file ab 640 7 8`. The field
-//! `none` has no entries.
+//! A field has entries that `, ` separates: `/d dir`, `/f file ab`, `/l blocked Link`. In a folder
+//! a mode in octal digits may follow, and then an owner and a group: `/f file ab 640 7 8`. The
+//! field `none` has no entries.
 use casebook_folder::{Attributes, Entry, Found, Memory, Obstacle};
 use retro_path::{Bytes, NoMem, Path};
 use retro_rows::{fail, path};

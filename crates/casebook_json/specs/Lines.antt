@@ -35,8 +35,8 @@ abbrev pub why_or_null : Option Reason → Data
 why_or_null None = null
 why_or_null (Some reason) = string (why_name reason.why)
 
--- `{"because_of":n,"fate":name,"line":n,"note":n,"origin":n,"session":n,"why":name}` of a line that a
--- session ran, and that is run again for this reason, if there is one
+-- `{"because_of":n,"fate":name,"line":n,"note":n,"origin":n,"session":n,"why":name}` of a line that
+-- a session ran, and that is run again for this reason, if there is one
 unfoldable pub line_with_reason : ℕ → Option Reason → ℕ × Fate → Data
 line_with_reason session reason line = object
     (member (codes "because_of") (number_or_null (cause_in reason))

@@ -11,10 +11,10 @@ use Rattle.casebook_page.specs.declared.row_class.RowClass.{RowClass}
 use Rattle.casebook_page.specs.declared.tag.Tag.{Tag}
 use Rattle.casebook_page.specs.declared.tag.Tag.TheVariants.{Begin}
 
--- A constant of the template, a tag with a number in it, a bar with two, a text that is shown, or the
--- start of the row of the line with a number. Outside of texts all is the template's but the numbers,
--- and each piece begins and ends outside of tags, of the style and of the script: so a text is never
--- in one of these.
+-- A constant of the template, a tag with a number in it, a bar with two, a text that is shown, or
+-- the start of the row of the line with a number. Outside of texts all is the template's but the
+-- numbers, and each piece begins and ends outside of tags, of the style and of the script: so a
+-- text is never in one of these.
 pub data Piece : Type 0 where
   fixed : Tag → Piece
   numbered : NumberTag → ℕ → Piece

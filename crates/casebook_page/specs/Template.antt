@@ -1,5 +1,5 @@
--- The constants of the template. Each of them, and each tag with a number, begins and ends outside of
--- tags, and what it begins of the style or of a script it ends.
+-- The constants of the template. Each of them, and each tag with a number, begins and ends outside
+-- of tags, and what it begins of the style or of a script it ends.
 use Rattle.std.specs.Prelude.{ℕ, List, ◌++◌, codes, decimal}
 use Rattle.casebook_page.specs.declared.tag.Tag.{Tag}
 use Rattle.casebook_page.specs.declared.tag.Tag.TheVariants as tags
@@ -154,8 +154,8 @@ class_text classes.Alike = codes "s"
 class_text classes.Kept = codes "k"
 class_text classes.Untouched = codes "u"
 
--- the start of the row of the line with a number and a class of some names, up to the number that is
--- shown
+-- the start of the row of the line with a number and a class of some names, up to the number that
+-- is shown
 abbrev pub row_start : ℕ → List ℕ → List ℕ
 row_start number names =
     codes "<details id=l" ++ (decimal number ++ (codes " class=\"l " ++ (names ++ codes "\"><summary><b>")))

@@ -85,8 +85,8 @@ IsStranger rows d = (sid : ℕ) × (line_session d ≡ Some sid) × (has_session
 abbrev pub IsTaken : List Data → Data → Type 0
 IsTaken rows d = (sid : ℕ) × (session_number d ≡ Some sid) × (has_session rows sid ≡ true)
 
--- the row at the index is the first whose number a row before it has, or one of the rows `before` all
--- of them
+-- the row at the index is the first whose number a row before it has, or one of the rows `before`
+-- all of them
 abbrev pub IsRepeat : List Data → List Data → ℕ → Type 0
 IsRepeat before [] index = ⊥
 IsRepeat before (d ∷ ds) zero = IsTaken before d

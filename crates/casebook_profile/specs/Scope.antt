@@ -27,8 +27,8 @@ is_loop scope name = list_any (text_eq name) scope.loops
 abbrev pub is_set : Scope → List ℕ → Bool
 is_set scope name = scope.before name || (list_any (text_eq name) scope.set || is_loop scope name)
 
--- whether the value of a parameter is known: the recording has it, and the shell doesn't change it by
--- itself
+-- whether the value of a parameter is known: the recording has it, and the shell doesn't change it
+-- by itself
 abbrev pub is_known : Scope → Parameter → Bool
 is_known scope status = true
 is_known scope (variable name) = is_set scope name && not (is_changing name)

@@ -71,8 +71,8 @@ opens (quoted text) = true
 opens (parameter p) = false
 opens (quoted_parameter p) = true
 
--- the text that a word is in every state: no parameter, no tilde prefix, and at least one piece that
--- makes it a field
+-- the text that a word is in every state: no parameter, no tilde prefix, and at least one piece
+-- that makes it a field
 unfoldable pub literal_text : Word → Option (List ℕ)
 literal_text w =
     if is_some (tilde_prefix false w) then None else if list_any opens w then pieces_text w else None

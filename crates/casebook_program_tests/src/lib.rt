@@ -5,7 +5,13 @@
 #[cfg(test)]
 mod memory;
 #[cfg(test)]
+mod restores;
+#[cfg(test)]
 mod rows;
+#[cfg(test)]
+mod snapshots;
+#[cfg(test)]
+mod streams;
 #[cfg(test)]
 mod tables;
 #[cfg(test)]

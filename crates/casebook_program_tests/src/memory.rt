@@ -1,17 +1,18 @@
 //! Documents and folders in memory, and runs of the program on them.
 ghost use Rattle.std.specs.Prelude.{None};
 
+use crate::streams::stream;
 use casebook_cli::{Documents, Exit, NoMem, Output, Progress, ReadFault, Step, run_with};
-use casebook_folder::Attributes;
-use casebook_folder_cli::{Folders, snapshot_at};
-use casebook_snapshot::{
-    Child, Item, Memory as MemoryListing, MemoryEntry, Reason, Snapshot, SnapshotError,
-};
+use casebook_folder::{Attributes, Entry, FolderError, Found, Memory as MemoryFolder, Obstacle};
+use casebook_folder_cli::{Folders, Mounts, Owner};
+use casebook_restore::PlacedFolder;
+use casebook_snapshot::{Child, Item, Memory as MemoryListing, MemoryEntry, Reason, SnapshotError};
 use casebook_text::SafeLine;
 use retro_path::{Bytes, Path};
 use retro_rows::{fail, text, utf8};
 use std::alloc::{AllocGlobal, Global};
 use std::cell::Cell;
+use std::str::from_utf8;
 use std::test::Fail;
 use std::thread::Threads;
 
@@ -46,19 +47,22 @@ const NAMED: &str = r#"{"from":1,"lines":[
 ["grow","/l","610a"],["setstatus",0]],""]],
 "log":2,"sessions":[[1,"/",0,[]]],"tree":[["/f","6669670a"]]}"#;
 
-/// The documents and folders that there are, and the last remark that was made.
+/// The documents and folders that there are, the last remark that was made, and the undo file that
+/// was written.
 #[derive(Drop)]
 pub(crate) struct Memory {
     alloc: Global,
     remark: Cell<Option<String>>,
+    kept: Cell<Option<String>>,
 }
 
 impl Memory {
-    /// Returns the documents and folders. No remark was made yet.
+    /// Returns the documents and folders. No remark was made yet, and no undo file written.
     pub(crate) fn new(alloc: Global) -> Memory {
         Memory {
             alloc,
             remark: Cell::new(None),
+            kept: Cell::new(None),
         }
     }
 }
@@ -83,6 +87,26 @@ fn bytes_of(name: &str) -> Option<&'static [u8]> {
         "list" => Some(b"# the guest\n 2:all \n"),
         "list\u{1B}" => Some(b"\xFF"),
         "no\u{1B}json" => Some(b"{"),
+        "fig" => Some(
+            br#"{"at":"/","rows":[["/f",["file","706c756d0a",420,7,8],["file","6669670a",420,7,8]]],"undo":1}"#,
+        ),
+        "plum" => Some(
+            br#"{"at":"/","rows":[["/f",["file","610a",420,7,8],["file","706c756d0a",420,7,8]]],"undo":1}"#,
+        ),
+        "made" => Some(br#"{"at":"/","rows":[["/f",null,["file","6669670a",420,7,8]]],"undo":1}"#),
+        "gone" => Some(br#"{"at":"/","rows":[["/f",["file","6669670a",420,7,8],null]],"undo":1}"#),
+        "placed" => Some(
+            br#"{"at":"/srv","rows":[["/f",["file","6669670a",420,7,8],null]],"undo":1}"#,
+        ),
+        "taken" => Some(
+            br#"{"attributes":[["/",420,7,8],["/d",420,7,8],["/f",420,7,8]],"root":"folder",
+"skipped":[["/l","link"],["/m","link"]],"snapshot":1,"taken":"2025-05-07T17:00:00Z",
+"tree":[["/d"],["/f","6669670a"]]}"#,
+        ),
+        "ours" => Some(
+            br#"{"attributes":[["/",420,7,8],["/f",420,7]],"root":"folder","skipped":[],"snapshot":1,
+"taken":"2025-05-07T17:00:00Z","tree":[["/f","6669670a"]]}"#,
+        ),
         "script" => Some(br#"{"script":1,"tree":[],"sessions":[],"lines":[]}"#),
         "torn" => Some(br#"{"script":1,"tree":[],"sessions":[],"lines":[[1,1,"ls"]]}"#),
         "shape" => Some(br#"{"from":1,"lines":5,"log":2,"sessions":[],"tree":[]}"#),
@@ -118,8 +142,9 @@ const OURS: Attributes = Attributes {
 };
 
 /// Returns the folder `folder`: an empty directory `d`, the file `f`, two links, and a directory
-/// whose name isn't UTF-8. Every other name is that of a file.
-fn folder(alloc: Global, name: &str) -> Result<MemoryListing, NoMem> {
+/// whose name isn't UTF-8. If mounts are entered, it also has the file `n`. Every other name is that
+/// of a file.
+fn folder(alloc: Global, name: &str, mounts: Mounts) -> Result<MemoryListing, NoMem> {
     let mut entries = Vec::new(alloc);
     if name != "folder" {
         let file = Item::File(Bytes::new(alloc), OURS);
@@ -132,27 +157,105 @@ fn folder(alloc: Global, name: &str) -> Result<MemoryListing, NoMem> {
     entries.push(entry(alloc, &root, b"l", Item::Barred(Reason::Link))?)?;
     entries.push(entry(alloc, &root, b"f", Item::File(fig, OURS))?)?;
     entries.push(entry(alloc, &root, b"d", Item::Dir(OURS))?)?;
+    if mounts == Mounts::Entered {
+        let empty = Bytes::new(alloc);
+        entries.push(entry(alloc, &root, b"n", Item::File(empty, OURS))?)?;
+    }
     Ok(MemoryListing::new(alloc, Item::Dir(OURS), entries))
 }
 
+/// Returns an entry of a folder that is opened to be changed.
+fn held(alloc: Global, name: &str, found: Found) -> Result<Entry, NoMem> {
+    let path = match Path::of_names(alloc, &[name])? {
+        Some(path) => path,
+        None => Path::root(alloc),
+    };
+    Ok(Entry { path, found })
+}
+
+/// Returns what the folder with a name has that is opened to be changed.
+fn entries_of(alloc: Global, name: &str) -> Result<Option<Vec<Entry>>, NoMem> {
+    let mut entries = Vec::new(alloc);
+    match name {
+        "folder" | "stuck" => {
+            let fig = Bytes::of(Vec::from_slice(alloc, b"fig\n")?);
+            entries.push(held(alloc, "d", Found::Dir(OURS))?)?;
+            entries.push(held(alloc, "f", Found::File(fig, OURS))?)?;
+            entries.push(held(alloc, "l", Found::Blocked(Obstacle::Link))?)?;
+            entries.push(held(alloc, "m", Found::Blocked(Obstacle::Link))?)?;
+        }
+        "empty" => {}
+        _ => return Ok(None),
+    }
+    Ok(Some(entries))
+}
+
 impl Folders for Memory {
+    type Listed = MemoryListing;
+
+    type Opened = PlacedFolder<MemoryFolder>;
+
     ghost holds = { λ _. None };
 
-    fn snapshot(
+    fn list(
         &self,
         alloc: Global,
         name: &str,
-        at: &Path,
-        skip: &[Path],
-    ) -> Result<Snapshot, SnapshotError> {
+        mounts: Mounts,
+    ) -> Result<MemoryListing, SnapshotError> {
         if name == "locked" {
             return Err(SnapshotError::Failed);
         }
-        snapshot_at(alloc, folder(alloc, name)?, at, skip)
+        Ok(folder(alloc, name, mounts)?)
+    }
+
+    fn file(&self, alloc: Global, name: &str) -> Result<Vec<u8>, SnapshotError> {
+        match (name, bytes_of(name)) {
+            ("stream", _) => Ok(stream(alloc, 0)?),
+            ("torn stream", _) => Ok(stream(alloc, 8)?),
+            (_, Some(bytes)) => Ok(Vec::from_slice(alloc, bytes)?),
+            (_, None) => Err(SnapshotError::Failed),
+        }
     }
 
     fn now(&self) -> Result<i64, SnapshotError> {
         Ok(1746637200)
+    }
+
+    fn open(&self, alloc: Global, name: &str, at: &Path) -> Result<Self::Opened, SnapshotError> {
+        if name == "locked" {
+            return Err(SnapshotError::Failed);
+        }
+        let Some(entries) = entries_of(alloc, name)? else {
+            return Err(SnapshotError::NotADirectory);
+        };
+        let mut folder = MemoryFolder::new(alloc, entries);
+        if name == "stuck" {
+            folder.stop_after(0, false);
+        }
+        Ok(PlacedFolder::new(alloc, folder, at.copy()?))
+    }
+
+    fn owner(&self) -> Result<Owner, SnapshotError> {
+        Ok(Owner { uid: 5, gid: 6 })
+    }
+
+    fn undo_file(&self, alloc: Global, name: &str) -> Result<Option<Vec<u8>>, FolderError> {
+        if name == "locked" {
+            return Err(FolderError::Failed);
+        }
+        match bytes_of(name) {
+            Some(bytes) => Ok(Some(Vec::from_slice(alloc, bytes)?)),
+            None => Ok(None),
+        }
+    }
+
+    fn keep(&self, alloc: Global, _name: &str, bytes: &[u8]) -> Result<(), FolderError> {
+        let Ok(kept) = from_utf8(bytes) else {
+            return Err(FolderError::Failed);
+        };
+        self.kept.set(Some(String::from_str(alloc, kept)?));
+        Ok(())
     }
 }
 
@@ -231,6 +334,24 @@ pub(crate) fn remarked<T: Threads + Sync + AllocGlobal>(
     match (exit, memory.remark.replace(None)) {
         (Exit::Done, Some(line)) => Ok(line),
         _ => fail("no remark is made"),
+    }
+}
+
+/// Returns the undo file that the program writes, or `nothing`.
+pub(crate) fn kept<T: Threads + Sync + AllocGlobal>(rt: &T, given: &str) -> Result<String, Fail> {
+    let words = words(rt.alloc(), given)?;
+    let memory = Memory::new(rt.alloc());
+    let mut out = Vec::new(rt.alloc());
+    run_with(
+        rt,
+        words.as_slice(),
+        &memory,
+        false,
+        &mut Output::new(&mut out),
+    );
+    match memory.kept.replace(None) {
+        Some(text) => Ok(text),
+        None => Ok(text(rt.alloc(), "nothing")?),
     }
 }
 

@@ -2,8 +2,10 @@
 //!
 //! The first field of a row has the words of a command line, with spaces between them, or for
 //! `numbers` the filters of `lines log`. In a word `_` is a space.
-use crate::memory::{coloured, ended, refused, remarked, written};
-use crate::tables::{COMPARISONS, LINES, OTHERS, PAGES, REFUSED, REPAIRS, SNAPSHOTS, TIMES};
+use crate::memory::{coloured, ended, kept, refused, remarked, written};
+use crate::restores::{REFUSED_RESTORES, RESTORES};
+use crate::snapshots::{COMPARISONS, REFUSED_SNAPSHOTS, SNAPSHOTS};
+use crate::tables::{LINES, OTHERS, PAGES, REFUSED, REPAIRS, TIMES};
 use retro_rows::{fail, rows, text};
 use std::alloc::AllocGlobal;
 use std::test::Fail;
@@ -80,6 +82,7 @@ fn called<T: Threads + Sync + AllocGlobal>(
         ("ends", [words]) => ended(rt, words),
         ("refused", [words]) => refused(rt, words),
         ("remarks", [words]) => remarked(rt, words),
+        ("keeps", [words]) => kept(rt, words),
         ("plain", [words]) => plain(rt, words),
         ("adds", [words, more]) => added(rt, words, more),
         ("same", [one, two]) => same(rt, one, two),
@@ -116,6 +119,14 @@ fn pages_checks_folders_and_helps_are_written(rt: HostRuntime) -> Result<(), Fai
 }
 
 #[test]
+fn folders_are_restored(rt: HostRuntime) -> Result<(), Fail> {
+    hold(&rt, RESTORES)
+}
+
+#[test]
 fn words_and_documents_are_refused(rt: HostRuntime) -> Result<(), Fail> {
-    hold(&rt, REFUSED)
+    for table in [REFUSED, REFUSED_RESTORES, REFUSED_SNAPSHOTS] {
+        hold(&rt, table)?;
+    }
+    Ok(())
 }

@@ -1,4 +1,5 @@
--- What a folder holds once the rows of a plan are carried out: the repaired nodes at the plan's paths.
+-- What a folder holds once the rows of a plan are carried out: the repaired nodes at the plan's
+-- paths.
 use Rattle.std.proofs.Common.{◌≡◌, ◌∙◌, ℕ, Bool, true, false, ◌&&◌, ◌||◌, List, [], ◌∷◌, map, Option, Some}
 use Rattle.std.proofs.Common.{None, ap, refl, subst, sym}
 use Rattle.std.specs.Prelude.{if◌then◌else◌, is_some}

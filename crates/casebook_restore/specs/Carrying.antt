@@ -11,8 +11,8 @@ use Rattle.casebook_folder.specs.declared.found.Found.{Found}
 use Rattle.casebook_folder.specs.declared.planned_row.PlannedRow.{PlannedRow}
 use Rattle.casebook_folder.specs.declared.row.Row.{Row}
 
--- Rows carry out a plan: they are those for which the folder is ready, where it is ready for all or done
--- with them; or they were kept of a run before, and fit the plan.
+-- Rows carry out a plan: they are those for which the folder is ready, where it is ready for all or
+-- done with them; or they were kept of a run before, and fit the plan.
 pub data AreRowsOf (plan : List PlannedRow) (rows : List Row) : Type 0 where
   own : IsTrue (list_all can_be_restored plan) → rows ≡ ready_rows plan → AreRowsOf plan rows
   kept : Fit plan rows → AreRowsOf plan rows

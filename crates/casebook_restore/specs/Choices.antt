@@ -15,8 +15,8 @@ has_names (Some (n ∷ ns)) = true
 abbrev pub is_inside : PathValue → PathValue → Bool
 is_inside at q = has_names (below at q)
 
--- A given path chooses itself, what is below it, and the directories of the repaired tree that it is
--- in, as they may have to be made for it.
+-- A given path chooses itself, what is below it, and the directories of the repaired tree that it
+-- is in, as they may have to be made for it.
 abbrev pub chooses : Tree → PathValue → PathValue → Bool
 chooses repaired q given =
     is_some (below given q) || (is_some (below q given) && is_dir (node_in q repaired))

@@ -10,8 +10,8 @@ use Rattle.casebook_folder.specs.declared.given.GivenAttributes.{GivenAttributes
 use Rattle.casebook_restore.specs.Choices.{is_left_out, is_outside, is_wanted}
 use Rattle.casebook_restore.specs.declared.task.RestorePlan.{RestorePlan}
 
--- from which tree to which a folder is brought, which modes and owners are given to what is new, where
--- the folder is in the trees, and which paths are chosen
+-- from which tree to which a folder is brought, which modes and owners are given to what is new,
+-- where the folder is in the trees, and which paths are chosen
 pub record RestoreValue : Type 0 where
   pub recorded : Tree
   pub repaired : Tree
@@ -22,8 +22,9 @@ pub record RestoreValue : Type 0 where
 abbrev pub is_wanted_change : RestoreValue → ChangedPath → Bool
 is_wanted_change task c = is_wanted task.repaired task.at task.only c.path
 
--- A plan has a row for exactly those paths in which the trees differ that are below the folder's and
--- chosen, in order, and counts the others. Each row is that of its path, by what was found there.
+-- A plan has a row for exactly those paths in which the trees differ that are below the folder's
+-- and chosen, in order, and counts the others. Each row is that of its path, by what was found
+-- there.
 pub record IsRestorePlan (task : RestoreValue) (plan : RestorePlan) : Type 0 where
   pub changed : List ChangedPath
   pub are_changed : AreChangedPaths task.recorded task.repaired changed

@@ -44,8 +44,9 @@ state_by r x =
     if found_eq x r.after then states.Done
     else if found_eq x r.before || is_missing x then states.Ready else states.Differs
 
--- how a folder is to a row, by what it holds at the path: it is done if that is what is to be there, and
--- ready if it is what was there, or nothing, as it may be where a restore was interrupted
+-- how a folder is to a row, by what it holds at the path: it is done if that is what is to be
+-- there, and ready if it is what was there, or nothing, as it may be where a restore was
+-- interrupted
 abbrev pub state_of_row : Row → Found → State
 state_of_row r Missing = state_by r Missing
 state_of_row r (Dir a) = state_by r (Dir a)

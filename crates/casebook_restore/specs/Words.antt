@@ -35,8 +35,8 @@ keeps_words a = codes "; keeps " ++ attribute_words a
 unfoldable pub gets_words : Attributes → List ℕ
 gets_words a = codes "; gets " ++ attribute_words a
 
--- which mode and owner a node has that comes in the place of what is found: those of what is found if
--- that is of its kind
+-- which mode and owner a node has that comes in the place of what is found: those of what is found
+-- if that is of its kind
 unfoldable pub mode_words : Found → Found → List ℕ
 mode_words founds.Missing founds.Missing = []
 mode_words founds.Missing (founds.Dir a) = gets_words a
@@ -72,8 +72,8 @@ obstacle_words obstacles.NameTaken = codes "something has the name that it has w
 obstacle_words obstacles.NameTooLong = codes "its name is too long to be restored"
 obstacle_words obstacles.OtherChild = codes "the directory has what isn't recorded"
 
--- what is said of a path after its name: the recorded and the repaired node, with mode and owner if it
--- is to be changed; or the recorded one and what is found; or what is in the way
+-- what is said of a path after its name: the recorded and the repaired node, with mode and owner if
+-- it is to be changed; or the recorded one and what is found; or what is in the way
 abbrev pub words_by : State → PlannedRow → List ℕ
 words_by Ready r = difference_words (Bytes r.change.old) (Bytes r.change.new) ++ mode_words r.before r.after
 words_by Done r = difference_words (Bytes r.change.old) (Bytes r.change.new)

@@ -29,8 +29,8 @@ pub record AreCounts (old new : List (List ℕ)) (counts : LineCounts) : Type 0 
   pub added : counts.added ≡ count_in is_added lines
   pub removed : counts.removed ≡ count_in is_removed lines
 
--- how much is to be restored of a path with these entries in two trees: a directory or an empty file
--- that comes or goes, a file that becomes a directory or the other way, or else lines
+-- how much is to be restored of a path with these entries in two trees: a directory or an empty
+-- file that comes or goes, a file that becomes a directory or the other way, or else lines
 abbrev pub lone_file : List ℕ → Option Extent
 lone_file [] = Some EmptyFile
 lone_file (b ∷ bytes) = None

@@ -15,7 +15,7 @@
 //!
 //! # What is proved
 //!
-//! `write_snapshot` returns the text that `specs/Documents.antt` defines. No program uses it yet.
+//! `write_snapshot` returns the text that `specs/Documents.antt` defines.
 #![tactic(auto)]
 
 mod document;

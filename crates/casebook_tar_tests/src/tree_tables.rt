@@ -83,8 +83,8 @@ tree: 612f 00*98 3030303037353500 30*6 3700 30*5 313000 30*11
   75737461722020 00*248 78 00*1535 => / dir 755 0 0, /a file 78 644 7 8
 ";
 
-/// Links, pipes and devices, and hard links: to each of these, to a file that is replaced later, and
-/// to what isn't there.
+/// Links, pipes and devices, and hard links: to each of these, to a file that is replaced later,
+/// and to what isn't there.
 pub const LINKS: &str = "
 tree: 2e2f 00*98 3030303037353500 30*6 3700 30*5 313000 30*11
   00313336303237363034303000303036313037002035 00*100 75737461722020 00*248 2e2f61 00*97

@@ -82,8 +82,8 @@ is_invisible c = is_default_ignorable_code_point c || c == blank_pattern
 unfoldable pub is_harmless : ℕ → Bool
 is_harmless c = c == space || not (is_invisible c || is_hidden (general_category c))
 
--- a character by which a word could be taken for two, or for another one: a space, and a mark, which
--- combines with the character before it
+-- a character by which a word could be taken for two, or for another one: a space, and a mark,
+-- which combines with the character before it
 unfoldable pub blurs_words : ℕ → Bool
 blurs_words c = c == space || in_group Mark (general_category c)
 

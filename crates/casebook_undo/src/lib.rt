@@ -1,10 +1,10 @@
 //! The undo file of a restore: its rows, written before the first step, and read again.
 //!
 //! An undo file is one JSON object (RFC 8259), on one line:
-//! `{"at":"/srv","rows":[[path,before,after],..],"undo":1}`. Its keys are in byte order. `at` is the
-//! path of the folder in the trees. A row has a path, what it held, and what it is to hold: `null`
-//! for nothing, `["dir",mode,uid,gid]` or `["file",hex,mode,uid,gid]`. Paths are those of a script,
-//! the numbers are decimal, and `hex` has the bytes of the file.
+//! `{"at":"/srv","rows":[[path,before,after],..],"undo":1}`. Its keys are in byte order. `at` is
+//! the path of the folder in the trees. A row has a path, what it held, and what it is to hold:
+//! `null` for nothing, `["dir",mode,uid,gid]` or `["file",hex,mode,uid,gid]`. Paths are those of a
+//! script, the numbers are decimal, and `hex` has the bytes of the file.
 //!
 //! Start reading at `undo_file.rt`, then `writing.rt` and `reading.rt`.
 //!

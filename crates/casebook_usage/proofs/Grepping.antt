@@ -1,4 +1,5 @@
--- The diagnostics of `grep` after a fault on an operand aren't those of a usage fault: they are longer.
+-- The diagnostics of `grep` after a fault on an operand aren't those of a usage fault: they are
+-- longer.
 use Rattle.std.proofs.Common.{◌≡◌, ◌≢◌, ℕ, ◌<◌, Bool, true, false, ◌&&◌, List, [], ◌∷◌, ◌++◌, length, refl, ap}
 use Rattle.std.proofs.Common.{arith, length-append, codes}
 use Rattle.std.specs.Prelude.{Result, Ok, Err, if◌then◌else◌}

@@ -50,8 +50,8 @@ abbrev pub has_replaced : Option Reason → Bool
 has_replaced None = false
 has_replaced (Some reason) = is_replacing reason.why
 
--- Whether a line with a fate is an edited one: it is cancelled, or it is run again since its text is
--- replaced.
+-- Whether a line with a fate is an edited one: it is cancelled, or it is run again since its text
+-- is replaced.
 abbrev pub is_origin_by : Fate → Bool → Bool
 is_origin_by Cancelled replaced = true
 is_origin_by Changed replaced = replaced

@@ -44,7 +44,8 @@ placed n xs = take (place_of n.session xs) xs ++ n ∷ drop (place_of n.session 
 abbrev pub with_first : List Notice → Notice → List Notice
 with_first xs n = if list_any (λ x. same_group x n) xs then xs else placed n xs
 
--- the first line of each group, in order of sessions; groups of a session are in order of these lines
+-- the first line of each group, in order of sessions; groups of a session are in order of these
+-- lines
 abbrev pub firsts : List Notice → List Notice
 firsts notices = fold with_first [] notices
 

@@ -39,8 +39,8 @@ number_in reason = reason.number
 abbrev pub notes_at : ℕ → RecordingValue → List Note
 notes_at n r = notes_of (noted_at n r.lines)
 
--- the cause of what the query of a line with a number answers, or None if all lines before it change
--- the cells of the query alike
+-- the cause of what the query of a line with a number answers, or None if all lines before it
+-- change the cells of the query alike
 abbrev pub IsCauseOf : RecordingValue → Repair → ℕ → Option Ask → Option ℕ → Type 0
 IsCauseOf r repair n None cause = cause ≡ None
 IsCauseOf r repair n (Some q) cause =

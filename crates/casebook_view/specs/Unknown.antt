@@ -45,7 +45,8 @@ has_other_text (Some old) (Some new) = not (text_eq old.text new.text)
 abbrev pub is_replaced : RecordingValue → RecordingValue → ℕ → Bool
 is_replaced r repaired n = has_other_text (noted_at n r.lines) (noted_at n repaired.lines)
 
--- why the line with a number isn't understood in the second recording, if it runs another text there
+-- why the line with a number isn't understood in the second recording, if it runs another text
+-- there
 abbrev pub replaced_obstacle : RecordingValue → RecordingValue → ℕ → Option Obstacle
 replaced_obstacle r repaired n =
     if is_replaced r repaired n then obstacle_at n (unknown_lines_of repaired) else None
@@ -54,8 +55,8 @@ abbrev pub first_obstacle : Option Obstacle → Option Obstacle → Option Obsta
 first_obstacle None other = other
 first_obstacle (Some obstacle) other = Some obstacle
 
--- Why the line with a number isn't understood, or None if it is: its recorded text comes first, then
--- the text that it runs in place of that one.
+-- Why the line with a number isn't understood, or None if it is: its recorded text comes first,
+-- then the text that it runs in place of that one.
 abbrev pub obstacle_in : RecordingValue → RecordingValue → ℕ → Option Obstacle
 obstacle_in r repaired n =
     first_obstacle (obstacle_at n (unknown_lines_of r)) (replaced_obstacle r repaired n)

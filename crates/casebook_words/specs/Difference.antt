@@ -1,5 +1,5 @@
--- How two answers to a query differ, in words: of two texts the first line that differs, or which of
--- them a newline ends, of two listings the first name that one lacks, and else both answers.
+-- How two answers to a query differ, in words: of two texts the first line that differs, or which
+-- of them a newline ends, of two listings the first name that one lacks, and else both answers.
 use Rattle.std.specs.Prelude.{◌≡◌, ◌≢◌, ℕ, ◌==◌, ◌+◌, ◌-◌, ◌≤◌, Bool, true, false, not, ◌||◌, List, ◌++◌}
 use Rattle.std.specs.Prelude.{Option, Some, None, is_some, length, option_and_then, codes, decimal, take}
 use Rattle.std.specs.Prelude.{if◌then◌else◌}

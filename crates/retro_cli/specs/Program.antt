@@ -97,8 +97,8 @@ IsVerdict input exits.WriteFailed text = ⊥
 -- ---- the report of a repair of a log, and the log of the repaired recording
 
 -- The repair is one of the log in the input. If the log is a recording of its lines, the repair is
--- exact: its state and outputs are those of running the edited lines one by one. For any log, also a
--- forged one, the repair is what choices for its lines come to, and it begins at the same number.
+-- exact: its state and outputs are those of running the edited lines one by one. For any log, also
+-- a forged one, the repair is what choices for its lines come to, and it begins at the same number.
 pub record IsRepairOf (edits : List Edit) (input : Text) (repair : Repair) : Type 0 where
   pub recording : RecordingValue
   pub is_log : log_in input ≡ Ok recording

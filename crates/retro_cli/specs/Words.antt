@@ -73,16 +73,16 @@ program = with_command repair_program (codes "trim") (required_option (codes "at
 
 -- ---- what the words ask for
 
--- how a log is to be repaired: with which lines edited, by so many threads beside the first one, and
--- in pieces of so many lines
+-- how a log is to be repaired: with which lines edited, by so many threads beside the first one,
+-- and in pieces of so many lines
 pub record RepairOptions : Type 0 where
   pub edits : List Edit
   pub workers : ℕ
   pub cuts : List ℕ
 
--- a request: to run a script's edited lines, to record the lines of a script, to check whether a log
--- is a recording, to repair a log and answer the report of the repair or the log of the repaired
--- recording, or to answer the log that begins at a number
+-- a request: to run a script's edited lines, to record the lines of a script, to check whether a
+-- log is a recording, to repair a log and answer the report of the repair or the log of the
+-- repaired recording, or to answer the log that begins at a number
 pub data Request : Type 0 where
   replay : List Edit → Request
   record_script : Request

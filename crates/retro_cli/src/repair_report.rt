@@ -104,8 +104,8 @@ fn repair_value(alloc: Global, recorded: Recording, repair: &Repair) -> Result<V
     })
 }
 
-/// Returns the report of the repair of a recording: compact JSON (RFC 8259) with these keys, in byte
-/// order, and a newline.
+/// Returns the report of the repair of a recording: compact JSON (RFC 8259) with these keys, in
+/// byte order, and a newline.
 ///
 /// - `cancelled`: the numbers of the cancelled lines,
 /// - `compensations`: each line whose output differs, with what it printed and what it prints now,

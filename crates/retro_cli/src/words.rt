@@ -216,8 +216,8 @@ fn cancellations(alloc: Global, cancel: &[u32]) -> Result<Vec<Edit>, NoMem>
     Ok(found)
 }
 
-/// Returns the edits of lines: of those that are left out, and then of those whose text is replaced.
-/// Fails with `BadWords` if the command has no such options, or if one is malformed.
+/// Returns the edits of lines: of those that are left out, and then of those whose text is
+/// replaced. Fails with `BadWords` if the command has no such options, or if one is malformed.
 fn edits_of(alloc: Global, call: &CommandCall<'_>) -> Result<Vec<Edit>, WordsFault>
     ensures { Means (λ v. v.items) result (edits_of (call_view call.now)) }
 {

@@ -549,7 +549,8 @@ use_within low p (l ∷ lines) j n c d rise at le passes used =
     by_test true e rest = inl (eqb-true l.0 n (first_true (l.0 == n) _ e), passes l (both_true (l.0 == n) _ e))
     by_test false e rest = after_it j at (or_rest _ _ e used) rest
 
--- a line up to another isn't above its number, and one that meets an overlay uses a cell with an entry
+-- a line up to another isn't above its number, and one that meets an overlay uses a cell with an
+-- entry
 pub within_use : (low : ℕ) (overlay : OverlayMap) (lines : List Line) (j n : ℕ) (d : Line) → RiseFrom low lines
     → slice_get lines j ≡ Some d → IsLineAt (meets (finmap.keys overlay)) n (take (suc j) lines)
     → (n ≤ d.0) × (c : Cell) × (is_use n c lines ≡ true) × (finmap.contains_key overlay c ≡ true)

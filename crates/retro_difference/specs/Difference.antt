@@ -13,8 +13,8 @@ use Rattle.retro_history.specs.Index.{Line}
 use Rattle.retro_difference.specs.NextUses.{KeepsUses, Use}
 use Rattle.retro_difference.specs.declared.line_run.LineRun.{LineRun}
 
--- An overlay with an entry for each cell in which two states differ, and for each of these cells the
--- next line that uses it.
+-- An overlay with an entry for each cell in which two states differ, and for each of these cells
+-- the next line that uses it.
 pub record DifferenceValue : Type 0 where
   pub overlay : OverlayMap
   pub uses : List Use
@@ -30,8 +30,8 @@ recorded_by line = line.recorded.now
 abbrev pub chosen_by : LineRun → List Note
 chosen_by line = unwrap_or (option_copied line.chosen) line.recorded.now
 
--- A difference went over a line. If it was exact before the line, it is exact again after it. If the
--- next uses were those from the line on, they are those from the next line on.
+-- A difference went over a line. If it was exact before the line, it is exact again after it. If
+-- the next uses were those from the line on, they are those from the next line on.
 pub record GoesOver (r : RecordingValue) (line : LineRun) (old new : DifferenceValue) : Type 0 where
   pub exact : (t : State) → IsExact old.overlay (recorded_before line.number r) t
       → IsExact new.overlay (after (recorded_by line) (recorded_before line.number r)) (after (chosen_by line) t)

@@ -125,8 +125,8 @@ impl Difference {
 
     /// Returns the cells whose next use has to be looked up after a line: those that the line uses
     /// and in which the states differ before it, and, unless it does the same in both states, those
-    /// that its notes change in either. A cell may be returned twice, and the states may agree in it
-    /// after the line.
+    /// that its notes change in either. A cell may be returned twice, and the states may agree in
+    /// it after the line.
     fn cells_to_renew(&self, alloc: Global, line: &LineRun<'_, '_>) -> Result<Vec<Cell>, NoMem>
         ensures used { IfOk result (λ cells. (c : CellValue)
             → has_use line.now.number c self.now.uses ≡ true

@@ -6,27 +6,27 @@
 //! ([`LineRun`]), whatever notes the recorded and the repaired state go on by.
 //!
 //! The cells with their values are an overlay. It is exact if it has entries for exactly the cells
-//! in which the states differ, each with the repaired value. [`CombinedView`] is a view of a combined
-//! state: an overlay on the state of another view. [`equiv`] says whether notes hold in the repaired
-//! state.
+//! in which the states differ, each with the repaired value. [`CombinedView`] is a view of a
+//! combined state: an overlay on the state of another view. [`equiv`] says whether notes hold in
+//! the repaired state.
 //!
-//! If allocation fails, calls return `NoMem`. A difference then has the same cells as before, and
-//! the next uses of them.
+//! If allocation fails, calls return `NoMem`. A difference then keeps its cells and their next
+//! uses.
 //!
 //! Start reading at `difference.rt`, then `next_uses.rt`, then `advancing.rt` and `planner.rt`.
 //!
 //! # What is proved
 //!
 //! - `Difference::advance` takes a difference whose values differ from those of the recorded state
-//!   before a line. If it is exact, it is exact again after the line; and if its next uses are those
-//!   among the lines from that line on, they are those among the lines after it
+//!   before a line. If it is exact, it is exact again after the line; and if its next uses are
+//!   those among the lines from that line on, they are those among the lines after it
 //!   (`specs/Difference.antt`) [`ok`]. If allocation fails, its overlay is unchanged, and its next
 //!   uses are still those from the line on [`err`].
 //! - `next` and `is_used_at` say which line uses one of the cells next, and `numbers_until` which
 //!   lines do so up to a number (`specs/NextUses.antt`). That a line uses one of the cells exactly
 //!   if it is met by the two states is proved where the states are known, in `retro_redo`.
-//! - A `CombinedView` answers as the state that an overlay makes of a view's. `equiv` is true exactly
-//!   if notes hold in the state that an exact overlay makes of a view's.
+//! - A `CombinedView` answers as the state that an overlay makes of a view's. `equiv` is true
+//!   exactly if notes hold in the state that an exact overlay makes of a view's.
 #![tactic(auto)]
 
 mod advancing;

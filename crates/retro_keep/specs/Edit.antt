@@ -32,8 +32,8 @@ abbrev pub edit_of : List Edit → ℕ → Option Edit
 edit_of [] n = None
 edit_of (e ∷ edits) n = if edited_number e == n then Some e else edit_of edits n
 
--- The text that a line runs: its own if nothing edits it, no text if it is left out, and the new one
--- if its text is replaced.
+-- The text that a line runs: its own if nothing edits it, no text if it is left out, and the new
+-- one if its text is replaced.
 abbrev pub text_run : Option Edit → List ℕ → Option (List ℕ)
 text_run None text = Some text
 text_run (Some (Cancel n)) text = None

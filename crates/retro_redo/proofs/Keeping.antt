@@ -191,8 +191,8 @@ pub is_met_now : (p : ProgressValue) (l : Line) (b : Bool) → IsDecided p l b �
 is_met_now p l true decided = decided
 is_met_now p l false decided = unmet_not_met (edit_in p l.0) l.1.notes (recorded_now p) (repaired_now p) decided
 
--- What the code knows of a step by which it settles the next line `l`: `met` says whether the line is
--- met, `s` is the recorded state before it, and `new` is the overlay after it.
+-- What the code knows of a step by which it settles the next line `l`: `met` says whether the line
+-- is met, `s` is the recorded state before it, and `new` is the overlay after it.
 pub record IsStepFor (p q : ProgressValue) (overlay new : OverlayMap) (lines : List SettledLine) (l : Line)
     (step : Step) (met : Bool) (s : State) : Type 0 where
   pub same : q ≡ p

@@ -1,5 +1,5 @@
--- Lines that a repair keeps without looking at them: those before the next edited number and the next
--- use.
+-- Lines that a repair keeps without looking at them: those before the next edited number and the
+-- next use.
 use Rattle.std.proofs.Common.{◌≡◌, ◌∙◌, ◌⊎◌, inl, inr, ℕ, zero, suc, ◌<◌, ◌≤◌, ◌==◌, Bool, true, false}
 use Rattle.std.proofs.Common.{nat_lt, cond, List, [], ◌∷◌, drop, length, Option, Some, None, refl, sym, ap, arith}
 use Rattle.std.proofs.Common.{subst}

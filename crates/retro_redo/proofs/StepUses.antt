@@ -62,7 +62,8 @@ module _ (p q : ProgressValue) (overlay : OverlayMap) (uses : List Use) (l : Lin
       (met_by_start overlay l (drop (suc k) lines) uses (rise_after 0 lines k l rising next_here)
       (subst (λ ls. KeepsUses overlay ls uses) (from_line lines k l next_here) keeps) s t exact)
 
--- the uses of the lines to settle, as the difference has them if the line isn't settled and if it is
+-- the uses of the lines to settle, as the difference has them if the line isn't settled and if it
+-- is
 module _ (p q : ProgressValue) (d new : DifferenceValue) (r : RecordingValue) (l : Line) (e : q ≡ p)
     (among : IsAmong (rest_of q) d) (well : IsWellFormed p.recording) (next : next_line p ≡ Some l)
     (same : r ≡ p.recording) where

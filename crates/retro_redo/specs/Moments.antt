@@ -1,5 +1,5 @@
--- Two runs side by side: of all lines of a recording, and of its edited lines. Edits are given by the
--- numbers of lines.
+-- Two runs side by side: of all lines of a recording, and of its edited lines. Edits are given by
+-- the numbers of lines.
 use Rattle.std.specs.Prelude.{◌≡◌, ℕ, List, [], ◌∷◌, MatchBool, Option, Some, None, unwrap_or, if◌then◌else◌}
 use Rattle.std.specs.List.{flat_map}
 use Rattle.retro_tree.specs.Order.{text_eq}
@@ -28,7 +28,8 @@ pub record Moment : Type 0 where
 abbrev pub text_now : (ℕ → Option Edit) → ℕ × Noted → Option (List ℕ)
 text_now edit l = text_run (edit l.0) l.1.text
 
--- the text of a new run of a line: the one that it runs in the repaired run, or its own if it runs none
+-- the text of a new run of a line: the one that it runs in the repaired run, or its own if it runs
+-- none
 abbrev pub new_text : (ℕ → Option Edit) → ℕ × Noted → List ℕ
 new_text edit l = unwrap_or (text_now edit l) l.1.text
 
@@ -84,8 +85,8 @@ compensations edit ms =
 
 -- ---- which lines are met, and which are stale
 
--- A line with these notes is met if a cell of them differs between two states, and always if its text
--- is replaced. A cancelled line is never met.
+-- A line with these notes is met if a cell of them differs between two states, and always if its
+-- text is replaced. A cancelled line is never met.
 abbrev pub IsMetBy : Option Edit → List Note → State → State → Type 0
 IsMetBy None notes s t = Met notes s t
 IsMetBy (Some (Cancel n)) notes s t = ⊥

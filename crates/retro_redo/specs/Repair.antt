@@ -72,9 +72,10 @@ compensations_in r repair = flat_map (compensation_in repair.recording.lines) r.
 abbrev pub repaired_outputs : Repair → List Output
 repaired_outputs repair = map output_in repair.recording.lines
 
--- State and outputs are those of running the edited lines one by one from the first state. The lines
--- whose output differs are compensated, with both texts. Each line has its verdict, and is said to be
--- met if it is. The repaired recording is one of the edited lines, and begins at the same number.
+-- State and outputs are those of running the edited lines one by one from the first state. The
+-- lines whose output differs are compensated, with both texts. Each line has its verdict, and is
+-- said to be met if it is. The repaired recording is one of the edited lines, and begins at the
+-- same number.
 pub record IsRepair (edit : ℕ → Option Edit) (r : RecordingValue) (repair : Repair) : Type 0 where
   pub outcome_is : (repaired_state repair, repaired_outputs repair) ≡ outcome (edited_lines edit r) r.first
   pub compensated : compensations_in r repair ≡ compensations edit (moments_of edit r)

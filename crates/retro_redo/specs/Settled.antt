@@ -12,9 +12,9 @@ use Rattle.retro_redo.specs.declared.step.Step.{Step}
 abbrev pub recording_chosen : RecordingValue → List Step → RecordingValue
 recording_chosen r steps = record { first = r.first; from = r.from; lines = lines_chosen r.lines steps }
 
--- The repaired recording has the lines as chosen. State and outputs are those of its notes. Each line
--- has the verdict of its choice, and is said to be met if its text is replaced, or if nothing edits it
--- and it reads or writes a cell in which the recorded and the repaired state differ.
+-- The repaired recording has the lines as chosen. State and outputs are those of its notes. Each
+-- line has the verdict of its choice, and is said to be met if its text is replaced, or if nothing
+-- edits it and it reads or writes a cell in which the recorded and the repaired state differ.
 pub record IsByChoices (edit : ℕ → Option Edit) (r : RecordingValue) (steps : List Step) (repair : Repair)
     : Type 0 where
   pub recording_is : repair.recording ≡ recording_chosen r steps

@@ -43,10 +43,10 @@ IsRunAgain guess t Cancel = ⊥
 IsRunAgain guess t Keep = ⊥
 IsRunAgain guess t (Take run) = IfSome guess (λ guessed. ¬ (Holds guessed.notes t))
 
--- How the next line was settled, and by which step: cancelled if it runs no text, and with a new run
--- if it is stale, which is the guess or, if the guess's notes don't hold in the repaired state or
--- there is none, another one. If it was kept, nothing edits it; and if the recording is one of its
--- lines, then its notes hold in the repaired state.
+-- How the next line was settled, and by which step: cancelled if it runs no text, and with a new
+-- run if it is stale, which is the guess or, if the guess's notes don't hold in the repaired state
+-- or there is none, another one. If it was kept, nothing edits it; and if the recording is one of
+-- its lines, then its notes hold in the repaired state.
 abbrev pub IsSettlement : ProgressValue → ℕ × Noted → Option RunValue → Step → Settlement → Type 0
 IsSettlement p l guess step Cancelled = (step ≡ Cancel) × (text_now (edit_in p) l ≡ None)
 IsSettlement p l guess step Kept =

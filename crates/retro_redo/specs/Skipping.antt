@@ -15,8 +15,8 @@ use Rattle.retro_redo.specs.declared.step.Step.TheVariants.{Keep}
 abbrev pub IsStop : (ℕ → Option Edit) → ℕ × Noted → State → State → Type 0
 IsStop edit l s t = IsSome (edit l.0) ⊎ Met l.1.notes s t
 
--- The first n lines are neither edited nor met, each in the states before it. The next one, if there
--- is one, is edited or met.
+-- The first n lines are neither edited nor met, each in the states before it. The next one, if
+-- there is one, is edited or met.
 abbrev pub AreUnmet : (ℕ → Option Edit) → ℕ → List (ℕ × Noted) → State → State → Type 0
 AreUnmet edit zero [] s t = Unit {0}
 AreUnmet edit zero (l ∷ lines) s t = IsStop edit l s t

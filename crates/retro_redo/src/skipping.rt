@@ -19,8 +19,8 @@ use retro_difference::Difference;
 use retro_keep::{Edits, Noted, Recording};
 use retro_tree::NoMem;
 
-/// Returns the lines in a row from the index `from` on that are neither edited nor met. `difference`
-/// has the cells in which the states differ before them.
+/// Returns the lines in a row from the index `from` on that are neither edited nor met.
+/// `difference` has the cells in which the states differ before them.
 ///
 /// No line's notes are read. The next line that is edited or met is found by its number.
 pub(crate) fn unmet_lines<'a>(

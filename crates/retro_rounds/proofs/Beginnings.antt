@@ -23,8 +23,8 @@ use Rattle.retro_rounds.proofs.Kept.{DifferAlike}
 use Rattle.retro_rounds.proofs.Picked.{picks_same}
 use Rattle.retro_rounds.proofs.Underway.{IsReady, IsStopped, start_next}
 
--- `end` is the index of the first line after the current piece, `rest` has the numbers of lines of the
--- pieces after it, and `waiting` are the attempts that wait.
+-- `end` is the index of the first line after the current piece, `rest` has the numbers of lines of
+-- the pieces after it, and `waiting` are the attempts that wait.
 
 alike_jobs : (p : ProgressValue) (start : Start) (l : Line) → DifferAlike start (recorded_now p) (repaired_now p)
     → (IsJobNow p l → IsJobOf p start l) × (IsJobOf p start l → IsJobNow p l)

@@ -68,8 +68,8 @@ spent_by p guess step Redone false t u is settled =
       λ l next runs own. (settled l next).1,
     )
 
--- `end` is the index of the first line after the current piece, `rest` has the numbers of lines of the
--- pieces after it, and `waiting` are the attempts that wait.
+-- `end` is the index of the first line after the current piece, `rest` has the numbers of lines of
+-- the pieces after it, and `waiting` are the attempts that wait.
 
 module _ (cuts : List ℕ) (p : ProgressValue) (old new : Rounds) (number : ℕ) (step : Step)
     (is : IsReady cuts p old.pieces.end old.pieces.cuts.now old.attempts.queue.items old.tally)

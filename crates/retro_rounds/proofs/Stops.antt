@@ -35,8 +35,8 @@ use Rattle.retro_rounds.proofs.Picked.{all_front, all_right, picks_all}
 use Rattle.retro_rounds.proofs.Places.{line_after_lines, lines_within}
 use Rattle.retro_rounds.proofs.Underway.{IsStopped, IsUnderway}
 
--- `end` is the index of the first line after the current piece, `rest` has the numbers of lines of the
--- pieces after it, and `waiting` are the attempts that wait.
+-- `end` is the index of the first line after the current piece, `rest` has the numbers of lines of
+-- the pieces after it, and `waiting` are the attempts that wait.
 
 -- ---- a skip
 

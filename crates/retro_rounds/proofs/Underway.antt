@@ -25,8 +25,8 @@ use Rattle.retro_rounds.specs.declared.attempt.Attempt.{Attempt}
 use Rattle.retro_rounds.proofs.Counting.{AreCounted, Counts}
 use Rattle.retro_rounds.proofs.Kept.{DifferAlike}
 
--- `end` is the index of the first line after the current piece, `rest` has the numbers of lines of the
--- pieces after it, and `waiting` are the attempts that wait.
+-- `end` is the index of the first line after the current piece, `rest` has the numbers of lines of
+-- the pieces after it, and `waiting` are the attempts that wait.
 
 -- ---- what holds between two lines
 

@@ -9,8 +9,8 @@ use Rattle.retro_redo.specs.Moments.{IsMet, IsVerdict, Moment}
 use Rattle.retro_redo.specs.declared.verdict.Verdict.TheVariants.{Redone, Kept}
 use Rattle.retro_rounds.specs.Pieces.{InPiece, Start}
 
--- `shown` is the recorded state before a line, with the repaired value in each cell in which the two
--- states at the start of the line's piece differ.
+-- `shown` is the recorded state before a line, with the repaired value in each cell in which the
+-- two states at the start of the line's piece differ.
 abbrev pub IsShown : Start → State → State → Type 0
 IsShown start recorded shown =
     (c : Cell) → (value c start.recorded ≡ value c start.repaired → value c shown ≡ value c recorded)

@@ -21,9 +21,10 @@ pub record IsAccepted (workers : ℕ) (cuts : List ℕ) (edits : List Edit) (r :
   pub cuts_are : are_cuts cuts ≡ true
   pub edits_are : AreAccepted edits r
 
--- Too many workers are refused first, then what isn't a cut into pieces, then two different edits of a
--- line, then an edit of a number, from 1 on, that is below the one at which the recording begins, and
--- then an edit of a number that no line has. Memory runs out only if none of these is refused.
+-- Too many workers are refused first, then what isn't a cut into pieces, then two different edits
+-- of a line, then an edit of a number, from 1 on, that is below the one at which the recording
+-- begins, and then an edit of a number that no line has. Memory runs out only if none of these is
+-- refused.
 abbrev pub IsRefusal : ℕ → List ℕ → List Edit → RecordingValue → RepairFault → Type 0
 IsRefusal workers cuts edits r TooManyWorkers = MAX_WORKERS < workers
 IsRefusal workers cuts edits r NoCut = (workers ≤ MAX_WORKERS) × (are_cuts cuts ≡ false)

@@ -1,4 +1,5 @@
--- What is left to read of a text, as its tokens (`json`) and as the data (`serde_json`) that they are.
+-- What is left to read of a text, as its tokens (`json`) and as the data (`serde_json`) that they
+-- are.
 use Rattle.std.specs.Prelude.{◌≡◌, ℕ, Bool, true, false, List, length, Option, None, is_some}
 use Rattle.json.specs.Token.{Token}
 use Rattle.json.specs.Json as json

@@ -7,8 +7,8 @@ abbrev pub IsAtMost : ℕ → Option ℕ → Type 0
 IsAtMost k None = ⊥
 IsAtMost k (Some m) = k ≤ m
 
--- The number found is below n and isn't alike. Each number below n that is among some is alike or at
--- most the one found.
+-- The number found is below n and isn't alike. Each number below n that is among some is alike or
+-- at most the one found.
 pub record IsLatest (Alike : ℕ → Type 0) (n : ℕ) (among : ℕ → Bool) (found : Option ℕ) : Type 0 where
   pub sound : IfSome found (λ m. (m < n) × ¬ (Alike m))
   pub complete : (k : ℕ) → k < n → among k ≡ true → Alike k ⊎ IsAtMost k found

@@ -60,8 +60,8 @@ IsLastOf p n entries (Some m) =
 
 -- ---- two recordings
 
--- A line that changes a cell at a place has an entry there, if it makes other changes than a list of
--- notes.
+-- A line that changes a cell at a place has an entry there, if it makes other changes than a list
+-- of notes.
 abbrev pub HasEntries : ℕ → List Note → List Note → List Entry → Type 0
 HasEntries n notes others entries =
     (p : SearchPlace) → changes_place p notes ≡ true

@@ -4,7 +4,7 @@ use Rattle.std.specs.Prelude.{option_map}
 use Rattle.regex.specs.Bytes.{regex_pattern}
 use Rattle.retro_tree.specs.OutOfMemory.{UnlessOutOfMemory}
 use Rattle.retro_keep.specs.Recording.{RecordingValue}
-use Rattle.casebook_folder_cli.specs.Views.{request_view as snapshot_view}
+use Rattle.casebook_folder_cli.specs.Views.{compared_view, request_view as snapshot_view, restore_view, undo_view}
 use Rattle.casebook_view.specs.Filters.{FiltersValue}
 use Rattle.casebook_view.specs.Rows.{RowValue, rows_of}
 use Rattle.casebook_view.specs.declared.line_test.LineTest.{LineTest}
@@ -15,7 +15,7 @@ use Rattle.casebook_cli.specs.Inputs.{DocumentValue, InputsValue, SourcesValue}
 use Rattle.casebook_cli.specs.Lines.{HasUser, user_tests}
 use Rattle.casebook_cli.specs.Request.{LinesRequest, PageRequest, Query, RepairRequest, Request}
 use Rattle.casebook_cli.specs.Request.{CompareValue, RoundsValue, ShowRequest, ask, check, compare, help, lines, page, show}
-use Rattle.casebook_cli.specs.Request.{snapshot, test_view}
+use Rattle.casebook_cli.specs.Request.{FolderRepair, restore, snapshot, test_view, undo}
 use Rattle.casebook_cli.specs.Screens.{ScreenValue}
 use Rattle.casebook_cli.specs.declared.answer.Answer.{Answer}
 use Rattle.casebook_cli.specs.declared.document.Document.{Document}
@@ -28,6 +28,7 @@ use Rattle.casebook_cli.specs.declared.repair_request.PageRequest.{PageRequest a
 use Rattle.casebook_cli.specs.declared.repair_request.RepairRequest.{RepairRequest as RepairCode}
 use Rattle.casebook_cli.specs.declared.repair_request.ShowRequest.{ShowRequest as ShowCode}
 use Rattle.casebook_cli.specs.declared.request.CompareRequest.{CompareRequest}
+use Rattle.casebook_cli.specs.declared.request.FolderRepair.{FolderRepair as FolderRepairCode}
 use Rattle.casebook_cli.specs.declared.request.Request.{Request as RequestCode}
 use Rattle.casebook_cli.specs.declared.request.Request.TheVariants as requests
 use Rattle.casebook_cli.specs.declared.rounds.Rounds.{Rounds as RoundsCode}
@@ -100,13 +101,21 @@ query_view (queries.Page request) = page (page_view request)
 query_view (queries.Check log) = check log.now
 
 abbrev pub compare_view : CompareRequest → CompareValue
-compare_view request = record { log = request.log.now; folder = snapshot_view request.folder }
+compare_view request = record { log = request.log.now; snapshot = compared_view request.snapshot }
+
+abbrev pub folder_repair_view : FolderRepairCode → FolderRepair
+folder_repair_view request = record {
+  repair = repair_view request.repair;
+  folder = restore_view request.folder;
+}
 
 abbrev pub request_view : RequestCode → Request
 request_view (requests.Help topic) = help topic
 request_view (requests.Ask query) = ask (query_view query)
 request_view (requests.Snapshot request) = snapshot (snapshot_view request)
 request_view (requests.Compare request) = compare (compare_view request)
+request_view (requests.Restore request) = restore (folder_repair_view request)
+request_view (requests.Undo request) = undo (undo_view request)
 
 -- what a fault says of the words: what is wrong with them, or None if memory ran out
 abbrev pub refused : {Y : Type 0} → WordsFault → Option (Result Y Problem)
@@ -128,8 +137,9 @@ filters_by tests patterns is_unknown = record {
   is_unknown = is_unknown;
 }
 
--- The rows are those of the lines of a recording that pass the tests of a request, in which patterns are found, that
--- aren't understood if only such lines are asked for, and that were typed between its bounds.
+-- The rows are those of the lines of a recording that pass the tests of a request, in which
+-- patterns are found, that aren't understood if only such lines are asked for, and that were typed
+-- between its bounds.
 pub record AreAskedRows (request : LinesRequest) (labels : Labels) (times : List (ℕ × ℤ)) (r : RecordingValue)
     (patterns : Patterns) (rows : List RowValue) : Type 0 where
   pub tests : List LineTest

@@ -1,5 +1,5 @@
--- A folder that is put at a path of trees: what is at or below that path is in the folder, and nothing
--- is said of all else, which is never looked at.
+-- A folder that is put at a path of trees: what is at or below that path is in the folder, and
+-- nothing is said of all else, which is never looked at.
 use Rattle.std.specs.Prelude.{List, ◌++◌, Option, Some, None, map}
 use Rattle.retro_path.specs.Path.{PathValue, below}
 use Rattle.casebook_folder.specs.Steps.{Contents, Step, step}

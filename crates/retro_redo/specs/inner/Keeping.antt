@@ -11,8 +11,8 @@ use Rattle.retro_redo.specs.declared.verdict.SettledLine.{SettledLine}
 use Rattle.retro_redo.specs.declared.verdict.Verdict.TheVariants.{Kept}
 
 -- Each choice is one that its line allows. The overlay has entries for exactly the cells in which
--- the recorded and the repaired state differ. What is left of the settled lines is what their choices
--- say. Both states have the sessions of the first. Each edited number is a line's.
+-- the recorded and the repaired state differ. What is left of the settled lines is what their
+-- choices say. Both states have the sessions of the first. Each edited number is a line's.
 pub record Keeps (p : ProgressValue) (overlay : OverlayMap) (lines : List SettledLine) : Type 0 where
   pub settles :
       Settles (edit_in p) p.recording.lines p.choices p.recording.first p.recording.first

@@ -14,7 +14,7 @@ returns-in_err-recording-clause-err g c =
 pub returns-in-Ok-clause-ok : goal.returns-in-Ok-clause-ok
 returns-in-Ok-clause-ok g c =
     both (g.D.Documents.bytes_of c.args.documents.now) (g.D.Folders.holds c.args.documents.now) _ _ _
-    c.in_ok-log.ensures.ok c.in-Ok.ensures
+    c.in_ok-log.ensures.ok c.in-Ok.ensures.ok
     (λ at folders is compared. record {
       document = document_view c.in_ok-log.log;
       is_document = is;

@@ -3,7 +3,7 @@ use Rattle.std.proofs.lemmas.Result.{IfOk-weaker}
 use Rattle.clap.specs.Words.{App, Shape, app_of, with_subcommand}
 use Rattle.retro_edge.specs.Rules.{with_command}
 use Rattle.casebook_cli.specs.Words.{page_rules, show_rules, without_repairs}
-use Rattle.casebook_folder_cli.specs.Words.{snapshot_rules}
+use Rattle.casebook_folder_cli.specs.Words.{compare_rules, snapshot_rules}
 use Rattle.casebook_cli.proofs.words.program_command.Goals as goal
 
 abbrev top : App → Shape
@@ -24,7 +24,15 @@ returns c =
     (codes "snapshot") snapshot_rules =
     c.in_ok-subcommand-3.ensures.shape c.in_ok-snapshot_command.ensures.local
     ∙ ap₂ with_subcommand two (ap top c.in_ok-snapshot_command.ensures.shape) in
-    IfOk-weaker c.subcommand-4.result _ _
-    (λ m h. h.shape c.in_ok-compare_command.ensures.local
-    ∙ ap₂ with_subcommand three (ap top c.in_ok-compare_command.ensures.shape))
-    c.subcommand-4.ensures
+    let four : app_of c.in_ok-subcommand-4.field-0
+    ≡ with_command
+    (with_command
+    (with_command (with_command without_repairs (codes "show") show_rules) (codes "page") page_rules)
+    (codes "snapshot") snapshot_rules)
+    (codes "compare") compare_rules =
+    c.in_ok-subcommand-4.ensures.shape c.in_ok-compare_command.ensures.local
+    ∙ ap₂ with_subcommand three (ap top c.in_ok-compare_command.ensures.shape) in
+    IfOk-weaker c.subcommand-5.result _ _
+    (λ m h. h.shape c.in_ok-restore_command.ensures.local
+    ∙ ap₂ with_subcommand four (ap top c.in_ok-restore_command.ensures.shape))
+    c.subcommand-5.ensures

@@ -1,4 +1,5 @@
--- The lines so far are gathered, and the first lines of all groups are those so far and of the rest.
+-- The lines so far are gathered, and the first lines of all groups are those so far and of the
+-- rest.
 use Rattle.std.proofs.Common.{◌≡◌, drop, take}
 use Rattle.std.specs.List.{fold}
 use Rattle.casebook_view.specs.Groups.{firsts, with_first}

@@ -1,0 +1,115 @@
+//! Restores of folders.
+ghost use Rattle.std.specs.Prelude.{◌≡◌, IfOk, IfErr, IfSome};
+ghost use Rattle.casebook_folder_cli.specs.Views.{undo_view};
+ghost use Rattle.casebook_text.specs.SafeLine.{text_of_lines};
+ghost use Rattle.casebook_cli.specs.Answers.{AnswersRestore, AnswersUndo, IsRepairOf};
+ghost use Rattle.casebook_cli.specs.Harmless.{IsHarmless};
+ghost use Rattle.casebook_cli.specs.Stops.{StopsFolder, StopsRepairOf, StopsRestore};
+ghost use Rattle.casebook_cli.specs.inner.Views.{answer_view, folder_repair_view, repair_view};
+
+use crate::NoMem;
+use crate::answer::Answer;
+use crate::documents::Documents;
+use crate::plain::plain_lines;
+use crate::progress::Progress;
+use crate::query::repair_sources;
+use crate::reading::read_inputs;
+use crate::repair_request::RepairRequest;
+use crate::repairs::{AskedRepair, asked_repair};
+use crate::request::FolderRepair;
+use crate::stop::Stop;
+use casebook_folder_cli::{
+    Folders, RestoreAnswer, RestoreFault, UndoRequest, restore_answer, undo_answer,
+};
+use std::alloc::{AllocGlobal, Global};
+use std::thread::Threads;
+
+/// Returns why the folder with a name isn't restored, by the name of the undo file.
+fn restore_stop<'a>(root: &'a str, undo: &'a str, fault: RestoreFault) -> Stop<'a>
+    ensures { StopsFolder root.entry.now undo.entry.now result }
+{
+    match fault {
+        RestoreFault::NoMem => Stop::OutOfMemory,
+        RestoreFault::Unreadable => Stop::ReadFailed(root),
+        RestoreFault::NotADirectory => Stop::NotADirectory(root),
+        RestoreFault::UndoFailed => Stop::UndoFailed(undo),
+        RestoreFault::BadUndo(_) => Stop::BadUndo(undo),
+        RestoreFault::OtherUndo => Stop::OtherUndo(undo),
+        RestoreFault::Differs => Stop::FolderChanged(root),
+        RestoreFault::Unfinished => Stop::Unfinished(root),
+    }
+}
+
+/// Returns what a restore says, as an answer.
+fn shown(alloc: Global, restored: &RestoreAnswer) -> Result<Answer, NoMem>
+    ensures text { IfOk result (λ answer.
+        answer.text.items ≡ text_of_lines restored.now.lines.items) }
+    ensures no { IfOk result (λ answer. answer.is_no ≡ restored.now.is_no) }
+    ensures harmless { IfOk result (λ answer. IsHarmless answer.text.items) }
+{
+    Ok(Answer {
+        text: plain_lines(alloc, restored.lines.as_slice())?.into_bytes(),
+        is_no: restored.is_no,
+    })
+}
+
+/// Reads the documents of a repair, and returns it.
+fn repair_of<'a, R: Threads + Sync + AllocGlobal, D: Documents + Progress>(
+    rt: &R,
+    documents: &D,
+    request: RepairRequest<'a>,
+) -> Result<AskedRepair, Stop<'a>>
+    ensures ok { IfOk result (λ asked. IfSome (D.bytes_of documents.now) (λ at.
+        IsRepairOf at (repair_view request.entry) asked)) }
+    ensures err { IfErr result (λ stop. IfSome (D.bytes_of documents.now) (λ at.
+        StopsRepairOf at (repair_view request.entry) stop)) }
+{
+    let inputs = read_inputs(rt.alloc(), documents, repair_sources(&request))?;
+    asked_repair(rt, documents, &inputs, request)
+}
+
+/// Returns what a restore of a folder does or would do, and tells whether it was done.
+pub(crate) fn restore_text<'a, R: Threads + Sync + AllocGlobal, D: Documents + Folders + Progress>(
+    rt: &R,
+    documents: &D,
+    request: FolderRepair<'a>,
+) -> Result<Answer, Stop<'a>>
+    ensures ok { IfOk result (λ answer. IfSome (D.bytes_of documents.now) (λ at.
+        IfSome (D.holds documents.now) (λ folders. AnswersRestore at folders
+        (folder_repair_view request.entry) (answer_view answer)))) }
+    ensures err { IfErr result (λ stop. IfSome (D.bytes_of documents.now) (λ at.
+        StopsRestore at (folder_repair_view request.entry) stop)) }
+{
+    let FolderRepair { repair, folder } = request;
+    let asked = repair_of(rt, documents, repair)?;
+    let recorded = asked.recording.last().tree();
+    let repaired = asked.repair.state().tree();
+    match restore_answer(rt.alloc(), documents, &folder, recorded, repaired) {
+        Ok(answer) => {
+            documents.remark(&answer.remark);
+            Ok(shown(rt.alloc(), &answer)?)
+        }
+        Err(fault) => Err(restore_stop(folder.root, folder.undo.unwrap_or(""), fault)),
+    }
+}
+
+/// Returns what taking a restore back does or would do, and tells whether it was done.
+pub(crate) fn undo_text<'a, D: Documents + Folders + Progress>(
+    alloc: Global,
+    documents: &D,
+    request: UndoRequest<'a>,
+) -> Result<Answer, Stop<'a>>
+    ensures ok { IfOk result (λ answer. IfSome (D.bytes_of documents.now) (λ at.
+        IfSome (D.holds documents.now) (λ folders.
+        AnswersUndo folders (undo_view request.entry) (answer_view answer)))) }
+    ensures err { IfErr result
+        (StopsFolder (undo_view request.entry).root (undo_view request.entry).undo) }
+{
+    match undo_answer(alloc, documents, &request) {
+        Ok(answer) => {
+            documents.remark(&answer.remark);
+            Ok(shown(alloc, &answer)?)
+        }
+        Err(fault) => Err(restore_stop(request.root, request.undo, fault)),
+    }
+}
