@@ -21,8 +21,10 @@ use Rattle.casebook_cli.specs.Lines.{AreLines}
 use Rattle.casebook_cli.specs.Pages.{IsPage}
 use Rattle.casebook_cli.specs.Repairs.{IsAsked, repair_sources, sources_of}
 use Rattle.casebook_cli.specs.Request.{Query, Request, ask, check, help, help_text, lines, page, show}
-use Rattle.casebook_cli.specs.Request.{CompareValue, FolderRepair, RepairRequest, compare, restore, snapshot, undo}
+use Rattle.casebook_cli.specs.Request.{CompareValue, FolderRepair, RepairRequest, compare, restore, script, snapshot}
+use Rattle.casebook_cli.specs.Request.{undo}
 use Rattle.casebook_cli.specs.Screens.{IsShown}
+use Rattle.casebook_cli.specs.Scripts.{IsScriptOf}
 use Rattle.casebook_cli.specs.declared.repairs.AskedRepair.{AskedRepair}
 
 -- an answer: its text, and whether it says that what was asked about isn't in order
@@ -108,3 +110,4 @@ Answers colours at folders (snapshot request) answer = AnswersSnapshot folders r
 Answers colours at folders (compare request) answer = AnswersCompare at folders request answer
 Answers colours at folders (restore request) answer = AnswersRestore at folders request answer
 Answers colours at folders (undo request) answer = AnswersUndo folders request answer
+Answers colours at folders (script request) answer = Says (IsScriptOf at request) answer

@@ -14,6 +14,7 @@ pub mod Program
 pub mod Repairs
 pub mod Request
 pub mod Screens
+pub mod Scripts
 pub mod Stops
 pub mod Words
 pub mod inner

@@ -62,6 +62,12 @@ problem_words (problems.Folder folder_problems.NoUndo) =
 problem_words (problems.Folder folder_problems.NoApply) = codes "--undo needs --apply where a LOG is given"
 problem_words (problems.Folder folder_problems.Mixed) =
     codes "--undo without a LOG has --root and --apply alone"
+problem_words (problems.Folder folder_problems.NoDocument) =
+    codes "no DOCUMENT is given; see casebook help script"
+problem_words (problems.Folder folder_problems.NoSessions) =
+    codes "no --sessions FILE is given; see casebook help script"
+problem_words (problems.Folder folder_problems.NoLines) =
+    codes "no --lines FILE is given; see casebook help script"
 
 unfoldable pub searched_words : SearchedPart → List ℕ
 searched_words Text = codes "--text: not a regular expression, or too large a one"

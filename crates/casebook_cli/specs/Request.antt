@@ -15,6 +15,7 @@ use Rattle.casebook_view.specs.declared.line_test.LineTest.{LineTest}
 use Rattle.casebook_view.specs.declared.line_test.LineTest.TheVariants.{Sessions, From, To, Reads, Writes, Touches}
 use Rattle.casebook_view.specs.declared.path_test.PathTest.{PathTest}
 use Rattle.casebook_folder_cli.specs.RestoreWords.{RestoreValue, UndoValue, restore_in, undo_in}
+use Rattle.casebook_folder_cli.specs.ScriptWords.{ScriptValue, script_asked}
 use Rattle.casebook_folder_cli.specs.Words.{ComparedValue, SnapshotValue, compared_in, snapshot_in}
 use Rattle.casebook_folder_cli.specs.declared.request.FolderFault.{FolderFault}
 use Rattle.casebook_folder_cli.specs.declared.request.FolderFault.TheVariants as folder_faults
@@ -27,7 +28,7 @@ use Rattle.casebook_cli.specs.declared.bound.Bound.{Bound}
 use Rattle.casebook_cli.specs.declared.bounds.Bounds.{Bounds}
 use Rattle.casebook_cli.specs.declared.format.Format.{Format}
 use Rattle.casebook_cli.specs.declared.format.Format.TheVariants as formats
-use Rattle.casebook_cli.specs.declared.folder_help.TheConstants.{COMPARE, RESTORE, SNAPSHOT}
+use Rattle.casebook_cli.specs.declared.folder_help.TheConstants.{COMPARE, RESTORE, SCRIPT, SNAPSHOT}
 use Rattle.casebook_cli.specs.declared.document_help.TheConstants.{DOCUMENTS, LISTS, PROFILE, REFUSALS}
 use Rattle.casebook_cli.specs.declared.help.TheConstants.{PROGRAM, LINES, SHOW, PAGE, CHECK}
 use Rattle.casebook_cli.specs.declared.problem.Problem.{Problem}
@@ -116,6 +117,7 @@ pub data Request : Type 0 where
   compare : CompareValue → Request
   restore : FolderRepair → Request
   undo : UndoValue → Request
+  script : ScriptValue → Request
 
 -- ---- steps, of which the first problem ends them
 
@@ -138,6 +140,7 @@ topic_in text =
     else if is_text (codes "snapshot") text then Some topics.Snapshot
     else if is_text (codes "compare") text then Some topics.Compare
     else if is_text (codes "restore") text then Some topics.Restore
+    else if is_text (codes "script") text then Some topics.Script
     else if is_text (codes "lists") text then Some topics.Lists
     else if is_text (codes "documents") text then Some topics.Documents
     else if is_text (codes "refusals") text then Some topics.Refusals
@@ -162,6 +165,7 @@ help_text topics.Check = CHECK.now
 help_text topics.Snapshot = SNAPSHOT.now
 help_text topics.Compare = COMPARE.now
 help_text topics.Restore = RESTORE.now
+help_text topics.Script = SCRIPT.now
 help_text topics.Lists = LISTS.now
 help_text topics.Documents = DOCUMENTS.now
 help_text topics.Refusals = REFUSALS.now
@@ -458,6 +462,7 @@ command_request call =
     then folder_result (snapshot_in (is_given (codes "mounts") call) call)
     else if is_text (codes "compare") call.name then result_map compare (compare_in call)
     else if is_text (codes "restore") call.name then restore_asked call
+    else if is_text (codes "script") call.name then in_folder script (script_asked call)
     else result_map ask (query_in call)
 
 abbrev pub request_of : Named → Result Request Problem

@@ -24,9 +24,16 @@ use Rattle.casebook_cli.specs.Labels.{AreLabels, IsAbout}
 use Rattle.casebook_cli.specs.Lines.{pattern_config, sessions_named}
 use Rattle.casebook_cli.specs.Repairs.{AreEdits, IsAsked, IsListGiven, lines_in, repair_sources, sources_of}
 use Rattle.casebook_cli.specs.Request.{LinesRequest, Query, RepairRequest, Request, RoundsValue, ShowRequest, ask, check, help, lines, page, request_in, show}
+use Rattle.casebook_folder_cli.specs.ScriptWords.{ScriptValue}
+use Rattle.casebook_folder_cli.specs.Scripting.{IsNoScript}
 use Rattle.casebook_folder_cli.specs.Sources.{source_name}
 use Rattle.casebook_folder_cli.specs.Words.{compared_name}
-use Rattle.casebook_cli.specs.Request.{CompareValue, FolderRepair, compare, restore, snapshot, undo}
+use Rattle.casebook_folder_cli.specs.declared.file_fault.FileFault.{FileFault}
+use Rattle.casebook_folder_cli.specs.declared.file_fault.FileFault.TheVariants as files
+use Rattle.casebook_folder_cli.specs.declared.scripting.ScriptFault.{ScriptFault}
+use Rattle.casebook_folder_cli.specs.declared.scripting.ScriptFault.TheVariants as script_faults
+use Rattle.casebook_cli.specs.Request.{CompareValue, FolderRepair, compare, restore, script, snapshot, undo}
+use Rattle.casebook_cli.specs.Scripts.{AreScriptInputs, ScriptInputs, parts_of, table_name}
 use Rattle.casebook_cli.specs.declared.repairs.AskedRepair.{AskedRepair}
 use Rattle.casebook_cli.specs.declared.searched.SearchedPart.{SearchedPart}
 use Rattle.casebook_cli.specs.declared.searched.SearchedPart.TheVariants as searched_in
@@ -248,6 +255,25 @@ pub data StopsRestore (at : AllDocuments) (request : FolderRepair) (stop : Stop)
   not_repaired : StopsRepairOf at request.repair stop → StopsRestore at request stop
   not_restored : StopsFolder request.folder.root (undo_name request.folder.undo) stop → StopsRestore at request stop
 
+-- the file with a name has this fault
+abbrev pub IsBadFile : List ℕ → FileFault → Stop → Type 0
+IsBadFile wanted fault (stops.BadFile name found) = (name.now ≡ wanted) × (found ≡ fault)
+IsBadFile wanted fault other = ⊥
+
+-- the file is named that has the fault for which there is no script
+abbrev pub NamesFault : ScriptValue → ScriptFault → Stop → Type 0
+NamesFault names script_faults.NoMem stop = stop ≡ stops.OutOfMemory
+NamesFault names (script_faults.Document fault) stop = IsBadFile names.document (files.Document fault) stop
+NamesFault names (script_faults.Table fault) stop = IsBadFile (table_name names fault) (files.Table fault) stop
+
+-- there is no script: a file can't be read, or one has a fault
+pub data StopsScript (at : AllDocuments) (names : ScriptValue) (stop : Stop) : Type 0 where
+  no_file : IsUnread at names.document stop → StopsScript at names stop
+  no_sessions : IsUnread at names.sessions stop → StopsScript at names stop
+  no_lines : IsUnread at names.lines stop → StopsScript at names stop
+  no_script : (inputs : ScriptInputs) → AreScriptInputs at names inputs → (fault : ScriptFault)
+      → IsNoScript (parts_of inputs) fault → NamesFault names fault stop → StopsScript at names stop
+
 abbrev pub Stops : AllDocuments → Request → Stop → Type 0
 Stops at (help topic) stop = stop ≡ stops.OutOfMemory
 Stops at (ask query) stop = StopsQuery at query stop
@@ -255,6 +281,7 @@ Stops at (snapshot request) stop = StopsSnapshot (source_name request.source) st
 Stops at (compare request) stop = StopsCompare at request stop
 Stops at (restore request) stop = StopsRestore at request stop
 Stops at (undo request) stop = StopsFolder request.root request.undo stop
+Stops at (script request) stop = StopsScript at request stop
 
 -- words make no request
 abbrev pub IsBadWords : List (List ℕ) → Stop → Type 0

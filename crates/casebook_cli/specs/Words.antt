@@ -3,6 +3,7 @@ use Rattle.std.specs.Prelude.{List, [], ◌∷◌, ◌++◌, true, codes}
 use Rattle.clap.specs.Words.{App, Rule, new_app}
 use Rattle.retro_edge.specs.Rules.{flag, help_flag, option, with_command, word}
 use Rattle.casebook_folder_cli.specs.RestoreWords.{restore_rules}
+use Rattle.casebook_folder_cli.specs.ScriptWords.{script_rules}
 use Rattle.casebook_folder_cli.specs.Words.{compare_rules, snapshot_rules}
 
 -- ---- the command line
@@ -69,7 +70,9 @@ program =
     with_command
     (with_command
     (with_command
+    (with_command
     (with_command (with_command without_repairs (codes "show") show_rules) (codes "page") page_rules)
     (codes "snapshot") snapshot_rules)
     (codes "compare") compare_rules)
-    (codes "restore") restore_rules
+    (codes "restore") restore_rules)
+    (codes "script") script_rules

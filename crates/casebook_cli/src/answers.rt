@@ -25,6 +25,7 @@ use crate::repairs::asked_repair;
 use crate::request::Request;
 use crate::restores::{restore_text, undo_text};
 use crate::screens::shown_text;
+use crate::scripts::script_text;
 use crate::snapshots::snapshot_text;
 use crate::sources::Inputs;
 use crate::stop::Stop;
@@ -135,5 +136,6 @@ pub(crate) fn answer<'a, R: Threads + Sync + AllocGlobal, D: Documents + Folders
         Request::Compare(request) => compare_text(rt.alloc(), documents, request),
         Request::Restore(request) => restore_text(rt, documents, request),
         Request::Undo(request) => undo_text(rt.alloc(), documents, request),
+        Request::Script(request) => script_text(rt.alloc(), documents, request),
     }
 }

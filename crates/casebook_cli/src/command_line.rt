@@ -16,7 +16,9 @@ use crate::repair_options::{page_request, repair_request, show_request};
 use crate::request::{CompareRequest, FolderRepair, Request};
 use crate::topic::Topic;
 use crate::words::{WordsFault, call_in};
-use casebook_folder_cli::{compared_snapshot, restore_request, snapshot_request, undo_request};
+use casebook_folder_cli::{
+    compared_snapshot, restore_request, script_request, snapshot_request, undo_request,
+};
 use retro_edge::{CallFault, CommandCall};
 use std::alloc::Global;
 
@@ -33,6 +35,7 @@ fn topic_of(text: &str) -> Option<Topic>
         "snapshot" => Some(Topic::Snapshot),
         "compare" => Some(Topic::Compare),
         "restore" => Some(Topic::Restore),
+        "script" => Some(Topic::Script),
         "lists" => Some(Topic::Lists),
         "documents" => Some(Topic::Documents),
         "refusals" => Some(Topic::Refusals),
@@ -133,6 +136,9 @@ fn command_request<'a>(alloc: Global, call: &CommandCall<'a>) -> Result<Request<
     }
     if call.name == "restore" {
         return restore_of(alloc, call);
+    }
+    if call.name == "script" {
+        return Ok(Request::Script(script_request(call)?));
     }
     Ok(Request::Ask(query_of(alloc, call)?))
 }

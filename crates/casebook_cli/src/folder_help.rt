@@ -6,8 +6,8 @@ casebook snapshot FOLDER [--mounts] [--at PATH] [--skip PATH]..
 casebook snapshot --tar FILE        [--at PATH] [--skip PATH]..
 
 Writes what is in a folder, or in a stream that tar wrote, as a document: directories,
-and files of at most 1,048,576 bytes, with modes and owners. Its `tree` is the tree
-of a script. Nothing is changed, no link is followed, and no device and no pipe is
+and files of at most 1,048,576 bytes, with modes and owners. casebook script makes a
+script of it. Nothing is changed, no link is followed, and no device and no pipe is
 opened.
 
     --mounts       also looks at other file systems that are mounted in the folder.
@@ -34,6 +34,34 @@ Standard error has one line that counts the paths of the tree and, by their
 reasons, what was skipped. What other users do in the folder meanwhile can't lead
 out of it, but a file in the document may be one of a moment, and its neighbour one
 of another.
+";
+
+/// Help on the command `script`.
+pub(crate) const SCRIPT: &str = "\
+casebook script DOCUMENT --sessions FILE --lines FILE
+
+Writes a script for retro record: the tree of DOCUMENT, which casebook snapshot wrote,
+with the sessions and the lines of two tables. One of the three may be -, which is
+standard input.
+
+A table has one row a line, and a tab between cells, here written as TAB. Rows that
+are empty or begin with # are skipped. In a cell \\t, \\n, \\r and \\\\ are a tab, a
+newline, a carriage return and a backslash; any other backslash is refused.
+
+    --sessions FILE   a row is the number of a session, its directory, and a cell
+                      for each variable that it begins with:
+                      1TAB/home/aliceTABHOME=/home/alice
+    --lines FILE      a row is the number of a session, and what was typed in it, in
+                      the order in which all was typed:
+                      1TABcat orders >> /srv/shop/orders
+
+The lines of the script have numbers from 1 on, in the order of their rows.
+
+    casebook snapshot /mnt/backup/srv --at /srv > monday.json
+    casebook script monday.json --sessions sessions.tsv --lines lines.tsv > script.json
+    retro record < script.json > log.json
+
+Exit status: 0 done, 1 a file is refused, and standard error says where.
 ";
 
 /// Help on the command `compare`.

@@ -3,7 +3,7 @@ ghost use Rattle.std.specs.Prelude.{◌≡◌};
 ghost use Rattle.casebook_cli.specs.Request.{help_text};
 
 use crate::document_help::{DOCUMENTS, LISTS, PROFILE, REFUSALS};
-use crate::folder_help::{COMPARE, RESTORE, SNAPSHOT};
+use crate::folder_help::{COMPARE, RESTORE, SCRIPT, SNAPSHOT};
 use crate::topic::Topic;
 
 /// Help on the program.
@@ -30,12 +30,14 @@ it is told to restore.
         another document, whether it is a script, and why it is refused.
     casebook snapshot FOLDER|--tar FILE [--at PATH] [--skip PATH]..
         What is in a folder, or in a stream that tar wrote, as a document.
+    casebook script DOCUMENT --sessions FILE --lines FILE
+        A script of such a document and two tables, for `retro record`.
     casebook compare LOG FOLDER|--tar FILE|--snapshot DOCUMENT [--at PATH] ..
         Whether what a log has at its end is what a folder holds.
     casebook restore LOG --cancel LIST --root FOLDER [--at PATH] [--only PATH]..
                      [--apply --undo FILE]
         What would change in a folder, and with --apply the change itself.
-    casebook help [lines|show|page|check|snapshot|compare|restore|
+    casebook help [lines|show|page|check|snapshot|script|compare|restore|
                    lists|documents|refusals|profile]
         This text, or more on a command, on lists of lines, on the documents that
         casebook reads, on why it refuses them, or on what a line may be.
@@ -277,6 +279,7 @@ pub(crate) fn help_text(topic: Topic) -> &'static str
         Topic::Snapshot => SNAPSHOT,
         Topic::Compare => COMPARE,
         Topic::Restore => RESTORE,
+        Topic::Script => SCRIPT,
         Topic::Lists => LISTS,
         Topic::Documents => DOCUMENTS,
         Topic::Refusals => REFUSALS,

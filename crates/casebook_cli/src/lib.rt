@@ -92,6 +92,7 @@ mod restores;
 mod rounds;
 mod rows_text;
 mod screens;
+mod scripts;
 mod searched;
 mod shown;
 mod snapshots;

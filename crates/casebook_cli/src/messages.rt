@@ -5,8 +5,10 @@ ghost use Rattle.casebook_text.specs.SafeText.{is_printable};
 ghost use Rattle.casebook_folder_cli.specs.FileFaults.{fault_line};
 ghost use Rattle.casebook_cli.specs.Messages.{about, about_message, about_words, counted};
 ghost use Rattle.casebook_cli.specs.Messages.{item_words, list_message, log_message, message_of};
-ghost use Rattle.casebook_cli.specs.Messages.{number_words, numbered_words, part_words, problem_words};
-ghost use Rattle.casebook_cli.specs.Messages.{range_words, refusal_words, repair_message, repair_words, said};
+ghost use Rattle.casebook_cli.specs.Messages.{number_words, numbered_words, part_words};
+ghost use Rattle.casebook_cli.specs.Messages.{problem_words};
+ghost use Rattle.casebook_cli.specs.Messages.{range_words, refusal_words, repair_message};
+ghost use Rattle.casebook_cli.specs.Messages.{repair_words, said};
 ghost use Rattle.casebook_cli.specs.Messages.{said_of, searched_words, stop_message};
 
 use crate::NoMem;
@@ -66,6 +68,12 @@ fn problem_words(problem: Problem) -> &'static str
         Problem::Folder(FolderProblem::NoApply) => "--undo needs --apply where a LOG is given",
         Problem::Folder(FolderProblem::Mixed) =>
             "--undo without a LOG has --root and --apply alone",
+        Problem::Folder(FolderProblem::NoDocument) =>
+            "no DOCUMENT is given; see casebook help script",
+        Problem::Folder(FolderProblem::NoSessions) =>
+            "no --sessions FILE is given; see casebook help script",
+        Problem::Folder(FolderProblem::NoLines) =>
+            "no --lines FILE is given; see casebook help script",
     }
 }
 

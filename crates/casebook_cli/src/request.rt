@@ -2,7 +2,9 @@
 use crate::query::Query;
 use crate::repair_request::RepairRequest;
 use crate::topic::Topic;
-use casebook_folder_cli::{ComparedSnapshot, RestoreRequest, SnapshotRequest, UndoRequest};
+use casebook_folder_cli::{
+    ComparedSnapshot, RestoreRequest, ScriptRequest, SnapshotRequest, UndoRequest,
+};
 
 /// Which recording is compared with which snapshot.
 #[derive(Drop)]
@@ -37,4 +39,6 @@ pub(crate) enum Request<'a> {
     Restore(FolderRepair<'a>),
     /// Take a restore back.
     Undo(UndoRequest<'a>),
+    /// Make a script of a snapshot.
+    Script(ScriptRequest<'a>),
 }

@@ -40,7 +40,8 @@ pub enum Stop<'a> {
     ReadFailed(&'a str),
     /// What is named as a folder isn't one.
     NotADirectory(&'a str),
-    /// A file isn't a stream of tar of which a snapshot can be taken, or not the document of one.
+    /// A file isn't a stream of tar of which a snapshot can be taken, not the document of one, or
+    /// not a table of a script.
     BadFile(&'a str, FileFault),
     /// An undo file couldn't be read or written.
     UndoFailed(&'a str),

@@ -19,6 +19,8 @@ pub(crate) enum Topic {
     Compare,
     /// The command `restore`.
     Restore,
+    /// The command `script`.
+    Script,
     /// Lists of lines.
     Lists,
     /// The documents that the program reads.

@@ -14,7 +14,9 @@ ghost use Rattle.casebook_cli.specs.declared.words.WordsFault.TheVariants as fau
 
 use crate::NoMem;
 use crate::problem::Problem;
-use casebook_folder_cli::{FolderFault, compare_command, restore_command, snapshot_command};
+use casebook_folder_cli::{
+    FolderFault, compare_command, restore_command, script_command, snapshot_command,
+};
 use clap::Command;
 use retro_edge::{CallFault, CommandCall, bare_command, flag, help_flag, option, read_call, word};
 use std::alloc::{AllocFailed, Global};
@@ -199,7 +201,8 @@ fn program_command<'a>(alloc: Global) -> Result<Command<'a>, NoMem>
         .subcommand(page_command(alloc)?)?
         .subcommand(snapshot_command(alloc)?)?
         .subcommand(compare_command(alloc)?)?
-        .subcommand(restore_command(alloc)?)
+        .subcommand(restore_command(alloc)?)?
+        .subcommand(script_command(alloc)?)
 }
 
 /// Returns the command that words name, as `clap` reads them, or `None` if they name none.

@@ -27,8 +27,8 @@ fn node_of(entry: Entry) -> Node
     }
 }
 
-/// Returns the tree of some rows.
-fn folder_of(alloc: Global, rows: BTreeMap<Path, Row>) -> Result<State, NoMem>
+/// Returns the tree that the rows of a snapshot make, in a state without sessions.
+pub fn snapshot_tree(alloc: Global, rows: BTreeMap<Path, Row>) -> Result<State, NoMem>
     ensures { IfOk result (λ state. IsTreeOf rows state.tree) }
 {
     let mut state = State::empty(alloc)?;
@@ -71,7 +71,7 @@ pub fn compare(
     ensures { IfOk result (IsComparison recorded.now snapshot at.now) }
 {
     let same = count_same(recorded, at, &snapshot.rows);
-    let folder = folder_of(alloc, snapshot.rows)?;
+    let folder = snapshot_tree(alloc, snapshot.rows)?;
     let changed = changed_paths(alloc, recorded, folder.tree())?;
     let coverage = Coverage::of(alloc, at, snapshot.skipped.as_slice())?;
     let different = coverage.covered(alloc, changed)?;

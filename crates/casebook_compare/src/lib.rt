@@ -28,7 +28,7 @@ mod coverage;
 mod unread;
 mod words;
 
-pub use comparing::compare;
+pub use comparing::{compare, snapshot_tree};
 pub use comparison::Comparison;
 pub use unread::UnreadPath;
 pub use words::comparison_lines;

@@ -10,3 +10,4 @@ pub mod Orders
 pub mod Planned
 pub mod Touching
 pub mod Expected
+pub mod Searching

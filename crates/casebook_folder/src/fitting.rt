@@ -1,9 +1,10 @@
-//! Rows that were kept, compared with a plan.
-ghost use Rattle.std.specs.Prelude.{◌≡◌, ◌↔◌, IsTrue};
+//! Rows that were kept, compared with a plan. Both are in order of their paths, and the row of a
+//! path is found by binary search.
+ghost use Rattle.std.specs.Prelude.{◌≡◌, ◌↔◌, IsTrue, map};
 ghost use Rattle.std.specs.Option.{is_some, option_copied};
 ghost use Rattle.std.specs.List.{list_all};
 ghost use Rattle.casebook_folder.specs.Plans as Plans;
-ghost use Rattle.casebook_folder.specs.Rows.{row_at};
+ghost use Rattle.casebook_folder.specs.Rows.{AreInOrder, row_at};
 
 use crate::change::Change;
 use crate::planned_row::PlannedRow;
@@ -13,6 +14,8 @@ use retro_path::Path;
 /// Returns whether kept rows fit a plan: each is that of one of the plan's changes, by what it says
 /// that was there, and the folder is done with all other changes.
 pub(crate) fn fit(plan: &[PlannedRow], rows: &[Row]) -> bool
+    requires plan { AreInOrder (map Plans.row_of plan.now) }
+    requires rows { AreInOrder rows.now }
     ensures { IsTrue result ↔ Plans.Fit plan.now rows.now }
 {
     all_fit(plan, rows) && are_settled(plan, rows)
@@ -20,6 +23,7 @@ pub(crate) fn fit(plan: &[PlannedRow], rows: &[Row]) -> bool
 
 /// Returns whether each row is that of a change.
 fn all_fit(plan: &[PlannedRow], rows: &[Row]) -> bool
+    requires { AreInOrder (map Plans.row_of plan.now) }
     ensures { result ≡ list_all (Plans.row_fits plan.now) rows.now }
 {
     rows.iter().all(|row| row_fits(plan, row))
@@ -27,6 +31,7 @@ fn all_fit(plan: &[PlannedRow], rows: &[Row]) -> bool
 
 /// Returns whether a row is that of a change.
 fn row_fits(plan: &[PlannedRow], row: &Row) -> bool
+    requires { AreInOrder (map Plans.row_of plan.now) }
     ensures { result ≡ Plans.row_fits plan.now row.now }
 {
     match change_at(plan, &row.path) {
@@ -39,18 +44,18 @@ fn row_fits(plan: &[PlannedRow], row: &Row) -> bool
 
 /// Returns the change that a plan has for a path, or `None` if it has none.
 fn change_at<'a>(plan: &'a [PlannedRow], path: &Path) -> Option<&'a Change>
+    requires { AreInOrder (map Plans.row_of plan.now) }
     ensures { option_copied result ≡ Plans.change_at path.now plan.now }
 {
-    for row in plan {
-        if row.change.path == *path {
-            return Some(&row.change);
-        }
+    match plan.binary_search_by(|row| row.change.path.cmp(path)) {
+        Ok(index) => Some(&plan[index].change),
+        Err(_) => None,
     }
-    None
 }
 
 /// Returns whether the folder is done with each change that no row is of.
 fn are_settled(plan: &[PlannedRow], rows: &[Row]) -> bool
+    requires { AreInOrder rows.now }
     ensures { result ≡ list_all (Plans.is_settled rows.now) plan.now }
 {
     plan.iter().all(|planned| planned.state.is_done() || has_row(rows, &planned.change.path))
@@ -58,12 +63,8 @@ fn are_settled(plan: &[PlannedRow], rows: &[Row]) -> bool
 
 /// Returns whether a row is of a path.
 fn has_row(rows: &[Row], path: &Path) -> bool
+    requires { AreInOrder rows.now }
     ensures { result ≡ is_some (row_at path.now rows.now) }
 {
-    for row in rows {
-        if row.path == *path {
-            return true;
-        }
-    }
-    false
+    rows.binary_search_by(|row| row.path.cmp(path)).is_ok()
 }

@@ -12,7 +12,8 @@
 //! [`apply`] carries rows out, and [`undo`] returns the rows that lead back.
 //!
 //! Rows are what is kept in a file before the first step. After an interruption [`Rows::of`] takes
-//! them again, [`Rows::fit`] tests that they are those of the plan, and `apply` goes on with them.
+//! them again, [`Rows::for_plan`] tests that they are those of the plan, and `apply` goes on with
+//! them.
 //!
 //! If allocation fails, calls return `NoMem`.
 //!
@@ -29,9 +30,9 @@
 //!   each row of the plan or done with it. They begin with what the folder holds
 //!   (`plans_see_the_folder`). `Rows` are in order of their paths, so each path has one at most
 //!   (`rows_are_distinct`).
-//! - `Rows::fit` is true exactly if each kept row is that of one of the plan's changes and the
-//!   folder is done with all other changes. Such a row is the one that the change has, by what the
-//!   row says that was there (`kept_rows_are_the_changes`).
+//! - `Rows::for_plan` returns kept rows exactly if the plan is in order, each of the rows is that
+//!   of one of the plan's changes and the folder is done with all other changes. Such a row is the
+//!   one that the change has, by what the row says that was there (`kept_rows_are_the_changes`).
 //! - After success of `apply` the folder is the old one with the new nodes at exactly the paths of
 //!   the rows [`restored`]. At each moment, also if it fails, each path holds its old or its new
 //!   node, or nothing while its kind changes [`any_moment`] (`rows_restore`). No step is at a path

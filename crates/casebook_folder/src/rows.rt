@@ -6,7 +6,7 @@ ghost use Rattle.casebook_folder.specs.Rows.{AreInOrder, path_of};
 
 use crate::fitting::fit;
 use crate::folder_error::FolderError;
-use crate::order::are_in_order;
+use crate::order::{are_in_order, is_plan_in_order};
 use crate::planned_row::PlannedRow;
 use crate::ready::add_ready;
 use crate::row::Row;
@@ -21,9 +21,9 @@ pub struct Rows {
 }
 
 impl Rows {
-    ghost use Rattle.std.specs.Prelude.{◌≡◌, ◌↔◌, IfErr, IfOk, IsTrue};
+    ghost use Rattle.std.specs.Prelude.{◌≡◌, ◌⊎◌, IfErr, IfOk, IsTrue};
     ghost use Rattle.std.specs.List.{list_all};
-    ghost use Rattle.casebook_folder.specs.Plans.{Fit, can_be_restored, ready_rows};
+    ghost use Rattle.casebook_folder.specs.Plans.{Fit, can_be_restored, ready_rows, row_of};
     ghost use Rattle.casebook_folder.specs.declared.folder_error.FolderError.TheVariants as errors;
 
     /// Takes rows, as they are read from a file in which they were kept.
@@ -62,12 +62,29 @@ impl Rows {
         Rows::of(rows)
     }
 
-    /// Returns whether these rows, which were kept, fit a plan: each is that of one of the plan's
-    /// changes, by what it says that was there, and the folder is done with all other changes. So
-    /// carrying out the rows carries out the plan.
-    pub fn fit(&self, plan: &[PlannedRow]) -> bool
-        ensures { IsTrue result ↔ Fit plan.now self.now.items.items }
+    /// Takes these rows, which were kept, for a plan that they fit: each is that of one of the
+    /// plan's changes, by what it says that was there, and the folder is done with all other
+    /// changes. So carrying out the rows carries out the plan.
+    ///
+    /// # Errors
+    ///
+    /// `Unsorted` if the plan's rows aren't in order of their paths, or a path has two; `NotReady`
+    /// if these rows don't fit the plan.
+    pub fn for_plan(self, plan: &[PlannedRow]) -> Result<Rows, FolderError>
+        ensures value { IfOk result (λ rows. rows.items ≡ self.items) }
+        ensures fit { IfOk result (λ rows. Fit plan.now rows.items.items) }
+        ensures err { IfErr result (λ error.
+            (error ≡ errors.NotReady) ⊎ (error ≡ errors.Unsorted)) }
+        ensures not_ready { (result ≡ Err errors.NotReady) → ¬ (Fit plan.now self.items.items) }
+        ensures unsorted { (result ≡ Err errors.Unsorted)
+            → ¬ (AreInOrder (map row_of plan.now)) }
     {
-        fit(plan, self.items.as_slice())
+        if !is_plan_in_order(plan) {
+            return Err(FolderError::Unsorted);
+        }
+        if !fit(plan, self.items.as_slice()) {
+            return Err(FolderError::NotReady);
+        }
+        Ok(self)
     }
 }

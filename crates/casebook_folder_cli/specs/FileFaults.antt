@@ -1,5 +1,9 @@
 -- What is wrong with a file, in words.
 use Rattle.std.specs.Prelude.{◌≡◌, ℕ, List, ◌++◌, Option, Some, None, Ok, Err, codes, decimal}
+use Rattle.casebook_script.specs.declared.fault.RowFault.{RowFault}
+use Rattle.casebook_script.specs.declared.fault.RowFault.TheVariants as rows
+use Rattle.casebook_script.specs.declared.fault.TableFault.{TableFault}
+use Rattle.casebook_script.specs.declared.fault.TableFault.TheVariants as tables
 use Rattle.casebook_snapshot_read.specs.declared.fault.Part.TheVariants as parts
 use Rattle.casebook_snapshot_read.specs.declared.fault.SnapshotFault.{SnapshotFault}
 use Rattle.casebook_snapshot_read.specs.declared.fault.SnapshotFault.TheVariants as documents
@@ -44,6 +48,25 @@ document_words documents.LawlessTree =
     (codes "tree: a path is there twice, or isn't in a directory", None)
 document_words documents.OtherPaths = (codes "attributes: not those of the folder and its tree", None)
 
+-- what is wrong with a row of a table
+abbrev pub row_words : RowFault → List ℕ
+row_words rows.Escape = codes "a backslash without t, n, r or a backslash after it: row "
+row_words rows.Cells = codes "too few or too many cells: row "
+row_words rows.Number = codes "no number of a session: row "
+row_words rows.Directory = codes "no path from the root: row "
+row_words rows.Variable = codes "no variable as NAME=VALUE: row "
+row_words rows.TooLong = codes "too long a value: row "
+row_words rows.VariableTwice = codes "a variable twice: row "
+row_words rows.SessionTwice = codes "a session for the second time: row "
+row_words rows.UnknownSession = codes "a session that isn't in the table of sessions: row "
+row_words rows.TooManyLines = codes "too many lines: row "
+
+-- what is wrong with a table, and the row, if it is one
+abbrev pub table_words : TableFault → List ℕ × Option ℕ
+table_words tables.NoMem = (codes "out of memory", None)
+table_words (tables.NotUtf8 table) = (codes "not UTF-8", None)
+table_words (tables.BadRow table row why) = (row_words why, Some row)
+
 abbrev pub with_number : List ℕ → Option ℕ → List ℕ
 with_number words None = words
 with_number words (Some n) = words ++ decimal n
@@ -53,3 +76,4 @@ unfoldable pub fault_line : FileFault → List ℕ
 fault_line (faults.Stream fault) = (stream_words fault).0 ++ decimal (stream_words fault).1
 fault_line (faults.Tree fault) = (tree_words fault).0 ++ decimal (tree_words fault).1
 fault_line (faults.Document fault) = with_number (document_words fault).0 (document_words fault).1
+fault_line (faults.Table fault) = with_number (table_words fault).0 (table_words fault).1

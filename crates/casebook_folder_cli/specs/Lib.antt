@@ -9,5 +9,7 @@ pub mod Faults
 pub mod RestoreWords
 pub mod Restoring
 pub mod FileFaults
+pub mod ScriptWords
+pub mod Scripting
 pub mod Sources
 pub mod Taking

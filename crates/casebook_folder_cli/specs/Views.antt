@@ -2,6 +2,7 @@
 use Rattle.std.specs.Prelude.{Option, Some, None, Result, Ok, Err, option_map}
 use Rattle.retro_path.specs.OutOfMemory.{UnlessOutOfMemory}
 use Rattle.casebook_folder_cli.specs.RestoreWords.{RestoreValue, UndoValue}
+use Rattle.casebook_folder_cli.specs.ScriptWords.{ScriptValue}
 use Rattle.casebook_folder_cli.specs.Sources.{SourceValue, archive, folder}
 use Rattle.casebook_folder_cli.specs.Words.{ComparedValue, SnapshotValue, taken, written}
 use Rattle.casebook_folder_cli.specs.declared.request.ComparedSnapshot.{ComparedSnapshot}
@@ -12,6 +13,7 @@ use Rattle.casebook_folder_cli.specs.declared.request.FolderProblem.{FolderProbl
 use Rattle.casebook_folder_cli.specs.declared.request.SnapshotRequest.{SnapshotRequest}
 use Rattle.casebook_folder_cli.specs.declared.restore_requests.RestoreRequest.{RestoreRequest}
 use Rattle.casebook_folder_cli.specs.declared.restore_requests.UndoRequest.{UndoRequest}
+use Rattle.casebook_folder_cli.specs.declared.script_names.ScriptRequest.{ScriptRequest}
 use Rattle.casebook_folder_cli.specs.declared.source.Source.{Source}
 use Rattle.casebook_folder_cli.specs.declared.source.Source.TheVariants as sources
 
@@ -40,6 +42,13 @@ restore_view request = record {
 
 abbrev pub undo_view : UndoRequest → UndoValue
 undo_view request = record { root = request.root.now; undo = request.undo.now; apply = request.apply }
+
+abbrev pub script_view : ScriptRequest → ScriptValue
+script_view request = record {
+  document = request.document.now;
+  sessions = request.sessions.now;
+  lines = request.lines.now;
+}
 
 -- what a fault says of the words: what is wrong with them, or None if memory ran out
 abbrev pub refused : {Y : Type 0} → FolderFault → Option (Result Y FolderProblem)

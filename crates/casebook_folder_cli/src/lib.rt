@@ -2,13 +2,16 @@
 //!
 //! A program names [`snapshot_command`] among its commands, makes a [`SnapshotRequest`] of what the
 //! command is given, and answers it by [`snapshot_answer`] over its [`Folders`]. It does the same
-//! with [`compare_command`] and [`compare_answer`], for a recording and the same request. With
+//! with [`compare_command`] and [`compare_answer`], for a recording and the same request. Of
+//! [`script_command`] it makes a [`ScriptRequest`], reads the files that it names, and answers it
+//! by [`script_answer`]. With
 //! [`restore_command`] it makes a [`RestoreRequest`] or an [`UndoRequest`], which are answered by
 //! [`restore_answer`], from a recorded tree to a repaired one, and by [`undo_answer`].
 //!
 //! If allocation fails, calls return `NoMem`, alone or as a variant of their error.
 //!
-//! Start reading at `folders.rt`, `request.rt`, `answer.rt`, `comparing.rt` and `restoring.rt`.
+//! Start reading at `folders.rt`, `request.rt`, `answer.rt`, `comparing.rt`, `scripting.rt` and
+//! `restoring.rt`.
 //!
 //! # What is proved
 //!
@@ -21,6 +24,9 @@
 //!   system nothing is known.
 //! - The answer to a comparison says exactly which paths of the folder aren't as the recording has
 //!   them at its end, of those that the snapshot didn't skip [`IsCompareAnswer`].
+//! - The answer to the request for a script is that of `casebook_script`, with the tree of the
+//!   snapshot in the document and both tables [`IsScript`], and otherwise the fault of the document
+//!   or of a table [`IsNoScript`].
 //! - The answer to a restore is the plan of `casebook_restore` for the folder as it was when it was
 //!   opened, in lines, and says no exactly if the folder is neither ready for one of the plan's
 //!   paths nor done with it [`IsRestoreAnswer`]; that of one that is taken back likewise, for the
@@ -40,6 +46,8 @@ mod request;
 mod restore_fault;
 mod restore_requests;
 mod restoring;
+mod script_names;
+mod scripting;
 mod source;
 mod source_fault;
 mod taking;
@@ -58,10 +66,12 @@ pub use request::{
 pub use restore_fault::RestoreFault;
 pub use restore_requests::{RestoreRequest, UndoRequest, restore_request, undo_request};
 pub use restoring::{RestoreAnswer, restore_answer};
+pub use script_names::{ScriptRequest, script_request};
+pub use scripting::{ScriptFault, ScriptParts, script_answer};
 pub use source::{Mounts, Source};
 pub use source_fault::SourceFault;
 pub use undoing::undo_answer;
-pub use words::{compare_command, restore_command, snapshot_command};
+pub use words::{compare_command, restore_command, script_command, snapshot_command};
 
 /// Allocation failed.
 pub use retro_path::NoMem;

@@ -3,7 +3,8 @@ ghost use Rattle.std.specs.Prelude.{◌≡◌, map, option_map, IfOk};
 ghost use Rattle.retro_edge.specs.Reads.{all_read};
 ghost use Rattle.casebook_folder_cli.specs.Paths.{path_named};
 ghost use Rattle.retro_edge.specs.Calls.{call_view};
-ghost use Rattle.casebook_folder_cli.specs.Words.{compared_in, compared_name, is_input, paths_given};
+ghost use Rattle.casebook_folder_cli.specs.Words.{compared_in, compared_name, is_input};
+ghost use Rattle.casebook_folder_cli.specs.Words.{paths_given};
 ghost use Rattle.casebook_folder_cli.specs.Words.{place_given, snapshot_in, takes_one};
 ghost use Rattle.casebook_folder_cli.specs.Views.{Means, compared_view, request_view};
 ghost use Rattle.casebook_folder_cli.specs.declared.request.FolderFault.TheVariants as faults;
@@ -42,6 +43,12 @@ pub enum FolderProblem {
     NoApply,
     /// A restore is to be taken back, and something is chosen or edited.
     Mixed,
+    /// No document of a snapshot is named.
+    NoDocument,
+    /// No table of sessions is named.
+    NoSessions,
+    /// No table of lines is named.
+    NoLines,
 }
 
 /// Why words ask for nothing.

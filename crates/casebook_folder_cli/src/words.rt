@@ -4,6 +4,7 @@ ghost use Rattle.clap.specs.Words.{app_of};
 ghost use Rattle.clap.specs.declared.builder.command.Command.TheViews.{out-Command as fields_of};
 ghost use Rattle.casebook_folder_cli.specs.RestoreWords.{edit_rules, plan_rules, repair_rules};
 ghost use Rattle.casebook_folder_cli.specs.RestoreWords.{restore_rules};
+ghost use Rattle.casebook_folder_cli.specs.ScriptWords.{script_rules};
 ghost use Rattle.casebook_folder_cli.specs.Words.{compare_rules, compared_rules, snapshot_rules};
 ghost use Rattle.casebook_folder_cli.specs.Words.{source_rules};
 ghost use Rattle.retro_edge.specs.Rules.{command};
@@ -59,6 +60,18 @@ pub fn snapshot_command<'a>(alloc: Global) -> Result<Command<'a>, NoMem>
     source_command(alloc)?
         .arg(option(alloc, "at"))?
         .arg(options(alloc, "skip"))
+}
+
+/// Returns the command that makes a script of a snapshot.
+pub fn script_command<'a>(alloc: Global) -> Result<Command<'a>, NoMem>
+    ensures shape { IfOk result (λ c.
+        app_of c ≡ record { top = command (codes "script") script_rules; subs = [] }) }
+    ensures local { IfOk result (λ c. (fields_of c).has_globals ≡ false) }
+{
+    bare_command(alloc, "script")?
+        .arg(word(alloc, "document"))?
+        .arg(option(alloc, "sessions"))?
+        .arg(option(alloc, "lines"))
 }
 
 /// Returns the command that restores a folder, with its log and its edits alone.

@@ -129,17 +129,31 @@ fn carried_out(alloc: Global, pair: &Pair, folder: &mut Memory) -> Result<String
     pair.held(alloc, folder)
 }
 
-/// Returns whether the rows of a plan for a folder fit another plan, for another folder.
+/// Returns what is returned for the rows of a plan for a folder, which were kept, and another plan,
+/// for another folder.
 pub fn kept(alloc: Global, one: [&str; 3], two: [&str; 3]) -> Result<String, Fail> {
     let [old, new, folder] = one;
     let plan = Pair::of(alloc, old, new)?.plan(alloc, &memory(alloc, folder)?)?;
     let rows = Rows::of_plan(alloc, plan.as_slice())?;
     let [old, new, folder] = two;
     let plan = Pair::of(alloc, old, new)?.plan(alloc, &memory(alloc, folder)?)?;
-    if rows.fit(plan.as_slice()) {
-        Ok(text(alloc, "fit")?)
-    } else {
-        Ok(text(alloc, "don't fit")?)
+    taken_for(alloc, rows, plan.as_slice())
+}
+
+/// Returns what is returned for the rows of a plan for a folder, which were kept, and the same plan
+/// from its last row on.
+pub fn kept_backwards(alloc: Global, old: &str, new: &str, folder: &str) -> Result<String, Fail> {
+    let mut plan = Pair::of(alloc, old, new)?.plan(alloc, &memory(alloc, folder)?)?;
+    let rows = Rows::of_plan(alloc, plan.as_slice())?;
+    plan.reverse();
+    taken_for(alloc, rows, plan.as_slice())
+}
+
+/// Returns `fit` if rows are taken for a plan, or the error.
+fn taken_for(alloc: Global, rows: Rows, plan: &[PlannedRow]) -> Result<String, Fail> {
+    match rows.for_plan(plan) {
+        Ok(_) => Ok(text(alloc, "fit")?),
+        Err(error) => Ok(format!(in alloc; "{error:?}")?),
     }
 }
 

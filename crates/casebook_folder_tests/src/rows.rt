@@ -1,5 +1,5 @@
 //! The call that each row names, and the test that makes these calls.
-use crate::calls::{applied, kept, planned, put, taken};
+use crate::calls::{applied, kept, kept_backwards, planned, put, taken};
 use crate::stops::stops;
 use crate::tables::{APPLIED, KEPT, PLANS, PUTS, STOPS};
 use crate::undo_calls::{read, read_bytes, written};
@@ -15,6 +15,7 @@ fn called(alloc: Global, call: &str, given: &[String]) -> Result<String, Fail> {
         ("apply", [old, new, folder]) => applied(alloc, old, new, folder),
         ("stops", [old, new, folder]) => stops(alloc, old, new, folder),
         ("rows", [paths]) => taken(alloc, paths),
+        ("backwards", [old, new, folder]) => kept_backwards(alloc, old, new, folder),
         ("put", [folder, at, before, after]) => put(alloc, folder, at, before, after),
         ("undo", [at, rows]) => written(alloc, at, rows),
         ("read", [text]) => read(alloc, text),

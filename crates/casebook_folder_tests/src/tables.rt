@@ -67,11 +67,14 @@ kept: /a file x, /b file y :: /a file z, /b file q :: /a file x, /b file y
 kept: /a file x, /b file y :: /a file z, /b file q :: /a file x, /b file q
   :: /a file x, /b file y :: /a file z, /b file q :: /a file z, /b file q => fit
 kept: /a file x, /b file y :: /a file z, /b file q :: /a file x, /b file q
-  :: /a file x, /b file y :: /a file z, /b file q :: /a file z, /b file y => don't fit
-kept: /a file x :: /a file z :: /a file x :: /a file x :: /a file w :: /a file x => don't fit
-kept: /a file x :: /a file z :: /a file x :: /a file v :: /a file z :: /a file x => don't fit
-kept: /a file x :: /a file z :: /a file x :: /b file x :: /b file z :: /b file z => don't fit
+  :: /a file x, /b file y :: /a file z, /b file q :: /a file z, /b file y => NotReady
+kept: /a file x :: /a file z :: /a file x :: /a file x :: /a file w :: /a file x => NotReady
+kept: /a file x :: /a file z :: /a file x :: /a file v :: /a file z :: /a file x => NotReady
+kept: /a file x :: /a file z :: /a file x :: /b file x :: /b file z :: /b file z => NotReady
 kept: /d dir :: /d file z :: /d dir 711 :: /d dir :: /d file z :: none => fit
+
+backwards: /a file x, /b file y :: /a file z, /b file q :: /a file x, /b file y => Unsorted
+backwards: /a file x :: /a file z :: /a file x => fit
 ";
 
 /// What a put returns, and what the path holds after it.

@@ -9,6 +9,8 @@ mod restores;
 #[cfg(test)]
 mod rows;
 #[cfg(test)]
+mod scripts;
+#[cfg(test)]
 mod snapshots;
 #[cfg(test)]
 mod streams;

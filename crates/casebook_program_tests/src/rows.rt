@@ -4,6 +4,7 @@
 //! `numbers` the filters of `lines log`. In a word `_` is a space.
 use crate::memory::{coloured, ended, kept, refused, remarked, written};
 use crate::restores::{REFUSED_RESTORES, RESTORES};
+use crate::scripts::{REFUSED_SCRIPTS, SCRIPTS};
 use crate::snapshots::{COMPARISONS, REFUSED_SNAPSHOTS, SNAPSHOTS};
 use crate::tables::{LINES, OTHERS, PAGES, REFUSED, REPAIRS, TIMES};
 use retro_rows::{fail, rows, text};
@@ -112,7 +113,7 @@ fn lines_and_repairs_are_shown(rt: HostRuntime) -> Result<(), Fail> {
 
 #[test]
 fn pages_checks_folders_and_helps_are_written(rt: HostRuntime) -> Result<(), Fail> {
-    for table in [PAGES, OTHERS, SNAPSHOTS, COMPARISONS] {
+    for table in [PAGES, OTHERS, SNAPSHOTS, COMPARISONS, SCRIPTS] {
         hold(&rt, table)?;
     }
     Ok(())
@@ -125,7 +126,12 @@ fn folders_are_restored(rt: HostRuntime) -> Result<(), Fail> {
 
 #[test]
 fn words_and_documents_are_refused(rt: HostRuntime) -> Result<(), Fail> {
-    for table in [REFUSED, REFUSED_RESTORES, REFUSED_SNAPSHOTS] {
+    for table in [
+        REFUSED,
+        REFUSED_RESTORES,
+        REFUSED_SNAPSHOTS,
+        REFUSED_SCRIPTS,
+    ] {
         hold(&rt, table)?;
     }
     Ok(())

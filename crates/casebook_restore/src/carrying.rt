@@ -17,19 +17,15 @@ use std::alloc::Global;
 /// # Errors
 ///
 /// `NotReady` if the folder is neither ready for one of the plan's rows nor done with it, or if the
-/// kept rows aren't those of the plan.
+/// kept rows aren't those of the plan; `Unsorted` if the plan's rows aren't in order of their
+/// paths, or a path has two.
 pub fn rows_of(alloc: Global, plan: &RestorePlan, kept: Option<Rows>) -> Result<Rows, FolderError>
     ensures { IfOk result (λ rows. AreRowsOf plan.now.rows.items rows.items.items) }
 {
     let planned = plan.rows.as_slice();
     match kept {
         None => Rows::of_plan(alloc, planned),
-        Some(rows) => {
-            if !rows.fit(planned) {
-                return Err(FolderError::NotReady);
-            }
-            Ok(rows)
-        }
+        Some(rows) => rows.for_plan(planned),
     }
 }
 

@@ -7,3 +7,6 @@ pub mod Odd
 pub mod Ends
 pub mod Texts
 pub mod RowsTrip
+pub mod TextTrip
+pub mod JoinTrip
+pub mod DocumentTrip

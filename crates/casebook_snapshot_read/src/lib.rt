@@ -32,7 +32,17 @@
 //!
 //! `written_rows_read_back` states that the rows of each list are read back from the values that
 //! `write_snapshot` writes them as, if paths have no NUL, modes have 12 bits, and files are within
-//! the limit. That whole documents are read back is only tested.
+//! the limit.
+//!
+//! `written_documents_read_back` states that the text that `write_snapshot` writes of a snapshot is
+//! the document of that snapshot, with the path of its folder, the folder's own name and the time.
+//! So `read_snapshot` returns that document, unless allocation fails. Its premises are those of the
+//! rows, and these (`IsReadable` in `specs/ReadBack.antt`):
+//!
+//! - The rows are a lawful tree, in order of their paths, and no path occurs twice.
+//! - The folder is a directory of the tree. Each other path is below it, or is a directory above it
+//!   with the mode 755 and the owner 0.
+//! - The names in paths, the folder's own name and the time are UTF-8.
 #![tactic(auto)]
 
 mod document;
@@ -47,7 +57,7 @@ mod rows;
 
 pub use document::{SnapshotDocument, read_snapshot};
 pub use fault::{Part, SnapshotFault};
-pub use laws::written_rows_read_back;
+pub use laws::{written_documents_read_back, written_rows_read_back};
 
 /// Allocation failed.
 pub use retro_path::NoMem;

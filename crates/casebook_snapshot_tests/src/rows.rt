@@ -1,6 +1,7 @@
 //! The call that each row names, and the test that makes these calls.
 use crate::calls::{again, nested, placed, read, snapshot};
 use crate::documents::{AGAIN, READ, REFUSED};
+use crate::scripts::{REFUSED_TABLES, SCRIPTS, tables};
 use crate::tables::{KEPT, LARGE, PLACED, SKIPPED};
 use retro_rows::{fail, rows};
 use std::alloc::Global;
@@ -13,6 +14,7 @@ fn called(alloc: Global, call: &str, given: &[String]) -> Result<String, Fail> {
         ("placed", [folder, at, skip]) => placed(alloc, folder, at, skip),
         ("read", [text]) => read(alloc, text),
         ("again", [folder, at]) => again(alloc, folder, at),
+        ("tables", [tree, sessions, lines]) => tables(alloc, tree, sessions, lines),
         ("deep", [count]) => nested(alloc, count, true),
         ("wide", [count]) => nested(alloc, count, false),
         _ => fail("no such call"),
@@ -32,6 +34,14 @@ fn hold(alloc: Global, table: &str) -> Result<(), Fail> {
 #[test]
 fn rows_hold(rt: HostRuntime) -> Result<(), Fail> {
     for table in [KEPT, SKIPPED, PLACED, LARGE, READ, AGAIN, REFUSED] {
+        hold(rt.alloc(), table)?;
+    }
+    Ok(())
+}
+
+#[test]
+fn script_rows_hold(rt: HostRuntime) -> Result<(), Fail> {
+    for table in [SCRIPTS, REFUSED_TABLES] {
         hold(rt.alloc(), table)?;
     }
     Ok(())

@@ -4,7 +4,8 @@ use Rattle.std.specs.Prelude.{option_map}
 use Rattle.regex.specs.Bytes.{regex_pattern}
 use Rattle.retro_tree.specs.OutOfMemory.{UnlessOutOfMemory}
 use Rattle.retro_keep.specs.Recording.{RecordingValue}
-use Rattle.casebook_folder_cli.specs.Views.{compared_view, request_view as snapshot_view, restore_view, undo_view}
+use Rattle.casebook_folder_cli.specs.Views.{compared_view, request_view as snapshot_view, restore_view, script_view}
+use Rattle.casebook_folder_cli.specs.Views.{undo_view}
 use Rattle.casebook_view.specs.Filters.{FiltersValue}
 use Rattle.casebook_view.specs.Rows.{RowValue, rows_of}
 use Rattle.casebook_view.specs.declared.line_test.LineTest.{LineTest}
@@ -15,8 +16,9 @@ use Rattle.casebook_cli.specs.Inputs.{DocumentValue, InputsValue, SourcesValue}
 use Rattle.casebook_cli.specs.Lines.{HasUser, user_tests}
 use Rattle.casebook_cli.specs.Request.{LinesRequest, PageRequest, Query, RepairRequest, Request}
 use Rattle.casebook_cli.specs.Request.{CompareValue, RoundsValue, ShowRequest, ask, check, compare, help, lines, page, show}
-use Rattle.casebook_cli.specs.Request.{FolderRepair, restore, snapshot, test_view, undo}
+use Rattle.casebook_cli.specs.Request.{FolderRepair, restore, script, snapshot, test_view, undo}
 use Rattle.casebook_cli.specs.Screens.{ScreenValue}
+use Rattle.casebook_cli.specs.Scripts.{ScriptInputs}
 use Rattle.casebook_cli.specs.declared.answer.Answer.{Answer}
 use Rattle.casebook_cli.specs.declared.document.Document.{Document}
 use Rattle.casebook_cli.specs.declared.lines_request.LinesRequest.{LinesRequest as LinesCode}
@@ -33,6 +35,7 @@ use Rattle.casebook_cli.specs.declared.request.Request.{Request as RequestCode}
 use Rattle.casebook_cli.specs.declared.request.Request.TheVariants as requests
 use Rattle.casebook_cli.specs.declared.rounds.Rounds.{Rounds as RoundsCode}
 use Rattle.casebook_cli.specs.declared.screens.Screen.{Screen}
+use Rattle.casebook_cli.specs.declared.scripts.ScriptFiles.{ScriptFiles}
 use Rattle.casebook_cli.specs.declared.sources.Inputs.{Inputs}
 use Rattle.casebook_cli.specs.declared.sources.Sources.{Sources}
 use Rattle.casebook_cli.specs.declared.words.WordsFault.{WordsFault}
@@ -55,6 +58,13 @@ inputs_view inputs = record {
   log = document_view inputs.log;
   list = option_map document_view inputs.list;
   about = option_map document_view inputs.about;
+}
+
+abbrev pub files_view : ScriptFiles → ScriptInputs
+files_view files = record {
+  document = document_view files.document;
+  sessions = document_view files.sessions;
+  lines = document_view files.lines;
 }
 
 -- ---- requests
@@ -116,6 +126,7 @@ request_view (requests.Snapshot request) = snapshot (snapshot_view request)
 request_view (requests.Compare request) = compare (compare_view request)
 request_view (requests.Restore request) = restore (folder_repair_view request)
 request_view (requests.Undo request) = undo (undo_view request)
+request_view (requests.Script request) = script (script_view request)
 
 -- what a fault says of the words: what is wrong with them, or None if memory ran out
 abbrev pub refused : {Y : Type 0} → WordsFault → Option (Result Y Problem)

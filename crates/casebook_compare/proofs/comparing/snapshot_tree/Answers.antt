@@ -4,7 +4,7 @@ use Rattle.retro_path.specs.Order.{path_cmp}
 use Rattle.retro_tree.specs.Tree.{node_in, put}
 use Rattle.retro_tree.specs.declared.node.Node.TheVariants.{Missing}
 use Rattle.casebook_compare.proofs.Folders.{node_after, node_found, node_none, node_put}
-use Rattle.casebook_compare.proofs.comparing.folder_of.Goals as goal
+use Rattle.casebook_compare.proofs.comparing.snapshot_tree.Goals as goal
 
 pub loop-path-init : goal.loop-path-init
 loop-path-init c = λ q.

@@ -4,7 +4,7 @@ use Rattle.retro_tree.specs.Path.{PathValue}
 use Rattle.retro_tree.specs.Tree.{node_in}
 use Rattle.retro_tree.specs.declared.node.Node.TheVariants.{Missing}
 use Rattle.casebook_compare.proofs.Folders.{node_after}
-use Rattle.casebook_compare.proofs.comparing.folder_of.Given as goal
+use Rattle.casebook_compare.proofs.comparing.snapshot_tree.Given as goal
 
 abbrev pub invariant-loop-path : goal.invariant-loop-path
 invariant-loop-path l =

@@ -1,0 +1,9 @@
+pub mod Escapes
+pub mod InTurn
+pub mod Rows
+pub mod Adding
+pub mod Kept
+pub mod Lawful
+pub mod Numbered
+pub mod Trip
+pub mod Whole

@@ -1,0 +1,10 @@
+pub mod Ascii
+pub mod Steps
+pub mod Reads
+pub mod Rows
+pub mod Cells
+pub mod Paths
+pub mod Sessions
+pub mod Lines
+pub mod Scripts
+pub mod inner
