@@ -19,9 +19,30 @@ pub of_second : {A B : Type 0} (o : Option A) (p : Option B) (Q : B → Type 0) 
 of_second None p Q h = tt
 of_second (Some x) p Q h = h
 
+-- from a fact of the first to a fact of both
+pub from_first : {A B : Type 0} (o : Option A) (p : Option B) (P : A → Type 0) (R : A → B → Type 0)
+    → IfSome o P → ((x : A) (y : B) → P x → R x y) → IfSome o (λ x. IfSome p (R x))
+from_first None p P R h f = tt
+from_first (Some x) None P R h f = tt
+from_first (Some x) (Some y) P R h f = f x y h
+
+-- from a fact of the second to a fact of both
+pub from_second : {A B : Type 0} (o : Option A) (p : Option B) (Q : B → Type 0) (R : A → B → Type 0)
+    → IfSome p Q → ((x : A) (y : B) → Q y → R x y) → IfSome o (λ x. IfSome p (R x))
+from_second None p Q R h f = tt
+from_second (Some x) None Q R h f = tt
+from_second (Some x) (Some y) Q R h f = f x y h
+
 -- from a fact of each to a fact of both
 pub both : {A B : Type 0} (o : Option A) (p : Option B) (P : A → Type 0) (Q : B → Type 0) (R : A → B → Type 0)
     → IfSome o P → IfSome p Q → ((x : A) (y : B) → P x → Q y → R x y) → IfSome o (λ x. IfSome p (R x))
 both None p P Q R h k f = tt
 both (Some x) None P Q R h k f = tt
 both (Some x) (Some y) P Q R h k f = f x y h k
+
+-- from one fact of both to another
+pub both_known : {A B : Type 0} (o : Option A) (p : Option B) (P R : A → B → Type 0)
+    → IfSome o (λ x. IfSome p (P x)) → ((x : A) (y : B) → P x y → R x y) → IfSome o (λ x. IfSome p (R x))
+both_known None p P R h f = tt
+both_known (Some x) None P R h f = tt
+both_known (Some x) (Some y) P R h f = f x y h

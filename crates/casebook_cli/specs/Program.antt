@@ -42,5 +42,5 @@ pub record Answered (words : List Text) (at : AllDocuments) (folders : AllFolder
 
 -- what a run on words, documents and folders leaves, with colours if they are wanted
 abbrev pub Runs : List Text → AllDocuments → AllFolders → Bool → Option Text → Option Text → Exit → Type 0
-Runs words at folders colours old new (exits.Stopped stop) = StopsWords words at stop
+Runs words at folders colours old new (exits.Stopped stop) = StopsWords words at folders stop
 Runs words at folders colours old new exit = Answered words at folders colours old new exit

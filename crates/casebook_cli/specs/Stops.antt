@@ -24,14 +24,18 @@ use Rattle.casebook_cli.specs.Labels.{AreLabels, IsAbout}
 use Rattle.casebook_cli.specs.Lines.{pattern_config, sessions_named}
 use Rattle.casebook_cli.specs.Repairs.{AreEdits, IsAsked, IsListGiven, lines_in, repair_sources, sources_of}
 use Rattle.casebook_cli.specs.Request.{LinesRequest, Query, RepairRequest, Request, RoundsValue, ShowRequest, ask, check, help, lines, page, request_in, show}
+use Rattle.casebook_folder_cli.specs.Folders.{AllFolders}
 use Rattle.casebook_folder_cli.specs.ScriptWords.{ScriptValue}
 use Rattle.casebook_folder_cli.specs.Scripting.{IsNoScript}
 use Rattle.casebook_folder_cli.specs.Sources.{source_name}
+use Rattle.casebook_folder_cli.specs.Taking.{IsNotCompared, IsNotTaken}
 use Rattle.casebook_folder_cli.specs.Words.{compared_name}
 use Rattle.casebook_folder_cli.specs.declared.file_fault.FileFault.{FileFault}
 use Rattle.casebook_folder_cli.specs.declared.file_fault.FileFault.TheVariants as files
 use Rattle.casebook_folder_cli.specs.declared.scripting.ScriptFault.{ScriptFault}
 use Rattle.casebook_folder_cli.specs.declared.scripting.ScriptFault.TheVariants as script_faults
+use Rattle.casebook_folder_cli.specs.declared.source_fault.SourceFault.{SourceFault}
+use Rattle.casebook_folder_cli.specs.declared.source_fault.SourceFault.TheVariants as source_faults
 use Rattle.casebook_cli.specs.Request.{CompareValue, FolderRepair, compare, restore, script, snapshot, undo}
 use Rattle.casebook_cli.specs.Scripts.{AreScriptInputs, ScriptInputs, parts_of, table_name}
 use Rattle.casebook_cli.specs.declared.repairs.AskedRepair.{AskedRepair}
@@ -213,20 +217,47 @@ pub data StopsQuery (at : AllDocuments) (query : Query) (stop : Stop) : Type 0 w
   refused : (inputs : InputsValue) → AreInputs at (sources_of query) inputs → StopsBy inputs query stop
       → StopsQuery at query stop
 
--- there is no snapshot of the folder or the file with a name
-abbrev pub StopsSnapshot : List ℕ → Stop → Type 0
-StopsSnapshot source (stops.ReadFailed name) = name.now ≡ source
-StopsSnapshot source (stops.NotADirectory name) = name.now ≡ source
-StopsSnapshot source (stops.BadFile name fault) = name.now ≡ source
-StopsSnapshot source stops.OutOfMemory = Unit {0}
-StopsSnapshot source other = ⊥
+-- ---- snapshots
+
+-- the folder or the file with a name can't be read
+abbrev pub IsUnreadable : List ℕ → Stop → Type 0
+IsUnreadable wanted (stops.ReadFailed name) = name.now ≡ wanted
+IsUnreadable wanted other = ⊥
+
+-- what has a name is no directory
+abbrev pub IsNoDirectory : List ℕ → Stop → Type 0
+IsNoDirectory wanted (stops.NotADirectory name) = name.now ≡ wanted
+IsNoDirectory wanted other = ⊥
+
+-- the file with a name has this fault
+abbrev pub IsBadFile : List ℕ → FileFault → Stop → Type 0
+IsBadFile wanted fault (stops.BadFile name found) = (name.now ≡ wanted) × (found ≡ fault)
+IsBadFile wanted fault other = ⊥
+
+-- the source with a name is named, with the fault for which there is no snapshot of it
+abbrev pub NamesSource : List ℕ → SourceFault → Stop → Type 0
+NamesSource name source_faults.NoMem stop = stop ≡ stops.OutOfMemory
+NamesSource name source_faults.Unreadable stop = IsUnreadable name stop
+NamesSource name source_faults.NotADirectory stop = IsNoDirectory name stop
+NamesSource name (source_faults.BadFile fault) stop = IsBadFile name fault stop
+
+-- There is no snapshot of the source with a name, for a fault of a kind.
+pub record StopsSnapshot (IsFault : SourceFault → Type 0) (name : List ℕ) (stop : Stop) : Type 0 where
+  pub fault : SourceFault
+  pub is_fault : IsFault fault
+  pub names : NamesSource name fault stop
 
 -- there is no comparison: the log can't be read or isn't one, or there is no snapshot
-pub data StopsCompare (at : AllDocuments) (request : CompareValue) (stop : Stop) : Type 0 where
-  no_document : IsUnread at request.log stop → StopsCompare at request stop
+pub data StopsCompare (at : AllDocuments) (folders : AllFolders) (request : CompareValue) (stop : Stop)
+    : Type 0 where
+  no_document : IsUnread at request.log stop → StopsCompare at folders request stop
   no_log : (document : DocumentValue) → IsDocument at request.log document → StopsLog document stop
-      → StopsCompare at request stop
-  no_snapshot : StopsSnapshot (compared_name request.snapshot) stop → StopsCompare at request stop
+      → StopsCompare at folders request stop
+  no_snapshot : StopsSnapshot (IsNotCompared folders request.snapshot) (compared_name request.snapshot) stop
+      → StopsCompare at folders request stop
+  no_memory : stop ≡ stops.OutOfMemory → StopsCompare at folders request stop
+
+-- ---- restores
 
 -- the name of an undo file, if one is given
 abbrev pub undo_name : Option (List ℕ) → List ℕ
@@ -255,10 +286,7 @@ pub data StopsRestore (at : AllDocuments) (request : FolderRepair) (stop : Stop)
   not_repaired : StopsRepairOf at request.repair stop → StopsRestore at request stop
   not_restored : StopsFolder request.folder.root (undo_name request.folder.undo) stop → StopsRestore at request stop
 
--- the file with a name has this fault
-abbrev pub IsBadFile : List ℕ → FileFault → Stop → Type 0
-IsBadFile wanted fault (stops.BadFile name found) = (name.now ≡ wanted) × (found ≡ fault)
-IsBadFile wanted fault other = ⊥
+-- ---- scripts
 
 -- the file is named that has the fault for which there is no script
 abbrev pub NamesFault : ScriptValue → ScriptFault → Stop → Type 0
@@ -274,14 +302,17 @@ pub data StopsScript (at : AllDocuments) (names : ScriptValue) (stop : Stop) : T
   no_script : (inputs : ScriptInputs) → AreScriptInputs at names inputs → (fault : ScriptFault)
       → IsNoScript (parts_of inputs) fault → NamesFault names fault stop → StopsScript at names stop
 
-abbrev pub Stops : AllDocuments → Request → Stop → Type 0
-Stops at (help topic) stop = stop ≡ stops.OutOfMemory
-Stops at (ask query) stop = StopsQuery at query stop
-Stops at (snapshot request) stop = StopsSnapshot (source_name request.source) stop
-Stops at (compare request) stop = StopsCompare at request stop
-Stops at (restore request) stop = StopsRestore at request stop
-Stops at (undo request) stop = StopsFolder request.root request.undo stop
-Stops at (script request) stop = StopsScript at request stop
+-- ---- the program
+
+abbrev pub Stops : AllDocuments → AllFolders → Request → Stop → Type 0
+Stops at folders (help topic) stop = stop ≡ stops.OutOfMemory
+Stops at folders (ask query) stop = StopsQuery at query stop
+Stops at folders (snapshot request) stop =
+    StopsSnapshot (IsNotTaken folders request.source) (source_name request.source) stop
+Stops at folders (compare request) stop = StopsCompare at folders request stop
+Stops at folders (restore request) stop = StopsRestore at request stop
+Stops at folders (undo request) stop = StopsFolder request.root request.undo stop
+Stops at folders (script request) stop = StopsScript at request stop
 
 -- words make no request
 abbrev pub IsBadWords : List (List ℕ) → Stop → Type 0
@@ -289,6 +320,8 @@ IsBadWords words (stops.BadWords problem) = request_in words ≡ Err problem
 IsBadWords words stops.OutOfMemory = Unit {0}
 IsBadWords words other = ⊥
 
-pub data StopsWords (words : List (List ℕ)) (at : AllDocuments) (stop : Stop) : Type 0 where
-  bad_words : IsBadWords words stop → StopsWords words at stop
-  no_answer : (request : Request) → request_in words ≡ Ok request → Stops at request stop → StopsWords words at stop
+pub data StopsWords (words : List (List ℕ)) (at : AllDocuments) (folders : AllFolders) (stop : Stop)
+    : Type 0 where
+  bad_words : IsBadWords words stop → StopsWords words at folders stop
+  no_answer : (request : Request) → request_in words ≡ Ok request → Stops at folders request stop
+      → StopsWords words at folders stop

@@ -103,7 +103,8 @@ fn asked_answer<'a, R: Threads + Sync + AllocGlobal, D: Documents + Folders + Pr
         IfSome (D.holds documents.now) (λ folders.
         Answers colours at folders (ask (query_view query.entry)) (answer_view answer)))) }
     ensures err { IfErr result (λ stop. IfSome (D.bytes_of documents.now) (λ at.
-        StopsQuery at (query_view query.entry) stop)) }
+        IfSome (D.holds documents.now) (λ folders.
+        StopsQuery at (query_view query.entry) stop))) }
 {
     let inputs = read_inputs(rt.alloc(), documents, query.sources())?;
     answer_by(rt, documents, &inputs, query, colours)
@@ -127,7 +128,8 @@ pub(crate) fn answer<'a, R: Threads + Sync + AllocGlobal, D: Documents + Folders
         IfSome (D.holds documents.now) (λ folders.
         Answers colours at folders (request_view request.entry) (answer_view answer)))) }
     ensures err { IfErr result (λ stop. IfSome (D.bytes_of documents.now) (λ at.
-        Stops at (request_view request.entry) stop)) }
+        IfSome (D.holds documents.now) (λ folders.
+        Stops at folders (request_view request.entry) stop))) }
 {
     match request {
         Request::Help(topic) => Ok(help_answer(rt.alloc(), topic)?),

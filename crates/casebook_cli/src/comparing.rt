@@ -42,7 +42,8 @@ pub(crate) fn compare_text<'a, D: Documents + Folders + Progress>(
         IfSome (D.holds documents.now) (λ folders.
         AnswersCompare at folders (compare_view request.entry) (answer_view answer)))) }
     ensures err { IfErr result (λ stop. IfSome (D.bytes_of documents.now) (λ at.
-        StopsCompare at (compare_view request.entry) stop)) }
+        IfSome (D.holds documents.now) (λ folders.
+        StopsCompare at folders (compare_view request.entry) stop))) }
 {
     let log = read_document(alloc, documents, request.log)?;
     documents.begin(Step::Reading(log.bytes.len()));

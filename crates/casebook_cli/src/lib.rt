@@ -39,14 +39,21 @@
 //!   it is the log of a recording of its lines, and only if it is one; or, after `No`, by the first
 //!   line that isn't as noted and how, or by why the document is refused [by `IsChecked`]. What has
 //!   a key `script` is read as a script, and all else as a log.
+//! - `snapshot` is answered by the document of a snapshot of the folder or of the stream that is
+//!   named [by `AnswersSnapshot`]; `compare` by the paths in which such a snapshot isn't as the log
+//!   has them at its end [by `AnswersCompare`]; `restore` by the plan for the paths in which the
+//!   log and its repair differ, or that takes a restore back [by `AnswersRestore`, `AnswersUndo`];
+//!   `script` by the script of a snapshot's document and of two tables [by `IsScriptOf`].
 //! - After `Stopped` nothing was written [`unwritten`], and the `Stop` is one of `StopsWords`
 //!   (`specs/Stops.antt`): the words are bad, a document can't be read, isn't a log, isn't UTF-8 or
 //!   has no names and times, a pattern or a list is refused, no line has the number, or the repair
-//!   or how lines are run ahead is refused; each as the definitions refuse it. After `WriteFailed`
-//!   a part of the answer was written, but not all of it, and it is returned exactly if the output
-//!   failed [`write_failure`].
-//! - All this is said where the documents are known (`Documents`, `bytes_of`). Of the files of a
-//!   process nothing is known, so no proof speaks of what a file holds.
+//!   or how lines are run ahead is refused; each as the definitions refuse it. A stream, a
+//!   snapshot's document or a table that is refused is named with the fault that it has. After
+//!   `WriteFailed` a part of the answer was written, but not all of it, and it is returned exactly
+//!   if the output failed [`write_failure`].
+//! - All this is said where the documents and the folders are known (`bytes_of` of `Documents`,
+//!   `holds` of `Folders`). Of the files of a process nothing is known, so no proof speaks of what a
+//!   file holds.
 //! - `Exit::status` and `Exit::message` give the status and the line for standard error, whose
 //!   characters are harmless, as it is a `SafeLine`. What `help` says is a constant.
 #![tactic(auto)]

@@ -47,7 +47,8 @@ fn answer_to<'a, R: Threads + Sync + AllocGlobal, D: Documents + Folders + Progr
         IfSome (D.holds documents.now) (λ folders.
         AnswersWords (map string_bytes words.entry.now) at folders colours (answer_view answer)))) }
     ensures err { IfErr result (λ stop. IfSome (D.bytes_of documents.now) (λ at.
-        StopsWords (map string_bytes words.entry.now) at stop)) }
+        IfSome (D.holds documents.now) (λ folders.
+        StopsWords (map string_bytes words.entry.now) at folders stop))) }
 {
     let request = request_of(rt.alloc(), words)?;
     answer(rt, documents, request, colours)

@@ -78,7 +78,8 @@ pub(crate) fn restore_text<'a, R: Threads + Sync + AllocGlobal, D: Documents + F
         IfSome (D.holds documents.now) (λ folders. AnswersRestore at folders
         (folder_repair_view request.entry) (answer_view answer)))) }
     ensures err { IfErr result (λ stop. IfSome (D.bytes_of documents.now) (λ at.
-        StopsRestore at (folder_repair_view request.entry) stop)) }
+        IfSome (D.holds documents.now) (λ folders.
+        StopsRestore at (folder_repair_view request.entry) stop))) }
 {
     let FolderRepair { repair, folder } = request;
     let asked = repair_of(rt, documents, repair)?;

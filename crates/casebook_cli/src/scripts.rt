@@ -108,7 +108,8 @@ pub(crate) fn script_text<'a, D: Documents + Folders>(
         IfSome (D.holds documents.now) (λ folders.
         Says (IsScriptOf at (script_view names.entry)) (answer_view answer)))) }
     ensures err { IfErr result (λ stop. IfSome (D.bytes_of documents.now) (λ at.
-        StopsScript at (script_view names.entry) stop)) }
+        IfSome (D.holds documents.now) (λ folders.
+        StopsScript at (script_view names.entry) stop))) }
 {
     let files = read_files(alloc, documents, names)?;
     let parts = parts_of(&files);

@@ -1,9 +1,10 @@
 //! Snapshots of folders and of streams.
 ghost use Rattle.std.specs.Prelude.{IfOk, IfErr, IfSome};
 ghost use Rattle.casebook_folder_cli.specs.Sources.{source_name};
+ghost use Rattle.casebook_folder_cli.specs.Taking.{IsNotTaken};
 ghost use Rattle.casebook_folder_cli.specs.Views.{request_view as snapshot_view};
 ghost use Rattle.casebook_cli.specs.Answers.{AnswersSnapshot};
-ghost use Rattle.casebook_cli.specs.Stops.{StopsSnapshot};
+ghost use Rattle.casebook_cli.specs.Stops.{NamesSource, StopsSnapshot};
 ghost use Rattle.casebook_cli.specs.inner.Views.{answer_view};
 
 use crate::answer::Answer;
@@ -15,7 +16,7 @@ use std::alloc::Global;
 
 /// Returns why there is no snapshot of the folder or the file with a name.
 pub(crate) fn snapshot_stop(name: &str, fault: SourceFault) -> Stop<'_>
-    ensures { StopsSnapshot name.entry.now result }
+    ensures { NamesSource name.entry.now fault result }
 {
     match fault {
         SourceFault::NoMem => Stop::OutOfMemory,
@@ -34,8 +35,10 @@ pub(crate) fn snapshot_text<'a, D: Documents + Folders + Progress>(
     ensures ok { IfOk result (λ answer. IfSome (D.bytes_of documents.now) (λ at.
         IfSome (D.holds documents.now) (λ folders.
         AnswersSnapshot folders (snapshot_view request.entry) (answer_view answer)))) }
-    ensures err { IfErr result
-        (StopsSnapshot (source_name (snapshot_view request.entry).source)) }
+    ensures err { let source = (snapshot_view request.entry).source in
+        IfErr result (λ stop. IfSome (D.bytes_of documents.now) (λ at.
+        IfSome (D.holds documents.now) (λ folders.
+        StopsSnapshot (IsNotTaken folders source) (source_name source) stop))) }
 {
     match snapshot_answer(alloc, documents, &request) {
         Ok(answer) => {

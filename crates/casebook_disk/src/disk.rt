@@ -1,5 +1,5 @@
 //! Folders of the file system.
-ghost use Rattle.std.specs.Prelude.{None, map};
+ghost use Rattle.std.specs.Prelude.{None, false, map};
 ghost use Rattle.casebook_folder.specs.Made.{step_of};
 
 use crate::errors::folder_error;
@@ -7,7 +7,7 @@ use crate::place::{DiskPlace, name_in, open_in, opened, place_of};
 use crate::reading::find_in;
 use crate::scope::Scope;
 use crate::target::Target;
-use crate::temporary::{clear, is_temporary};
+use crate::temporary::{clear, has_temporary, is_temporary};
 use casebook_folder::{Folder, FolderError, Found, MadeStep, Obstacle, push_step};
 use retro_path::{Listing, Path};
 use std::alloc::Global;
@@ -92,6 +92,17 @@ impl<'a> Disk<'a> {
         }
         Ok(Some(target))
     }
+
+    /// Removes what a stopped step left beside a path, under its temporary name.
+    fn clear_beside(&self, path: &Path) -> io::Result<()> {
+        let (DiskPlace::In(dir), name) = place_of(self.rt, self.alloc, &self.root, path)? else {
+            return Ok(());
+        };
+        if name.is_empty() || !has_temporary(name.as_str()) {
+            return Ok(());
+        }
+        clear(self.rt, Target::of(self.alloc, dir, name)?.made_at.as_str())
+    }
 }
 
 /// Returns whether a name is among some names.
@@ -104,6 +115,8 @@ impl Folder for Disk<'_> {
     ghost first = { λ _. None };
 
     ghost made = { λ d. map step_of d.made.items };
+
+    ghost parts = { λ _ _. false };
 
     fn look(&self, path: &Path) -> Result<Found, FolderError> {
         match self.find(path) {
@@ -130,6 +143,13 @@ impl Folder for Disk<'_> {
         };
         push_step(&mut self.made, path, before, after)?;
         match target.exchange(self.rt, self.alloc, before, after) {
+            Ok(()) => Ok(()),
+            Err(error) => Err(folder_error(error)),
+        }
+    }
+
+    fn clear(&mut self, path: &Path) -> Result<(), FolderError> {
+        match self.clear_beside(path) {
             Ok(()) => Ok(()),
             Err(error) => Err(folder_error(error)),
         }

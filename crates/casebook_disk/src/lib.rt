@@ -7,7 +7,8 @@
 //! directories meanwhile.
 //!
 //! A new node is made under a temporary name beside its path, gets its mode and owner, and is
-//! synced. Then the path is looked at again, and the new node is renamed over it.
+//! synced. Then the path is looked at again, and the new node is renamed over it. What a stopped
+//! step left under a temporary name is removed by the next step of its path, or by `clear`.
 //!
 //! A listing opens only what is a directory or a file when it is looked at. A file is kept if it
 //! has the same size, times and number before and after it is read. Otherwise it is read again,

@@ -57,7 +57,7 @@ remaining_at (r ∷ rs) g q d = elim (decided (path_eq r.path q)) [
   ]
 ]
 
-none_stays : (rows : List Row) (g : Contents) (q : PathValue) → AreDistinct rows
+pub none_stays : (rows : List Row) (g : Contents) (q : PathValue) → AreDistinct rows
     → row_at q rows ≡ None → row_at q (remaining_rows rows g) ≡ None
 none_stays rows g q d e = remaining_at rows g q d ∙ ap (λ o. left_of o (g q)) e
 

@@ -6,6 +6,7 @@ pub mod Prefixes
 pub mod GoingOn
 pub mod Leftover
 pub mod Memories
+pub mod Parts
 pub mod Orders
 pub mod Planned
 pub mod Touching

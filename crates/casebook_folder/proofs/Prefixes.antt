@@ -24,6 +24,18 @@ removals_split (suc k) [] = refl
 removals_split (suc k) (r ∷ rs) =
     ap (λ x. x ++ removal r) (removals_split k rs) ∙ append_assoc (removals (drop k rs)) (removals (take k rs)) (removal r)
 
+-- a removal that was made, after those of the rows behind it
+pub removals_more : (rows : List Row) (k : ℕ) (r : Row) (old now new : List Step)
+    → k < length rows → get_or rows k r ≡ r → clears r ≡ true
+    → now ≡ old ++ removals (drop (k + 1) rows)
+    → new ≡ now ++ step r.path r.before Missing ∷ [] → new ≡ old ++ removals (drop k rows)
+removals_more rows k r old now new within is h made e =
+    e ∙ ap (λ x. x ++ step r.path r.before Missing ∷ []) made
+    ∙ append_assoc old (removals (drop (k + 1) rows)) (step r.path r.before Missing ∷ [])
+    ∙ ap (λ x. old ++ x) (
+    ap (λ x. removals (drop (k + 1) rows) ++ x) (sym (ap (λ b. if b then step r.path r.before Missing ∷ [] else []) h))
+    ∙ sym (ap removals (drop_more rows k r within ∙ ap (λ x. x ∷ drop (k + 1) rows) is)))
+
 -- a removal that may have been made, after those of the rows behind it
 pub removals_prefix : (rows : List Row) (k : ℕ) (r : Row) (old now new : List Step)
     → k < length rows → get_or rows k r ≡ r → clears r ≡ true
@@ -40,11 +52,7 @@ removals_prefix rows k r old now new within is h made (inr e) = record {
   done = removals (drop k rows);
   left = removals (take k rows);
   all = removals_split k rows;
-  made = e ∙ ap (λ x. x ++ step r.path r.before Missing ∷ []) made
-      ∙ append_assoc old (removals (drop (k + 1) rows)) (step r.path r.before Missing ∷ [])
-      ∙ ap (λ x. old ++ x) (
-      ap (λ x. removals (drop (k + 1) rows) ++ x) (sym (ap (λ b. if b then step r.path r.before Missing ∷ [] else []) h))
-      ∙ sym (ap removals (drop_more rows k r within ∙ ap (λ x. x ∷ drop (k + 1) rows) is)));
+  made = removals_more rows k r old now new within is h made e;
 }
 
 -- what is written next

@@ -5,6 +5,7 @@ pub mod Made
 pub mod Rows
 pub mod Moments
 pub mod Remaining
+pub mod Parts
 pub mod Changes
 pub mod States
 pub mod Plans

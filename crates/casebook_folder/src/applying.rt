@@ -1,6 +1,7 @@
 //! The steps of rows, made one by one.
-ghost use Rattle.std.specs.Prelude.{◌≡◌, ◌⊎◌, [], ◌∷◌, ◌++◌, IfErr, IsTrue, OnErr, OnOk};
-ghost use Rattle.casebook_folder.specs.Errors.{is_of_step};
+ghost use Rattle.std.specs.Prelude.{◌≡◌, ◌⊎◌, [], ◌∷◌, ◌++◌, IfErr, IfSome, IsTrue, OnErr, OnOk};
+ghost use Rattle.casebook_folder.specs.Errors.{is_of_look, is_of_step};
+ghost use Rattle.casebook_folder.specs.Parts.{HaveNoParts, OtherPartsStay, PartsStayBesides};
 ghost use Rattle.casebook_folder.specs.Rows.{left_at, removals, steps_of, writings};
 ghost use Rattle.casebook_folder.specs.Steps.{step};
 ghost use Rattle.casebook_folder.specs.inner.Prefix.{MakesPrefix};
@@ -17,6 +18,8 @@ fn remove_all<F: Folder>(folder: &mut F, rows: &[Row]) -> Result<(), FolderError
     ensures ok { OnOk result (F.made folder.new ≡ F.made folder.old ++ removals rows.now) }
     ensures err { OnErr result
         (MakesPrefix (removals rows.now) (F.made folder.old) (F.made folder.new)) }
+    ensures other_parts { IfSome (F.first folder.old) (λ first.
+        PartsStayBesides rows.now (F.parts folder.old) (F.parts folder.new)) }
 {
     let mut left = rows.len();
     while left > 0 {
@@ -36,6 +39,8 @@ fn write_all<F: Folder>(folder: &mut F, rows: &[Row]) -> Result<(), FolderError>
     ensures ok { OnOk result (F.made folder.new ≡ F.made folder.old ++ writings rows.now) }
     ensures err { OnErr result
         (MakesPrefix (writings rows.now) (F.made folder.old) (F.made folder.new)) }
+    ensures other_parts { IfSome (F.first folder.old) (λ first.
+        PartsStayBesides rows.now (F.parts folder.old) (F.parts folder.new)) }
 {
     for row in rows {
         if !row.after.is_missing() {
@@ -54,11 +59,29 @@ fn write<F: Folder>(folder: &mut F, row: &Row) -> Result<(), FolderError>
     ensures err { let written = step row.now.path (left_at row.now) row.now.after in
         OnErr result ((F.made folder.new ≡ F.made folder.old)
         ⊎ (F.made folder.new ≡ F.made folder.old ++ written ∷ [])) }
+    ensures other_parts { IfSome (F.first folder.old) (λ first.
+        OtherPartsStay row.now.path (F.parts folder.old) (F.parts folder.new)) }
 {
     if row.clears() {
         return folder.put(&row.path, &Found::Missing, &row.after);
     }
     folder.put(&row.path, &row.before, &row.after)
+}
+
+/// Removes what stopped steps left beside the paths of rows.
+pub(crate) fn clear_all<F: Folder>(folder: &mut F, rows: &[Row]) -> Result<(), FolderError>
+    ensures same { F.first folder.new ≡ F.first folder.old }
+    ensures made { F.made folder.new ≡ F.made folder.old }
+    ensures errors { IfErr result (λ error. IsTrue (is_of_look error)) }
+    ensures other_parts { IfSome (F.first folder.old) (λ first.
+        PartsStayBesides rows.now (F.parts folder.old) (F.parts folder.new)) }
+    ensures no_parts { OnOk result (IfSome (F.first folder.old) (λ first.
+        HaveNoParts (F.parts folder.new) rows.now)) }
+{
+    for row in rows {
+        folder.clear(&row.path)?;
+    }
+    Ok(())
 }
 
 /// Makes the steps of rows: removals, and then writings.
@@ -68,6 +91,8 @@ pub(crate) fn make_steps<F: Folder>(folder: &mut F, rows: &[Row]) -> Result<(), 
     ensures ok { OnOk result (F.made folder.new ≡ F.made folder.old ++ steps_of rows.now) }
     ensures err { OnErr result
         (MakesPrefix (steps_of rows.now) (F.made folder.old) (F.made folder.new)) }
+    ensures other_parts { IfSome (F.first folder.old) (λ first.
+        PartsStayBesides rows.now (F.parts folder.old) (F.parts folder.new)) }
 {
     remove_all(folder, rows)?;
     write_all(folder, rows)

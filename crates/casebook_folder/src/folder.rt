@@ -4,6 +4,7 @@ ghost use Rattle.std.specs.Prelude.{List};
 ghost use Rattle.std.specs.Prelude.{OnErr, OnOk, Option, false};
 ghost use Rattle.casebook_folder.specs.Errors.{is_of_look, is_of_step};
 ghost use Rattle.casebook_folder.specs.Found.{found_eq};
+ghost use Rattle.casebook_folder.specs.Parts.{OtherPartsStay, Parts};
 ghost use Rattle.casebook_folder.specs.Steps.{Contents, HasOtherChild, Step, after_steps, step};
 ghost use Rattle.casebook_folder.specs.declared.folder_error.FolderError.TheVariants as errors;
 
@@ -18,6 +19,10 @@ pub trait Folder {
 
     // The steps made since, in order. At each moment the folder is what a prefix of them makes.
     ghost made: { Self → List Step };
+
+    // Beside which paths a stopped step left a part of a new node. Where nothing is said of `first`,
+    // nothing is said of that.
+    ghost parts: { Self → Parts };
 
     /// Returns what is at a path, without following links.
     fn look(&self, path: &Path) -> Result<Found, FolderError>
@@ -49,5 +54,20 @@ pub trait Folder {
         ensures errors { IfErr result (λ error. IsTrue (is_of_step error)) }
         ensures changed { result ≡ Err errors.Changed → made self.new ≡ made self.old }
         ensures changed_only { IfSome (first self.old) (λ first. result ≡ Err errors.Changed
-            → found_eq (after_steps (made self.old) first path.now) before.now ≡ false) };
+            → found_eq (after_steps (made self.old) first path.now) before.now ≡ false) }
+        ensures other_parts { IfSome (first self.old) (λ first.
+            OtherPartsStay path.now (parts self.old) (parts self.new)) }
+        ensures no_part { OnOk result (IfSome (first self.old) (λ first.
+            parts self.new path.now ≡ false)) };
+
+    /// Removes the part of a new node that a stopped step may have left beside a path. What is at
+    /// paths stays.
+    fn clear(&mut self, path: &Path) -> Result<(), FolderError>
+        ensures same { first self.new ≡ first self.old }
+        ensures made { made self.new ≡ made self.old }
+        ensures errors { IfErr result (λ error. IsTrue (is_of_look error)) }
+        ensures other_parts { IfSome (first self.old) (λ first.
+            OtherPartsStay path.now (parts self.old) (parts self.new)) }
+        ensures no_part { OnOk result (IfSome (first self.old) (λ first.
+            parts self.new path.now ≡ false)) };
 }

@@ -3,8 +3,9 @@
 //! A `Folder` is what the work is done on: `look` says what it holds at a path, and `put` makes one
 //! step at one path, if the path holds what it should. In contracts a folder is what it held at
 //! first, as a function from paths to what is `Found` there, and the steps that were made since. At
-//! each moment it is what a prefix of these steps makes of it, and so it is after a crash. `Memory`
-//! is a folder in memory, which can stop at any step.
+//! each moment it is what a prefix of these steps makes of it, and so it is after a crash. A step
+//! that is stopped can leave a part of its new node beside the path, which `clear` removes.
+//! `Memory` is a folder in memory, which can stop at any step.
 //!
 //! [`plan`] says for each path in which a recorded and a repaired tree differ how the folder is to
 //! it: `Ready`, `Done`, `Differs`, or `Blocked` by an `Obstacle`. [`Rows::of_plan`] takes the rows
@@ -39,6 +40,9 @@
 //!   that no row is of, nor where the folder holds something that is blocked, as it does below a
 //!   link [`touched`]. If a path is neither as its row says that it was nor as it is to be, no step
 //!   is made [`refused`].
+//! - After success of `apply` no part of a new node is beside a path of the rows, also if an
+//!   earlier run left one [`no_parts`]. No part is left beside other paths, also if it fails
+//!   [`other_parts`].
 //! - Each step names what its path has to hold before it. In a folder that holds what the rows say
 //!   each step finds that (`steps_find_what_they_expect`).
 //! - What is left of rows at any moment ends in the same folder, and its moments are those of the

@@ -2,7 +2,7 @@
 ghost use Rattle.std.specs.Prelude.{◌≡◌, ◌↔◌, IfOk, IsTrue, Some, map};
 ghost use Rattle.std.specs.List.{list_any};
 ghost use Rattle.retro_path.specs.Order.{text_eq};
-ghost use Rattle.casebook_folder.specs.inner.Memory.{at_after, contents_of};
+ghost use Rattle.casebook_folder.specs.inner.Memory.{at_after, contents_of, has_path};
 ghost use Rattle.casebook_folder.specs.Made.{step_of};
 
 use crate::NoMem;
@@ -12,6 +12,7 @@ use crate::found::Found;
 use crate::made_step::{MadeStep, push_step};
 use retro_path::{Listing, Name, Path};
 use std::alloc::Global;
+use std::collections::BTreeSet;
 
 /// A path, and what is there.
 #[derive(Drop)]
@@ -22,12 +23,14 @@ pub struct Entry {
     pub found: Found,
 }
 
-/// A folder in memory. It keeps what it held at first, and each step.
+/// A folder in memory. It keeps what it held at first, each step, and beside which paths stopped
+/// steps left a part of a new node.
 #[derive(Drop)]
 pub struct Memory {
     alloc: Global,
     first: Vec<Entry>,
     made: Vec<MadeStep>,
+    parts: BTreeSet<Path>,
     puts_left: usize,
     makes_the_last: bool,
 }
@@ -77,12 +80,14 @@ impl Memory {
             alloc,
             first,
             made: Vec::new(alloc),
+            parts: BTreeSet::new(alloc),
             puts_left: usize::MAX,
             makes_the_last: false,
         }
     }
 
-    /// Lets so many steps succeed. The one after them fails, and is made or not.
+    /// Lets so many steps succeed. The one after them fails, and is made or not. If it isn't made,
+    /// it leaves a part of its new node.
     pub fn stop_after(&mut self, puts: usize, makes_the_last: bool) {
         self.puts_left = puts;
         self.makes_the_last = makes_the_last;
@@ -91,6 +96,11 @@ impl Memory {
     /// Returns the number of steps that were made.
     pub fn steps(&self) -> usize {
         self.made.len()
+    }
+
+    /// Returns the number of paths beside which stopped steps left a part of a new node.
+    pub fn parts(&self) -> usize {
+        self.parts.len()
     }
 
     /// Returns what is at a path.
@@ -163,6 +173,8 @@ impl Folder for Memory {
 
     ghost made = { λ m. map step_of m.made.items };
 
+    ghost parts = { λ m q. has_path q m.parts.keys };
+
     fn look(&self, path: &Path) -> Result<Found, FolderError> {
         Ok(self.find(path)?)
     }
@@ -178,11 +190,19 @@ impl Folder for Memory {
         if self.puts_left == 0 {
             if self.makes_the_last {
                 push_step(&mut self.made, path, before, after)?;
+            } else {
+                self.parts.insert(path.copy()?)?;
             }
             return Err(FolderError::Failed);
         }
         push_step(&mut self.made, path, before, after)?;
+        self.parts.remove(path);
         self.puts_left -= 1;
+        Ok(())
+    }
+
+    fn clear(&mut self, path: &Path) -> Result<(), FolderError> {
+        self.parts.remove(path);
         Ok(())
     }
 }

@@ -1,12 +1,13 @@
 //! Carrying out rows.
 ghost use Rattle.std.specs.Prelude.{◌≡◌, IfSome, OnOk};
 ghost use Rattle.casebook_folder.specs.Moments.{IsRestored};
+ghost use Rattle.casebook_folder.specs.Parts.{HaveNoParts, PartsStayBesides};
 ghost use Rattle.casebook_folder.specs.Remaining.{EachMoment, TouchesOnly};
 ghost use Rattle.casebook_folder.specs.Rows.{AreDistinct};
 ghost use Rattle.casebook_folder.specs.declared.folder_error.FolderError.TheVariants as errors;
 ghost use Rattle.casebook_folder.specs.Steps.{after_steps};
 
-use crate::applying::make_steps;
+use crate::applying::{clear_all, make_steps};
 use crate::folder::Folder;
 use crate::folder_error::FolderError;
 use crate::remaining::rows_left;
@@ -40,8 +41,15 @@ pub fn apply<F: Folder>(alloc: Global, folder: &mut F, rows: &Rows) -> Result<()
     // as it does below a link.
     ensures touched { IfSome (F.first folder.old) (λ first.
         TouchesOnly rows.now.items.items first (F.made folder.old) (F.made folder.new)) }
+    // What stopped steps left beside the rows' paths is removed, and beside other paths nothing is
+    // left.
+    ensures no_parts { OnOk result (IfSome (F.first folder.old) (λ first.
+        HaveNoParts (F.parts folder.new) rows.now.items.items)) }
+    ensures other_parts { IfSome (F.first folder.old) (λ first. PartsStayBesides
+        rows.now.items.items (F.parts folder.old) (F.parts folder.new)) }
 {
-    restore(alloc, folder, rows.items.as_slice())
+    restore(alloc, folder, rows.items.as_slice())?;
+    clear_all(folder, rows.items.as_slice())
 }
 
 /// Makes the steps of rows that a folder still needs.
@@ -55,6 +63,8 @@ fn restore<F: Folder>(alloc: Global, folder: &mut F, rows: &[Row]) -> Result<(),
     ensures refused { result ≡ Err errors.Differs → F.made folder.new ≡ F.made folder.old }
     ensures touched { IfSome (F.first folder.old) (λ first.
         TouchesOnly rows.now first (F.made folder.old) (F.made folder.new)) }
+    ensures other_parts { IfSome (F.first folder.old) (λ first.
+        PartsStayBesides rows.now (F.parts folder.old) (F.parts folder.new)) }
 {
     let left = rows_left(alloc, folder, rows)?;
     make_steps(folder, left.as_slice())

@@ -1,6 +1,8 @@
 //! Answers to requests that take restores back.
-ghost use Rattle.std.specs.Prelude.{◌≡◌, ◌&&◌, ℕ, List, Ok, IfOk, IfSome, Some, false, map};
+ghost use Rattle.std.specs.Prelude.{◌≡◌, ◌&&◌, ℕ, List, Ok, IfOk, IfSome, Some, false, map, true};
 ghost use Rattle.std.specs.List.{list_all};
+ghost use Rattle.casebook_folder.specs.Moments.{IsRestored};
+ghost use Rattle.casebook_folder.specs.Parts.{HaveNoParts};
 ghost use Rattle.casebook_folder.specs.Plans.{can_be_restored};
 ghost use Rattle.casebook_folder.specs.Steps.{after_steps};
 ghost use Rattle.casebook_folder_cli.specs.Restoring.{IsUndoAnswer};
@@ -49,6 +51,15 @@ fn apply_if<D: Folders>(
         ≡ (list_all can_be_restored plan.now.rows.items && is_asked)) }
     // What is only planned changes nothing.
     ensures planned { is_asked ≡ false → D.Opened.made folder.new ≡ D.Opened.made folder.old }
+    // After success the folder holds what the rows put at their paths, and is as it was elsewhere.
+    // What stopped steps left beside the paths is removed.
+    ensures restored { IfOk result (λ is_done. is_done ≡ true
+        → IfSome (D.Opened.first folder.old) (λ first. IsRestored rows.now.items.items
+        (after_steps (D.Opened.made folder.old) first)
+        (after_steps (D.Opened.made folder.new) first))) }
+    ensures no_parts { IfOk result (λ is_done. is_done ≡ true
+        → IfSome (D.Opened.first folder.old) (λ first.
+        HaveNoParts (D.Opened.parts folder.new) rows.now.items.items)) }
 {
     if !(plan.can_be_carried_out() && is_asked) {
         return Ok(false);

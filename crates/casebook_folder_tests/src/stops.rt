@@ -17,26 +17,38 @@ struct Trial<'a> {
 }
 
 impl Trial<'_> {
-    /// Returns the folder after so many steps of the plan, and maybe the next one.
+    /// Returns the folder after so many steps of the plan, and maybe the next one. If that isn't
+    /// made, a part of its new node is left.
     fn stopped(&self, alloc: Global, steps: usize, makes_the_last: bool) -> Result<Memory, Fail> {
         let mut folder = memory(alloc, self.folder)?;
         folder.stop_after(steps, makes_the_last);
         let result = apply(alloc, &mut folder, self.rows);
         folder.stop_after(usize::MAX, false);
+        if folder.parts() != usize::from(!makes_the_last) {
+            return fail("a stopped step left another number of parts");
+        }
         match result {
             Err(FolderError::Failed) => Ok(folder),
             _ => fail("the plan wasn't stopped"),
         }
     }
 
+    /// Fails unless the folder holds what is wanted and no part of a new node is left.
+    fn holds(&self, alloc: Global, folder: &Memory, wanted: &str) -> Result<(), Fail> {
+        if self.pair.held(alloc, folder)?.as_str() != wanted {
+            return fail("the folder holds something else");
+        }
+        if folder.parts() != 0 {
+            return fail("a part of a new node is left");
+        }
+        Ok(())
+    }
+
     /// Goes on with a stopped plan.
     fn goes_on(&self, alloc: Global, steps: usize, makes_the_last: bool) -> Result<(), Fail> {
         let mut folder = self.stopped(alloc, steps, makes_the_last)?;
         apply(alloc, &mut folder, self.rows)?;
-        if self.pair.held(alloc, &folder)?.as_str() != self.after {
-            return fail("going on ended elsewhere");
-        }
-        Ok(())
+        self.holds(alloc, &folder, self.after)
     }
 
     /// Undoes a stopped plan, stops that too, and goes on with it.
@@ -47,10 +59,7 @@ impl Trial<'_> {
         let _ = apply(alloc, &mut folder, &back);
         folder.stop_after(usize::MAX, false);
         apply(alloc, &mut folder, &back)?;
-        if self.pair.held(alloc, &folder)?.as_str() != self.before {
-            return fail("undoing ended elsewhere");
-        }
-        Ok(())
+        self.holds(alloc, &folder, self.before)
     }
 }
 

@@ -5,10 +5,11 @@ use Rattle.std.specs.Prelude.{IfOk, IfSome, if◌then◌else◌, option_map}
 use Rattle.retro_path.specs.Order.{path_eq, text_eq}
 use Rattle.retro_path.specs.Path.{PathValue, below}
 use Rattle.casebook_folder.specs.Found.{is_missing}
+use Rattle.casebook_folder.specs.Parts.{OtherPartsStay, Parts}
 use Rattle.casebook_folder.specs.Steps.{Contents, HasOtherChild, Step, after_steps, put, step}
 use Rattle.casebook_folder.specs.declared.found.Found.{Found}
 use Rattle.casebook_folder.proofs.Small.{none_some, path_refl, first_and, same_text, some_same}
-use Rattle.casebook_restore.specs.inner.Placed.{found_by, moved, moved_steps, placed}
+use Rattle.casebook_restore.specs.inner.Placed.{found_by, moved, moved_steps, part_by, placed, placed_parts}
 
 -- ---- paths below another
 
@@ -116,6 +117,24 @@ step_moved at q r before after old new e is =
     ∙ map_append at old (step r before after ∷ [])
     ∙ ap (λ p. moved_steps at old ++ step p before after ∷ []) (moved_back at q r e)
 
+-- ---- parts of new nodes
+
+-- what lies beside a path of the trees is what lies beside that of the folder
+pub part_moved : (at q r : PathValue) (parts : Parts) → below at q ≡ Some r → placed_parts at parts q ≡ parts r
+part_moved at q r parts e = ap (part_by parts) e
+
+-- where the folder's other parts stay those of the trees do
+pub others_moved : (at p r : PathValue) (old new : Parts) → below at p ≡ Some r → OtherPartsStay r old new
+    → OtherPartsStay p (placed_parts at old) (placed_parts at new)
+others_moved at p r old new e stay q other = by_rest (below at q) (sym (same_moved at r q) ∙ same)
+  where
+    same : path_eq (at ++ r) q ≡ false
+    same = ap (λ x. path_eq x q) (moved_back at p r e) ∙ other
+
+    by_rest : (rest : Option PathValue) → is_rest r rest ≡ false → part_by new rest ≡ part_by old rest
+    by_rest None is = refl
+    by_rest (Some s) is = stay s is
+
 -- ---- what is said of what folders hold
 
 pub some_placed : (o : Option Contents) (at : PathValue) (P Q : Contents → Type 0) → IfSome o P
@@ -130,3 +149,8 @@ if_ok (Err e) P Q f h = tt
 pub one : (o : Option Contents) (P Q : Contents → Type 0) → IfSome o P → ((f : Contents) → P f → Q f) → IfSome o Q
 one None P Q h f = tt
 one (Some x) P Q h f = f x h
+
+-- what lies beside paths stays where the folder isn't changed
+pub unmoved : (o : Option Contents) (p : PathValue) (parts : Parts) → IfSome o (λ first. OtherPartsStay p parts parts)
+unmoved None p parts = tt
+unmoved (Some x) p parts = λ q other. refl

@@ -1,5 +1,6 @@
 //! Carrying out plans.
 ghost use Rattle.std.specs.Prelude.{◌≡◌, Err, IfOk, IfSome, OnOk};
+ghost use Rattle.casebook_folder.specs.Parts.{HaveNoParts, PartsStayBesides};
 ghost use Rattle.casebook_folder.specs.Plans.{AreSeenRows};
 ghost use Rattle.casebook_folder.specs.Remaining.{EachMoment, TouchesOnly};
 ghost use Rattle.casebook_folder.specs.Steps.{after_steps};
@@ -60,6 +61,12 @@ pub fn carry_out<F: Folder>(
     // No step is at a path that no row is of, or where the folder holds something that is blocked.
     ensures touched { IfSome (F.first folder.old) (λ first.
         TouchesOnly rows.now.items.items first (F.made folder.old) (F.made folder.new)) }
+    // What stopped steps left beside the rows' paths is removed, and beside other paths nothing is
+    // left.
+    ensures no_parts { OnOk result (IfSome (F.first folder.old) (λ first.
+        HaveNoParts (F.parts folder.new) rows.now.items.items)) }
+    ensures other_parts { IfSome (F.first folder.old) (λ first. PartsStayBesides
+        rows.now.items.items (F.parts folder.old) (F.parts folder.new)) }
 {
     apply(alloc, folder, rows)
 }

@@ -2,7 +2,7 @@
 ghost use Rattle.std.specs.Prelude.{◌≡◌, IfErr, IfOk, IsTrue, Some, option_map};
 ghost use Rattle.retro_path.specs.Path.{below};
 ghost use Rattle.casebook_folder.specs.Errors.{is_of_look};
-ghost use Rattle.casebook_restore.specs.inner.Placed.{moved_steps, placed};
+ghost use Rattle.casebook_restore.specs.inner.Placed.{moved_steps, placed, placed_parts};
 
 use casebook_folder::{Folder, FolderError, Found};
 use retro_path::{Listing, Path};
@@ -55,6 +55,8 @@ impl<F: Folder> Folder for PlacedFolder<F> {
 
     ghost made = { λ p. moved_steps p.at (F.made p.folder) };
 
+    ghost parts = { λ p. placed_parts p.at (F.parts p.folder) };
+
     fn look(&self, path: &Path) -> Result<Found, FolderError> {
         let inside = inside(self.alloc, &self.at, path)?;
         self.folder.look(&inside)
@@ -68,5 +70,10 @@ impl<F: Folder> Folder for PlacedFolder<F> {
     fn put(&mut self, path: &Path, before: &Found, after: &Found) -> Result<(), FolderError> {
         let inside = inside(self.alloc, &self.at, path)?;
         self.folder.put(&inside, before, after)
+    }
+
+    fn clear(&mut self, path: &Path) -> Result<(), FolderError> {
+        let inside = inside(self.alloc, &self.at, path)?;
+        self.folder.clear(&inside)
     }
 }

@@ -1,8 +1,9 @@
 -- A folder in memory: what its entries and its steps say.
 use Rattle.std.specs.Prelude.{ℕ, Bool, false, not, ◌&&◌, List, [], ◌∷◌, if◌then◌else◌, Option, Some}
 use Rattle.std.specs.Prelude.{None}
+use Rattle.std.specs.BTreeMap.{is_at}
 use Rattle.std.specs.List.{list_any}
-use Rattle.retro_path.specs.Order.{path_eq, text_eq}
+use Rattle.retro_path.specs.Order.{path_cmp, path_eq, text_eq}
 use Rattle.retro_path.specs.Path.{PathValue, child_name}
 use Rattle.casebook_folder.specs.Found.{is_missing}
 use Rattle.casebook_folder.specs.Steps.{Contents, Step}
@@ -29,6 +30,10 @@ is_other_name x names (Some name) = not (list_any (text_eq name) names) && not (
 -- whether a path is that of a child of a directory that exists and isn't among some names
 abbrev pub is_other : Contents → PathValue → List (List ℕ) → PathValue → Bool
 is_other f p names q = is_other_name (f q) names (child_name p q)
+
+-- whether a set of paths, given by its keys, has a path
+abbrev pub has_path : PathValue → List PathValue → Bool
+has_path q paths = list_any (is_at (path_cmp q)) paths
 
 abbrev pub entry_path : Entry → PathValue
 entry_path e = e.path

@@ -5,21 +5,23 @@ use Rattle.casebook_cli.specs.Inputs.{AreInputs}
 use Rattle.casebook_cli.specs.Stops.{StopsReading, refused, unread}
 use Rattle.casebook_cli.specs.inner.Views.{answer_view, inputs_view, query_view}
 use Rattle.casebook_cli.proofs.HarmlessLemmas.{both_ok}
-use Rattle.casebook_cli.proofs.Known.{of_first, one}
+use Rattle.casebook_cli.proofs.Known.{from_first, of_first, one}
 use Rattle.casebook_cli.proofs.answers.asked_answer.Goals as goal
 
 pub returns-in_err-inputs-clause-err : goal.returns-in_err-inputs-clause-err
 returns-in_err-inputs-clause-err g c =
     let p = err_from_is_err_and c.from_residual.result c.from_residual.ensures.1 in
     rw (p.1, p.2)
-    (one (g.D.Documents.bytes_of c.args.documents.now) _ _ c.in_err-inputs.ensures.err
-    (λ at h. unread (subst (λ sources. StopsReading at sources c.in_err-inputs.field-0.0) c.sources.ensures h)))
+    (from_first (g.D.Documents.bytes_of c.args.documents.now) (g.D.Folders.holds c.args.documents.now) _ _
+    c.in_err-inputs.ensures.err
+    (λ at folders h. unread (subst (λ sources. StopsReading at sources c.in_err-inputs.field-0.0) c.sources.ensures h)))
 
 pub returns-clause-err : goal.returns-clause-err
 returns-clause-err g c =
     IfErr-weaker c.answer_by.result _ _
-    (λ stop h. one (g.D.Documents.bytes_of c.args.documents.now) _ _ c.in_ok-inputs.ensures.ok
-    (λ at are. refused (inputs_view c.in_ok-inputs.inputs)
+    (λ stop h. from_first (g.D.Documents.bytes_of c.args.documents.now) (g.D.Folders.holds c.args.documents.now) _ _
+    c.in_ok-inputs.ensures.ok
+    (λ at folders are. refused (inputs_view c.in_ok-inputs.inputs)
     (subst (λ sources. AreInputs at sources (inputs_view c.in_ok-inputs.inputs)) c.sources.ensures are) h))
     c.answer_by.ensures.err
 

@@ -4,15 +4,15 @@ use Rattle.retro_redo.specs.Repair.{repaired_state}
 use Rattle.casebook_folder_cli.specs.Restoring.{IsRestoreAnswer}
 use Rattle.casebook_folder_cli.specs.Views.{restore_view}
 use Rattle.casebook_cli.specs.Stops.{StopsRestore}
-use Rattle.casebook_cli.proofs.Known.{both, one}
+use Rattle.casebook_cli.proofs.Known.{both, from_first}
 use Rattle.casebook_cli.proofs.restores.restore_text.Goals as goal
 
 pub returns-in_err-asked-clause-err : goal.returns-in_err-asked-clause-err
 returns-in_err-asked-clause-err g c =
     let p = err_from_is_err_and c.from_residual.result c.from_residual.ensures.1 in
     rw (p.1, p.2)
-    (one (g.D.Documents.bytes_of c.args.documents.now) _ _ c.in_err-asked.ensures.err
-    (λ at h. StopsRestore.not_repaired h))
+    (from_first (g.D.Documents.bytes_of c.args.documents.now) (g.D.Folders.holds c.args.documents.now) _ _
+    c.in_err-asked.ensures.err (λ at folders h. StopsRestore.not_repaired h))
 
 pub returns-in-Ok-clause-ok : goal.returns-in-Ok-clause-ok
 returns-in-Ok-clause-ok g c =

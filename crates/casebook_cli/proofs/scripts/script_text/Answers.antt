@@ -2,7 +2,7 @@ use Rattle.std.proofs.Common.{refl, subst}
 use Rattle.casebook_folder_cli.specs.Scripting.{IsNoScript, IsScript}
 use Rattle.casebook_cli.specs.Stops.{no_script}
 use Rattle.casebook_cli.specs.inner.Views.{files_view}
-use Rattle.casebook_cli.proofs.Known.{of_first, one}
+use Rattle.casebook_cli.proofs.Known.{from_first, of_first, one}
 use Rattle.casebook_cli.proofs.scripts.script_text.Goals as goal
 
 pub returns-in-Ok-clause-ok : goal.returns-in-Ok-clause-ok
@@ -20,6 +20,7 @@ returns-in-Ok-clause-ok g c =
 
 pub returns-clause-err : goal.returns-clause-err
 returns-clause-err g c =
-    one (g.D.Documents.bytes_of c.args.documents.now) _ _ c.in_ok-files.ensures.ok
-    (λ at are. no_script (files_view c.in_ok-files.files) are c.in-Err.fault
+    from_first (g.D.Documents.bytes_of c.args.documents.now) (g.D.Folders.holds c.args.documents.now) _ _
+    c.in_ok-files.ensures.ok
+    (λ at folders are. no_script (files_view c.in_ok-files.files) are c.in-Err.fault
     (subst (λ parts. IsNoScript parts c.in-Err.fault) c.parts_of-parts.ensures c.in-Err.ensures.err) c.script_stop.ensures)
