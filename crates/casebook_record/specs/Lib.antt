@@ -1,0 +1,10 @@
+pub mod Reads
+pub mod Fields
+pub mod Numbers
+pub mod Names
+pub mod Statuses
+pub mod Texts
+pub mod Kinds
+pub mod Events
+pub mod Records
+pub mod Written

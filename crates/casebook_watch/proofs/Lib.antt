@@ -1,0 +1,4 @@
+pub mod Alike
+pub mod Naming
+pub mod Leading
+pub mod Looks
