@@ -5,7 +5,7 @@ use crate::NoMem;
 use crate::errors::snapshot_error;
 use crate::item::item_in;
 use crate::names::names_in;
-use crate::place::{DiskPlace, dir_at, last_name, opened};
+use crate::place::{DiskPlace, OpenDir, dir_at, last_name, opened};
 use crate::scope::Scope;
 use casebook_snapshot::{Child, Item, Listing, Reason, SnapshotError};
 use retro_path::Path;
@@ -13,13 +13,6 @@ use std::alloc::Global;
 use std::cell::Cell;
 use std::fs::File;
 use std::io::{self, ErrorKind};
-
-/// A directory that is open, and its path.
-#[derive(Drop)]
-struct OpenDir {
-    path: Path,
-    dir: File,
-}
 
 /// A folder of the file system that is only looked at.
 #[derive(Drop)]

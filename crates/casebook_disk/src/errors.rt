@@ -4,6 +4,7 @@ ghost use Rattle.casebook_folder.specs.Errors.{is_of_look};
 ghost use Rattle.casebook_snapshot.specs.Errors.{is_of_listing};
 
 use casebook_folder::FolderError;
+use casebook_observe::{SpoolError, WatchError};
 use casebook_snapshot::SnapshotError;
 use std::io::{self, ErrorKind};
 
@@ -24,5 +25,23 @@ pub(crate) fn snapshot_error(error: io::Error) -> SnapshotError
     match error.kind() {
         ErrorKind::OutOfMemory => SnapshotError::NoMem,
         _ => SnapshotError::Failed,
+    }
+}
+
+/// Returns the error of watched folders that an error of the system is. A look that takes too long
+/// is `TimedOut`.
+pub(crate) fn watch_error(error: io::Error) -> WatchError {
+    match error.kind() {
+        ErrorKind::OutOfMemory => WatchError::NoMem,
+        ErrorKind::TimedOut => WatchError::TooSlow,
+        _ => WatchError::Failed,
+    }
+}
+
+/// Returns the error of a spool that an error of the system is.
+pub(crate) fn spool_error(error: io::Error) -> SpoolError {
+    match error.kind() {
+        ErrorKind::OutOfMemory => SpoolError::NoMem,
+        _ => SpoolError::Failed,
     }
 }

@@ -1,39 +1,25 @@
 //! What is at a name, for a snapshot: read without following links.
 use crate::names::see_names;
 use crate::place::{DiskPlace, look_at, name_in, open_in};
-use crate::reading::{FILE_LIMIT, attributes_of, is_unchanged};
+use crate::reading::{FILE_LIMIT, TRIES, attributes_of, read_unchanged};
 use crate::scope::Scope;
 use casebook_snapshot::{Item, Reason};
-use retro_path::Bytes;
 use std::alloc::Global;
-use std::fs::{self, File, Metadata};
-use std::io::{self, Read};
+use std::fs::{File, Metadata};
+use std::io;
 use std::os::unix::fs::FileTypeExt;
 
-/// How often a file that changes while it is read is read at most.
-const TRIES: u32 = 3;
-
-/// Reads a file at a name once, if it is unchanged before and after that. Never reads more than the
-/// size of the largest file, and one byte.
+/// Reads a file at a name once, if it is unchanged before and after that.
 fn read_once(
     rt: &HostRuntime,
     alloc: Global,
     name: &str,
     there: &Metadata,
 ) -> io::Result<Option<Item>> {
-    let file = fs::open(rt, name)?;
-    if !is_unchanged(there, &file.metadata()?) {
-        return Ok(None);
+    match read_unchanged(rt, alloc, name, there)? {
+        Some((bytes, _)) => Ok(Some(Item::File(bytes, attributes_of(there)))),
+        None => Ok(None),
     }
-    let most = there.len().saturating_add(1);
-    let mut bytes = Vec::with_capacity(alloc, most as usize)?;
-    let mut part = file.take(most);
-    part.read_to_end(&mut bytes)?;
-    let file = part.into_inner();
-    if bytes.len() as u64 != there.len() || !is_unchanged(there, &file.metadata()?) {
-        return Ok(None);
-    }
-    Ok(Some(Item::File(Bytes::of(bytes), attributes_of(there))))
 }
 
 /// Returns why what is at a name in an open directory is skipped, if it isn't a directory or a file

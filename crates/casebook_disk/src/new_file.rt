@@ -5,7 +5,7 @@ use std::io::{self, Write};
 use std::os::unix::fs::OpenOptionsExt;
 
 /// Returns the name of the directory that a file is in.
-fn directory_of(name: &str) -> &str {
+pub(crate) fn directory_of(name: &str) -> &str {
     match name.rsplit_once('/') {
         Some(("", _)) => "/",
         Some((directory, _)) => directory,

@@ -19,6 +19,15 @@ pub(crate) enum DiskPlace {
     Blocked(Obstacle),
 }
 
+/// A directory that is open, and its path.
+#[derive(Drop)]
+pub(crate) struct OpenDir {
+    /// The path.
+    pub(crate) path: Path,
+    /// The directory.
+    pub(crate) dir: File,
+}
+
 /// Returns a name by which the system opens what is in an open directory.
 pub(crate) fn name_in(alloc: Global, dir: &File, name: &str) -> Result<String, NoMem> {
     format!(in alloc; "/proc/self/fd/{}/{name}", dir.as_raw_fd())
@@ -42,6 +51,24 @@ pub(crate) fn look_at(rt: &HostRuntime, name: &str) -> io::Result<Option<Metadat
     }
 }
 
+/// Opens the directory at a name, if it is still the one that was seen there.
+pub(crate) fn open_seen(
+    rt: &HostRuntime,
+    alloc: Global,
+    name: &str,
+    there: &Metadata,
+) -> io::Result<Option<File>> {
+    // The slash refuses a pipe or a device that is put there now, without opening it.
+    let with_slash = format!(in alloc; "{name}/")?;
+    let below = fs::open(rt, with_slash.as_str())?;
+    let opened = below.metadata()?;
+    if opened.dev() == there.dev() && opened.ino() == there.ino() {
+        Ok(Some(below))
+    } else {
+        Ok(None)
+    }
+}
+
 /// Opens a directory in an open one, if it is a directory of these file systems and no link.
 pub(crate) fn open_in(
     rt: &HostRuntime,
@@ -60,14 +87,9 @@ pub(crate) fn open_in(
     if !there.is_dir() || !scope.has(&there) {
         return Ok(DiskPlace::Blocked(Obstacle::Above));
     }
-    // The slash refuses a pipe or a device that is put there now, without opening it.
-    let with_slash = format!(in alloc; "{}/", path.as_str())?;
-    let below = fs::open(rt, with_slash.as_str())?;
-    let opened = below.metadata()?;
-    if opened.dev() == there.dev() && opened.ino() == there.ino() {
-        Ok(DiskPlace::In(below))
-    } else {
-        Ok(DiskPlace::Blocked(Obstacle::Changing))
+    match open_seen(rt, alloc, path.as_str(), &there)? {
+        Some(below) => Ok(DiskPlace::In(below)),
+        None => Ok(DiskPlace::Blocked(Obstacle::Changing)),
     }
 }
 
@@ -79,8 +101,20 @@ pub(crate) fn dir_at(
     path: &Path,
     scope: Scope,
 ) -> io::Result<DiskPlace> {
+    dir_below(rt, alloc, root, path.as_str(), scope)
+}
+
+/// Returns where a directory is, from an open directory, on these file systems. The names that lead
+/// there have slashes between them.
+pub(crate) fn dir_below(
+    rt: &HostRuntime,
+    alloc: Global,
+    root: &File,
+    names: &str,
+    scope: Scope,
+) -> io::Result<DiskPlace> {
     let mut dir = root.try_clone()?;
-    for name in path.as_str().split('/') {
+    for name in names.split('/') {
         if !name.is_empty() {
             match open_in(rt, alloc, &dir, name, scope)? {
                 DiskPlace::In(below) => dir = below,

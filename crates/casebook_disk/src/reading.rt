@@ -11,6 +11,9 @@ use std::os::unix::fs::{FileTypeExt, MetadataExt};
 /// The size of the largest file that is read, in bytes.
 pub(crate) const FILE_LIMIT: u64 = 1_048_576;
 
+/// How often a file that changes while it is read is read at most.
+pub(crate) const TRIES: u32 = 3;
+
 /// Returns the mode and owner of a file or directory.
 pub(crate) fn attributes_of(there: &Metadata) -> Attributes {
     Attributes {
@@ -29,6 +32,29 @@ pub(crate) fn is_unchanged(a: &Metadata, b: &Metadata) -> bool {
         && a.mtime_nsec() == b.mtime_nsec()
         && a.ctime() == b.ctime()
         && a.ctime_nsec() == b.ctime_nsec()
+}
+
+/// Reads a file at a name once, if it is unchanged before and after that, and returns what the
+/// system says of it after that. Never reads more than its size, and one byte.
+pub(crate) fn read_unchanged(
+    rt: &HostRuntime,
+    alloc: Global,
+    name: &str,
+    there: &Metadata,
+) -> io::Result<Option<(Bytes, Metadata)>> {
+    let file = fs::open(rt, name)?;
+    if !is_unchanged(there, &file.metadata()?) {
+        return Ok(None);
+    }
+    let most = there.len().saturating_add(1);
+    let mut bytes = Vec::with_capacity(alloc, most as usize)?;
+    let mut part = file.take(most);
+    part.read_to_end(&mut bytes)?;
+    let after = part.into_inner().metadata()?;
+    if bytes.len() as u64 != there.len() || !is_unchanged(there, &after) {
+        return Ok(None);
+    }
+    Ok(Some((Bytes::of(bytes), after)))
 }
 
 /// Reads the file at a name. If it changes meanwhile, it is blocked.

@@ -20,9 +20,9 @@ pub(crate) fn split(alloc: Global, bytes: &[u8], separator: u8) -> Result<Vec<&[
     bytes.split(|byte| *byte == separator).collect(alloc)
 }
 
-/// Splits bytes into fields, each ended by a NUL.
+/// Splits the bytes of a record into its fields, each ended by a NUL.
 #[tactic(auto, unfolding(crate::specs::Fields::fields_of))]
-pub(crate) fn fields_of(alloc: Global, bytes: &[u8]) -> Result<Vec<&[u8]>, RecordError>
+pub fn fields_of(alloc: Global, bytes: &[u8]) -> Result<Vec<&[u8]>, RecordError>
     ensures { Reads (λ fields. map (λ field. field.now) fields.items) result (fields_of bytes.now) }
 {
     match bytes {

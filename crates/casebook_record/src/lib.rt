@@ -6,7 +6,8 @@
 //! [`RecordError`] that applies first. It reads the fields in their order: the five that all kinds
 //! have, and then those of the kind, once it is known that none is missing and that there are no
 //! more. A record with fewer than five fields is cut off, whatever is in them, and one of an unknown
-//! kind has no other error.
+//! kind has no other error. [`fields_of`] and [`record_in`] are its two steps, for records that are
+//! kept as lists of fields.
 //!
 //! If allocation fails, `read_record` returns `RecordError::NoMem`.
 //!
@@ -48,10 +49,11 @@ pub use directory::Directory;
 pub use end::End;
 pub use event::Event;
 pub use exit::Exit;
+pub use fields::fields_of;
 pub use laws::written_fields_are_read_back;
 pub use line_number::LineNumber;
 pub use micros::Micros;
-pub use record::{Record, read_record};
+pub use record::{Record, read_record, record_in};
 pub use record_error::{Field, RecordError};
 pub use session_name::SessionName;
 pub use start::Start;

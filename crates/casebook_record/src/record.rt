@@ -28,9 +28,9 @@ pub struct Record {
     pub event: Event,
 }
 
-/// Reads the fields of a record.
+/// Reads the fields of a record, as [`fields_of`](crate::fields_of) returns them.
 #[tactic(auto, unfolding(crate::specs::Records::record_in))]
-fn record_in(alloc: Global, fields: &[&[u8]]) -> Result<Record, RecordError>
+pub fn record_in(alloc: Global, fields: &[&[u8]]) -> Result<Record, RecordError>
     ensures { Reads (λ r. r) result (record_in (map (λ field. field.now) fields.now)) }
 {
     let [kind, session, at, user, directory, own @ ..] = fields else {

@@ -82,7 +82,7 @@ impl Sight {
     }
 
     /// Returns whether what is at the path is new or was changed since the path was seen before.
-    pub(crate) fn is_changed(&self, before: Option<&Sight>) -> bool
+    pub fn is_changed(&self, before: Option<&Sight>) -> bool
         ensures { result ≡ is_changed (option_copied before.entry) self.now }
     {
         match before {

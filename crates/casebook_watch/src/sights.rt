@@ -88,7 +88,7 @@ impl Sights {
     }
 
     /// Makes one change.
-    fn make(&mut self, change: &SightChange) -> Result<(), NoMem>
+    pub fn make(&mut self, change: &SightChange) -> Result<(), NoMem>
         ensures { OnOk result (self.new ≡ with_change self.old change.now) }
     {
         match change.sight {

@@ -1,0 +1,257 @@
+//! Spools in a directory of the file system.
+ghost use Rattle.std.specs.Prelude.{None};
+
+use crate::errors::spool_error;
+use crate::folder_list::{folders_in, folders_text};
+use crate::new_file::{directory_of, write_new_file};
+use crate::place::{look_at, name_in, opened};
+use crate::spool_files::{
+    lock, make_dir, make_dir_if_missing, read_from, read_whole, write_anew, write_from,
+};
+use crate::temporary::temporary;
+use casebook_observe::{Spool, SpoolError};
+use casebook_spool::Digest;
+use retro_path::{NoMem, Path};
+use std::alloc::Global;
+use std::fs::{self, File};
+use std::io::{self, ErrorKind};
+
+/// The folders that are watched.
+const WATCH: &str = "watch";
+
+/// The first look.
+const FIRST: &str = "first";
+
+/// The observations since.
+const LINES: &str = "lines";
+
+/// What can be made of both.
+const LISTING: &str = "listing";
+
+/// The contents of files.
+const CONTENTS: &str = "contents";
+
+/// What is locked.
+const LOCK: &str = "lock";
+
+/// How many hexadecimal digits of a digest name the directory of a content.
+const SHELF: usize = 2;
+
+/// A spool in a directory of the file system. Nobody else has it as long as this is open.
+#[derive(Drop)]
+pub struct DiskSpool<'a> {
+    rt: &'a HostRuntime,
+    alloc: Global,
+    /// The directory.
+    root: File,
+    /// The locked file.
+    lock: File,
+}
+
+/// Where the content with a digest is kept.
+#[derive(Drop)]
+struct Shelf {
+    /// The directory.
+    dir: String,
+    /// The file.
+    file: String,
+    /// Its temporary name.
+    beside: String,
+}
+
+/// Returns an empty spool's files in an open directory: `watch` comes last, so a spool that has it
+/// is whole.
+fn fill(rt: &HostRuntime, alloc: Global, root: &File, watch: &[u8]) -> io::Result<()> {
+    write_new_file(rt, alloc, name_in(alloc, root, LOCK)?.as_str(), &[])?;
+    write_new_file(rt, alloc, name_in(alloc, root, LINES)?.as_str(), &[])?;
+    make_dir(rt, name_in(alloc, root, CONTENTS)?.as_str())?;
+    write_new_file(rt, alloc, name_in(alloc, root, WATCH)?.as_str(), watch)
+}
+
+impl<'a> DiskSpool<'a> {
+    /// Makes a spool for some folders, and opens it.
+    ///
+    /// # Errors
+    ///
+    /// `AlreadyExists` if something is there, and what the system refuses. Then a part of the spool
+    /// can be there.
+    pub fn create(rt: &'a HostRuntime, name: &str, folders: &[Path]) -> io::Result<DiskSpool<'a>> {
+        let alloc = rt.alloc();
+        let name = name.trim_end_matches('/');
+        make_dir(rt, name)?;
+        let root = opened(rt, alloc, name)?;
+        let watch = folders_text(alloc, folders)?;
+        fill(rt, alloc, &root, watch.as_str().as_bytes())?;
+        let above = format!(in alloc; "{}/", directory_of(name))?;
+        fs::open(rt, above.as_str())?.sync_all()?;
+        DiskSpool::in_dir(rt, alloc, root)
+    }
+
+    /// Opens a spool. If somebody else has it, that is waited for.
+    ///
+    /// # Errors
+    ///
+    /// `NotFound` if there is no spool, `WouldBlock` if somebody else has it for a second, and what
+    /// the system refuses.
+    pub fn open(rt: &'a HostRuntime, name: &str) -> io::Result<DiskSpool<'a>> {
+        let alloc = rt.alloc();
+        let root = opened(rt, alloc, name)?;
+        DiskSpool::in_dir(rt, alloc, root)
+    }
+
+    /// Opens the spool in an open directory.
+    fn in_dir(rt: &'a HostRuntime, alloc: Global, root: File) -> io::Result<DiskSpool<'a>> {
+        Ok(DiskSpool {
+            rt,
+            alloc,
+            lock: lock(rt, name_in(alloc, &root, LOCK)?.as_str())?,
+            root,
+        })
+    }
+
+    /// Returns a name by which the system opens a file of the spool.
+    fn at(&self, name: &str) -> Result<String, NoMem> {
+        name_in(self.alloc, &self.root, name)
+    }
+
+    /// Returns a name by which the system opens what a file of the spool is written to first.
+    fn beside(&self, name: &str) -> Result<String, NoMem> {
+        self.at(temporary(self.alloc, name)?.as_str())
+    }
+
+    /// Returns the folders that are watched.
+    ///
+    /// # Errors
+    ///
+    /// `InvalidData` if a row of the file isn't a path, and what the system refuses.
+    pub fn folders(&self, alloc: Global) -> io::Result<Vec<Path>> {
+        let text = read_whole(self.rt, alloc, self.at(WATCH)?.as_str())?;
+        match folders_in(alloc, text.as_slice())? {
+            Some(folders) => Ok(folders),
+            None => Err(io::Error::from(ErrorKind::InvalidData)),
+        }
+    }
+
+    /// Writes the file `first`, if there is none. If that is interrupted, there still is none.
+    fn put_first(&self, text: &[u8]) -> io::Result<()> {
+        let first = self.at(FIRST)?;
+        if look_at(self.rt, first.as_str())?.is_some() {
+            return Err(io::Error::from(ErrorKind::AlreadyExists));
+        }
+        let beside = self.beside(FIRST)?;
+        write_anew(self.rt, beside.as_str(), text)?.sync_all()?;
+        fs::rename(self.rt, beside.as_str(), first.as_str())?;
+        self.root.sync_all()
+    }
+
+    /// Returns where the content is kept of whose digest these are the first digits, and the rest.
+    fn shelf(&self, front: &str, rest: &str) -> Result<Shelf, NoMem> {
+        let alloc = self.alloc;
+        let dir = self.at(format!(in alloc; "{CONTENTS}/{front}")?.as_str())?;
+        let beside = temporary(alloc, rest)?;
+        Ok(Shelf {
+            file: format!(in alloc; "{}/{rest}", dir.as_str())?,
+            beside: format!(in alloc; "{}/{}", dir.as_str(), beside.as_str())?,
+            dir,
+        })
+    }
+
+    /// Returns where the content with a digest is kept: `contents/ab/REST`.
+    fn shelf_of(&self, digest: &Digest) -> Result<Shelf, NoMem> {
+        let digits = hex::encode(self.alloc, digest.bytes)?;
+        match digits.as_str().split_at_checked(SHELF) {
+            Some((front, rest)) => self.shelf(front, rest),
+            None => self.shelf("", digits.as_str()),
+        }
+    }
+
+    /// Syncs a directory.
+    fn sync_dir(&self, name: &str) -> io::Result<()> {
+        fs::open(self.rt, format!(in self.alloc; "{name}/")?.as_str())?.sync_all()
+    }
+
+    /// Keeps the bytes of a file under their digest.
+    fn put_content(&self, digest: &Digest, bytes: &[u8]) -> io::Result<()> {
+        let shelf = self.shelf_of(digest)?;
+        if make_dir_if_missing(self.rt, shelf.dir.as_str())? {
+            self.sync_dir(self.at(CONTENTS)?.as_str())?;
+        }
+        let is_kept = match look_at(self.rt, shelf.file.as_str())? {
+            Some(there) => there.is_file() && there.len() == bytes.len() as u64,
+            None => false,
+        };
+        if !is_kept {
+            write_anew(self.rt, shelf.beside.as_str(), bytes)?.sync_all()?;
+            fs::rename(self.rt, shelf.beside.as_str(), shelf.file.as_str())?;
+        }
+        // A stopped run can have left the name before it was on the disk.
+        self.sync_dir(shelf.dir.as_str())
+    }
+
+    /// Writes the file `listing` beside, and then in its place.
+    fn put_listing(&self, text: &[u8]) -> io::Result<()> {
+        let beside = self.beside(LISTING)?;
+        write_anew(self.rt, beside.as_str(), text)?.sync_all()?;
+        fs::rename(self.rt, beside.as_str(), self.at(LISTING)?.as_str())?;
+        self.root.sync_all()
+    }
+
+    /// Reads a file of the spool.
+    fn read(&self, alloc: Global, name: &str) -> io::Result<Vec<u8>> {
+        read_whole(self.rt, alloc, self.at(name)?.as_str())
+    }
+
+    /// Reads the file `lines` from a byte on.
+    fn read_lines(&self, alloc: Global, from: u64) -> io::Result<Option<Vec<u8>>> {
+        read_from(self.rt, alloc, self.at(LINES)?.as_str(), from)
+    }
+
+    /// Writes a text in place of what the file `lines` has from a byte on.
+    fn put_lines(&self, at: u64, text: &[u8]) -> io::Result<()> {
+        write_from(self.rt, self.at(LINES)?.as_str(), at, text)
+    }
+}
+
+/// Returns the result of a call on a spool, of what calls of the system gave.
+fn spool_result<T>(given: io::Result<T>) -> Result<T, SpoolError> {
+    match given {
+        Ok(value) => Ok(value),
+        Err(error) => Err(spool_error(error)),
+    }
+}
+
+impl Spool for DiskSpool<'_> {
+    // Nothing is said of what a disk holds.
+    ghost holds = { λ _. None };
+
+    fn first(&self, alloc: Global) -> Result<Vec<u8>, SpoolError> {
+        spool_result(self.read(alloc, FIRST))
+    }
+
+    fn listing(&self, alloc: Global) -> Result<Vec<u8>, SpoolError> {
+        match self.read(alloc, LISTING) {
+            Err(error) if error.kind() == ErrorKind::NotFound => Ok(Vec::new(alloc)),
+            given => spool_result(given),
+        }
+    }
+
+    fn lines(&self, alloc: Global, from: u64) -> Result<Option<Vec<u8>>, SpoolError> {
+        spool_result(self.read_lines(alloc, from))
+    }
+
+    fn set_first(&mut self, text: &[u8]) -> Result<(), SpoolError> {
+        spool_result(self.put_first(text))
+    }
+
+    fn keep(&mut self, digest: &Digest, bytes: &[u8]) -> Result<(), SpoolError> {
+        spool_result(self.put_content(digest, bytes))
+    }
+
+    fn append(&mut self, at: u64, text: &[u8]) -> Result<(), SpoolError> {
+        spool_result(self.put_lines(at, text))
+    }
+
+    fn set_listing(&mut self, text: &[u8]) -> Result<(), SpoolError> {
+        spool_result(self.put_listing(text))
+    }
+}

@@ -1,0 +1,10 @@
+pub mod Conditions
+pub mod Numerals
+pub mod Numbers
+pub mod Signed
+pub mod Escapes
+pub mod TextBytes
+pub mod NumberTrip
+pub mod Trip
+pub mod InRow
+pub mod RowTrip

@@ -1,0 +1,11 @@
+pub mod Words
+pub mod Written
+pub mod Reading
+pub mod Reads
+pub mod Said
+pub mod Valid
+pub mod ReadBack
+pub mod Lines
+pub mod Listings
+pub mod After
+pub mod inner
