@@ -6,7 +6,7 @@ use Rattle.retro_path.specs.Path.{PathValue}
 use Rattle.retro_edge.specs.Calls.{Call, all_given, given}
 use Rattle.retro_edge.specs.Reads.{all_read}
 use Rattle.retro_edge.specs.Rules.{flag, help_flag, option, options, word}
-use Rattle.casebook_folder_cli.specs.Paths.{path_named}
+use Rattle.retro_edge.specs.Paths.{path_named}
 use Rattle.casebook_folder_cli.specs.Words.{◌>>=◌, place_given}
 use Rattle.casebook_folder_cli.specs.declared.request.FolderProblem.{FolderProblem}
 use Rattle.casebook_folder_cli.specs.declared.request.FolderProblem.TheVariants as problems

@@ -40,7 +40,6 @@ mod answer;
 mod comparing;
 mod file_fault;
 mod folders;
-mod paths;
 mod remark;
 mod request;
 mod restore_fault;

@@ -1,7 +1,5 @@
 //! Requests for snapshots and for comparisons with them.
-ghost use Rattle.std.specs.Prelude.{◌≡◌, map, option_map, IfOk};
-ghost use Rattle.retro_edge.specs.Reads.{all_read};
-ghost use Rattle.casebook_folder_cli.specs.Paths.{path_named};
+ghost use Rattle.std.specs.Prelude.{◌≡◌, map, option_map};
 ghost use Rattle.retro_edge.specs.Calls.{call_view};
 ghost use Rattle.casebook_folder_cli.specs.Words.{compared_in, compared_name, is_input};
 ghost use Rattle.casebook_folder_cli.specs.Words.{paths_given};
@@ -10,9 +8,8 @@ ghost use Rattle.casebook_folder_cli.specs.Views.{Means, compared_view, request_
 ghost use Rattle.casebook_folder_cli.specs.declared.request.FolderFault.TheVariants as faults;
 
 use crate::NoMem;
-use crate::paths::path_named;
 use crate::source::{Source, source_of};
-use retro_edge::CommandCall;
+use retro_edge::{CommandCall, path_named, paths_named};
 use retro_path::Path;
 use std::alloc::{AllocFailed, Global};
 
@@ -95,22 +92,6 @@ pub(crate) fn place_given(alloc: Global, text: Option<&str>) -> Result<Path, Fol
         None => Ok(Path::root(alloc)),
         Some(text) => path_named(alloc, text)?.ok_or(FolderFault::Bad(FolderProblem::At)),
     }
-}
-
-/// Returns the path that each text names, or `None` if one names none.
-pub(crate) fn paths_named(alloc: Global, texts: &[&str]) -> Result<Option<Vec<Path>>, NoMem>
-    ensures { IfOk result (λ found. option_map (λ v. v.items) found
-        ≡ all_read path_named (map (λ s. s.now) texts.now)) }
-{
-    let mut paths = Vec::new(alloc);
-    for text in texts {
-        let path = path_named(alloc, text)?;
-        match path {
-            Some(path) => paths.push(path)?,
-            None => return Ok(None),
-        }
-    }
-    Ok(Some(paths))
 }
 
 /// Returns the paths that are skipped: none, unless some are given.

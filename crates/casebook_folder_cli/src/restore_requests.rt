@@ -5,8 +5,8 @@ ghost use Rattle.casebook_folder_cli.specs.RestoreWords.{is_mixed, only_given, r
 ghost use Rattle.casebook_folder_cli.specs.RestoreWords.{root_given, undo_given, undo_in};
 ghost use Rattle.casebook_folder_cli.specs.Views.{Means, restore_view, undo_view};
 
-use crate::request::{FolderFault, FolderProblem, paths_named, place_given};
-use retro_edge::CommandCall;
+use crate::request::{FolderFault, FolderProblem, place_given};
+use retro_edge::{CommandCall, paths_named};
 use retro_path::Path;
 use std::alloc::Global;
 

@@ -1,5 +1,6 @@
 pub mod Calls
 pub mod Numbers
 pub mod Output
+pub mod Paths
 pub mod Reads
 pub mod Rules

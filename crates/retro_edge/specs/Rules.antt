@@ -19,6 +19,10 @@ flag name = record (new_rule name) { long = Some name; action = Some SetTrue }
 abbrev pub word : Text → Rule
 word name = record (new_rule name) { action = Some Set }
 
+-- words that aren't options, after all other such words
+abbrev pub words : Text → Rule
+words name = record (new_rule name) { action = Some Append }
+
 -- the option that asks for help
 abbrev pub help_flag : Rule
 help_flag = record (new_rule (codes "help")) {

@@ -2,7 +2,7 @@
 ghost use Rattle.std.specs.Prelude.{◌≡◌, ◌∷◌, [], false, IfOk};
 ghost use Rattle.clap.specs.Words.{app_of, rule_of};
 ghost use Rattle.clap.specs.declared.builder.command.Command.TheViews.{out-Command as fields_of};
-ghost use Rattle.retro_edge.specs.Rules.{command, flag, help_flag, option, options, word};
+ghost use Rattle.retro_edge.specs.Rules.{command, flag, help_flag, option, options, word, words};
 
 use clap::{Arg, ArgAction, Command};
 use retro_text::NoMem;
@@ -38,6 +38,14 @@ pub fn word<'a>(alloc: Global, name: &'a str) -> Arg<'a>
     ensures local { result.global ≡ false }
 {
     Arg::new(alloc, name).action(ArgAction::Set)
+}
+
+/// Returns words that aren't options, after all other such words.
+pub fn words<'a>(alloc: Global, name: &'a str) -> Arg<'a>
+    ensures rule { rule_of result ≡ words name.entry.now }
+    ensures local { result.global ≡ false }
+{
+    Arg::new(alloc, name).action(ArgAction::Append)
 }
 
 /// Returns the option that asks for help.

@@ -1,7 +1,7 @@
 use Rattle.std.proofs.Common.{sym, ◌∙◌}
 use Rattle.retro_edge.proofs.ReadLemmas.{loop_goes_on, loop_ends, loop_done}
-use Rattle.casebook_folder_cli.specs.Paths.{path_named}
-use Rattle.casebook_folder_cli.proofs.request.paths_named.Goals as goal
+use Rattle.retro_edge.specs.Paths.{path_named}
+use Rattle.retro_edge.proofs.paths.paths_named.Goals as goal
 
 pub loop-text-preserved : goal.loop-text-preserved
 loop-text-preserved c =
