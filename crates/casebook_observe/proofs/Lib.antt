@@ -1,2 +1,12 @@
+pub mod Continued
+pub mod Digests
 pub mod Keeping
+pub mod Looks
+pub mod Noted
+pub mod Refused
+pub mod Relisted
+pub mod Sent
+pub mod Sighted
+pub mod SightsLeft
+pub mod Taken
 pub mod Whole

@@ -14,12 +14,16 @@ use Rattle.casebook_observe.specs.declared.observe_error.ObserveError.TheVariant
 -- what the listing says that the file `first` is
 abbrev pub look_of_first : ListingValue → LastLook
 look_of_first listing =
-    record { sights = after_notes finmap.empty listing.said; whole = 0; is_listed = false }
+    record { sights = after_notes finmap.empty listing.said; start = 0; whole = 0; is_listed = false }
 
 -- what the listing says that the file `listing` is
 abbrev pub look_of : ListingValue → LastLook
-look_of listing =
-    record { sights = after_notes finmap.empty listing.said; whole = listing.at; is_listed = true }
+look_of listing = record {
+  sights = after_notes finmap.empty listing.said;
+  start = listing.at;
+  whole = listing.at;
+  is_listed = true;
+}
 
 -- what the file `first` says
 abbrev pub first_of : Option ListingValue → Result LastLook ObserveError
@@ -34,6 +38,7 @@ abbrev pub with_lines_of : LastLook → Result LinesValue ℕ → Result LastLoo
 with_lines_of look (Err n) = Err (errors.Lines look.whole n)
 with_lines_of look (Ok lines) = Ok (record {
   sights = after_items look.sights lines.said;
+  start = look.start;
   whole = look.whole + lines.whole;
   is_listed = look.is_listed;
 })

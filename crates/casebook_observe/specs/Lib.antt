@@ -1,7 +1,10 @@
 pub mod Errors
 pub mod Files
+pub mod Followed
 pub mod Last
 pub mod Notes
 pub mod Observed
+pub mod Refusals
 pub mod Worlds
+pub mod Writable
 pub mod inner

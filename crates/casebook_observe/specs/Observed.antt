@@ -4,6 +4,7 @@ use Rattle.std.specs.FinMap as finmap
 use Rattle.casebook_record.specs.declared.record_error.RecordError.{RecordError}
 use Rattle.casebook_spool.specs.Written.{listing_text, observation_text, sights_notes}
 use Rattle.casebook_observe.specs.Files.{SpoolFiles, appended, with_first, with_listing}
+use Rattle.casebook_observe.specs.Last.{last_look}
 use Rattle.casebook_observe.specs.Notes.{due_since, notes_between, with_contents}
 use Rattle.casebook_observe.specs.Worlds.{World}
 use Rattle.casebook_observe.specs.declared.last_look.LastLook.{LastLook}
@@ -36,6 +37,14 @@ IsListed (Ok last) files now =
     now ≡ Some (with_listing (listing_text last.whole (sights_notes last.sights)) files)
 IsListed (Err error) files now = ⊥
 
+-- The spool after a record was taken. Then its listing may have been written again.
+pub record IsTaken (look : Result LastLook ObserveError) (world : World)
+    (fields : Result (List (List ℕ)) RecordError) (files : SpoolFiles) (now : Option SpoolFiles)
+    : Type 0 where
+  pub taken : SpoolFiles
+  pub is_taken : IsObserved look world fields files (Some taken)
+  pub listing : (now ≡ Some taken) ⊎ IsListed (last_look taken) taken now
+
 -- a new spool: the contents are kept, and the first look is a listing
 abbrev pub started : World → SpoolFiles → SpoolFiles
 started world files =
@@ -55,3 +64,16 @@ abbrev pub LosesNothing : Result LastLook ObserveError → SpoolFiles → Option
 LosesNothing (Ok last) files (Some now) = KeepsWhole last files now
 LosesNothing (Err error) files now = now ≡ Some files
 LosesNothing (Ok last) files None = ⊥
+
+-- The first look and the contents are still there, and the lines begin with what was whole.
+abbrev pub KeepsRecords : LastLook → SpoolFiles → SpoolFiles → Type 0
+KeepsRecords last files now =
+    (now.first ≡ files.first)
+    × ((rest : List ℕ) × (now.lines ≡ take last.whole files.lines ++ rest))
+    × ((d bytes : List ℕ) → files.kept d ≡ Some bytes → now.kept d ≡ Some bytes)
+
+-- the same of a spool that was only read in part, which is as before
+abbrev pub LosesNoRecord : Result LastLook ObserveError → SpoolFiles → Option SpoolFiles → Type 0
+LosesNoRecord (Ok last) files (Some now) = KeepsRecords last files now
+LosesNoRecord (Err error) files now = now ≡ Some files
+LosesNoRecord (Ok last) files None = ⊥

@@ -1,10 +1,11 @@
 //! Keeps what files hold.
-ghost use Rattle.std.specs.Prelude.{◌≡◌, IfOk, IfSome, OnErr, OnOk, map, option_map};
+ghost use Rattle.std.specs.Prelude.{◌≡◌, IfErr, IfOk, IfSome, IsTrue, OnErr, OnOk, map, option_map};
 ghost use Rattle.std.specs.FinMap as finmap;
 ghost use Rattle.casebook_observe.specs.Files.{OnlyKeeps};
 ghost use Rattle.casebook_observe.specs.Notes.{content_of, due_changes, holds_note, holds_notes};
 ghost use Rattle.casebook_observe.specs.Notes.{is_due};
 ghost use Rattle.casebook_observe.specs.Notes.{with_contents, with_found};
+ghost use Rattle.casebook_observe.specs.Refusals.{is_of_system};
 
 use crate::NoMem;
 use crate::found::Found;
@@ -64,6 +65,7 @@ fn keep_change<S: Spool, W: Watched>(
         ≡ option_map (λ files. with_found files (world.held change.now.path))
         (S.holds spool.old))) }
     ensures any { OnlyKeeps (S.holds spool.old) (S.holds spool.new) }
+    ensures err { IfErr result (λ error. IsTrue (is_of_system error)) }
 {
     let found = watched.read(alloc, &change.path)?;
     let content = keep_found(spool, found)?;
@@ -104,6 +106,7 @@ fn keep_all<S: Spool, W: Watched>(
         ≡ option_map (λ files. with_contents world (map (λ change. change.now) changes.now) files)
         (S.holds spool.old))) }
     ensures any { OnlyKeeps (S.holds spool.old) (S.holds spool.new) }
+    ensures err { IfErr result (λ error. IsTrue (is_of_system error)) }
 {
     let mut notes = Vec::with_capacity(alloc, changes.len())?;
     for change in changes {
@@ -128,6 +131,7 @@ pub(crate) fn keep_contents<S: Spool, W: Watched>(
         ≡ option_map (λ files. with_contents world (due_changes before.now changes.now) files)
         (S.holds spool.old))) }
     ensures any { OnlyKeeps (S.holds spool.old) (S.holds spool.new) }
+    ensures err { IfErr result (λ error. IsTrue (is_of_system error)) }
 {
     let due = due_changes(alloc, before, changes)?;
     keep_all(alloc, spool, watched, due.as_slice())

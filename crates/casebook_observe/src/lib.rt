@@ -33,11 +33,18 @@
 //!   `specs/Last.antt`).
 //! - [`start`] writes the first look [`ok`], and changes no file if it fails [`err`].
 //!   [`list_again`] writes the last look as a listing [`ok`].
+//! - The last look after a record was taken is the look that was taken: the sights that it found,
+//!   with the times of reading that it left itself, and all of the file `lines` is whole, whether
+//!   the listing was written again or not (`last_look_is_the_one_taken`, with its steps in
+//!   `spool_says_the_last_look`; `IsLookOf` in `specs/Followed.antt`). That of a new spool is the
+//!   look that was taken too (`first_look_is_the_one_taken`). What was found has to be what the
+//!   types of the program can hold (`IsWritable` in `specs/Writable.antt`).
 #![tactic(auto)]
 
 mod contents;
 mod found;
 mod last_look;
+mod laws;
 mod observe_error;
 mod observing;
 mod spool;
@@ -46,6 +53,7 @@ mod watch_error;
 mod watched;
 
 pub use found::Found;
+pub use laws::{first_look_is_the_one_taken, last_look_is_the_one_taken, spool_says_the_last_look};
 pub use observe_error::ObserveError;
 pub use observing::{list_again, observe, start};
 pub use spool::Spool;

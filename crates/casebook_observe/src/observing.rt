@@ -1,5 +1,6 @@
 //! Takes observations.
-ghost use Rattle.std.specs.Prelude.{◌≡◌, ◌++◌, IfOk, IfSome, IsOk, Ok, OnErr, OnOk, map};
+ghost use Rattle.std.specs.Prelude.{◌≡◌, ◌++◌, IfErr, IfOk, IfSome, IsOk, IsTrue};
+ghost use Rattle.std.specs.Prelude.{Ok, OnErr, OnOk, map};
 ghost use Rattle.std.specs.Prelude.{option_map};
 ghost use Rattle.casebook_record.specs.Fields.{fields_of};
 ghost use Rattle.casebook_record.specs.Records.{record_of};
@@ -8,8 +9,9 @@ ghost use Rattle.casebook_spool.specs.Written.{listing_text, sights_notes};
 ghost use Rattle.casebook_observe.specs.Files.{OnlyKeeps, with_first, with_listing};
 ghost use Rattle.casebook_observe.specs.Last.{last_look};
 ghost use Rattle.casebook_observe.specs.Notes.{due_since, notes_between, with_contents};
-ghost use Rattle.casebook_observe.specs.Observed.{IsListed, IsObserved, LosesNothing};
-ghost use Rattle.casebook_observe.specs.Observed.{settled, started};
+ghost use Rattle.casebook_observe.specs.Observed.{IsListed, IsObserved, IsTaken, LosesNoRecord};
+ghost use Rattle.casebook_observe.specs.Observed.{LosesNothing, settled, started};
+ghost use Rattle.casebook_observe.specs.Refusals.{IsBadRecord, IsRefusal, is_of_system};
 
 use crate::NoMem;
 use crate::contents::keep_contents;
@@ -61,6 +63,7 @@ fn notes_since<S: Spool, W: Watched>(
         ≡ option_map (λ files. with_contents world (due_since before.now world) files)
         (S.holds spool.old))) }
     ensures any { OnlyKeeps (S.holds spool.old) (S.holds spool.new) }
+    ensures err { IfErr result (λ error. IsTrue (is_of_system error)) }
 {
     let seen = watched.look(alloc, before)?;
     let changes = delta_between(alloc, before, &seen)?;
@@ -99,39 +102,41 @@ fn settle<S: Spool>(spool: &mut S, last: &LastLook) -> Result<(), SpoolError>
     }
 }
 
-/// Returns the fields of a record, if they are one's.
-fn fields_of_record(alloc: Global, record: &[u8]) -> Result<Vec<&[u8]>, ObserveError>
-    ensures record { OnOk result (IsOk (record_of record.now)) }
+/// Returns the fields of what was sent, if they are those of a record.
+fn fields_of_record(alloc: Global, sent: &[u8]) -> Result<Vec<&[u8]>, ObserveError>
+    ensures record { OnOk result (IsOk (record_of sent.now)) }
     ensures fields { IfOk result (λ fields.
-        fields_of record.now ≡ Ok (map (λ field. field.now) fields.items)) }
+        fields_of sent.now ≡ Ok (map (λ field. field.now) fields.items)) }
+    ensures err { IfErr result (IsBadRecord sent.now) }
 {
-    let fields = fields_of(alloc, record)?;
+    let fields = fields_of(alloc, sent)?;
     record_in(alloc, fields.as_slice())?;
     Ok(fields)
 }
 
-/// Takes a record: looks at the watched folders, keeps what new and changed files hold, and appends
-/// what differs from the last look and then the record to the file `lines`.
-pub fn observe<S: Spool, W: Watched>(
+/// Takes a record, but for the listing. Returns the last look before it.
+fn take<S: Spool, W: Watched>(
     alloc: Global,
     spool: &mut S,
     watched: &mut W,
-    record: &[u8],
-) -> Result<(), ObserveError>
-    ensures record { OnOk result (IsOk (record_of record.now)) }
+    sent: &[u8],
+) -> Result<LastLook, ObserveError>
+    ensures record { OnOk result (IsOk (record_of sent.now)) }
     ensures ok { IfSome (W.finds watched.old) (λ world. IfSome (S.holds spool.old) (λ files.
-        OnOk result (IsObserved (last_look files) world (fields_of record.now) files
+        OnOk result (IsObserved (last_look files) world (fields_of sent.now) files
         (S.holds spool.new)))) }
     ensures any { IfSome (S.holds spool.old) (λ files.
         LosesNothing (last_look files) files (S.holds spool.new)) }
+    ensures err { IfErr result (λ error. IfSome (S.holds spool.old) (λ files.
+        IsRefusal (last_look files) sent.now error)) }
 {
-    let fields = fields_of_record(alloc, record)?;
+    let fields = fields_of_record(alloc, sent)?;
     let last = last_look(alloc, spool)?;
     settle(spool, &last)?;
     let notes = notes_since(alloc, spool, watched, &last.sights)?;
     let text = observation_text(alloc, notes.as_slice(), fields.as_slice())?;
     spool.append(last.whole, text.as_bytes())?;
-    Ok(())
+    Ok(last)
 }
 
 /// Writes the file `listing` of a spool again, of what its other files say. The next observation
@@ -144,5 +149,33 @@ pub fn list_again<S: Spool>(alloc: Global, spool: &mut S) -> Result<(), ObserveE
     let last = last_look(alloc, spool)?;
     let text = sights_text(alloc, last.whole, &last.sights)?;
     spool.set_listing(text.as_bytes())?;
+    Ok(())
+}
+
+/// Takes a record: looks at the watched folders, keeps what new and changed files hold, and appends
+/// what differs from the last look and then the record to the file `lines`. If that file was far
+/// ahead of the listing, the listing is written again. If that fails, a later record does it.
+pub fn observe<S: Spool, W: Watched>(
+    alloc: Global,
+    spool: &mut S,
+    watched: &mut W,
+    sent: &[u8],
+) -> Result<(), ObserveError>
+    ensures record { OnOk result (IsOk (record_of sent.now)) }
+    ensures ok { IfSome (W.finds watched.old) (λ world. IfSome (S.holds spool.old) (λ files.
+        OnOk result (IsTaken (last_look files) world (fields_of sent.now) files
+        (S.holds spool.new)))) }
+    ensures any { IfSome (S.holds spool.old) (λ files.
+        LosesNoRecord (last_look files) files (S.holds spool.new)) }
+    ensures unlisted { IfSome (S.holds spool.old) (λ files. OnErr result
+        (LosesNothing (last_look files) files (S.holds spool.new))) }
+    ensures err { IfErr result (λ error. IfSome (S.holds spool.old) (λ files.
+        IsRefusal (last_look files) sent.now error)) }
+{
+    let last = take(alloc, spool, watched, sent)?;
+    if last.is_far_ahead() {
+        // The record is taken, whatever becomes of the listing.
+        list_again(alloc, spool).unwrap_or(());
+    }
     Ok(())
 }
