@@ -139,7 +139,7 @@ impl<'a> DiskSpool<'a> {
             return Err(io::Error::from(ErrorKind::AlreadyExists));
         }
         let beside = self.beside(FIRST)?;
-        write_anew(self.rt, beside.as_str(), text)?.sync_all()?;
+        write_anew(self.rt, beside.as_str(), text)?;
         fs::rename(self.rt, beside.as_str(), first.as_str())?;
         self.root.sync_all()
     }
@@ -181,7 +181,7 @@ impl<'a> DiskSpool<'a> {
             None => false,
         };
         if !is_kept {
-            write_anew(self.rt, shelf.beside.as_str(), bytes)?.sync_all()?;
+            write_anew(self.rt, shelf.beside.as_str(), bytes)?;
             fs::rename(self.rt, shelf.beside.as_str(), shelf.file.as_str())?;
         }
         // A stopped run can have left the name before it was on the disk.
@@ -191,7 +191,7 @@ impl<'a> DiskSpool<'a> {
     /// Writes the file `listing` beside, and then in its place.
     fn put_listing(&self, text: &[u8]) -> io::Result<()> {
         let beside = self.beside(LISTING)?;
-        write_anew(self.rt, beside.as_str(), text)?.sync_all()?;
+        write_anew(self.rt, beside.as_str(), text)?;
         fs::rename(self.rt, beside.as_str(), self.at(LISTING)?.as_str())?;
         self.root.sync_all()
     }

@@ -2,14 +2,14 @@
 ghost use Rattle.std.specs.Prelude.{None};
 
 use crate::errors::watch_error;
+use crate::own_readings::OwnReadings;
 use crate::place::{DiskPlace, OpenDir, dir_below, last_name, opened};
 use crate::scope::Scope;
-use crate::sighting::is_same_state;
 use crate::walk::Walk;
 use crate::watched_node::{Reading, read_in};
 use casebook_observe::{Found, WatchError, Watched};
 use casebook_spool::{Looked, Unkept};
-use casebook_watch::{FileTime, Kind, Sight, Sights};
+use casebook_watch::{Kind, Sights};
 use retro_path::Path;
 use std::alloc::Global;
 use std::collections::BTreeMap;
@@ -25,8 +25,8 @@ pub struct DiskWatched<'a> {
     folders: Vec<OpenDir>,
     /// The sights of the last look that differ from those of the look before it.
     fresh: Sights,
-    /// When what was listed or read since the last look began was read last, by this.
-    left: BTreeMap<Path, FileTime>,
+    /// What was listed or read since the last look began, by this.
+    own: OwnReadings,
     /// The directory in which a file was read last.
     last: Option<OpenDir>,
 }
@@ -58,7 +58,7 @@ impl<'a> DiskWatched<'a> {
             alloc,
             folders: open_all(rt, alloc, folders)?,
             fresh: Sights::new(alloc),
-            left: BTreeMap::new(alloc),
+            own: OwnReadings::of_listed(alloc, BTreeMap::new(alloc)),
             last: None,
         })
     }
@@ -79,7 +79,7 @@ impl<'a> DiskWatched<'a> {
         // What was listed was listed before this.
         walk.check_time()?;
         self.fresh = walk.fresh;
-        self.left = walk.left;
+        self.own = OwnReadings::of_listed(self.alloc, walk.left);
         Ok(walk.sights)
     }
 
@@ -116,15 +116,6 @@ impl<'a> DiskWatched<'a> {
         }
     }
 
-    /// Notes when a file or a link was read last, if it was by this alone since the look.
-    fn note(&mut self, path: &Path, before: &Sight, after: &Sight) -> io::Result<()> {
-        let seen = self.fresh.get(path).unwrap_or(before);
-        if is_same_state(seen, after) && seen.read == before.read && seen.read != after.read {
-            self.left.insert(path.copy()?, after.read)?;
-        }
-        Ok(())
-    }
-
     /// Reads what is at a path, or returns `None` if its directory is gone.
     fn read_at(&mut self, path: &Path) -> io::Result<Option<Found>> {
         let Some(open) = self.take_dir(path.parent(self.alloc)?)? else {
@@ -135,21 +126,10 @@ impl<'a> DiskWatched<'a> {
         self.last = Some(open);
         let Reading { found, sights } = reading?;
         if let Some((before, after)) = sights {
-            self.note(path, &before, &after)?;
+            let seen = self.fresh.get(path).unwrap_or(&before);
+            self.own.note(path, seen, &before, &after)?;
         }
         Ok(Some(found))
-    }
-
-    /// Returns what was read last, by this, since the last look began.
-    fn all_left(&self, alloc: Global) -> io::Result<Vec<Looked>> {
-        let mut looked = Vec::new(alloc);
-        for (path, read) in &self.left {
-            looked.push(Looked {
-                path: path.copy()?,
-                read: *read,
-            })?;
-        }
-        Ok(looked)
     }
 }
 
@@ -196,7 +176,7 @@ impl Watched for DiskWatched<'_> {
     }
 
     fn looked(&mut self, alloc: Global) -> Result<Vec<Looked>, WatchError> {
-        match self.all_left(alloc) {
+        match self.own.all(alloc) {
             Ok(looked) => Ok(looked),
             Err(error) => Err(watch_error(error)),
         }

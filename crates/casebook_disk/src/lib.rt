@@ -44,8 +44,8 @@
 //! look.
 //!
 //! When a directory was read last is asked right after it is listed, and when a file or a link was,
-//! right after it is read. If nobody else has changed or read it since the look, `looked` says so.
-//! Whatever comes after that is somebody else's.
+//! right after it is read. If nobody else has changed or read it since the look, by any of its names,
+//! `looked` says so. Whatever comes after that is somebody else's.
 //!
 //! # Spools
 //!
@@ -54,7 +54,7 @@
 //! can look. The file `lock` is locked as long as a `DiskSpool` is open. `watch` has a row for each
 //! folder, as `casebook_rows` writes paths; that of the root is empty. New files are written under
 //! temporary names and then renamed, but for `lines`, to which texts are appended. All of them are
-//! synced.
+//! synced. What can't be written as a whole, as on a full disk, is removed again.
 //!
 //! # What is left to chance
 //!
@@ -90,6 +90,7 @@ mod item;
 mod level;
 mod names;
 mod new_file;
+mod own_readings;
 mod place;
 mod reading;
 mod scope;

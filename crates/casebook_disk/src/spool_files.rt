@@ -39,15 +39,27 @@ fn open_to_write(rt: &HostRuntime, name: &str) -> io::Result<File> {
     options.open(rt, name)
 }
 
-/// Writes a file, which only its owner can read, in place of what a stopped run left at its name. It
-/// isn't synced.
-pub(crate) fn write_anew(rt: &HostRuntime, name: &str, text: &[u8]) -> io::Result<File> {
-    clear(rt, name)?;
+/// Writes a new file, which only its owner can read, and syncs it.
+fn write_new(rt: &HostRuntime, name: &str, text: &[u8]) -> io::Result<()> {
     let mut options = OpenOptions::new();
     options.write(true).create_new(true).mode(0o600);
     let mut file = options.open(rt, name)?;
     file.write_all(text)?;
-    Ok(file)
+    file.sync_all()
+}
+
+/// Writes a file, which only its owner can read, in place of what a stopped run left at its name, and
+/// returns when it is on the disk. If that fails, it is removed, if that is possible.
+pub(crate) fn write_anew(rt: &HostRuntime, name: &str, text: &[u8]) -> io::Result<()> {
+    clear(rt, name)?;
+    match write_new(rt, name, text) {
+        Ok(()) => Ok(()),
+        Err(error) => {
+            // The first error says what failed.
+            clear(rt, name).unwrap_or(());
+            Err(error)
+        }
+    }
 }
 
 /// Reads a file from a byte on, or returns `None` if it has fewer bytes.
