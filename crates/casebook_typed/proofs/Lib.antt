@@ -1,0 +1,12 @@
+pub mod ActiveSoFar
+pub mod AllLines
+pub mod Few
+pub mod Found
+pub mod Keys
+pub mod Lines
+pub mod MarksSoFar
+pub mod NameOrder
+pub mod NamesSoFar
+pub mod NotesSoFar
+pub mod OneLine
+pub mod Splitting

@@ -1,0 +1,4 @@
+-- Definitions that only private contracts and proofs name.
+pub mod Places
+pub mod Lists
+pub mod Few
