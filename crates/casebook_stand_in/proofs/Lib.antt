@@ -1,0 +1,4 @@
+pub mod Owning
+pub mod Alike
+pub mod Stepping
+pub mod Leading

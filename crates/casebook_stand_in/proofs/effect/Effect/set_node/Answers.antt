@@ -1,0 +1,11 @@
+use Rattle.std.proofs.Common.{refl}
+use Rattle.retro_tree.specs.declared.cell.Cell.TheVariants as cells
+use Rattle.retro_tree.specs.declared.value.Value.TheVariants as values
+use Rattle.casebook_stand_in.proofs.Owning.{set_or_kept}
+use Rattle.casebook_stand_in.proofs.effect.Effect.set_node.Goals as goal
+
+pub invariant_of-self : goal.invariant_of-self
+invariant_of-self c =
+    set_or_kept (record { sid = c.self.inside.sid; cells = c.self.inside.cells }) (cells.At c.args.path)
+    (values.Node c.args.node) c.insert.new.self c.insert.result refl refl c.self.invariant c.insert.ensures.ok
+    c.insert.ensures.err

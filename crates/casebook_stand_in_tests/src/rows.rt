@@ -1,0 +1,34 @@
+//! The call that each row names, and the test that makes these calls.
+use crate::explaining::{explained, made, shelf_text};
+use crate::tables::{EXPLAINED, SHELVES};
+use retro_rows::{fail, rows};
+use std::alloc::Global;
+use std::test::Fail;
+
+/// Returns the result of a call for these fields, as text.
+fn called(alloc: Global, call: &str, given: &[String]) -> Result<String, Fail> {
+    match (call, given) {
+        ("explain", [state, typed, effect]) => explained(alloc, state, typed, effect),
+        ("shelf", [state, effect]) => shelf_text(alloc, state, effect),
+        ("made", [state, effect, cell]) => made(alloc, state, effect, cell),
+        _ => fail("no such call"),
+    }
+}
+
+/// Makes the calls of a table. Fails with the first row whose call returns something else than it
+/// wants.
+fn hold(alloc: Global, table: &str) -> Result<(), Fail> {
+    for row in &rows(alloc, table)? {
+        let returned = called(alloc, &row.call, &row.given)?;
+        row.compare(alloc, &returned)?;
+    }
+    Ok(())
+}
+
+#[test]
+fn rows_hold(rt: HostRuntime) -> Result<(), Fail> {
+    for table in [EXPLAINED, SHELVES] {
+        hold(rt.alloc(), table)?;
+    }
+    Ok(())
+}
