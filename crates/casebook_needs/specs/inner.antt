@@ -1,0 +1,3 @@
+-- Definitions that only private contracts, models and proofs name.
+pub mod Sets
+pub mod Steps

@@ -1,0 +1,48 @@
+//! The words of a text.
+ghost use Rattle.std.specs.Prelude.{◌≡◌, ◌++◌, IfOk, map};
+ghost use Rattle.std.specs.List.{slice_split};
+ghost use Rattle.casebook_needs.specs.Words.{is_quote, is_separator, words_of};
+
+use crate::NoMem;
+use std::alloc::Global;
+
+/// Returns whether a byte is between words.
+fn is_separator(byte: u8) -> bool
+    ensures { result ≡ is_separator byte }
+{
+    b"\t\n |&;<>()'\"\\`${}=,:".contains(&byte)
+}
+
+/// Returns whether a byte is a quote.
+fn is_quote(byte: u8) -> bool
+    ensures { result ≡ is_quote byte }
+{
+    b"'\"".contains(&byte)
+}
+
+/// Splits a text at separators.
+fn bare_words(alloc: Global, text: &[u8]) -> Result<Vec<&[u8]>, NoMem>
+    ensures { IfOk result (λ words. map (λ word. word.now) words.items
+        ≡ slice_split is_separator text.now) }
+{
+    text.split(|byte| is_separator(*byte)).collect(alloc)
+}
+
+/// Splits a text at quotes.
+fn quoted_words(alloc: Global, text: &[u8]) -> Result<Vec<&[u8]>, NoMem>
+    ensures { IfOk result (λ words. map (λ word. word.now) words.items
+        ≡ slice_split is_quote text.now) }
+{
+    text.split(|byte| is_quote(*byte)).collect(alloc)
+}
+
+/// Returns the words of a text: the parts between separators, followed by the parts between quotes.
+/// Some words are empty.
+#[tactic(auto, unfolding(crate::specs::Words::words_of))]
+pub fn words_of(alloc: Global, text: &[u8]) -> Result<Vec<&[u8]>, NoMem>
+    ensures { IfOk result (λ words. map (λ word. word.now) words.items ≡ words_of text.now) }
+{
+    let mut words = bare_words(alloc, text)?;
+    words.extend_from_slice(quoted_words(alloc, text)?.as_slice())?;
+    Ok(words)
+}
