@@ -4,9 +4,10 @@
 ghost use Rattle.std.specs.Prelude.{None};
 
 use casebook_cli::{Documents, Exit, Output, Problem, Progress, ReadFault, Step, Stop, run_with};
-use casebook_disk::{Disk, DiskListing, write_new_file};
+use casebook_disk::{Disk, DiskListing, DiskSpool, DiskWatched, write_new_file};
 use casebook_folder::FolderError;
 use casebook_folder_cli::{Folders, Mounts, Owner};
+use casebook_recorder_cli::{OpenError, OpenSpool, SENT_LIMIT, Spools};
 use casebook_restore::PlacedFolder;
 use casebook_snapshot::SnapshotError;
 use casebook_text::SafeLine;
@@ -174,6 +175,105 @@ impl<'a> Folders for Files<'a> {
         match write_new_file(self.rt, alloc, name, text) {
             Ok(()) => Ok(()),
             Err(error) => Err(undo_fault_of(error)),
+        }
+    }
+}
+
+/// Returns why a spool couldn't be opened.
+fn open_fault_of(error: std::io::Error) -> OpenError {
+    match error.kind() {
+        ErrorKind::OutOfMemory => OpenError::NoMem,
+        ErrorKind::NotFound | ErrorKind::NotADirectory => OpenError::Missing,
+        ErrorKind::AlreadyExists => OpenError::Exists,
+        ErrorKind::WouldBlock => OpenError::Busy,
+        ErrorKind::InvalidData => OpenError::Damaged,
+        _ => OpenError::Failed,
+    }
+}
+
+/// Returns why folders couldn't be opened to be watched.
+fn watched_fault_of(error: std::io::Error) -> OpenError {
+    match error.kind() {
+        ErrorKind::OutOfMemory => OpenError::NoMem,
+        ErrorKind::NotFound | ErrorKind::NotADirectory => OpenError::NoFolder,
+        _ => OpenError::Failed,
+    }
+}
+
+/// Returns a list of the same paths.
+fn copies_of(alloc: Global, paths: &[Path]) -> Result<Vec<Path>, OpenError> {
+    let mut copies = Vec::new(alloc);
+    for path in paths {
+        let Ok(copy) = path.copy() else {
+            return Err(OpenError::NoMem);
+        };
+        let Ok(()) = copies.push(copy) else {
+            return Err(OpenError::NoMem);
+        };
+    }
+    Ok(copies)
+}
+
+impl<'a> Spools for Files<'a> {
+    type Kept = DiskSpool<'a>;
+
+    type Seen = DiskWatched<'a>;
+
+    ghost spools = { λ _. None };
+
+    fn sent(&self, alloc: Global) -> Result<Vec<u8>, OpenError> {
+        let mut sent = Vec::new(alloc);
+        let mut input = self.rt.stdin().take(SENT_LIMIT as u64 + 1);
+        match input.read_to_end(&mut sent) {
+            Ok(_) => Ok(sent),
+            Err(error) => Err(open_fault_of(error)),
+        }
+    }
+
+    fn sender(&self) -> Result<Option<u32>, OpenError> {
+        // `sudo` sets it, whatever the caller's environment has.
+        match env::var(self.rt, "SUDO_UID") {
+            Ok(user) => match user.as_str().parse() {
+                Ok(user) => Ok(Some(user)),
+                Err(_) => Err(OpenError::Failed),
+            },
+            Err(_) => Ok(None),
+        }
+    }
+
+    fn open_spool(
+        &self,
+        alloc: Global,
+        name: &str,
+    ) -> Result<OpenSpool<Self::Kept, Self::Seen>, OpenError> {
+        let spool = match DiskSpool::open(self.rt, name) {
+            Ok(spool) => spool,
+            Err(error) => return Err(open_fault_of(error)),
+        };
+        let folders = match spool.folders(alloc) {
+            Ok(folders) => folders,
+            Err(error) => return Err(open_fault_of(error)),
+        };
+        match DiskWatched::open(self.rt, folders) {
+            Ok(watched) => Ok(OpenSpool { spool, watched }),
+            Err(error) => Err(watched_fault_of(error)),
+        }
+    }
+
+    fn make_spool(
+        &self,
+        alloc: Global,
+        name: &str,
+        folders: &[Path],
+    ) -> Result<OpenSpool<Self::Kept, Self::Seen>, OpenError> {
+        // A spool is made only for folders that are there.
+        let watched = match DiskWatched::open(self.rt, copies_of(alloc, folders)?) {
+            Ok(watched) => watched,
+            Err(error) => return Err(watched_fault_of(error)),
+        };
+        match DiskSpool::create(self.rt, name, folders) {
+            Ok(spool) => Ok(OpenSpool { spool, watched }),
+            Err(error) => Err(open_fault_of(error)),
         }
     }
 }

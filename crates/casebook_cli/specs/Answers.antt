@@ -1,5 +1,6 @@
 -- The answers to requests.
-use Rattle.std.specs.Prelude.{◌≡◌, ℕ, Bool, false, IsTrue, List, Ok, Some}
+use Rattle.std.specs.Prelude.{◌≡◌, ℕ, Bool, false, IfSome, IsTrue, List, [], Ok, Option, Some}
+use Rattle.casebook_observe.specs.Files.{SpoolFiles}
 use Rattle.casebook_snapshot.specs.declared.snapshot.Snapshot.{Snapshot}
 use Rattle.casebook_folder_cli.specs.Answers.{IsSnapshotOf}
 use Rattle.casebook_folder_cli.specs.Comparing.{IsCompareAnswer}
@@ -9,6 +10,9 @@ use Rattle.casebook_folder_cli.specs.Restoring.{IsRestoreAnswer, IsUndoAnswer}
 use Rattle.casebook_folder_cli.specs.Words.{SnapshotValue}
 use Rattle.casebook_folder_cli.specs.declared.comparing.CompareAnswer.{CompareAnswer}
 use Rattle.casebook_folder_cli.specs.declared.restoring.RestoreAnswer.{RestoreAnswer}
+use Rattle.casebook_recorder_cli.specs.Spools.{AllSpools}
+use Rattle.casebook_recorder_cli.specs.Taking.{TakesRecord}
+use Rattle.casebook_recorder_cli.specs.Words.{ObserveValue}
 use Rattle.casebook_text.specs.SafeLine.{text_of_lines}
 use Rattle.retro_keep.specs.Recording.{RecordingValue, last_state}
 use Rattle.retro_log.specs.Document.{log_in}
@@ -22,7 +26,7 @@ use Rattle.casebook_cli.specs.Pages.{IsPage}
 use Rattle.casebook_cli.specs.Repairs.{IsAsked, repair_sources, sources_of}
 use Rattle.casebook_cli.specs.Request.{Query, Request, ask, check, help, help_text, lines, page, show}
 use Rattle.casebook_cli.specs.Request.{CompareValue, FolderRepair, RepairRequest, compare, restore, script, snapshot}
-use Rattle.casebook_cli.specs.Request.{undo}
+use Rattle.casebook_cli.specs.Request.{observe, start, undo}
 use Rattle.casebook_cli.specs.Screens.{IsShown}
 use Rattle.casebook_cli.specs.Scripts.{IsScriptOf}
 use Rattle.casebook_cli.specs.declared.repairs.AskedRepair.{AskedRepair}
@@ -103,11 +107,20 @@ pub record AnswersUndo (folders : AllFolders) (request : UndoValue) (answer : An
   pub is_no : answer.is_no ≡ undone.is_no
   pub harmless : IsHarmless answer.text
 
-abbrev pub Answers : Bool → AllDocuments → AllFolders → Request → AnswerValue → Type 0
-Answers colours at folders (help topic) answer = answer ≡ saying (help_text topic)
-Answers colours at folders (ask query) answer = AnswersQuery colours at query answer
-Answers colours at folders (snapshot request) answer = AnswersSnapshot folders request answer
-Answers colours at folders (compare request) answer = AnswersCompare at folders request answer
-Answers colours at folders (restore request) answer = AnswersRestore at folders request answer
-Answers colours at folders (undo request) answer = AnswersUndo folders request answer
-Answers colours at folders (script request) answer = Says (IsScriptOf at request) answer
+-- The answer to a record that was sent: nothing is said, and the spool takes it. What the spool holds
+-- then is `left`.
+pub record AnswersObserve (spools : Option AllSpools) (request : ObserveValue) (answer : AnswerValue) : Type 0 where
+  pub left : Option SpoolFiles
+  pub takes : IfSome spools (λ all. TakesRecord all request.spool left)
+  pub nothing : answer ≡ saying []
+
+abbrev pub Answers : Bool → AllDocuments → AllFolders → Option AllSpools → Request → AnswerValue → Type 0
+Answers colours at folders spools (help topic) answer = answer ≡ saying (help_text topic)
+Answers colours at folders spools (ask query) answer = AnswersQuery colours at query answer
+Answers colours at folders spools (snapshot request) answer = AnswersSnapshot folders request answer
+Answers colours at folders spools (compare request) answer = AnswersCompare at folders request answer
+Answers colours at folders spools (restore request) answer = AnswersRestore at folders request answer
+Answers colours at folders spools (undo request) answer = AnswersUndo folders request answer
+Answers colours at folders spools (script request) answer = Says (IsScriptOf at request) answer
+Answers colours at folders spools (start request) answer = answer ≡ saying []
+Answers colours at folders spools (observe request) answer = AnswersObserve spools request answer

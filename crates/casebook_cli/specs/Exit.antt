@@ -1,5 +1,6 @@
 -- Exits: their statuses, and before which nothing was written.
-use Rattle.std.specs.Prelude.{ℕ, Bool, true, false}
+use Rattle.std.specs.Prelude.{ℕ, Bool, true, false, if◌then◌else◌}
+use Rattle.casebook_recorder_cli.specs.Faults.{is_refusal}
 use Rattle.casebook_cli.specs.declared.exit.Exit.{Exit}
 use Rattle.casebook_cli.specs.declared.exit.Exit.TheVariants as exits
 use Rattle.casebook_cli.specs.declared.stop.Stop.{Stop}
@@ -10,6 +11,7 @@ stop_status stops.OutOfMemory = 2
 stop_status (stops.ReadFailed name) = 3
 stop_status (stops.UndoFailed name) = 3
 stop_status (stops.Unfinished name) = 3
+stop_status (stops.Recorder name fault) = if is_refusal fault then 1 else 3
 stop_status other = 1
 
 abbrev pub status_of : Exit → ℕ

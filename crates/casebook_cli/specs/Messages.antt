@@ -17,6 +17,8 @@ use Rattle.casebook_cli.specs.declared.exit.Exit.{Exit}
 use Rattle.casebook_cli.specs.declared.exit.Exit.TheVariants as exits
 use Rattle.casebook_folder_cli.specs.FileFaults.{fault_line}
 use Rattle.casebook_folder_cli.specs.declared.request.FolderProblem.TheVariants as folder_problems
+use Rattle.casebook_recorder_cli.specs.Faults.{fault_line as recorder_line}
+use Rattle.casebook_recorder_cli.specs.declared.request.RecorderProblem.TheVariants as recorder_problems
 use Rattle.casebook_cli.specs.declared.problem.Problem.{Problem}
 use Rattle.casebook_cli.specs.declared.problem.Problem.TheVariants as problems
 use Rattle.casebook_cli.specs.declared.searched.SearchedPart.{SearchedPart}
@@ -68,6 +70,12 @@ problem_words (problems.Folder folder_problems.NoSessions) =
     codes "no --sessions FILE is given; see casebook help script"
 problem_words (problems.Folder folder_problems.NoLines) =
     codes "no --lines FILE is given; see casebook help script"
+problem_words (problems.Recorder recorder_problems.NoSpool) =
+    codes "no SPOOL is given; see casebook help observe"
+problem_words (problems.Recorder recorder_problems.NoFolder) =
+    codes "--start needs a FOLDER after SPOOL; see casebook help observe"
+problem_words (problems.Recorder recorder_problems.HasFolder) = codes "FOLDER needs --start"
+problem_words (problems.Recorder recorder_problems.Folder) = codes "FOLDER: not a path from the root"
 
 unfoldable pub searched_words : SearchedPart → List ℕ
 searched_words Text = codes "--text: not a regular expression, or too large a one"
@@ -187,6 +195,7 @@ stop_message (stops.OtherUndo name) = said_of name.now (codes "the undo file of 
 stop_message (stops.FolderChanged name) = said_of name.now (codes "changed meanwhile; nothing was restored")
 stop_message (stops.Unfinished name) =
     said_of name.now (codes "restored in part; run this again, or take it back by the undo file")
+stop_message (stops.Recorder name fault) = said_of name.now (recorder_line fault)
 
 -- the line for standard error, empty if an answer was written
 unfoldable pub message_of : Exit → List ℕ

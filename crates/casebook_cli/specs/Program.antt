@@ -2,6 +2,7 @@
 use Rattle.std.specs.Prelude.{◌≡◌, ℕ, Bool, true, false, List, Option, Ok}
 use Rattle.std.specs.Io.KnownBytes.{Appends}
 use Rattle.casebook_folder_cli.specs.Folders.{AllFolders}
+use Rattle.casebook_recorder_cli.specs.Spools.{AllSpools}
 use Rattle.casebook_cli.specs.Answers.{AnswerValue, Answers}
 use Rattle.casebook_cli.specs.Documents.{AllDocuments}
 use Rattle.retro_edge.specs.Output.{AppendsPart}
@@ -14,11 +15,11 @@ abbrev pub Text : Type 0
 Text = List ℕ
 
 -- The answer to words.
-pub record AnswersWords (words : List Text) (at : AllDocuments) (folders : AllFolders) (colours : Bool)
+pub record AnswersWords (words : List Text) (at : AllDocuments) (folders : AllFolders) (spools : Option AllSpools) (colours : Bool)
     (answer : AnswerValue) : Type 0 where
   pub request : Request
   pub words_ask : request_in words ≡ Ok request
-  pub answers : Answers colours at folders request answer
+  pub answers : Answers colours at folders spools request answer
 
 -- An answer was written whole, and the exit says whether it says no.
 pub record Wrote (answer : AnswerValue) (is_no : Bool) (old new : Option Text) : Type 0 where
@@ -34,13 +35,13 @@ Ends answer old new exits.WriteFailed = AppendsPart old new answer.text
 Ends answer old new (exits.Stopped stop) = ⊥
 
 -- There is an answer, and the program ends so.
-pub record Answered (words : List Text) (at : AllDocuments) (folders : AllFolders) (colours : Bool)
+pub record Answered (words : List Text) (at : AllDocuments) (folders : AllFolders) (spools : Option AllSpools) (colours : Bool)
     (old new : Option Text) (exit : Exit) : Type 0 where
   pub answer : AnswerValue
-  pub answers : AnswersWords words at folders colours answer
+  pub answers : AnswersWords words at folders spools colours answer
   pub ends : Ends answer old new exit
 
 -- what a run on words, documents and folders leaves, with colours if they are wanted
-abbrev pub Runs : List Text → AllDocuments → AllFolders → Bool → Option Text → Option Text → Exit → Type 0
-Runs words at folders colours old new (exits.Stopped stop) = StopsWords words at folders stop
-Runs words at folders colours old new exit = Answered words at folders colours old new exit
+abbrev pub Runs : List Text → AllDocuments → AllFolders → Option AllSpools → Bool → Option Text → Option Text → Exit → Type 0
+Runs words at folders spools colours old new (exits.Stopped stop) = StopsWords words at folders spools stop
+Runs words at folders spools colours old new exit = Answered words at folders spools colours old new exit

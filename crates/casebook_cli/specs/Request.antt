@@ -20,6 +20,10 @@ use Rattle.casebook_folder_cli.specs.Words.{ComparedValue, SnapshotValue, compar
 use Rattle.casebook_folder_cli.specs.declared.request.FolderFault.{FolderFault}
 use Rattle.casebook_folder_cli.specs.declared.request.FolderFault.TheVariants as folder_faults
 use Rattle.casebook_folder_cli.specs.declared.request.FolderProblem.{FolderProblem}
+use Rattle.casebook_recorder_cli.specs.Words.{ObserveValue, StartValue, observe_in, start_in}
+use Rattle.casebook_recorder_cli.specs.declared.request.RecorderProblem.{RecorderProblem}
+use Rattle.casebook_recorder_cli.specs.declared.request.WordsFault.{WordsFault as RecorderFault}
+use Rattle.casebook_recorder_cli.specs.declared.request.WordsFault.TheVariants as recorder_faults
 use Rattle.casebook_cli.specs.Bounds.{bound_in, has_times, last_bound_in, line_of}
 use Rattle.retro_edge.specs.Numbers.{numbers_in}
 use Rattle.retro_edge.specs.Calls.{Call, Named, called, given, named_in, nothing, refused}
@@ -31,6 +35,7 @@ use Rattle.casebook_cli.specs.declared.format.Format.TheVariants as formats
 use Rattle.casebook_cli.specs.declared.folder_help.TheConstants.{COMPARE, RESTORE, SCRIPT, SNAPSHOT}
 use Rattle.casebook_cli.specs.declared.document_help.TheConstants.{DOCUMENTS, LISTS, PROFILE, REFUSALS}
 use Rattle.casebook_cli.specs.declared.help.TheConstants.{PROGRAM, LINES, SHOW, PAGE, CHECK}
+use Rattle.casebook_cli.specs.declared.recorder_help.TheConstants.{OBSERVE}
 use Rattle.casebook_cli.specs.declared.problem.Problem.{Problem}
 use Rattle.casebook_cli.specs.declared.problem.Problem.TheVariants as problems
 use Rattle.casebook_cli.specs.declared.shown.Extras.{Extras}
@@ -118,6 +123,8 @@ pub data Request : Type 0 where
   restore : FolderRepair → Request
   undo : UndoValue → Request
   script : ScriptValue → Request
+  start : StartValue → Request
+  observe : ObserveValue → Request
 
 -- ---- steps, of which the first problem ends them
 
@@ -141,6 +148,7 @@ topic_in text =
     else if is_text (codes "compare") text then Some topics.Compare
     else if is_text (codes "restore") text then Some topics.Restore
     else if is_text (codes "script") text then Some topics.Script
+    else if is_text (codes "observe") text then Some topics.Observe
     else if is_text (codes "lists") text then Some topics.Lists
     else if is_text (codes "documents") text then Some topics.Documents
     else if is_text (codes "refusals") text then Some topics.Refusals
@@ -166,6 +174,7 @@ help_text topics.Snapshot = SNAPSHOT.now
 help_text topics.Compare = COMPARE.now
 help_text topics.Restore = RESTORE.now
 help_text topics.Script = SCRIPT.now
+help_text topics.Observe = OBSERVE.now
 help_text topics.Lists = LISTS.now
 help_text topics.Documents = DOCUMENTS.now
 help_text topics.Refusals = REFUSALS.now
@@ -453,6 +462,16 @@ restore_asked call =
     if is_undo call then in_folder undo (undo_in (is_given (codes "apply") call) call)
     else result_map restore (folder_repair_in call)
 
+abbrev pub in_recorder : {A B : Type 0} → (A → B) → Result A RecorderProblem → Result B Problem
+in_recorder f (Ok x) = Ok (f x)
+in_recorder f (Err problem) = Err (problems.Recorder problem)
+
+-- what `observe` asks for: it makes a spool, or takes a record
+abbrev pub observe_asked : Call → Result Request Problem
+observe_asked call =
+    if is_given (codes "start") call then in_recorder start (start_in call)
+    else in_recorder observe (observe_in call)
+
 -- the request of a command
 unfoldable pub command_request : Call → Result Request Problem
 command_request call =
@@ -463,6 +482,7 @@ command_request call =
     else if is_text (codes "compare") call.name then result_map compare (compare_in call)
     else if is_text (codes "restore") call.name then restore_asked call
     else if is_text (codes "script") call.name then in_folder script (script_asked call)
+    else if is_text (codes "observe") call.name then observe_asked call
     else result_map ask (query_in call)
 
 abbrev pub request_of : Named → Result Request Problem
@@ -479,6 +499,10 @@ request_in words = request_of (named_in program words)
 abbrev pub folder_fault : FolderFault → WordsFault
 folder_fault folder_faults.NoMem = faults.NoMem
 folder_fault (folder_faults.Bad problem) = faults.Bad (problems.Folder problem)
+
+abbrev pub recorder_fault : RecorderFault → WordsFault
+recorder_fault recorder_faults.NoMem = faults.NoMem
+recorder_fault (recorder_faults.Bad problem) = faults.Bad (problems.Recorder problem)
 
 abbrev pub test_view : LineTest → Test
 test_view (Sessions sessions) = of_sessions sessions.items

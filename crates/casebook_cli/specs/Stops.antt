@@ -1,5 +1,5 @@
 -- Why there is no answer.
-use Rattle.std.specs.Prelude.{◌≡◌, ◌≢◌, ℕ, ℤ, false, List, [], Option, Some, None, Ok, Err}
+use Rattle.std.specs.Prelude.{◌≡◌, ◌≢◌, ℕ, ℤ, false, IfSome, List, [], Option, Some, None, Ok, Err}
 use Rattle.std.specs.List.{slice_get}
 use Rattle.std.specs.Str.{IsUtf8}
 use Rattle.regex.specs.Sources.{IsRefusal as IsRefusedAs}
@@ -36,7 +36,12 @@ use Rattle.casebook_folder_cli.specs.declared.scripting.ScriptFault.{ScriptFault
 use Rattle.casebook_folder_cli.specs.declared.scripting.ScriptFault.TheVariants as script_faults
 use Rattle.casebook_folder_cli.specs.declared.source_fault.SourceFault.{SourceFault}
 use Rattle.casebook_folder_cli.specs.declared.source_fault.SourceFault.TheVariants as source_faults
-use Rattle.casebook_cli.specs.Request.{CompareValue, FolderRepair, compare, restore, script, snapshot, undo}
+use Rattle.casebook_recorder_cli.specs.Spools.{AllSpools}
+use Rattle.casebook_recorder_cli.specs.Taking.{IsNotTaken as IsRecordNotTaken}
+use Rattle.casebook_recorder_cli.specs.Words.{ObserveValue, StartValue}
+use Rattle.casebook_recorder_cli.specs.declared.fault.RecorderFault.{RecorderFault}
+use Rattle.casebook_recorder_cli.specs.declared.fault.RecorderFault.TheVariants as recorder_faults
+use Rattle.casebook_cli.specs.Request.{CompareValue, FolderRepair, compare, observe, restore, script, snapshot, start, undo}
 use Rattle.casebook_cli.specs.Scripts.{AreScriptInputs, ScriptInputs, parts_of, table_name}
 use Rattle.casebook_cli.specs.declared.repairs.AskedRepair.{AskedRepair}
 use Rattle.casebook_cli.specs.declared.searched.SearchedPart.{SearchedPart}
@@ -302,17 +307,42 @@ pub data StopsScript (at : AllDocuments) (names : ScriptValue) (stop : Stop) : T
   no_script : (inputs : ScriptInputs) → AreScriptInputs at names inputs → (fault : ScriptFault)
       → IsNoScript (parts_of inputs) fault → NamesFault names fault stop → StopsScript at names stop
 
+-- ---- the recorder
+
+-- the spool with a name has this fault
+abbrev pub IsBadSpool : List ℕ → RecorderFault → Stop → Type 0
+IsBadSpool wanted fault (stops.Recorder name found) = (name.now ≡ wanted) × (found ≡ fault)
+IsBadSpool wanted fault other = ⊥
+
+-- the spool with a name is named, with the fault for which it isn't made or doesn't take a record
+abbrev pub NamesSpool : List ℕ → RecorderFault → Stop → Type 0
+NamesSpool name recorder_faults.NoMem stop = stop ≡ stops.OutOfMemory
+NamesSpool name fault stop = IsBadSpool name fault stop
+
+-- There is no spool with a name.
+pub record StopsStart (request : StartValue) (stop : Stop) : Type 0 where
+  pub fault : RecorderFault
+  pub names : NamesSpool request.spool fault stop
+
+-- A record isn't taken: what was sent or the spool has a fault.
+pub record StopsObserve (spools : Option AllSpools) (request : ObserveValue) (stop : Stop) : Type 0 where
+  pub fault : RecorderFault
+  pub is_fault : IfSome spools (λ all. IsRecordNotTaken all request.spool fault)
+  pub names : NamesSpool request.spool fault stop
+
 -- ---- the program
 
-abbrev pub Stops : AllDocuments → AllFolders → Request → Stop → Type 0
-Stops at folders (help topic) stop = stop ≡ stops.OutOfMemory
-Stops at folders (ask query) stop = StopsQuery at query stop
-Stops at folders (snapshot request) stop =
+abbrev pub Stops : AllDocuments → AllFolders → Option AllSpools → Request → Stop → Type 0
+Stops at folders spools (help topic) stop = stop ≡ stops.OutOfMemory
+Stops at folders spools (ask query) stop = StopsQuery at query stop
+Stops at folders spools (snapshot request) stop =
     StopsSnapshot (IsNotTaken folders request.source) (source_name request.source) stop
-Stops at folders (compare request) stop = StopsCompare at folders request stop
-Stops at folders (restore request) stop = StopsRestore at request stop
-Stops at folders (undo request) stop = StopsFolder request.root request.undo stop
-Stops at folders (script request) stop = StopsScript at request stop
+Stops at folders spools (compare request) stop = StopsCompare at folders request stop
+Stops at folders spools (restore request) stop = StopsRestore at request stop
+Stops at folders spools (undo request) stop = StopsFolder request.root request.undo stop
+Stops at folders spools (script request) stop = StopsScript at request stop
+Stops at folders spools (start request) stop = StopsStart request stop
+Stops at folders spools (observe request) stop = StopsObserve spools request stop
 
 -- words make no request
 abbrev pub IsBadWords : List (List ℕ) → Stop → Type 0
@@ -320,8 +350,8 @@ IsBadWords words (stops.BadWords problem) = request_in words ≡ Err problem
 IsBadWords words stops.OutOfMemory = Unit {0}
 IsBadWords words other = ⊥
 
-pub data StopsWords (words : List (List ℕ)) (at : AllDocuments) (folders : AllFolders) (stop : Stop)
-    : Type 0 where
-  bad_words : IsBadWords words stop → StopsWords words at folders stop
-  no_answer : (request : Request) → request_in words ≡ Ok request → Stops at folders request stop
-      → StopsWords words at folders stop
+pub data StopsWords (words : List (List ℕ)) (at : AllDocuments) (folders : AllFolders) (spools : Option AllSpools)
+    (stop : Stop) : Type 0 where
+  bad_words : IsBadWords words stop → StopsWords words at folders spools stop
+  no_answer : (request : Request) → request_in words ≡ Ok request → Stops at folders spools request stop
+      → StopsWords words at folders spools stop

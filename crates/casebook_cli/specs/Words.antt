@@ -5,6 +5,7 @@ use Rattle.retro_edge.specs.Rules.{flag, help_flag, option, with_command, word}
 use Rattle.casebook_folder_cli.specs.RestoreWords.{restore_rules}
 use Rattle.casebook_folder_cli.specs.ScriptWords.{script_rules}
 use Rattle.casebook_folder_cli.specs.Words.{compare_rules, snapshot_rules}
+use Rattle.casebook_recorder_cli.specs.Words.{observe_rules}
 
 -- ---- the command line
 
@@ -65,8 +66,8 @@ without_repairs =
     (with_command (with_command bare (codes "help") help_rules) (codes "lines") lines_rules)
     (codes "check") check_rules
 
-abbrev pub program : App
-program =
+abbrev pub without_recorder : App
+without_recorder =
     with_command
     (with_command
     (with_command
@@ -76,3 +77,6 @@ program =
     (codes "compare") compare_rules)
     (codes "restore") restore_rules)
     (codes "script") script_rules
+
+abbrev pub program : App
+program = with_command without_recorder (codes "observe") observe_rules

@@ -1,9 +1,9 @@
 //! Answers to requests.
 ghost use Rattle.std.specs.Prelude.{◌≡◌, IfOk, IfErr, IfSome, IsTrue, string_bytes};
-ghost use Rattle.casebook_cli.specs.Answers.{Answers, AnswersBy, saying};
+ghost use Rattle.casebook_cli.specs.Answers.{Answers, AnswersBy, AnswersQuery, saying};
 ghost use Rattle.casebook_cli.specs.Harmless.{IsHarmless, is_plain, is_plain_shown};
 ghost use Rattle.casebook_cli.specs.Pages.{IsPage};
-ghost use Rattle.casebook_cli.specs.Request.{ask, help_text};
+ghost use Rattle.casebook_cli.specs.Request.{help_text};
 ghost use Rattle.casebook_cli.specs.Screens.{IsShown};
 ghost use Rattle.casebook_cli.specs.Stops.{Stops, StopsAsked, StopsBy, StopsQuery, StopsShow};
 ghost use Rattle.casebook_cli.specs.inner.Views.{answer_view, inputs_view, page_view, query_view};
@@ -20,6 +20,7 @@ use crate::pages::page_text;
 use crate::progress::Progress;
 use crate::query::Query;
 use crate::reading::read_inputs;
+use crate::recorder::{observe_text, start_text};
 use crate::repair_request::{PageRequest, ShowRequest};
 use crate::repairs::asked_repair;
 use crate::request::Request;
@@ -31,6 +32,7 @@ use crate::sources::Inputs;
 use crate::stop::Stop;
 use crate::topic::Topic;
 use casebook_folder_cli::Folders;
+use casebook_recorder_cli::Spools;
 use std::alloc::{AllocGlobal, Global};
 use std::thread::Threads;
 
@@ -101,7 +103,7 @@ fn asked_answer<'a, R: Threads + Sync + AllocGlobal, D: Documents + Folders + Pr
 ) -> Result<Answer, Stop<'a>>
     ensures ok { IfOk result (λ answer. IfSome (D.bytes_of documents.now) (λ at.
         IfSome (D.holds documents.now) (λ folders.
-        Answers colours at folders (ask (query_view query.entry)) (answer_view answer)))) }
+        AnswersQuery colours at (query_view query.entry) (answer_view answer)))) }
     ensures err { IfErr result (λ stop. IfSome (D.bytes_of documents.now) (λ at.
         IfSome (D.holds documents.now) (λ folders.
         StopsQuery at (query_view query.entry) stop))) }
@@ -118,18 +120,17 @@ fn help_answer(alloc: Global, topic: Topic) -> Result<Answer, NoMem>
 }
 
 /// Returns the answer to a request, with colours if they are wanted.
-pub(crate) fn answer<'a, R: Threads + Sync + AllocGlobal, D: Documents + Folders + Progress>(
-    rt: &R,
-    documents: &D,
-    request: Request<'a>,
-    colours: bool,
-) -> Result<Answer, Stop<'a>>
+pub(crate) fn answer<
+    'a,
+    R: Threads + Sync + AllocGlobal,
+    D: Documents + Folders + Spools + Progress,
+>(rt: &R, documents: &D, request: Request<'a>, colours: bool) -> Result<Answer, Stop<'a>>
     ensures ok { IfOk result (λ answer. IfSome (D.bytes_of documents.now) (λ at.
         IfSome (D.holds documents.now) (λ folders.
-        Answers colours at folders (request_view request.entry) (answer_view answer)))) }
+        Answers colours at folders (D.spools documents.now) (request_view request.entry) (answer_view answer)))) }
     ensures err { IfErr result (λ stop. IfSome (D.bytes_of documents.now) (λ at.
         IfSome (D.holds documents.now) (λ folders.
-        Stops at folders (request_view request.entry) stop))) }
+        Stops at folders (D.spools documents.now) (request_view request.entry) stop))) }
 {
     match request {
         Request::Help(topic) => Ok(help_answer(rt.alloc(), topic)?),
@@ -139,5 +140,7 @@ pub(crate) fn answer<'a, R: Threads + Sync + AllocGlobal, D: Documents + Folders
         Request::Restore(request) => restore_text(rt, documents, request),
         Request::Undo(request) => undo_text(rt.alloc(), documents, request),
         Request::Script(request) => script_text(rt.alloc(), documents, request),
+        Request::Start(request) => start_text(rt.alloc(), documents, request),
+        Request::Observe(request) => observe_text(rt.alloc(), documents, request),
     }
 }

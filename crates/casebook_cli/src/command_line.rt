@@ -1,7 +1,7 @@
 //! The request that the words of the command line make.
 ghost use Rattle.std.specs.Prelude.{◌≡◌, map, option_map, string_bytes};
 ghost use Rattle.casebook_cli.specs.Request.{command_request, compare_in, folder_repair_in};
-ghost use Rattle.casebook_cli.specs.Request.{is_undo, query_in, restore_asked};
+ghost use Rattle.casebook_cli.specs.Request.{is_undo, observe_asked, query_in, restore_asked};
 ghost use Rattle.casebook_cli.specs.Request.{request_in, topic_asked, topic_in};
 ghost use Rattle.casebook_cli.specs.Request.{topic_or_program};
 ghost use Rattle.retro_edge.specs.Calls.{call_view};
@@ -19,6 +19,7 @@ use crate::words::{WordsFault, call_in};
 use casebook_folder_cli::{
     compared_snapshot, restore_request, script_request, snapshot_request, undo_request,
 };
+use casebook_recorder_cli::{observe_request, start_request};
 use retro_edge::{CallFault, CommandCall};
 use std::alloc::Global;
 
@@ -36,6 +37,7 @@ fn topic_of(text: &str) -> Option<Topic>
         "compare" => Some(Topic::Compare),
         "restore" => Some(Topic::Restore),
         "script" => Some(Topic::Script),
+        "observe" => Some(Topic::Observe),
         "lists" => Some(Topic::Lists),
         "documents" => Some(Topic::Documents),
         "refusals" => Some(Topic::Refusals),
@@ -116,6 +118,16 @@ fn restore_of<'a>(alloc: Global, call: &CommandCall<'a>) -> Result<Request<'a>, 
     Ok(Request::Restore(folder_repair(alloc, call)?))
 }
 
+/// Returns what the command `observe` asks for.
+fn observe_of<'a>(alloc: Global, call: &CommandCall<'a>) -> Result<Request<'a>, WordsFault>
+    ensures { Means request_view result (observe_asked (call_view call.now)) }
+{
+    if is_given(call, "start") {
+        return Ok(Request::Start(start_request(alloc, call)?));
+    }
+    Ok(Request::Observe(observe_request(call)?))
+}
+
 /// Returns the request of a command.
 #[tactic(auto, unfolding(crate::specs::Request::command_request))]
 fn command_request<'a>(alloc: Global, call: &CommandCall<'a>) -> Result<Request<'a>, WordsFault>
@@ -139,6 +151,9 @@ fn command_request<'a>(alloc: Global, call: &CommandCall<'a>) -> Result<Request<
     }
     if call.name == "script" {
         return Ok(Request::Script(script_request(call)?));
+    }
+    if call.name == "observe" {
+        return observe_of(alloc, call);
     }
     Ok(Request::Ask(query_of(alloc, call)?))
 }

@@ -4,6 +4,7 @@ ghost use Rattle.casebook_cli.specs.Request.{help_text};
 
 use crate::document_help::{DOCUMENTS, LISTS, PROFILE, REFUSALS};
 use crate::folder_help::{COMPARE, RESTORE, SCRIPT, SNAPSHOT};
+use crate::recorder_help::OBSERVE;
 use crate::topic::Topic;
 
 /// Help on the program.
@@ -12,12 +13,13 @@ casebook - what an intruder's commands led to, and what to do about it
 
 A log holds lines of shell, what each line read and wrote, and what it printed.
 `retro record` makes it of a script that somebody wrote: it plays the lines in
-retro's own shell. There is no recorder yet: nothing here watches a real machine.
+retro's own shell. What people's shells do on a real machine `casebook observe`
+keeps in a spool, of which nothing makes a log yet.
 
 casebook reads a log. It shows which lines there are, and what would be if some of
 them had never run: which files to restore, whom to tell what, and what leaked. It
 says which lines retro's shell didn't understand. It changes nothing but a folder that
-it is told to restore.
+it is told to restore, and spools.
 
     casebook lines LOG [FILTER..] [--format text|tsv|numbers]
         Which lines are in the log, who ran them, what they read and wrote.
@@ -37,7 +39,9 @@ it is told to restore.
     casebook restore LOG --cancel LIST --root FOLDER [--at PATH] [--only PATH]..
                      [--apply --undo FILE]
         What would change in a folder, and with --apply the change itself.
-    casebook help [lines|show|page|check|snapshot|script|compare|restore|
+    casebook observe [--start] SPOOL [FOLDER..]
+        Keeps what lines do in folders: for the hook of the recorder.
+    casebook help [lines|show|page|check|snapshot|script|compare|restore|observe|
                    lists|documents|refusals|profile]
         This text, or more on a command, on lists of lines, on the documents that
         casebook reads, on why it refuses them, or on what a line may be.
@@ -280,6 +284,7 @@ pub(crate) fn help_text(topic: Topic) -> &'static str
         Topic::Compare => COMPARE,
         Topic::Restore => RESTORE,
         Topic::Script => SCRIPT,
+        Topic::Observe => OBSERVE,
         Topic::Lists => LISTS,
         Topic::Documents => DOCUMENTS,
         Topic::Refusals => REFUSALS,

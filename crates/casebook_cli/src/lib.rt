@@ -90,6 +90,8 @@ mod program;
 mod progress;
 mod query;
 mod reading;
+mod recorder;
+mod recorder_help;
 mod recordings;
 mod repair_options;
 mod repair_request;

@@ -3,6 +3,7 @@ ghost use Rattle.std.specs.Prelude.{◌≡◌, ◌++◌, [], IfOk, IsTrue, OnOk}
 ghost use Rattle.std.specs.List.{list_all};
 ghost use Rattle.casebook_text.specs.SafeText.{is_printable};
 ghost use Rattle.casebook_folder_cli.specs.FileFaults.{fault_line};
+ghost use Rattle.casebook_recorder_cli.specs.Faults.{fault_line as recorder_line};
 ghost use Rattle.casebook_cli.specs.Messages.{about, about_message, about_words, counted};
 ghost use Rattle.casebook_cli.specs.Messages.{item_words, list_message, log_message, message_of};
 ghost use Rattle.casebook_cli.specs.Messages.{number_words, numbered_words, part_words};
@@ -18,6 +19,7 @@ use crate::searched::SearchedPart;
 use crate::stop::Stop;
 use casebook_about::{AboutFault, Part as AboutPart};
 use casebook_folder_cli::{FileFault, FolderProblem};
+use casebook_recorder_cli::{RecorderFault, RecorderProblem};
 use casebook_text::{ItemFault, ListFault, SafeLine};
 use retro_log::{Part, Refusal};
 use std::alloc::Global;
@@ -74,6 +76,12 @@ fn problem_words(problem: Problem) -> &'static str
             "no --sessions FILE is given; see casebook help script",
         Problem::Folder(FolderProblem::NoLines) =>
             "no --lines FILE is given; see casebook help script",
+        Problem::Recorder(RecorderProblem::NoSpool) =>
+            "no SPOOL is given; see casebook help observe",
+        Problem::Recorder(RecorderProblem::NoFolder) =>
+            "--start needs a FOLDER after SPOOL; see casebook help observe",
+        Problem::Recorder(RecorderProblem::HasFolder) => "FOLDER needs --start",
+        Problem::Recorder(RecorderProblem::Folder) => "FOLDER: not a path from the root",
     }
 }
 
@@ -321,6 +329,16 @@ fn file_message(alloc: Global, name: &str, fault: FileFault) -> Result<SafeLine,
     Ok(line)
 }
 
+/// Returns why there is no spool with a name, or why it didn't take a record.
+#[tactic(auto, unfolding(crate::specs::Messages::said_of))]
+fn recorder_message(alloc: Global, name: &str, fault: RecorderFault) -> Result<SafeLine, NoMem>
+    ensures { IfOk result (λ line. line ≡ said_of name.now (recorder_line fault)) }
+{
+    let mut line = told_of(alloc, name, "")?;
+    line.push_line(&fault.line(alloc)?)?;
+    Ok(line)
+}
+
 /// Returns a text with a number, after the program's name.
 #[tactic(auto, unfolding(crate::specs::Messages::said))]
 fn told_number(alloc: Global, words: &str, number: u32) -> Result<SafeLine, NoMem>
@@ -365,6 +383,7 @@ fn stop_message(alloc: Global, stop: Stop<'_>) -> Result<SafeLine, NoMem>
             name,
             "restored in part; run this again, or take it back by the undo file",
         ),
+        Stop::Recorder(name, fault) => recorder_message(alloc, name, fault),
     }
 }
 

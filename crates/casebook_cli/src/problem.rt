@@ -1,5 +1,6 @@
 //! What is wrong with a command line.
 use casebook_folder_cli::FolderProblem;
+use casebook_recorder_cli::RecorderProblem;
 
 /// What is wrong with a command line.
 #[derive(Clone, Copy, Debug, PartialEq, Eq)]
@@ -47,4 +48,6 @@ pub enum Problem {
     MixedFormat,
     /// The words of a command about folders are bad.
     Folder(FolderProblem),
+    /// The words of the command of the recorder are bad.
+    Recorder(RecorderProblem),
 }

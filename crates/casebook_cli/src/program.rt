@@ -18,6 +18,7 @@ use crate::request::Request;
 use crate::stop::Stop;
 use crate::words::WordsFault;
 use casebook_folder_cli::Folders;
+use casebook_recorder_cli::Spools;
 use retro_edge::Output;
 use std::alloc::{AllocGlobal, Global};
 use std::io::Write;
@@ -37,7 +38,7 @@ fn request_of<'a>(alloc: Global, words: &'a [String]) -> Result<Request<'a>, Sto
 }
 
 /// Returns the answer to the request that words make.
-fn answer_to<'a, R: Threads + Sync + AllocGlobal, D: Documents + Folders + Progress>(
+fn answer_to<'a, R: Threads + Sync + AllocGlobal, D: Documents + Folders + Spools + Progress>(
     rt: &R,
     words: &'a [String],
     documents: &D,
@@ -45,10 +46,11 @@ fn answer_to<'a, R: Threads + Sync + AllocGlobal, D: Documents + Folders + Progr
 ) -> Result<Answer, Stop<'a>>
     ensures ok { IfOk result (λ answer. IfSome (D.bytes_of documents.now) (λ at.
         IfSome (D.holds documents.now) (λ folders.
-        AnswersWords (map string_bytes words.entry.now) at folders colours (answer_view answer)))) }
+        AnswersWords (map string_bytes words.entry.now) at folders (D.spools documents.now) colours
+        (answer_view answer)))) }
     ensures err { IfErr result (λ stop. IfSome (D.bytes_of documents.now) (λ at.
         IfSome (D.holds documents.now) (λ folders.
-        StopsWords (map string_bytes words.entry.now) at folders stop))) }
+        StopsWords (map string_bytes words.entry.now) at folders (D.spools documents.now) stop))) }
 {
     let request = request_of(rt.alloc(), words)?;
     answer(rt, documents, request, colours)
@@ -68,17 +70,16 @@ fn written<'a, W: Write>(answer: &Answer, output: &mut Output<W>) -> Exit<'a>
 }
 
 /// Runs the program: reads the command line, whose first word is the program's name, reads the
-/// documents and folders that it names, and writes the answer, with the codes of
+/// documents, folders and spools that it names, and writes the answer, with the codes of
 /// `specs/Colours.antt` if `colours` are wanted. Returns how the program ends.
-pub fn run_with<'a, R: Threads + Sync + AllocGlobal, D: Documents + Folders + Progress, W: Write>(
-    rt: &R,
-    words: &'a [String],
-    documents: &D,
-    colours: bool,
-    output: &mut Output<W>,
-) -> Exit<'a>
+pub fn run_with<
+    'a,
+    R: Threads + Sync + AllocGlobal,
+    D: Documents + Folders + Spools + Progress,
+    W: Write,
+>(rt: &R, words: &'a [String], documents: &D, colours: bool, output: &mut Output<W>) -> Exit<'a>
     ensures runs { IfSome (D.bytes_of documents.now) (λ at. IfSome (D.holds documents.now)
-        (λ folders. Runs (map string_bytes words.entry.now) at folders colours
+        (λ folders. Runs (map string_bytes words.entry.now) at folders (D.spools documents.now) colours
         (W.contents output.old.writer) (W.contents output.new.writer) result)) }
     ensures unwritten { writes_nothing result ≡ true → output.new ≡ output.old }
     ensures write_failure { output.old.has_failed ≡ false →

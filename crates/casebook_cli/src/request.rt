@@ -5,6 +5,7 @@ use crate::topic::Topic;
 use casebook_folder_cli::{
     ComparedSnapshot, RestoreRequest, ScriptRequest, SnapshotRequest, UndoRequest,
 };
+use casebook_recorder_cli::{ObserveRequest, StartRequest};
 
 /// Which recording is compared with which snapshot.
 #[derive(Drop)]
@@ -41,4 +42,8 @@ pub(crate) enum Request<'a> {
     Undo(UndoRequest<'a>),
     /// Make a script of a snapshot.
     Script(ScriptRequest<'a>),
+    /// Make a spool.
+    Start(StartRequest<'a>),
+    /// Take a record.
+    Observe(ObserveRequest<'a>),
 }

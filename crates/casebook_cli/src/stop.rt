@@ -8,6 +8,7 @@ use crate::problem::Problem;
 use crate::searched::SearchedPart;
 use casebook_about::AboutFault;
 use casebook_folder_cli::FileFault;
+use casebook_recorder_cli::RecorderFault;
 use casebook_text::ListFault;
 use retro_log::Refusal;
 
@@ -53,6 +54,8 @@ pub enum Stop<'a> {
     FolderChanged(&'a str),
     /// A part of a folder is restored, and then a step failed.
     Unfinished(&'a str),
+    /// There is no spool with the name, or it didn't take a record.
+    Recorder(&'a str, RecorderFault),
 }
 
 impl<'a> From<NoMem> for Stop<'a> {
@@ -87,6 +90,8 @@ impl Stop<'_> {
             | Stop::FolderChanged(_) => 1,
             Stop::OutOfMemory => 2,
             Stop::ReadFailed(_) | Stop::UndoFailed(_) | Stop::Unfinished(_) => 3,
+            Stop::Recorder(_, fault) if fault.is_refusal() => 1,
+            Stop::Recorder(_, _) => 3,
         }
     }
 }

@@ -21,6 +21,8 @@ pub(crate) enum Topic {
     Restore,
     /// The command `script`.
     Script,
+    /// The command `observe`.
+    Observe,
     /// Lists of lines.
     Lists,
     /// The documents that the program reads.

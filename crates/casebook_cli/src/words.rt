@@ -5,11 +5,11 @@ ghost use Rattle.clap.specs.Words.{app_of};
 ghost use Rattle.clap.specs.declared.builder.command.Command.TheViews.{out-Command as fields_of};
 ghost use Rattle.retro_edge.specs.Calls.{Names, named_in};
 ghost use Rattle.retro_edge.specs.Rules.{command};
-ghost use Rattle.casebook_cli.specs.Request.{folder_fault};
+ghost use Rattle.casebook_cli.specs.Request.{folder_fault, recorder_fault};
 ghost use Rattle.casebook_cli.specs.Words.{bare, check_rules, edit_rules, help_rules};
 ghost use Rattle.casebook_cli.specs.Words.{lines_rules, number_rules, page_rules, path_rules};
 ghost use Rattle.casebook_cli.specs.Words.{pattern_rules, program, repair_rules, show_rules};
-ghost use Rattle.casebook_cli.specs.Words.{without_repairs};
+ghost use Rattle.casebook_cli.specs.Words.{without_recorder, without_repairs};
 ghost use Rattle.casebook_cli.specs.declared.words.WordsFault.TheVariants as faults;
 
 use crate::NoMem;
@@ -17,6 +17,7 @@ use crate::problem::Problem;
 use casebook_folder_cli::{
     FolderFault, compare_command, restore_command, script_command, snapshot_command,
 };
+use casebook_recorder_cli as recorder;
 use clap::Command;
 use retro_edge::{CallFault, CommandCall, bare_command, flag, help_flag, option, read_call, word};
 use std::alloc::{AllocFailed, Global};
@@ -45,6 +46,17 @@ impl From<FolderFault> for WordsFault {
         match fault {
             FolderFault::NoMem => WordsFault::NoMem,
             FolderFault::Bad(problem) => WordsFault::Bad(Problem::Folder(problem)),
+        }
+    }
+}
+
+impl From<recorder::WordsFault> for WordsFault {
+    ghost from_gives = { λ fault e. e ≡ recorder_fault fault };
+
+    fn from(fault: recorder::WordsFault) -> WordsFault {
+        match fault {
+            recorder::WordsFault::NoMem => WordsFault::NoMem,
+            recorder::WordsFault::Bad(problem) => WordsFault::Bad(Problem::Recorder(problem)),
         }
     }
 }
@@ -192,9 +204,9 @@ fn program_without_repairs<'a>(alloc: Global) -> Result<Command<'a>, NoMem>
         .subcommand(check_command(alloc)?)
 }
 
-/// Returns the program's command line with all its commands.
-fn program_command<'a>(alloc: Global) -> Result<Command<'a>, NoMem>
-    ensures { IfOk result (λ c. app_of c ≡ program) }
+/// Returns the program's command line with the commands that aren't about the recorder.
+fn program_without_recorder<'a>(alloc: Global) -> Result<Command<'a>, NoMem>
+    ensures { IfOk result (λ c. app_of c ≡ without_recorder) }
 {
     program_without_repairs(alloc)?
         .subcommand(show_command(alloc)?)?
@@ -203,6 +215,13 @@ fn program_command<'a>(alloc: Global) -> Result<Command<'a>, NoMem>
         .subcommand(compare_command(alloc)?)?
         .subcommand(restore_command(alloc)?)?
         .subcommand(script_command(alloc)?)
+}
+
+/// Returns the program's command line with all its commands.
+fn program_command<'a>(alloc: Global) -> Result<Command<'a>, NoMem>
+    ensures { IfOk result (λ c. app_of c ≡ program) }
+{
+    program_without_recorder(alloc)?.subcommand(recorder::observe_command(alloc)?)
 }
 
 /// Returns the command that words name, as `clap` reads them, or `None` if they name none.

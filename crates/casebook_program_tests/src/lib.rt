@@ -5,6 +5,8 @@
 #[cfg(test)]
 mod memory;
 #[cfg(test)]
+mod recorder;
+#[cfg(test)]
 mod restores;
 #[cfg(test)]
 mod rows;

@@ -1,6 +1,7 @@
 //! Documents and folders in memory, and runs of the program on them.
 ghost use Rattle.std.specs.Prelude.{None};
 
+use crate::recorder::RECORD;
 use crate::streams::stream;
 use casebook_cli::{Documents, Exit, NoMem, Output, Progress, ReadFault, Step, run_with};
 use casebook_folder::{Attributes, Entry, FolderError, Found, Memory as MemoryFolder, Obstacle};
@@ -47,20 +48,25 @@ const NAMED: &str = r#"{"from":1,"lines":[
 ["grow","/l","610a"],["setstatus",0]],""]],
 "log":2,"sessions":[[1,"/",0,[]]],"tree":[["/f","6669670a"]]}"#;
 
-/// The documents and folders that there are, the last remark that was made, and the undo file that
-/// was written.
+/// The documents and folders that there are, what standard input has and who sent it, the last remark
+/// that was made, and the undo file that was written.
 #[derive(Drop)]
 pub(crate) struct Memory {
     alloc: Global,
+    pub(crate) input: &'static [u8],
+    pub(crate) sender: Option<u32>,
     remark: Cell<Option<String>>,
     kept: Cell<Option<String>>,
 }
 
 impl Memory {
-    /// Returns the documents and folders. No remark was made yet, and no undo file written.
+    /// Returns the documents and folders, and a log as standard input. No remark was made yet, and no
+    /// undo file written.
     pub(crate) fn new(alloc: Global) -> Memory {
         Memory {
             alloc,
+            input: LOG.as_bytes(),
+            sender: None,
             remark: Cell::new(None),
             kept: Cell::new(None),
         }
@@ -70,7 +76,7 @@ impl Memory {
 /// Returns the bytes of a document.
 fn bytes_of(name: &str) -> Option<&'static [u8]> {
     match name {
-        "log" | "-" | "\u{1B}[2J" => Some(LOG.as_bytes()),
+        "log" | "\u{1B}[2J" => Some(LOG.as_bytes()),
         "forged" => Some(FORGED.as_bytes()),
         "odd" => Some(ODD.as_bytes()),
         "named" => Some(NAMED.as_bytes()),
@@ -123,6 +129,7 @@ impl Documents for Memory {
     fn read(&self, alloc: Global, name: &str) -> Result<Vec<u8>, ReadFault> {
         match bytes_of(name) {
             Some(bytes) => Ok(Vec::from_slice(alloc, bytes)?),
+            None if name == "-" => Ok(Vec::from_slice(alloc, self.input)?),
             None => Err(ReadFault::Unreadable),
         }
     }
@@ -216,6 +223,7 @@ impl Folders for Memory {
         match (name, bytes_of(name)) {
             ("stream", _) => Ok(stream(alloc, 0)?),
             ("torn stream", _) => Ok(stream(alloc, 8)?),
+            ("-", _) => Ok(Vec::from_slice(alloc, self.input)?),
             (_, Some(bytes)) => Ok(Vec::from_slice(alloc, bytes)?),
             (_, None) => Err(SnapshotError::Failed),
         }
@@ -379,4 +387,23 @@ pub(crate) fn refused<T: Threads + Sync + AllocGlobal>(
     }
     let line = exit.message(rt.alloc())?;
     Ok(format!(in rt.alloc(); "{} {}", exit.status(), line.as_str())?)
+}
+
+/// Returns the status with which the program ends that a user sends the record of user 0, and what it
+/// writes or says.
+pub(crate) fn sent<T: Threads + Sync + AllocGlobal>(
+    rt: &T,
+    given: &str,
+    sender: u32,
+) -> Result<String, Fail> {
+    let words = words(rt.alloc(), given)?;
+    let mut memory = Memory::new(rt.alloc());
+    memory.input = RECORD;
+    memory.sender = Some(sender);
+    let mut out = Vec::new(rt.alloc());
+    let mut output = Output::new(&mut out);
+    let exit = run_with(rt, words.as_slice(), &memory, false, &mut output);
+    let line = exit.message(rt.alloc())?;
+    let written = utf8(out.as_slice())?;
+    Ok(format!(in rt.alloc(); "{} {written}{}", exit.status(), line.as_str())?)
 }

@@ -2,7 +2,8 @@
 //!
 //! The first field of a row has the words of a command line, with spaces between them, or for
 //! `numbers` the filters of `lines log`. In a word `_` is a space.
-use crate::memory::{coloured, ended, kept, refused, remarked, written};
+use crate::memory::{coloured, ended, kept, refused, remarked, sent, written};
+use crate::recorder::{RECORDED, REFUSED_RECORDS};
 use crate::restores::{REFUSED_RESTORES, RESTORES};
 use crate::scripts::{REFUSED_SCRIPTS, SCRIPTS};
 use crate::snapshots::{COMPARISONS, REFUSED_SNAPSHOTS, SNAPSHOTS};
@@ -84,6 +85,8 @@ fn called<T: Threads + Sync + AllocGlobal>(
         ("refused", [words]) => refused(rt, words),
         ("remarks", [words]) => remarked(rt, words),
         ("keeps", [words]) => kept(rt, words),
+        ("sends", [words]) => sent(rt, words, 0),
+        ("forges", [words]) => sent(rt, words, 7),
         ("plain", [words]) => plain(rt, words),
         ("adds", [words, more]) => added(rt, words, more),
         ("same", [one, two]) => same(rt, one, two),
@@ -113,7 +116,7 @@ fn lines_and_repairs_are_shown(rt: HostRuntime) -> Result<(), Fail> {
 
 #[test]
 fn pages_checks_folders_and_helps_are_written(rt: HostRuntime) -> Result<(), Fail> {
-    for table in [PAGES, OTHERS, SNAPSHOTS, COMPARISONS, SCRIPTS] {
+    for table in [PAGES, OTHERS, SNAPSHOTS, COMPARISONS, SCRIPTS, RECORDED] {
         hold(&rt, table)?;
     }
     Ok(())
@@ -131,6 +134,7 @@ fn words_and_documents_are_refused(rt: HostRuntime) -> Result<(), Fail> {
         REFUSED_RESTORES,
         REFUSED_SNAPSHOTS,
         REFUSED_SCRIPTS,
+        REFUSED_RECORDS,
     ] {
         hold(&rt, table)?;
     }

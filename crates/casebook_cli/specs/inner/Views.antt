@@ -6,6 +6,7 @@ use Rattle.retro_tree.specs.OutOfMemory.{UnlessOutOfMemory}
 use Rattle.retro_keep.specs.Recording.{RecordingValue}
 use Rattle.casebook_folder_cli.specs.Views.{compared_view, request_view as snapshot_view, restore_view, script_view}
 use Rattle.casebook_folder_cli.specs.Views.{undo_view}
+use Rattle.casebook_recorder_cli.specs.Views.{observe_view, start_view}
 use Rattle.casebook_view.specs.Filters.{FiltersValue}
 use Rattle.casebook_view.specs.Rows.{RowValue, rows_of}
 use Rattle.casebook_view.specs.declared.line_test.LineTest.{LineTest}
@@ -16,7 +17,7 @@ use Rattle.casebook_cli.specs.Inputs.{DocumentValue, InputsValue, SourcesValue}
 use Rattle.casebook_cli.specs.Lines.{HasUser, user_tests}
 use Rattle.casebook_cli.specs.Request.{LinesRequest, PageRequest, Query, RepairRequest, Request}
 use Rattle.casebook_cli.specs.Request.{CompareValue, RoundsValue, ShowRequest, ask, check, compare, help, lines, page, show}
-use Rattle.casebook_cli.specs.Request.{FolderRepair, restore, script, snapshot, test_view, undo}
+use Rattle.casebook_cli.specs.Request.{FolderRepair, observe, restore, script, snapshot, start, test_view, undo}
 use Rattle.casebook_cli.specs.Screens.{ScreenValue}
 use Rattle.casebook_cli.specs.Scripts.{ScriptInputs}
 use Rattle.casebook_cli.specs.declared.answer.Answer.{Answer}
@@ -127,6 +128,8 @@ request_view (requests.Compare request) = compare (compare_view request)
 request_view (requests.Restore request) = restore (folder_repair_view request)
 request_view (requests.Undo request) = undo (undo_view request)
 request_view (requests.Script request) = script (script_view request)
+request_view (requests.Start request) = start (start_view request)
+request_view (requests.Observe request) = observe (observe_view request)
 
 -- what a fault says of the words: what is wrong with them, or None if memory ran out
 abbrev pub refused : {Y : Type 0} → WordsFault → Option (Result Y Problem)

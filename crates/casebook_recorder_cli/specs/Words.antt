@@ -1,0 +1,58 @@
+-- The command `observe`, as `clap` reads it, and what it asks for.
+use Rattle.std.specs.Prelude.{List, [], ◌∷◌, Option, Some, None, Result, Ok, Err, codes}
+use Rattle.std.specs.Prelude.{if◌then◌else◌, is_some, ok_or}
+use Rattle.clap.specs.Words.{Rule, Text}
+use Rattle.retro_path.specs.Path.{PathValue}
+use Rattle.retro_edge.specs.Calls.{Call, all_given, given}
+use Rattle.retro_edge.specs.Paths.{path_named}
+use Rattle.retro_edge.specs.Reads.{all_read}
+use Rattle.retro_edge.specs.Rules.{flag, help_flag, word, words}
+use Rattle.casebook_recorder_cli.specs.declared.request.RecorderProblem.{RecorderProblem}
+use Rattle.casebook_recorder_cli.specs.declared.request.RecorderProblem.TheVariants as problems
+
+-- whether a spool is made, which one, and the folders that it watches
+abbrev pub observe_rules : List Rule
+observe_rules =
+    help_flag ∷ flag (codes "start") ∷ word (codes "spool") ∷ words (codes "folder") ∷ []
+
+-- the spool that takes a record
+pub record ObserveValue : Type 0 where
+  pub spool : Text
+
+-- the spool that is made, and the folders that it watches
+pub record StartValue : Type 0 where
+  pub spool : Text
+  pub folders : List PathValue
+
+infixl 10 ◌>>=◌
+abbrev pub ◌>>=◌ : {A B : Type 0} → Result A RecorderProblem → (A → Result B RecorderProblem) → Result B RecorderProblem
+(Ok x) >>= f = f x
+(Err problem) >>= f = Err problem
+
+abbrev pub spool_given : Call → Result Text RecorderProblem
+spool_given call = ok_or (given (codes "spool") call) problems.NoSpool
+
+-- at least one folder, by its path from the root
+abbrev pub folders_given : Option (List Text) → Result (List PathValue) RecorderProblem
+folders_given None = Err problems.NoFolder
+folders_given (Some texts) = ok_or (all_read path_named texts) problems.Folder
+
+-- what takes a record has no folders
+abbrev pub without_folders : Call → Text → Result ObserveValue RecorderProblem
+without_folders call spool =
+    if is_some (all_given (codes "folder") call) then Err problems.HasFolder
+    else Ok (record { spool = spool })
+
+-- which spool takes a record
+abbrev pub observe_in : Call → Result ObserveValue RecorderProblem
+observe_in call = spool_given call >>= without_folders call
+
+abbrev pub start_with : Text → List PathValue → StartValue
+start_with spool folders = record { spool = spool; folders = folders }
+
+-- which spool is made
+abbrev pub start_in : Call → Result StartValue RecorderProblem
+start_in call = do
+  spool ← spool_given call
+  folders ← folders_given (all_given (codes "folder") call)
+  Ok (start_with spool folders)

@@ -1,0 +1,23 @@
+//! The command of the recorder, as `clap` reads it.
+ghost use Rattle.std.specs.Prelude.{◌≡◌, [], codes, false, IfOk};
+ghost use Rattle.clap.specs.Words.{app_of};
+ghost use Rattle.clap.specs.declared.builder.command.Command.TheViews.{out-Command as fields_of};
+ghost use Rattle.casebook_recorder_cli.specs.Words.{observe_rules};
+ghost use Rattle.retro_edge.specs.Rules.{command};
+
+use crate::NoMem;
+use clap::Command;
+use retro_edge::{bare_command, flag, word, words};
+use std::alloc::Global;
+
+/// Returns the command that takes a record, or makes a spool.
+pub fn observe_command<'a>(alloc: Global) -> Result<Command<'a>, NoMem>
+    ensures shape { IfOk result (λ c.
+        app_of c ≡ record { top = command (codes "observe") observe_rules; subs = [] }) }
+    ensures local { IfOk result (λ c. (fields_of c).has_globals ≡ false) }
+{
+    bare_command(alloc, "observe")?
+        .arg(flag(alloc, "start"))?
+        .arg(word(alloc, "spool"))?
+        .arg(words(alloc, "folder"))
+}
