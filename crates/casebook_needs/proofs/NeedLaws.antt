@@ -19,7 +19,7 @@ use Rattle.casebook_needs.specs.FirstOfEach.{first_of_each}
 use Rattle.casebook_needs.specs.Needs.{asked_of, need_of, needs_of, note_of, same_query}
 use Rattle.casebook_needs.specs.Query.{ask_of, query_eq, query_exact, query_total}
 use Rattle.casebook_needs.specs.declared.need.Need.{Need}
-use Rattle.casebook_needs.specs.declared.observed_line.ObservedLine.{ObservedLine}
+use Rattle.casebook_needs.specs.Line.{LineValue}
 use Rattle.casebook_needs.specs.declared.query.Query.{Query}
 use Rattle.casebook_needs.specs.declared.query.Query.TheVariants as queries
 use Rattle.casebook_needs.specs.declared.source.Source.{Source}
@@ -82,7 +82,7 @@ need_with session s (x ∷ xs) q e = by_test (query_eq x.0 q) refl e (need_with 
     by_test false other h rest = let (k, need, lt, at, is) = rest h in
         (suc k, need, omega arith, at, is)
 
-pub given_by_rules : (s : State) (line : ObservedLine) (q : Query)
+pub given_by_rules : (s : State) (line : LineValue) (q : Query)
     → Any (λ a. a.0 ≡ q) (asked_of s line)
     → Any (λ need. need.ask ≡ ask_of line.session q) (needs_of s line)
 unfolding needs_of
@@ -151,7 +151,7 @@ first_differ eq (x ∷ xs) =
     (AllPairs-filter (λ y z. eq y z ≡ false) (λ y. not (eq x y)) (first_of_each eq xs)
     (first_differ eq xs))
 
-pub asked_once : (s : State) (line : ObservedLine)
+pub asked_once : (s : State) (line : LineValue)
     → AllPairs (λ one other. one.ask ≢ other.ask) (needs_of s line)
 unfolding needs_of
 asked_once s line =
@@ -166,7 +166,7 @@ hold_at_first : (session : ℕ) (s : State) (xs : Asked)
 hold_at_first session s [] = tt
 hold_at_first session s (x ∷ xs) = (refl, hold_at_first session s xs)
 
-pub needs_hold_at_first : (s : State) (line : ObservedLine)
+pub needs_hold_at_first : (s : State) (line : LineValue)
     → Holds (map note_of (needs_of s line)) s
 unfolding needs_of
 needs_hold_at_first s line =

@@ -6,7 +6,7 @@ use Rattle.std.specs.Prelude.{filter, length, map, nat_le, Option, Some, None, i
 use Rattle.std.specs.Prelude.{if◌then◌else◌}
 use Rattle.std.specs.FinMap as finmap
 use Rattle.std.specs.List.{filter_map, list_any}
-use Rattle.std.specs.Option.{option_copied, option_to_list}
+use Rattle.std.specs.Option.{option_to_list}
 use Rattle.retro_path.specs.Ascii.{nul, slash}
 use Rattle.retro_path.specs.Path.{PathValue, below}
 use Rattle.retro_tree.specs.Ask.{answer}
@@ -19,7 +19,7 @@ use Rattle.retro_tree.specs.declared.note.Note.{Note}
 use Rattle.retro_tree.specs.declared.note.Note.TheVariants.{Asked}
 use Rattle.retro_tree.specs.declared.state.State.{State}
 use Rattle.casebook_needs.specs.FirstOfEach.{first_of_each}
-use Rattle.casebook_needs.specs.Line.{touched}
+use Rattle.casebook_needs.specs.Line.{LineValue, touched}
 use Rattle.casebook_needs.specs.Named.{is_home_word, named_path, paths_of}
 use Rattle.casebook_needs.specs.Query.{ask_of, query_eq}
 use Rattle.casebook_needs.specs.Variables.{names_status, variables_of}
@@ -27,7 +27,6 @@ use Rattle.casebook_needs.specs.Words.{words_of}
 use Rattle.casebook_needs.specs.declared.effect.Effect.{Effect}
 use Rattle.casebook_needs.specs.declared.effect.Effect.TheVariants.{Append, Other}
 use Rattle.casebook_needs.specs.declared.need.Need.{Need}
-use Rattle.casebook_needs.specs.declared.observed_line.ObservedLine.{ObservedLine}
 use Rattle.casebook_needs.specs.declared.query.Query.{Query}
 use Rattle.casebook_needs.specs.declared.query.Query.TheVariants as queries
 use Rattle.casebook_needs.specs.declared.source.Source.{Source}
@@ -51,13 +50,13 @@ abbrev pub overwritten_path : State → Effect → Option PathValue
 overwritten_path s (Append p) = None
 overwritten_path s (Other p) = if is_file s p then Some p else None
 
-abbrev pub overwritten : State → ObservedLine → List PathValue
-overwritten s line = filter_map (overwritten_path s) line.effects.now
+abbrev pub overwritten : State → LineValue → List PathValue
+overwritten s line = filter_map (overwritten_path s) line.effects
 
 -- what a line read, listed, and wrote other than by an append
-abbrev pub trace_queries : State → ObservedLine → List (Query × Source)
+abbrev pub trace_queries : State → LineValue → List (Query × Source)
 trace_queries s line =
-    nodes_at line.read.now sources.Read ++ names_at line.listed.now sources.Listed
+    nodes_at line.read sources.Read ++ names_at line.listed sources.Listed
     ++ nodes_at (overwritten s line) sources.Written
 
 -- ---- what words name
@@ -67,14 +66,14 @@ unfoldable pub home_in : ℕ → State → Option (List ℕ)
 home_in session s = finmap.get (session_in session s.sessions).vars (codes "HOME")
 
 -- the paths that words of a line name
-abbrev pub named : State → ObservedLine → List PathValue
-named s line = paths_of line.directory.now (home_in line.session s) line.text.now
+abbrev pub named : State → LineValue → List PathValue
+named s line = paths_of line.directory (home_in line.session s) line.text
 
 abbrev pub is_directory : State → PathValue → Bool
 is_directory s p = is_dir (node_in p s.tree)
 
 -- those of them that are directories
-abbrev pub named_directories : State → ObservedLine → List PathValue
+abbrev pub named_directories : State → LineValue → List PathValue
 named_directories s line = filter (is_directory s) (named s line)
 
 -- whether a path is one of some directories or below one
@@ -82,11 +81,11 @@ abbrev pub is_below_any : List PathValue → PathValue → Bool
 is_below_any directories p = list_any (λ d. is_some (below d p)) directories
 
 -- what a line touched below them
-abbrev pub touched_below : State → ObservedLine → List PathValue
+abbrev pub touched_below : State → LineValue → List PathValue
 touched_below s line = filter (is_below_any (named_directories s line)) (touched line)
 
 -- what words name; of directories their names too, and what the line touched below them
-abbrev pub named_queries : State → ObservedLine → List (Query × Source)
+abbrev pub named_queries : State → LineValue → List (Query × Source)
 named_queries s line =
     nodes_at (named s line) sources.Named ++ names_at (named_directories s line) sources.Named
     ++ nodes_at (touched_below s line) sources.Named
@@ -120,8 +119,8 @@ queries_in_file s directory p =
     nodes_at (paths_in_node directory (node_in p s.tree)) (sources.InScript p)
 
 -- what scripts name that a line read
-abbrev pub script_queries : State → ObservedLine → List (Query × Source)
-script_queries s line = flat_map (queries_in_file s line.directory.now) line.read.now
+abbrev pub script_queries : State → LineValue → List (Query × Source)
+script_queries s line = flat_map (queries_in_file s line.directory) line.read
 
 -- ---- variables
 
@@ -143,16 +142,16 @@ variable_queries text =
 -- ---- all rules
 
 -- the session's directory, and the file with its functions, aliases and options
-abbrev pub session_queries : ObservedLine → List (Query × Source)
+abbrev pub session_queries : LineValue → List (Query × Source)
 session_queries line =
     (queries.Cwd, sources.Directory)
-    ∷ nodes_at (option_to_list (option_copied line.shell)) sources.Shell
+    ∷ nodes_at (option_to_list line.shell) sources.Shell
 
 -- the queries of all rules, in order
-unfoldable pub asked_of : State → ObservedLine → List (Query × Source)
+unfoldable pub asked_of : State → LineValue → List (Query × Source)
 asked_of s line =
     trace_queries s line ++ named_queries s line ++ script_queries s line
-    ++ variable_queries line.text.now ++ session_queries line
+    ++ variable_queries line.text ++ session_queries line
 
 -- whether two queries with sources are of the same query
 abbrev pub same_query : Query × Source → Query × Source → Bool
@@ -167,7 +166,7 @@ need_of session s asked = record {
 }
 
 -- the needs of a line that began in a state
-unfoldable pub needs_of : State → ObservedLine → List Need
+unfoldable pub needs_of : State → LineValue → List Need
 needs_of s line = map (need_of line.session s) (first_of_each same_query (asked_of s line))
 
 -- a need as a note

@@ -4,7 +4,7 @@ ghost use Rattle.std.specs.BTreeSet.{contains};
 ghost use Rattle.std.specs.List.{list_any};
 ghost use Rattle.retro_path.specs.Order.{path_cmp};
 ghost use Rattle.retro_path.specs.Path.{PathValue, prefixes_of};
-ghost use Rattle.casebook_needs.specs.Line.{effect_path, touched};
+ghost use Rattle.casebook_needs.specs.Line.{effect_path, line_value, touched};
 ghost use Rattle.casebook_needs.specs.Needs.{is_below_any};
 ghost use Rattle.casebook_needs.specs.inner.Sets.{HasPaths};
 
@@ -85,7 +85,7 @@ pub(crate) fn touched_below(
     line: &ObservedLine<'_>,
 ) -> Result<Vec<Path>, NoMem>
     ensures { IfOk result (λ below.
-        below.items ≡ filter (is_below_any directories.now) (touched line.now)) }
+        below.items ≡ filter (is_below_any directories.now) (touched (line_value line.now))) }
 {
     let directories = set_of(alloc, directories)?;
     let mut below = Vec::new(alloc);

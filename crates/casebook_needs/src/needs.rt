@@ -1,5 +1,6 @@
 //! The needs of a line.
 ghost use Rattle.std.specs.Prelude.{◌≡◌, ◌++◌, IfOk, map};
+ghost use Rattle.casebook_needs.specs.Line.{line_value};
 ghost use Rattle.casebook_needs.specs.Needs.{need_of, needs_of};
 
 use crate::NoMem;
@@ -40,7 +41,7 @@ pub fn needs_of<V: View>(
     view: &V,
     line: &ObservedLine<'_>,
 ) -> Result<Vec<Need>, NoMem>
-    ensures { IfOk result (λ needs. needs.items ≡ needs_of (V.state view.now) line.now) }
+    ensures { IfOk result (λ needs. needs.items ≡ needs_of (V.state view.now) (line_value line.now)) }
 {
     let mut needs = Vec::new(alloc);
     for (query, source) in asked_of(alloc, view, line)? {

@@ -2,6 +2,7 @@
 ghost use Rattle.std.specs.Prelude.{◌≡◌, ◌++◌, [], IfOk, OnOk, filter, flat_map, map};
 ghost use Rattle.std.specs.List.{filter_map, list_any};
 ghost use Rattle.casebook_needs.specs.FirstOfEach.{first_of_each};
+ghost use Rattle.casebook_needs.specs.Line.{line_value};
 ghost use Rattle.casebook_needs.specs.Named.{is_home_word};
 ghost use Rattle.casebook_needs.specs.Needs.{asked_of, home_query, is_directory, named};
 ghost use Rattle.casebook_needs.specs.Needs.{named_directories, named_queries, names_at, nodes_at};
@@ -36,7 +37,7 @@ fn overwritten<V: View>(
     view: &V,
     line: &ObservedLine<'_>,
 ) -> Result<Vec<Path>, NoMem>
-    ensures { IfOk result (λ paths. paths.items ≡ overwritten (V.state view.now) line.now) }
+    ensures { IfOk result (λ paths. paths.items ≡ overwritten (V.state view.now) (line_value line.now)) }
 {
     let mut paths = Vec::new(alloc);
     for effect in line.effects {
@@ -57,7 +58,7 @@ fn add_traces<V: View>(
     sought: Sought,
 ) -> Result<Sought, NoMem>
     ensures { IfOk result (λ more.
-        more ≡ with_items same_query sought (trace_queries (V.state view.now) line.now)) }
+        more ≡ with_items same_query sought (trace_queries (V.state view.now) (line_value line.now))) }
 {
     sought
         .add_nodes(line.read, &Source::Read)?
@@ -67,7 +68,7 @@ fn add_traces<V: View>(
 
 /// Returns the paths that words of a line name.
 fn named<V: View>(alloc: Global, view: &V, line: &ObservedLine<'_>) -> Result<Vec<Path>, NoMem>
-    ensures { IfOk result (λ paths. paths.items ≡ named (V.state view.now) line.now) }
+    ensures { IfOk result (λ paths. paths.items ≡ named (V.state view.now) (line_value line.now)) }
 {
     let home = home_in(alloc, view, line.session)?;
     paths_of(alloc, line.directory, home.as_ref(), line.text)
@@ -113,7 +114,7 @@ fn add_named<V: View>(
     sought: Sought,
 ) -> Result<Sought, NoMem>
     ensures { IfOk result (λ more.
-        more ≡ with_items same_query sought (named_queries (V.state view.now) line.now)) }
+        more ≡ with_items same_query sought (named_queries (V.state view.now) (line_value line.now))) }
 {
     let named = named(alloc, view, line)?;
     let directories = directories_of(alloc, view, named.as_slice())?;
@@ -150,7 +151,7 @@ fn add_scripts<V: View>(
     sought: Sought,
 ) -> Result<Sought, NoMem>
     ensures { IfOk result (λ more.
-        more ≡ with_items same_query sought (script_queries (V.state view.now) line.now)) }
+        more ≡ with_items same_query sought (script_queries (V.state view.now) (line_value line.now))) }
 {
     let mut more = sought;
     for path in line.read {
@@ -220,7 +221,7 @@ fn add_named_variables(alloc: Global, text: &[u8], sought: Sought) -> Result<Sou
 /// Adds the session's directory, and the file with its functions, aliases and options.
 fn add_session(line: &ObservedLine<'_>, sought: Sought) -> Result<Sought, NoMem>
     ensures { IfOk result (λ more.
-        more ≡ with_items same_query sought (session_queries line.now)) }
+        more ≡ with_items same_query sought (session_queries (line_value line.now))) }
 {
     let more = sought.add(Query::Cwd, Source::Directory)?;
     match line.shell {
@@ -237,7 +238,7 @@ pub(crate) fn asked_of<V: View>(
     line: &ObservedLine<'_>,
 ) -> Result<Vec<(Query, Source)>, NoMem>
     ensures { IfOk result (λ asked.
-        asked.items ≡ first_of_each same_query (asked_of (V.state view.now) line.now)) }
+        asked.items ≡ first_of_each same_query (asked_of (V.state view.now) (line_value line.now))) }
 {
     let sought = add_traces(alloc, view, line, Sought::new(alloc))?;
     let sought = add_named(alloc, view, line, sought)?;

@@ -102,7 +102,7 @@ impl Effect {
     }
 
     /// Returns the cells that changed, each with its value.
-    pub(crate) fn cells(&self) -> &Overlay
+    pub fn cells(&self) -> &Overlay
         ensures value { result.now ≡ self.now.cells }
         ensures effect { IsEffect self.now }
     {

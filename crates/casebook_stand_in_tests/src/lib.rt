@@ -1,4 +1,4 @@
-//! Tests of `casebook_stand_in`, over public items alone.
+//! Tests of `casebook_stand_in` and `casebook_explain`, over public items alone.
 //!
 //! States and effects are written as words (`words.rt`). What rows want is worked out by hand, from
 //! the profile of the shell.
@@ -10,5 +10,9 @@ mod explaining;
 mod rows;
 #[cfg(test)]
 mod tables;
+#[cfg(test)]
+mod telling;
+#[cfg(test)]
+mod told_tables;
 #[cfg(test)]
 mod words;

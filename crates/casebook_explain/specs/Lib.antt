@@ -1,0 +1,9 @@
+pub mod Places
+pub mod Shelves
+pub mod Done
+pub mod Told
+pub mod Value
+pub mod Faults
+pub mod States
+pub mod Noting
+pub mod inner
