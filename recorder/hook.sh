@@ -32,7 +32,7 @@ printf -v __retro_session '%(%Y%m%dT%H%M%S)T-%s-%d' -1 "${EPOCHREALTIME: -6}" "$
 # Arrays, since no array is ever exported: with `set -a` an assignment exports.
 __retro_number=(0) __retro_begun=(0) __retro_text=()
 __retro_pid=$$ __retro_history='' __retro_none=''
-__retro_last=('' '') __retro_exits=- __retro_mark=$'--retro--\n' __retro_resume=0 __retro_pause=1 __retro_said=''
+__retro_last=(- -) __retro_exits=- __retro_mark=$'--retro--\n' __retro_resume=0 __retro_pause=1 __retro_said=''
 # Before each line: its number; what __retro_begin says; PROMPT_COMMAND again, if it was replaced.
 # shellcheck disable=SC2016     # bash expands these when it expands PS0, and not here
 {
@@ -113,7 +113,7 @@ __retro_state() { # THE USER'S $-
     unset -v "${!__retro_@}"
     builtin declare -p >&3
     builtin printf %s "$1" >&3
-    unset -f __retro_{alone,put,check,begin,state,end,install,trap,exit}
+    unset -f __retro_{alone,put,check,begin,state,send,start,end,install,trap,exit}
     builtin declare -f >&3
     builtin alias -p >&3
     builtin shopt -p >&3
@@ -121,47 +121,61 @@ __retro_state() { # THE USER'S $-
     set +o >&3
 }
 
-# Each command here has one substitution at most: in between bash runs the user's trap of SIGCHLD,
-# and if it does so in the middle of a command, bash 5.2 loses what follows.
+# Each command here and in __retro_send has one substitution at most: in between bash runs the user's
+# trap of SIGCHLD, and if it does so in the middle of a command, bash 5.2 loses what follows.
 __retro_end() { # STATUS OF EACH COMMAND OF THE LAST PIPE..
     local __retro_status=$? __retro_options=$- -
     set +aeuvxET -f
     if [ "$__retro_begun" != 0 ]; then
-        __retro_install
-        local __retro_statuses __retro_rows __retro_row __retro_name __retro_variables='' __retro_shell
-        local __retro_shown=hidden
-        local __retro_line=${__retro_text[__retro_number]-} __retro_state=(same '' same '')
+        local __retro_statuses __retro_shown=hidden __retro_line=${__retro_text[__retro_number]-}
         __retro_check "${__retro_line:0:1}"
         __retro_line=${__retro_line:1}
+        # If ~/.bashrc replaced PROMPT_COMMAND, the state at the first prompt isn't known.
+        [ -n "$__retro_history" ] || __retro_check "$({ __retro_start same '' same ''; } 3>&1 >/dev/null)"
         [ -z "$__retro_line" ] || __retro_shown=shown
         [ "$#" -gt 1 ] || set -- "$__retro_status"      # of `! true` PIPESTATUS is 0, and $? is 1
         builtin printf -v __retro_statuses '%s ' "$@"
-        __retro_shell=$({ __retro_state "$__retro_options"; } 3>&1 >/dev/null)
-        __retro_rows=${__retro_shell%%"$__retro_mark"*}
-        __retro_shell=${__retro_shell:${#__retro_rows} + ${#__retro_mark}}
-        __retro_trap "${__retro_rows%?}"
-        __retro_rows=${__retro_shell%%"$__retro_mark"*}
-        __retro_shell=${__retro_shell:${#__retro_rows} + ${#__retro_mark}}
-        local IFS=$'\n'
-        for __retro_row in $__retro_rows; do    # `declare` writes a newline in a value as \n
-            __retro_name=${__retro_row#declare -* } __retro_name=${__retro_name%%=*}
-            [ "${__retro_name:0:4}" = BASH ] || [ "${__retro_name:0:8}" = __retro_ ] ||
-                [ "${__retro_left_out[$__retro_name]-}" ] || __retro_variables+=$__retro_row$IFS
-        done
-        [ "$__retro_variables" = "${__retro_last[0]}" ] || __retro_state[0]=new __retro_state[1]=$__retro_variables
-        [ "$__retro_shell" = "${__retro_last[1]}" ] || __retro_state[2]=new __retro_state[3]=$__retro_shell
-        set -- "$({ __retro_put end "$__retro_number" "$__retro_status" "${__retro_statuses% }" \
-            "$__retro_shown" "$__retro_line" "${__retro_state[@]}"; } 3>&1 >/dev/null)"
-        __retro_last=('' '')            # if it isn't known whether it was taken
-        [ "$1" != 0 ] || __retro_last=("$__retro_variables" "$__retro_shell")
-        __retro_check "$1"
+        __retro_send __retro_put end "$__retro_number" "$__retro_status" "${__retro_statuses% }" \
+            "$__retro_shown" "$__retro_line"
         __retro_begun=0 __retro_text=()
-    fi
-    if [ -z "$__retro_history" ]; then              # the first prompt, after ~/.bashrc
-        __retro_install
-        __retro_trap "$(builtin trap -p EXIT)"
+    elif [ -z "$__retro_history" ]; then            # the first prompt, after ~/.bashrc
+        __retro_send __retro_start
     fi
     __retro_history=${HISTCMD:-none}
+}
+
+# Hands over a record whose last fields say the state, or that it is what they said last.
+__retro_send() { # WHAT HANDS IT OVER, WITH ITS OTHER FIELDS..
+    local __retro_rows __retro_row __retro_name __retro_variables='' __retro_shell
+    local __retro_state=(same '' same '')
+    __retro_install
+    __retro_shell=$({ __retro_state "$__retro_options"; } 3>&1 >/dev/null)
+    __retro_rows=${__retro_shell%%"$__retro_mark"*}
+    __retro_shell=${__retro_shell:${#__retro_rows} + ${#__retro_mark}}
+    __retro_trap "${__retro_rows%?}"
+    __retro_rows=${__retro_shell%%"$__retro_mark"*}
+    __retro_shell=${__retro_shell:${#__retro_rows} + ${#__retro_mark}}
+    local IFS=$'\n'
+    for __retro_row in $__retro_rows; do        # `declare` writes a newline in a value as \n
+        __retro_name=${__retro_row#declare -* } __retro_name=${__retro_name%%=*}
+        [ "${__retro_name:0:4}" = BASH ] || [ "${__retro_name:0:8}" = __retro_ ] ||
+            [ "${__retro_left_out[$__retro_name]-}" ] || __retro_variables+=$__retro_row$IFS
+    done
+    [ "$__retro_variables" = "${__retro_last[0]}" ] || __retro_state[0]=new __retro_state[1]=$__retro_variables
+    [ "$__retro_shell" = "${__retro_last[1]}" ] || __retro_state[2]=new __retro_state[3]=$__retro_shell
+    set -- "$({ "$@" "${__retro_state[@]}"; } 3>&1 >/dev/null)"
+    __retro_last=(- -)                  # if it isn't known whether it was taken
+    [ "$1" != 0 ] || __retro_last=("$__retro_variables" "$__retro_shell")
+    __retro_check "$1"
+}
+
+# Hands over a `start`. Says what __retro_put says. Runs in a subshell.
+__retro_start() { # THE FIELDS OF THE STATE..
+    local __retro_terminal
+    __retro_alone
+    __retro_terminal=$(/usr/bin/tty) || __retro_terminal=
+    __retro_put start "$__retro_parent" "$__retro_terminal" "$(builtin umask)" \
+        "${SUDO_USER:-$(/usr/bin/logname)}" "${SSH_CONNECTION-}" "$@"
 }
 
 # Puts the hook in place, also where the user has set something else since the last prompt.
@@ -187,17 +201,16 @@ __retro_exit() {
     return "$__retro_status"
 }
 
-__retro_start() {
-    local - __retro_parent=${RETRO_SESSION-} __retro_terminal
+# What is done at once. The `start` is handed over at the first prompt, after the rest of ~/.bashrc.
+__retro_source() {
+    local -
     set +aefuvxET
     __retro_install || { __retro_check 1; return; }
     __retro_trap "$(builtin trap -p EXIT)"
+    __retro_parent=${RETRO_SESSION-}
     case $__retro_parent in *[!A-Za-z0-9-]*) __retro_parent='' ;; esac
     [ "${#__retro_parent}" -le 64 ] || __retro_parent=''
     export RETRO_SESSION=$__retro_session
-    __retro_terminal=$(/usr/bin/tty) || __retro_terminal=
-    __retro_check "$({ __retro_put start "$__retro_parent" "$__retro_terminal" "$(umask)" \
-        "${SUDO_USER:-$(/usr/bin/logname)}" "${SSH_CONNECTION-}"; } 3>&1 >/dev/null)"
 }
-{ __retro_start; } 3>&2 >/dev/null 2>&1
-unset -f __retro_start
+{ __retro_source; } 3>&2 >/dev/null 2>&1
+unset -f __retro_source

@@ -147,8 +147,9 @@ pub const RECORDS: &str = "
 lines: record\texit\ts\t5\t0\t/\t7\t0%(NL) => [s] at 5 user 0 in [/]: exit 7 0; 24 whole
 lines: record\t%65xit\ts\t5\t0\t/\t7\t0%(NL) => [s] at 5 user 0 in [/]: exit 7 0; 26 whole
 lines: record\texit\ts\t5\t0\t/%FF\t7\t0%(NL) => [s] at 5 user 0 in hex 2fff: exit 7 0; 27 whole
-lines: record\tstart\tb\t5\t0\t/\ta\tpts/0\t0022\troot\t%(NL) => [b] at 5 user 0 in [/]:
-  start [a] [pts/0] 0022 [root] []; 40 whole
+lines: record\tstart\tb\t5\t0\t/\ta\tpts/0\t0022\troot\t\tnew\tv%0A\tsame\t%(NL) => [b] at 5 user 0
+  in [/]: start [a] [pts/0] 0022 [root] [] [v%(NL)] same; 55 whole
+lines: record\tstart\tb\t5\t0\t/\ta\tpts/0\t0022\troot\t%(NL) => row 1 is neither a note nor a record
 lines: record\tbegin\ts\t5\t0\t/%C3%A4\t1\tshown\ta%09b%0A%25%zz%(NL) => [s] at 5 user 0 in [/ä]:
   begin 1 [a%(TAB)b%(NL)%%zz]; 50 whole
 lines: record\tbegin\ts\t5\t0\t/\t1\tshown\ta%00b%(NL) => [s] at 5 user 0 in [/]:

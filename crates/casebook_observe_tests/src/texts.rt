@@ -122,13 +122,17 @@ fn start_text(alloc: Global, start: &Start) -> Result<String, NoMem> {
     let terminal = bytes_text(alloc, start.terminal.as_slice())?;
     let login = bytes_text(alloc, start.login.as_slice())?;
     let connection = bytes_text(alloc, start.connection.as_slice())?;
+    let variables = text_or(alloc, &start.variables, "same")?;
+    let shell = text_or(alloc, &start.shell, "same")?;
     format!(in alloc;
-        "start {} {} {:04o} {} {}",
+        "start {} {} {:04o} {} {} {} {}",
         parent.as_str(),
         terminal.as_str(),
         start.umask.bits(),
         login.as_str(),
-        connection.as_str()
+        connection.as_str(),
+        variables.as_str(),
+        shell.as_str()
     )
 }
 

@@ -16,17 +16,21 @@ use Rattle.casebook_record.specs.declared.record_error.RecordError.TheVariants.{
 
 -- the start of a session
 unfoldable pub start_of : List (List ℕ) → Result Start RecordError
-start_of (parent ∷ terminal ∷ umask ∷ login ∷ connection ∷ []) = do
+start_of (parent ∷ terminal ∷ umask ∷ login ∷ link ∷ varied ∷ variables ∷ changed ∷ shell ∷ []) = do
   from ← ok_or (parent_of parent) (Wrong fields.Parent)
   mask ← ok_or (umask_of umask) (Wrong fields.Umask)
+  vars ← ok_or (change_of varied variables) (Wrong fields.Variables)
+  defined ← ok_or (change_of changed shell) (Wrong fields.Shell)
   Ok (record {
     parent = from;
     terminal = terminal;
     umask = mask;
     login = login;
-    connection = connection;
+    connection = link;
+    variables = vars;
+    shell = defined;
   })
-start_of other = Err (wrong_count 5 other)
+start_of other = Err (wrong_count 9 other)
 
 -- the beginning of a line
 unfoldable pub begin_of : List (List ℕ) → Result Begin RecordError

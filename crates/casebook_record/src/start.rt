@@ -9,6 +9,7 @@ ghost use Rattle.casebook_record.specs.declared.record_error.RecordError.TheVari
 use crate::fields::{bytes_of, wrong_count};
 use crate::record_error::{Field, RecordError};
 use crate::session_name::SessionName;
+use crate::texts::change_of;
 use crate::umask::Umask;
 use retro_path::Bytes;
 use std::alloc::Global;
@@ -26,6 +27,10 @@ pub struct Start {
     pub login: Bytes,
     /// What SSH says of its connection. It may be empty.
     pub connection: Bytes,
+    /// The variables as `declare -p` prints them, unless they are the same.
+    pub variables: Option<Bytes>,
+    /// The functions, aliases and options as text for a shell, unless they are the same.
+    pub shell: Option<Bytes>,
 }
 
 /// Returns the session that a field names, or none if it is empty.
@@ -46,17 +51,32 @@ impl Start {
     pub(crate) fn of(alloc: Global, fields: &[&[u8]]) -> Result<Start, RecordError>
         ensures { Reads (λ r. r) result (start_of (map (λ field. field.now) fields.now)) }
     {
-        let [parent, terminal, umask, login, connection] = fields else {
-            return Err(wrong_count(5, fields));
+        let [
+            parent,
+            terminal,
+            umask,
+            login,
+            connection,
+            changed,
+            variables,
+            renewed,
+            shell,
+        ] = fields
+        else {
+            return Err(wrong_count(9, fields));
         };
         let parent = parent_of(alloc, parent)?;
         let umask = Field::Umask.or_wrong(Umask::of(umask))?;
+        let variables = change_of(alloc, Field::Variables, changed, variables)?;
+        let shell = change_of(alloc, Field::Shell, renewed, shell)?;
         Ok(Start {
             parent,
             terminal: bytes_of(alloc, terminal)?,
             umask,
             login: bytes_of(alloc, login)?,
             connection: bytes_of(alloc, connection)?,
+            variables,
+            shell,
         })
     }
 }

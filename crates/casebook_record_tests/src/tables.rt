@@ -40,23 +40,42 @@ given: exit :: host-1 :: 1747217400000000 :: 1000 :: /srv/my files :: 7 :: 0
 
 /// Starts of sessions.
 pub const START: &str = "
-given: start :: b :: 5 :: 0 :: / :: a :: pts/0 :: 0022 :: root :: 192.0.2.7 50122 192.0.2.1 22
+given: start :: b :: 5 :: 0 :: / :: a :: pts/0 :: 0022 :: root :: 192.0.2.7 50122 192.0.2.1 22 ::
+  new :: declare -- x=1 :: new :: alias l=ls
 - with: 20 :: 0 => [b] at 5 user 0 in [/]: start, parent [a], terminal [pts/0], umask 0022, login
-  [root], connection [192.0.2.7 50122 192.0.2.1 22]
+  [root], connection [192.0.2.7 50122 192.0.2.1 22], variables [declare -- x=1], shell [alias l=ls]
 - with: 5 :: %(EMPTY) => [b] at 5 user 0 in [/]: start, parent none, terminal [pts/0], umask 0022,
-  login [root], connection [192.0.2.7 50122 192.0.2.1 22]
+  login [root], connection [192.0.2.7 50122 192.0.2.1 22], variables [declare -- x=1], shell
+  [alias l=ls]
 - with: 5 :: %(a*65) => Wrong(Parent)
 - with: 5 :: a b => Wrong(Parent)
 - with: 7 :: 7777 => [b] at 5 user 0 in [/]: start, parent [a], terminal [pts/0], umask 7777, login
-  [root], connection [192.0.2.7 50122 192.0.2.1 22]
+  [root], connection [192.0.2.7 50122 192.0.2.1 22], variables [declare -- x=1], shell [alias l=ls]
 - with: 7 :: 022 => Wrong(Umask)
 - with: 7 :: 00022 => Wrong(Umask)
 - with: 7 :: 0028 => Wrong(Umask)
 - with: 7 :: %(EMPTY) => Wrong(Umask)
+- with: 10 :: same => Wrong(Variables)
+- with: 10 :: New => Wrong(Variables)
+- with: 10 :: %(EMPTY) => Wrong(Variables)
+- with: 11 :: %(EMPTY) => [b] at 5 user 0 in [/]: start, parent [a], terminal [pts/0], umask 0022,
+  login [root], connection [192.0.2.7 50122 192.0.2.1 22], variables [], shell [alias l=ls]
+- with: 12 :: same => Wrong(Shell)
+- with: 12 :: shown => Wrong(Shell)
+- with: 13 :: a%(NL)new => [b] at 5 user 0 in [/]: start, parent [a], terminal [pts/0], umask 0022,
+  login [root], connection [192.0.2.7 50122 192.0.2.1 22], variables [declare -- x=1], shell
+  [a%(NL)new]
+- first: 13 => CutOff
+- first: 10 => CutOff
 - first: 9 => CutOff
 - more: %(EMPTY) => TooMany
-read: start :: b :: 5 :: 0 :: / :: %(EMPTY) :: %(EMPTY) :: 0000 :: %(EMPTY) :: %(EMPTY) => [b] at 5
-  user 0 in [/]: start, parent none, terminal [], umask 0000, login [], connection []
+read: start :: b :: 5 :: 0 :: / :: %(EMPTY) :: %(EMPTY) :: 0000 :: %(EMPTY) :: %(EMPTY) :: same ::
+  %(EMPTY) :: same :: %(EMPTY) => [b] at 5 user 0 in [/]: start, parent none, terminal [], umask
+  0000, login [], connection [], variables same, shell same
+read: start :: b :: 5 :: 0 :: / :: . :: t :: 9 :: u :: c :: x :: y :: x :: y => Wrong(Parent)
+read: start :: b :: 5 :: 0 :: / :: a :: t :: 9 :: u :: c :: x :: y :: x :: y => Wrong(Umask)
+read: start :: b :: 5 :: 0 :: / :: a :: t :: 0000 :: u :: c :: x :: y :: x :: y => Wrong(Variables)
+read: start :: b :: 5 :: 0 :: / :: a :: t :: 0000 :: u :: c :: new :: y :: x :: y => Wrong(Shell)
 ";
 
 /// Beginnings of lines.

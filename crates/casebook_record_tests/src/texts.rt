@@ -27,8 +27,11 @@ fn start_text(alloc: Global, start: &Start) -> Result<String, Fail> {
         Some(name) => bytes_text(alloc, name.as_slice())?,
         None => text(alloc, "none")?,
     };
+    let variables = text_or(alloc, &start.variables, "same")?;
+    let shell = text_or(alloc, &start.shell, "same")?;
     Ok(format!(in alloc;
-        "start, parent {parent}, terminal {}, umask {:04o}, login {}, connection {}",
+        "start, parent {parent}, terminal {}, umask {:04o}, login {}, connection {}, variables \
+         {variables}, shell {shell}",
         bytes_text(alloc, start.terminal.as_slice())?,
         start.umask.bits(),
         bytes_text(alloc, start.login.as_slice())?,

@@ -43,7 +43,9 @@ fn row(alloc: Global, words: &[&str]) -> Result<String, Fail> {
     let row = match words {
         ["start", name, parent] => {
             let parent = or_empty(parent);
-            format!(in alloc; "record\tstart\t{name}\t5\t0\t/\t{parent}\tpts\t0022\tbob\t\n")?
+            format!(in alloc;
+                "record\tstart\t{name}\t5\t0\t/\t{parent}\tpts\t0022\tbob\t\tsame\t\tsame\t\n"
+            )?
         }
         ["begin", name, number, line] => {
             let word = shown(line);
