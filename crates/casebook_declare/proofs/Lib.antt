@@ -1,0 +1,11 @@
+pub mod Names
+pub mod Start
+pub mod Passed
+pub mod InRows
+pub mod Flags
+pub mod Bytes
+pub mod Values
+pub mod FlagsBack
+pub mod RowBack
+pub mod TextBack
+pub mod Elements

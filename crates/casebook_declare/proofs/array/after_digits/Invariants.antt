@@ -1,0 +1,10 @@
+use Rattle.std.proofs.Common.{◌≡◌, length}
+use Rattle.std.specs.Char.{is_ascii_digit}
+use Rattle.casebook_declare.specs.Parts.{after_all}
+use Rattle.casebook_declare.proofs.array.after_digits.Given as goal
+
+abbrev pub invariant-loop-rest : goal.invariant-loop-rest
+invariant-loop-rest l = after_all is_ascii_digit l.rest ≡ after_all is_ascii_digit l.text
+
+abbrev pub decreases-loop-rest : goal.decreases-loop-rest
+decreases-loop-rest l = length l.rest

@@ -1,0 +1,11 @@
+pub mod Bytes
+pub mod Reads
+pub mod Units
+pub mod Quoted
+pub mod Attributes
+pub mod Parts
+pub mod Arrays
+pub mod Rows
+pub mod Texts
+pub mod Printed
+pub mod inner

@@ -1,0 +1,2 @@
+-- Definitions that only private contracts name.
+pub mod Views
