@@ -36,7 +36,7 @@
 //! since it was quiet and unchanged then, and the same is true of the look before that one.
 //!
 //! A directory that isn't quiet is listed at each look. If the file system sets the time of reading
-//! at each listing (`strictatime`), one that has been unchanged for 2 seconds is listed once more,
+//! at each listing (`strictatime`), one that has been unchanged for 2 seconds is listed again,
 //! and then no more until it changes. Otherwise (`relatime`, `noatime`) it is listed until something
 //! else in the folders has changed 2 seconds later. The rule fails if the clock goes back to just
 //! the time T, if somebody sets a time of reading that is still to come, or if the clock of a file

@@ -53,7 +53,7 @@ with_kept digest bytes files = record {
 abbrev pub appended : ℕ → List ℕ → SpoolFiles → SpoolFiles
 appended at text files = with_lines (take at files.lines ++ text) files
 
--- the spool is as before, or a front of a text stands there
+-- the spool is unchanged, or a front of a text stands there
 abbrev pub IsCutOff : ℕ → List ℕ → Option SpoolFiles → Option SpoolFiles → Type 0
 IsCutOff at text before now =
     (now ≡ before) ⊎ ((n : ℕ) × (now ≡ option_map (appended at (take n text)) before))

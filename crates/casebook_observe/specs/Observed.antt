@@ -59,7 +59,7 @@ KeepsWhole last files now =
     × ((rest : List ℕ) × (now.lines ≡ take last.whole files.lines ++ rest))
     × ((d bytes : List ℕ) → files.kept d ≡ Some bytes → now.kept d ≡ Some bytes)
 
--- the same of a spool that was only read in part, which is as before
+-- the same of a spool that was only read in part, and is unchanged
 abbrev pub LosesNothing : Result LastLook ObserveError → SpoolFiles → Option SpoolFiles → Type 0
 LosesNothing (Ok last) files (Some now) = KeepsWhole last files now
 LosesNothing (Err error) files now = now ≡ Some files
@@ -72,7 +72,7 @@ KeepsRecords last files now =
     × ((rest : List ℕ) × (now.lines ≡ take last.whole files.lines ++ rest))
     × ((d bytes : List ℕ) → files.kept d ≡ Some bytes → now.kept d ≡ Some bytes)
 
--- the same of a spool that was only read in part, which is as before
+-- the same of a spool that was only read in part, and is unchanged
 abbrev pub LosesNoRecord : Result LastLook ObserveError → SpoolFiles → Option SpoolFiles → Type 0
 LosesNoRecord (Ok last) files (Some now) = KeepsRecords last files now
 LosesNoRecord (Err error) files now = now ≡ Some files

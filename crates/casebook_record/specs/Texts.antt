@@ -14,6 +14,6 @@ text_after given none word text =
 unfoldable pub line_of : List ℕ → List ℕ → Option (Option (List ℕ))
 line_of word text = text_after (codes "shown") (codes "hidden") word text
 
--- a new text, or nothing if it is the same as before
+-- a new text, or nothing if it is that of the last record that has one
 unfoldable pub change_of : List ℕ → List ℕ → Option (Option (List ℕ))
 change_of word text = text_after (codes "new") (codes "same") word text
