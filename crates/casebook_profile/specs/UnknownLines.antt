@@ -43,6 +43,14 @@ is_set first lines sid name =
 abbrev pub scope_after : State → List (ℕ × Noted) → ℕ → Scope
 scope_after first lines sid = record { before = is_set first lines sid; set = []; loops = [] }
 
+-- what is known of the variables of a session where a line begins in a state
+abbrev pub scope_in : State → ℕ → Scope
+scope_in s sid = record {
+  before = map.contains_key (session_in sid s.sessions).vars;
+  set = [];
+  loops = [];
+}
+
 -- ---- lines
 
 abbrev pub unknown_if : ℕ → Option Obstacle → List UnknownLine

@@ -1,14 +1,16 @@
-//! The lines of a recording that aren't understood.
+//! Texts, and lines of a recording, that aren't understood.
 ghost use Rattle.std.specs.Prelude.{◌≡◌, ◌++◌, [], IfOk, OnOk};
 ghost use Rattle.casebook_profile.specs.Lines as Lines;
-ghost use Rattle.casebook_profile.specs.UnknownLines.{unknown_if, unknown_lines_of};
+ghost use Rattle.casebook_profile.specs.UnknownLines.{scope_in, unknown_if, unknown_lines_of};
 ghost use Rattle.casebook_profile.specs.inner.Scopes.{knows};
 
 use crate::NoMem;
 use crate::knowledge::Knowledge;
 use crate::lines::text_obstacle;
 use crate::unknown_line::UnknownLine;
+use casebook_usage::Obstacle;
 use retro_keep::{Noted, Recording};
+use retro_tree::State;
 use std::alloc::Global;
 
 /// Appends a line, if it isn't understood.
@@ -45,4 +47,18 @@ pub fn unknown_lines(alloc: Global, recording: &Recording) -> Result<Vec<Unknown
         knowledge.learn(alloc, line.1.notes.as_slice())?;
     }
     Ok(found)
+}
+
+/// Returns why a text isn't understood that a session would run in a state, or `None` if it is.
+pub fn obstacle_in(
+    alloc: Global,
+    state: &State,
+    session: u32,
+    text: &str,
+) -> Result<Option<Obstacle>, NoMem>
+    ensures { IfOk result (λ found.
+        found ≡ Lines.text_obstacle (scope_in state.now session) text.now) }
+{
+    let knowledge = Knowledge::of(alloc, state);
+    text_obstacle(alloc, &knowledge, session, text)
 }
