@@ -37,8 +37,8 @@
 //!   query (`needs_are_asked_once`).
 //! - The notes of needs hold in the state in which the line began, and in exactly those states that
 //!   give the same answers. They change no state (`needs_hold`).
-//! - `words_of`, `paths_of` and `variables_of` return what `specs/Words.antt`, `specs/Named.antt`
-//!   and `specs/Variables.antt` say of a whole text.
+//! - `words_of`, `paths_of`, `named_path` and `variables_of` return what `specs/Words.antt`,
+//!   `specs/Named.antt` and `specs/Variables.antt` say of a whole text.
 //! - `Need::into_note` returns the note of a query with its answer.
 #![tactic(auto)]
 
@@ -60,7 +60,7 @@ mod words;
 
 pub use effect::Effect;
 pub use laws::{needs_are_asked_once, needs_hold, rules_give_needs};
-pub use named::paths_of;
+pub use named::{named_path, paths_of};
 pub use need::Need;
 pub use needs::needs_of;
 pub use observed_line::ObservedLine;

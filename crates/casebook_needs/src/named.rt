@@ -24,11 +24,7 @@ pub(crate) fn has_nul(text: &[u8]) -> bool
 /// Returns the path that a text names from a directory, or `None` if it names none: it isn't UTF-8,
 /// has a NUL, is empty, or has a name that is too long.
 #[tactic(auto, using(crate::proofs::Plain::texts))]
-pub(crate) fn named_path(
-    alloc: Global,
-    directory: &Path,
-    text: &[u8],
-) -> Result<Option<Path>, NoMem>
+pub fn named_path(alloc: Global, directory: &Path, text: &[u8]) -> Result<Option<Path>, NoMem>
     ensures { IfOk result (λ path. path ≡ named_path directory.now text.now) }
 {
     if has_nul(text) {

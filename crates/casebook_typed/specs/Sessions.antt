@@ -49,6 +49,11 @@ steps_of records = map (step_in (session_names records)) records
 
 -- ---- sessions
 
+-- the first record of a session, if it has one
+abbrev pub first_record : List ℕ → List Record → Option Record
+first_record name [] = None
+first_record name (r ∷ rest) = if text_eq name r.session then Some r else first_record name rest
+
 -- how a record says that a session started, if it does
 abbrev pub start_in : Event → Option Start
 start_in (events.Start start) = Some start
@@ -68,15 +73,18 @@ abbrev pub parent_by : List (List ℕ) → Option Start → ℕ
 parent_by names None = 0
 parent_by names (Some start) = parent_in names start.parent
 
--- a session: its name, how it started, and the place of the session that started it
+-- a session: its name, its first record, how it started, and the place of the session that started
+-- it
 pub record SessionValue : Type 0 where
   pub name : List ℕ
+  pub first : Option Record
   pub start : Option Start
   pub parent : ℕ
 
 abbrev pub session_in : List (List ℕ) → List Record → List ℕ → SessionValue
 session_in names records name = record {
   name = name;
+  first = first_record name records;
   start = first_start name records;
   parent = parent_by names (first_start name records);
 }

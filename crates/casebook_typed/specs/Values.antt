@@ -35,6 +35,7 @@ line_value l = record {
 abbrev pub session_value : Session → SessionValue
 session_value s = record {
   name = s.name.now;
+  first = option_map (λ r. r.now) s.first;
   start = option_map (λ start. start.now) s.start;
   parent = s.parent;
 }

@@ -6,8 +6,8 @@ ghost use Rattle.casebook_spool.specs.After.{after_notes};
 ghost use Rattle.casebook_typed.specs.Lines.{active_in, lines_after, records_of};
 ghost use Rattle.casebook_typed.specs.Observations.{observations};
 ghost use Rattle.casebook_typed.specs.Seeing.{observed, said};
-ghost use Rattle.casebook_typed.specs.Sessions.{first_start, session_in, sessions_of, start_if};
-ghost use Rattle.casebook_typed.specs.Sessions.{steps_of};
+ghost use Rattle.casebook_typed.specs.Sessions.{first_record, first_start, session_in};
+ghost use Rattle.casebook_typed.specs.Sessions.{sessions_of, start_if, steps_of};
 ghost use Rattle.casebook_typed.specs.Spans.{contradiction};
 ghost use Rattle.casebook_typed.specs.Values.{line_value, session_value};
 ghost use Rattle.casebook_typed.specs.inner.Lists.{list_at};
@@ -34,6 +34,8 @@ use std::alloc::Global;
 pub struct Session<'a> {
     /// Its name.
     pub name: &'a SessionName,
+    /// Its first record. Each session of a spool has one.
+    pub first: Option<&'a Record>,
     /// How it started, if a record says so.
     pub start: Option<&'a Start>,
     /// The place of the session that started it, counted from 1, or 0.
@@ -47,6 +49,19 @@ pub struct Typed<'a> {
     pub sessions: Vec<Session<'a>>,
     /// The lines, in the order of their ends.
     pub lines: Vec<TypedLine<'a>>,
+}
+
+/// Returns the first record of a session, if it has one.
+fn first_record<'a>(observations: &[Observation<'a>], name: &SessionName) -> Option<&'a Record>
+    ensures { option_map (λ found. found.now) result
+        ≡ first_record name.now (map said observations.now) }
+{
+    for observation in observations {
+        if name.as_slice() == observation.record.session.as_slice() {
+            return Some(observation.record);
+        }
+    }
+    None
 }
 
 /// Returns how a record says that a session started, if it does.
@@ -90,10 +105,12 @@ fn session_of<'a>(
     ensures { IfOk result (λ session. session_value session
         ≡ session_in (names_in names.now) (map said observations.now) name.now) }
 {
+    let first = first_record(observations, name);
     let start = first_start(observations, name);
     let parent = names.parent(alloc, start)?;
     Ok(Session {
         name,
+        first,
         start,
         parent,
     })
