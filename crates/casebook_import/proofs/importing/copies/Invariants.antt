@@ -1,0 +1,6 @@
+-- The paths so far.
+use Rattle.std.proofs.Common.{◌≡◌, take}
+use Rattle.casebook_import.proofs.importing.copies.Given as goal
+
+abbrev pub invariant-loop-path : goal.invariant-loop-path
+invariant-loop-path l = l.copies.items ≡ take l.path-index l.paths

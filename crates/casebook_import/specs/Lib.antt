@@ -1,0 +1,9 @@
+pub mod Opaque
+pub mod Held
+pub mod Nodes
+pub mod Directories
+pub mod Variables
+pub mod Effects
+pub mod First
+pub mod Understood
+pub mod Lines

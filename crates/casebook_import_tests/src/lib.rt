@@ -1,0 +1,14 @@
+//! Tests of `casebook_import`, over public items alone.
+//!
+//! A first look and a history are lists of notes and records, as `history.rt` reads them. What rows
+//! want is worked out by hand, from the rules of the crate and the profile of the shell.
+#![tactic(auto)]
+
+#[cfg(test)]
+mod calls;
+#[cfg(test)]
+mod history;
+#[cfg(test)]
+mod rows;
+#[cfg(test)]
+mod tables;
