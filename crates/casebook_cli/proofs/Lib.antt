@@ -1,9 +1,7 @@
-pub mod CallLemmas
 pub mod CheckLemmas
 pub mod HarmlessLemmas
 pub mod KindLemmas
 pub mod Known
-pub mod NamedLemmas
 pub mod RisingLemmas
 pub mod RowLemmas
 pub mod ScreenLemmas

@@ -9,11 +9,11 @@ use Rattle.casebook_screen.specs.declared.restoration.Restoration.{Restoration}
 use Rattle.casebook_view.specs.declared.group.Group.{Group}
 use Rattle.casebook_view.specs.declared.summary.Summary.{Summary}
 use Rattle.casebook_words.specs.declared.labels.Labels.{Labels}
+use Rattle.casebook_request.specs.declared.shown.ShownPart.{ShownPart}
 use Rattle.casebook_cli.specs.Lines.{widest_name}
 use Rattle.casebook_cli.specs.Pages.{IsPageOf}
 use Rattle.casebook_cli.specs.Screens.{AreParts, AreSummaryLines, IsJson, IsShownOf, IsTextOf, ScreenValue}
 use Rattle.casebook_cli.specs.declared.screens.Parts.{Parts}
-use Rattle.casebook_cli.specs.declared.shown.ShownPart.{ShownPart}
 
 abbrev pub wide : RecordingValue → Repair → Summary → Labels → Bool → ℕ → ScreenValue
 wide r repair summary labels colours width = record {

@@ -17,16 +17,17 @@ use Rattle.casebook_text.specs.SafeLine.{text_of_lines}
 use Rattle.retro_keep.specs.Recording.{RecordingValue, last_state}
 use Rattle.retro_log.specs.Document.{log_in}
 use Rattle.retro_redo.specs.Repair.{repaired_state}
+use Rattle.casebook_request.specs.Sources.{repair_sources, sources_of}
+use Rattle.casebook_request.specs.Request.{Query, Request, ask, check, help, help_text, lines, page, show}
+use Rattle.casebook_request.specs.Request.{CompareValue, FolderRepair, RepairRequest, compare, restore, script}
+use Rattle.casebook_request.specs.Request.{snapshot, observe, start, undo}
 use Rattle.casebook_cli.specs.Checks.{IsChecked}
 use Rattle.casebook_cli.specs.Documents.{AllDocuments}
 use Rattle.casebook_cli.specs.Harmless.{IsHarmless, is_plain}
 use Rattle.casebook_cli.specs.Inputs.{AreInputs, DocumentValue, InputsValue, IsDocument}
 use Rattle.casebook_cli.specs.Lines.{AreLines}
 use Rattle.casebook_cli.specs.Pages.{IsPage}
-use Rattle.casebook_cli.specs.Repairs.{IsAsked, repair_sources, sources_of}
-use Rattle.casebook_cli.specs.Request.{Query, Request, ask, check, help, help_text, lines, page, show}
-use Rattle.casebook_cli.specs.Request.{CompareValue, FolderRepair, RepairRequest, compare, restore, script, snapshot}
-use Rattle.casebook_cli.specs.Request.{observe, start, undo}
+use Rattle.casebook_cli.specs.Repairs.{IsAsked}
 use Rattle.casebook_cli.specs.Screens.{IsShown}
 use Rattle.casebook_cli.specs.Scripts.{IsScriptOf}
 use Rattle.casebook_cli.specs.declared.repairs.AskedRepair.{AskedRepair}

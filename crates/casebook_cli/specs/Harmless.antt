@@ -3,9 +3,9 @@ use Rattle.std.specs.Prelude.{ℕ, Bool, true, false, not, List, chars, IsTrue}
 use Rattle.std.specs.List.{list_all}
 use Rattle.casebook_text.specs.SafeText.{is_safe, is_safe_byte}
 use Rattle.casebook_text.specs.declared.safe_text.Breaks.TheVariants.{Keep}
-use Rattle.casebook_cli.specs.Request.{Query, check, lines, page, show}
-use Rattle.casebook_cli.specs.declared.shown.ShownPart.{ShownPart}
-use Rattle.casebook_cli.specs.declared.shown.ShownPart.TheVariants as parts
+use Rattle.casebook_request.specs.Request.{Query, check, lines, page, show}
+use Rattle.casebook_request.specs.declared.shown.ShownPart.{ShownPart}
+use Rattle.casebook_request.specs.declared.shown.ShownPart.TheVariants as parts
 
 -- A text without control codes of ASCII but newlines and tabs. Each other character can be seen and
 -- leaves its neighbours as they are.

@@ -1,5 +1,6 @@
 -- The documents that a question is about.
 use Rattle.std.specs.Prelude.{◌≡◌, ℕ, List, Option, Some, None}
+use Rattle.casebook_request.specs.Sources.{SourcesValue}
 use Rattle.casebook_cli.specs.Documents.{AllDocuments}
 
 -- a document: its name and its bytes
@@ -7,14 +8,7 @@ pub record DocumentValue : Type 0 where
   pub name : List ℕ
   pub bytes : List ℕ
 
--- the names of the log, of the document with the list of lines to cancel, and of that with names
--- and times
-pub record SourcesValue : Type 0 where
-  pub log : List ℕ
-  pub list : Option (List ℕ)
-  pub about : Option (List ℕ)
-
--- the same documents as they were read
+-- the documents that a request names, as they were read
 pub record InputsValue : Type 0 where
   pub log : DocumentValue
   pub list : Option DocumentValue

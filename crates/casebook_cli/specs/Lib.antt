@@ -1,5 +1,4 @@
 pub mod Answers
-pub mod Bounds
 pub mod Checks
 pub mod Colours
 pub mod Documents
@@ -12,9 +11,9 @@ pub mod Messages
 pub mod Pages
 pub mod Program
 pub mod Repairs
-pub mod Request
 pub mod Screens
 pub mod Scripts
 pub mod Stops
-pub mod Words
+pub mod Tests
+pub mod Typed
 pub mod inner

@@ -19,12 +19,13 @@ use Rattle.casebook_words.specs.Labels.{name_in, name_words}
 use Rattle.casebook_words.specs.declared.labels.Labels.{Labels}
 use Rattle.casebook_screen.specs.Fields.{fields_of}
 use Rattle.casebook_screen.specs.RowTexts.{lines_of_rows}
+use Rattle.casebook_request.specs.Request.{LinesRequest}
+use Rattle.casebook_request.specs.declared.format.Format.{Format}
+use Rattle.casebook_request.specs.declared.format.Format.TheVariants as formats
 use Rattle.casebook_cli.specs.Inputs.{InputsValue}
-use Rattle.casebook_cli.specs.Bounds.{typed}
 use Rattle.casebook_cli.specs.Labels.{AreLabels, times_in}
-use Rattle.casebook_cli.specs.Request.{LinesRequest, Test, of_sessions, test_view}
-use Rattle.casebook_cli.specs.declared.format.Format.{Format}
-use Rattle.casebook_cli.specs.declared.format.Format.TheVariants as formats
+use Rattle.casebook_cli.specs.Tests.{Test, of_sessions, test_view, tests_of}
+use Rattle.casebook_cli.specs.Typed.{typed}
 
 -- ---- filters
 
@@ -81,7 +82,7 @@ HasUser labels lines (Some name) = sessions_named labels lines name ≢ []
 -- The filters that a request asks for, of some lines with their names.
 pub record AreFilters (request : LinesRequest) (labels : Labels) (lines : List (ℕ × Noted)) (filters : FiltersValue)
     : Type 0 where
-  pub tests : map test_view filters.tests ≡ request.tests ++ user_tests labels lines request.user
+  pub tests : map test_view filters.tests ≡ tests_of request ++ user_tests labels lines request.user
   pub user : HasUser labels lines request.user
   pub text : AreRead request.text filters.text
   pub shown : AreRead request.shown filters.shown

@@ -6,9 +6,9 @@ use Rattle.retro_redo.specs.declared.repair.Repair.{Repair}
 use Rattle.casebook_page.specs.Page.{IsPageText}
 use Rattle.casebook_page.specs.Rows.{shows_untouched, written_lines}
 use Rattle.casebook_view.specs.declared.summary.Summary.{Summary}
+use Rattle.casebook_request.specs.Request.{PageRequest}
 use Rattle.casebook_cli.specs.Inputs.{InputsValue}
 use Rattle.casebook_cli.specs.Repairs.{IsAsked}
-use Rattle.casebook_cli.specs.Request.{PageRequest}
 use Rattle.casebook_cli.specs.Screens.{IsSummary}
 use Rattle.casebook_cli.specs.declared.repairs.AskedRepair.{AskedRepair}
 

@@ -1,6 +1,5 @@
 -- The repairs that are asked for.
-use Rattle.std.specs.Prelude.{◌≡◌, ℕ, ◌==◌, List, [], ◌∷◌, ◌++◌, Option, Some, None, Ok, IsTrue}
-use Rattle.std.specs.Prelude.{if◌then◌else◌, map}
+use Rattle.std.specs.Prelude.{◌≡◌, ℕ, List, ◌++◌, Option, Some, None, Ok, IsTrue, map}
 use Rattle.std.specs.Str.{IsUtf8}
 use Rattle.retro_keep.specs.Edit.{edit_of}
 use Rattle.retro_keep.specs.Recording.{RecordingValue, IsRecordingOf}
@@ -18,35 +17,10 @@ use Rattle.retro_rounds.specs.Refusals.{IsAccepted}
 use Rattle.casebook_text.specs.ListFile.{list_of_file}
 use Rattle.casebook_text.specs.Item.{Line}
 use Rattle.casebook_text.specs.Lists.{lines_of_list}
-use Rattle.casebook_cli.specs.Inputs.{DocumentValue, InputsValue, SourcesValue}
+use Rattle.casebook_request.specs.Request.{RepairRequest, RoundsValue}
+use Rattle.casebook_cli.specs.Inputs.{DocumentValue, InputsValue}
 use Rattle.casebook_cli.specs.Labels.{AreLabels}
-use Rattle.casebook_cli.specs.Request.{Query, RepairRequest, RoundsValue}
-use Rattle.casebook_cli.specs.Request.{check, lines, page, show}
 use Rattle.casebook_cli.specs.declared.repairs.AskedRepair.{AskedRepair}
-
--- ---- documents
-
-abbrev pub at_sign : ℕ
-at_sign = 64
-
--- the name of the document that has the list, if that is what is given
-unfoldable pub document_named : List ℕ → Option (List ℕ)
-document_named [] = None
-document_named (b ∷ name) = if b == at_sign then Some name else None
-
-abbrev pub repair_sources : RepairRequest → SourcesValue
-repair_sources request = record {
-  log = request.log;
-  list = document_named request.cancel;
-  about = request.about;
-}
-
--- the documents that a question is about
-abbrev pub sources_of : Query → SourcesValue
-sources_of (lines request) = record { log = request.log; list = None; about = request.about }
-sources_of (show request) = repair_sources request.repair
-sources_of (page request) = repair_sources request.repair
-sources_of (check log) = record { log = log; list = None; about = None }
 
 -- ---- lists of lines
 

@@ -24,17 +24,17 @@ use Rattle.casebook_screen.specs.Summary.{summary_lines}
 use Rattle.casebook_screen.specs.Why.{why_lines}
 use Rattle.casebook_screen.specs.declared.restoration.Restoration.{Restoration}
 use Rattle.casebook_words.specs.declared.labels.Labels.{Labels}
+use Rattle.casebook_request.specs.Request.{ShowRequest}
+use Rattle.casebook_request.specs.declared.shown.Extras.{Extras}
+use Rattle.casebook_request.specs.declared.shown.ShownPart.{ShownPart}
+use Rattle.casebook_request.specs.declared.shown.ShownPart.TheVariants as parts
 use Rattle.casebook_cli.specs.Inputs.{InputsValue}
 use Rattle.casebook_cli.specs.Lines.{widest_name}
 use Rattle.casebook_cli.specs.Repairs.{IsAsked}
-use Rattle.casebook_cli.specs.Request.{ShowRequest}
 use Rattle.casebook_cli.specs.declared.repairs.AskedRepair.{AskedRepair}
 use Rattle.casebook_cli.specs.Colours.{shown_lines}
 use Rattle.casebook_cli.specs.declared.screens.Parts.{Parts}
 use Rattle.casebook_json.specs.Summary.{summary_text}
-use Rattle.casebook_cli.specs.declared.shown.Extras.{Extras}
-use Rattle.casebook_cli.specs.declared.shown.ShownPart.{ShownPart}
-use Rattle.casebook_cli.specs.declared.shown.ShownPart.TheVariants as parts
 
 -- ---- summaries
 

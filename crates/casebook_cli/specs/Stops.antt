@@ -18,12 +18,17 @@ use Rattle.casebook_about.specs.About.{AboutView, about_in}
 use Rattle.casebook_text.specs.Item.{Line}
 use Rattle.casebook_text.specs.Lists.{lines_of_list}
 use Rattle.casebook_words.specs.declared.labels.Labels.{Labels}
+use Rattle.casebook_request.specs.Sources.{SourcesValue, repair_sources, sources_of}
+use Rattle.casebook_request.specs.Request.{LinesRequest, Query, RepairRequest, Request, RoundsValue, ShowRequest, ask}
+use Rattle.casebook_request.specs.Request.{check, help, lines, page, request_in, show, CompareValue, FolderRepair}
+use Rattle.casebook_request.specs.Request.{compare, observe, restore, script, snapshot, start, undo}
+use Rattle.casebook_request.specs.declared.shown.ShownPart.{ShownPart}
+use Rattle.casebook_request.specs.declared.shown.ShownPart.TheVariants as parts
 use Rattle.casebook_cli.specs.Documents.{AllDocuments}
-use Rattle.casebook_cli.specs.Inputs.{AreInputs, DocumentValue, InputsValue, IsDocument, SourcesValue}
+use Rattle.casebook_cli.specs.Inputs.{AreInputs, DocumentValue, InputsValue, IsDocument}
 use Rattle.casebook_cli.specs.Labels.{AreLabels, IsAbout}
 use Rattle.casebook_cli.specs.Lines.{pattern_config, sessions_named}
-use Rattle.casebook_cli.specs.Repairs.{AreEdits, IsAsked, IsListGiven, lines_in, repair_sources, sources_of}
-use Rattle.casebook_cli.specs.Request.{LinesRequest, Query, RepairRequest, Request, RoundsValue, ShowRequest, ask, check, help, lines, page, request_in, show}
+use Rattle.casebook_cli.specs.Repairs.{AreEdits, IsAsked, IsListGiven, lines_in}
 use Rattle.casebook_folder_cli.specs.Folders.{AllFolders}
 use Rattle.casebook_folder_cli.specs.ScriptWords.{ScriptValue}
 use Rattle.casebook_folder_cli.specs.Scripting.{IsNoScript}
@@ -41,13 +46,10 @@ use Rattle.casebook_recorder_cli.specs.Taking.{IsNotTaken as IsRecordNotTaken}
 use Rattle.casebook_recorder_cli.specs.Words.{ObserveValue, StartValue}
 use Rattle.casebook_recorder_cli.specs.declared.fault.RecorderFault.{RecorderFault}
 use Rattle.casebook_recorder_cli.specs.declared.fault.RecorderFault.TheVariants as recorder_faults
-use Rattle.casebook_cli.specs.Request.{CompareValue, FolderRepair, compare, observe, restore, script, snapshot, start, undo}
 use Rattle.casebook_cli.specs.Scripts.{AreScriptInputs, ScriptInputs, parts_of, table_name}
 use Rattle.casebook_cli.specs.declared.repairs.AskedRepair.{AskedRepair}
 use Rattle.casebook_cli.specs.declared.searched.SearchedPart.{SearchedPart}
 use Rattle.casebook_cli.specs.declared.searched.SearchedPart.TheVariants as searched_in
-use Rattle.casebook_cli.specs.declared.shown.ShownPart.{ShownPart}
-use Rattle.casebook_cli.specs.declared.shown.ShownPart.TheVariants as parts
 use Rattle.casebook_cli.specs.declared.stop.Stop.{Stop}
 use Rattle.casebook_cli.specs.declared.stop.Stop.TheVariants as stops
 

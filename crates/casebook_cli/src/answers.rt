@@ -1,38 +1,35 @@
 //! Answers to requests.
 ghost use Rattle.std.specs.Prelude.{◌≡◌, IfOk, IfErr, IfSome, IsTrue, string_bytes};
+ghost use Rattle.casebook_request.specs.Request.{help_text};
+ghost use Rattle.casebook_request.specs.Views.{page_view, query_view, repair_view, request_view};
+ghost use Rattle.casebook_request.specs.Views.{show_view};
 ghost use Rattle.casebook_cli.specs.Answers.{Answers, AnswersBy, AnswersQuery, saying};
 ghost use Rattle.casebook_cli.specs.Harmless.{IsHarmless, is_plain, is_plain_shown};
 ghost use Rattle.casebook_cli.specs.Pages.{IsPage};
-ghost use Rattle.casebook_cli.specs.Request.{help_text};
 ghost use Rattle.casebook_cli.specs.Screens.{IsShown};
 ghost use Rattle.casebook_cli.specs.Stops.{Stops, StopsAsked, StopsBy, StopsQuery, StopsShow};
-ghost use Rattle.casebook_cli.specs.inner.Views.{answer_view, inputs_view, page_view, query_view};
-ghost use Rattle.casebook_cli.specs.inner.Views.{repair_view, request_view, show_view};
+ghost use Rattle.casebook_cli.specs.inner.Views.{answer_view, inputs_view};
 
 use crate::NoMem;
 use crate::answer::Answer;
 use crate::checks::check_answer;
 use crate::comparing::compare_text;
 use crate::documents::Documents;
-use crate::help::help_text;
+use crate::inputs::Inputs;
 use crate::lines_answer::lines_text;
 use crate::pages::page_text;
 use crate::progress::Progress;
-use crate::query::Query;
 use crate::reading::read_inputs;
 use crate::recorder::{observe_text, start_text};
-use crate::repair_request::{PageRequest, ShowRequest};
 use crate::repairs::asked_repair;
-use crate::request::Request;
 use crate::restores::{restore_text, undo_text};
 use crate::screens::shown_text;
 use crate::scripts::script_text;
 use crate::snapshots::snapshot_text;
-use crate::sources::Inputs;
 use crate::stop::Stop;
-use crate::topic::Topic;
 use casebook_folder_cli::Folders;
 use casebook_recorder_cli::Spools;
+use casebook_request::{PageRequest, Query, Request, ShowRequest, Topic, help_text};
 use std::alloc::{AllocGlobal, Global};
 use std::thread::Threads;
 

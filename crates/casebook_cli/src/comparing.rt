@@ -1,10 +1,11 @@
 //! Comparisons of recordings with snapshots.
 ghost use Rattle.std.specs.Prelude.{◌≡◌, IfOk, IfErr, IfSome};
 ghost use Rattle.casebook_text.specs.SafeLine.{text_of_lines};
+ghost use Rattle.casebook_request.specs.Views.{compare_view};
 ghost use Rattle.casebook_cli.specs.Answers.{AnswersCompare};
 ghost use Rattle.casebook_cli.specs.Harmless.{IsHarmless};
 ghost use Rattle.casebook_cli.specs.Stops.{StopsCompare};
-ghost use Rattle.casebook_cli.specs.inner.Views.{answer_view, compare_view};
+ghost use Rattle.casebook_cli.specs.inner.Views.{answer_view};
 
 use crate::NoMem;
 use crate::answer::Answer;
@@ -13,10 +14,10 @@ use crate::plain::plain_lines;
 use crate::progress::{Progress, Step};
 use crate::reading::read_document;
 use crate::recordings::recording_of;
-use crate::request::CompareRequest;
 use crate::snapshots::snapshot_stop;
 use crate::stop::Stop;
 use casebook_folder_cli::{CompareAnswer, Folders, compare_answer};
+use casebook_request::CompareRequest;
 use std::alloc::Global;
 
 /// Returns what a comparison says, as an answer.

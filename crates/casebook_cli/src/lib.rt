@@ -1,19 +1,21 @@
-//! The program for people: its command line, the documents that it reads, and its answers.
+//! The program for people: the documents that it reads, and its answers.
 //!
-//! [`run_with`] answers the request of the command line. It reads the documents that the request
-//! names from a [`Documents`], and writes the answer. If it returns [`Exit::Done`] or [`Exit::No`],
-//! it wrote exactly an answer that `specs/Answers.antt` defines. If it returns [`Exit::Stopped`],
-//! it wrote nothing, and [`Exit::message`] says why.
+//! [`run_with`] answers the request that the words of the command line make, which
+//! `casebook_request` reads. It reads the documents that the request names from a [`Documents`],
+//! and writes the answer. If it returns [`Exit::Done`] or [`Exit::No`], it wrote exactly an answer
+//! that `specs/Answers.antt` defines. If it returns [`Exit::Stopped`], it wrote nothing, and
+//! [`Exit::message`] says why.
 //!
 //! If allocation fails, calls return `NoMem` or [`Stop::OutOfMemory`].
 //!
-//! Start reading at `program.rt`, then `command_line.rt`, `reading.rt` and `answers.rt`.
+//! Start reading at `program.rt`, then `reading.rt` and `answers.rt`. Requests are those of
+//! `request.rt` in `casebook_request`.
 //!
 //! # What is proved
 //!
 //! - `run_with` writes, after `Done` and `No`, exactly a text that answers its words about the
 //!   documents that they name [`runs`, by `Answers` of `specs/Answers.antt`]. What words ask for is
-//!   an equation (`request_in`), over `clap`'s definition of the command that they name.
+//!   an equation (`request_in` of `casebook_request`).
 //! - `lines` is answered by the rows of exactly those lines of the log that pass the filters and
 //!   were typed between the bounds, in order, as text, as a table or as a list of numbers: an
 //!   equation [by `AreLines`]. A pattern is one that the text of its option is read as, with `^`
@@ -60,67 +62,47 @@
 
 mod answer;
 mod answers;
-mod bound;
-mod bounds;
 mod checks;
 mod colours;
-mod command_line;
 mod comparing;
 mod document;
-mod document_help;
 mod documents;
 mod exit;
-mod folder_help;
-mod format;
-mod help;
+mod inputs;
 mod knowledge;
 mod labels;
 mod line_lists;
-mod line_options;
+mod line_tests;
 mod lines_answer;
-mod lines_request;
 mod messages;
-mod options;
 mod pages;
-mod path_options;
 mod patterns;
 mod plain;
-mod problem;
 mod program;
 mod progress;
-mod query;
 mod reading;
 mod recorder;
-mod recorder_help;
 mod recordings;
-mod repair_options;
-mod repair_request;
 mod repairs;
-mod request;
 mod restores;
-mod rounds;
 mod rows_text;
 mod screens;
 mod scripts;
 mod searched;
-mod shown;
 mod snapshots;
-mod sources;
 mod stop;
 mod style;
-mod topic;
 mod typed;
-mod typed_lines;
-mod words;
 
 pub use documents::{Documents, ReadFault};
 pub use exit::Exit;
-pub use problem::Problem;
 pub use program::run_with;
 pub use progress::{Progress, Step};
 pub use searched::SearchedPart;
 pub use stop::Stop;
 
+/// What is wrong with a command line.
+pub use casebook_request::Problem;
 /// What the answer is written to.
 pub use retro_edge::Output;
 /// Allocation failed.

@@ -3,23 +3,25 @@ ghost use Rattle.std.specs.Prelude.{◌≡◌, ◌∷◌, ◌++◌, [], IfOk, If
 ghost use Rattle.std.specs.Prelude.{string_bytes};
 ghost use Rattle.casebook_about.specs.Rows.{time_view};
 ghost use Rattle.casebook_view.specs.Rows.{row_value};
+ghost use Rattle.casebook_request.specs.Views.{lines_view};
 ghost use Rattle.casebook_cli.specs.Harmless.{IsHarmless};
 ghost use Rattle.casebook_cli.specs.Lines.{AreLines, HasUser, is_named};
 ghost use Rattle.casebook_cli.specs.Lines.{sessions_named, user_tests, with_number};
-ghost use Rattle.casebook_cli.specs.Request.{of_sessions, test_view};
+ghost use Rattle.casebook_cli.specs.Tests.{of_sessions, test_view};
 ghost use Rattle.casebook_cli.specs.Stops.{StopsLines, StopsUser};
-ghost use Rattle.casebook_cli.specs.inner.Views.{AreAskedRows, inputs_view, lines_view};
+ghost use Rattle.casebook_cli.specs.inner.Views.{AreAskedRows, inputs_view};
 
 use crate::NoMem;
+use crate::inputs::Inputs;
 use crate::knowledge::Knowledge;
 use crate::labels::known_of;
-use crate::lines_request::LinesRequest;
+use crate::line_tests::tests_of;
 use crate::patterns::Patterns;
 use crate::recordings::recording_of;
 use crate::rows_text::{rows_text, widest_name};
-use crate::sources::Inputs;
 use crate::stop::Stop;
 use crate::typed::typed_rows;
+use casebook_request::LinesRequest;
 use casebook_view::{LineRow, LineTest, rows};
 use casebook_words::Labels;
 use retro_keep::{Noted, Recording};
@@ -112,7 +114,7 @@ fn asked_rows<'r, 'a>(
     ensures err { IfErr result (StopsUser known.now.labels recording.entry.now.lines
         (option_map (λ s. s.now) request.entry.user)) }
 {
-    let mut tests = request.tests;
+    let mut tests = tests_of(alloc, request.session, request.bounds, request.paths)?;
     push_user(
         alloc,
         &mut tests,

@@ -7,83 +7,20 @@ ghost use Rattle.casebook_recorder_cli.specs.Faults.{fault_line as recorder_line
 ghost use Rattle.casebook_cli.specs.Messages.{about, about_message, about_words, counted};
 ghost use Rattle.casebook_cli.specs.Messages.{item_words, list_message, log_message, message_of};
 ghost use Rattle.casebook_cli.specs.Messages.{number_words, numbered_words, part_words};
-ghost use Rattle.casebook_cli.specs.Messages.{problem_words};
 ghost use Rattle.casebook_cli.specs.Messages.{range_words, refusal_words, repair_message};
 ghost use Rattle.casebook_cli.specs.Messages.{repair_words, said};
 ghost use Rattle.casebook_cli.specs.Messages.{said_of, searched_words, stop_message};
 
 use crate::NoMem;
 use crate::exit::Exit;
-use crate::problem::Problem;
 use crate::searched::SearchedPart;
 use crate::stop::Stop;
 use casebook_about::{AboutFault, Part as AboutPart};
-use casebook_folder_cli::{FileFault, FolderProblem};
-use casebook_recorder_cli::{RecorderFault, RecorderProblem};
+use casebook_folder_cli::FileFault;
+use casebook_recorder_cli::RecorderFault;
 use casebook_text::{ItemFault, ListFault, SafeLine};
 use retro_log::{Part, Refusal};
 use std::alloc::Global;
-
-/// Returns what is wrong with a command line, in words.
-#[tactic(auto, unfolding(crate::specs::Messages::problem_words))]
-fn problem_words(problem: Problem) -> &'static str
-    ensures value { result.now ≡ problem_words problem }
-    ensures printable { IsTrue (list_all is_printable result.now) }
-{
-    match problem {
-        Problem::NotText => "a word of the command line isn't UTF-8",
-        Problem::Words => "these words are no command with its options; see casebook help",
-        Problem::Topic => "there is no help on this; see casebook help",
-        Problem::NoLog => "no LOG is given; see casebook help",
-        Problem::InputTwice => "- is standard input, which can be named once",
-        Problem::NoList => "no --cancel LIST is given; see casebook help show",
-        Problem::Replace => "--replace: not a list like [[4,\"cat f\"]]",
-        Problem::Workers => "--workers: not a number",
-        Problem::Cuts => "--cuts: not numbers with commas between them",
-        Problem::Session => "--session: not a number",
-        Problem::From => "--from: not a number of a line, nor a time such as 2025-05-06 10:30",
-        Problem::To => "--to: not a number of a line, nor a time such as 2025-05-06 10:30",
-        Problem::NoTimes => "--from and --to need --about FILE for times",
-        Problem::Reads => "--reads: not a path from the root",
-        Problem::Writes => "--writes: not a path from the root",
-        Problem::Touches => "--touches: not a path from the root",
-        Problem::Line => "--line: not a number of a line",
-        Problem::Format => "--format: not text, tsv or numbers",
-        Problem::RepairFormat => "--format: not text or json",
-        Problem::MixedFormat => "--format json has no --why, --diff or --line",
-        Problem::Folder(FolderProblem::NoFolder) =>
-            "no FOLDER and no --tar FILE is given; see casebook help",
-        Problem::Folder(FolderProblem::SeveralSources) =>
-            "FOLDER and --tar are two sources; give one",
-        Problem::Folder(FolderProblem::MountsOfFile) => "--mounts needs a FOLDER",
-        Problem::Folder(FolderProblem::TakenDocument) =>
-            "--snapshot needs no FOLDER, --tar, --mounts, --at and --skip",
-        Problem::Folder(FolderProblem::At) => "--at: not a path from the root",
-        Problem::Folder(FolderProblem::Skip) => "--skip: not a path from the root",
-        Problem::Folder(FolderProblem::InputTwice) =>
-            "- is standard input, which can be named once",
-        Problem::Folder(FolderProblem::NoRoot) =>
-            "no --root FOLDER is given; see casebook help restore",
-        Problem::Folder(FolderProblem::Only) => "--only: not a path from the root",
-        Problem::Folder(FolderProblem::NoUndo) =>
-            "--apply needs --undo FILE, a file that isn't there yet",
-        Problem::Folder(FolderProblem::NoApply) => "--undo needs --apply where a LOG is given",
-        Problem::Folder(FolderProblem::Mixed) =>
-            "--undo without a LOG has --root and --apply alone",
-        Problem::Folder(FolderProblem::NoDocument) =>
-            "no DOCUMENT is given; see casebook help script",
-        Problem::Folder(FolderProblem::NoSessions) =>
-            "no --sessions FILE is given; see casebook help script",
-        Problem::Folder(FolderProblem::NoLines) =>
-            "no --lines FILE is given; see casebook help script",
-        Problem::Recorder(RecorderProblem::NoSpool) =>
-            "no SPOOL is given; see casebook help observe",
-        Problem::Recorder(RecorderProblem::NoFolder) =>
-            "--start needs a FOLDER after SPOOL; see casebook help observe",
-        Problem::Recorder(RecorderProblem::HasFolder) => "FOLDER needs --start",
-        Problem::Recorder(RecorderProblem::Folder) => "FOLDER: not a path from the root",
-    }
-}
 
 /// Returns which pattern is refused, in words.
 #[tactic(auto, unfolding(crate::specs::Messages::searched_words))]
@@ -356,7 +293,7 @@ fn stop_message(alloc: Global, stop: Stop<'_>) -> Result<SafeLine, NoMem>
     ensures { IfOk result (λ line. line ≡ stop_message stop.entry) }
 {
     match stop {
-        Stop::BadWords(problem) => told(alloc, problem_words(problem)),
+        Stop::BadWords(problem) => told(alloc, problem.words()),
         Stop::BadPattern(searched) => told(alloc, searched_words(searched)),
         Stop::NoUser => told(alloc, "--user: no line is of a session with this name"),
         Stop::BadLog(name, refusal) => log_message(alloc, name, refusal),

@@ -2,14 +2,15 @@
 ghost use Rattle.std.specs.Prelude.{◌≡◌, Some, IfOk, IfErr, option_map};
 ghost use Rattle.regex.specs.Bytes.{matcher_pattern, regex_pattern};
 ghost use Rattle.casebook_view.specs.Filters.{filters_of};
+ghost use Rattle.casebook_request.specs.Views.{lines_view};
 ghost use Rattle.casebook_cli.specs.Lines.{AreRead, IsPattern};
 ghost use Rattle.casebook_cli.specs.Stops.{StopsPattern, StopsPatterns};
-ghost use Rattle.casebook_cli.specs.inner.Views.{filters_by, lines_view};
+ghost use Rattle.casebook_cli.specs.inner.Views.{filters_by};
 
 use crate::NoMem;
-use crate::lines_request::LinesRequest;
 use crate::searched::SearchedPart;
 use crate::stop::Stop;
+use casebook_request::LinesRequest;
 use casebook_view::{Filters, LineTest};
 use regex::bytes::{Matcher, Regex};
 use regex::{Error, RegexBuilder};

@@ -1,24 +1,23 @@
 //! A run of the program.
 ghost use Rattle.std.specs.Prelude.{◌≡◌, ◌↔◌, true, false, Ok, IfOk, IfErr, IfSome, map};
 ghost use Rattle.std.specs.Prelude.{string_bytes};
+ghost use Rattle.casebook_request.specs.Request.{request_in};
+ghost use Rattle.casebook_request.specs.Views.{request_view};
 ghost use Rattle.casebook_cli.specs.Exit.{writes_nothing};
 ghost use Rattle.casebook_cli.specs.Program.{AnswersWords, Ends, Runs};
-ghost use Rattle.casebook_cli.specs.Request.{request_in};
 ghost use Rattle.casebook_cli.specs.Stops.{IsBadWords, StopsWords};
-ghost use Rattle.casebook_cli.specs.inner.Views.{answer_view, request_view};
+ghost use Rattle.casebook_cli.specs.inner.Views.{answer_view};
 ghost use Rattle.casebook_cli.specs.declared.exit.Exit.TheVariants as exits;
 
 use crate::answer::Answer;
 use crate::answers::answer;
-use crate::command_line::read_words;
 use crate::documents::Documents;
 use crate::exit::Exit;
 use crate::progress::{Progress, Step};
-use crate::request::Request;
 use crate::stop::Stop;
-use crate::words::WordsFault;
 use casebook_folder_cli::Folders;
 use casebook_recorder_cli::Spools;
+use casebook_request::{Request, WordsFault, read_words};
 use retro_edge::Output;
 use std::alloc::{AllocGlobal, Global};
 use std::io::Write;

@@ -1,13 +1,15 @@
 //! Reading the documents that a request names.
 ghost use Rattle.std.specs.Prelude.{IfOk, IfErr, IfSome, option_map};
+ghost use Rattle.casebook_request.specs.Views.{sources_view};
 ghost use Rattle.casebook_cli.specs.Inputs.{AreInputs, IsDocument, IsDocumentIf};
 ghost use Rattle.casebook_cli.specs.Stops.{IsUnread, IsUnreadIf, StopsReading};
-ghost use Rattle.casebook_cli.specs.inner.Views.{document_view, inputs_view, sources_view};
+ghost use Rattle.casebook_cli.specs.inner.Views.{document_view, inputs_view};
 
 use crate::document::Document;
 use crate::documents::{Documents, ReadFault};
-use crate::sources::{Inputs, Sources};
+use crate::inputs::Inputs;
 use crate::stop::Stop;
+use casebook_request::Sources;
 use std::alloc::Global;
 
 /// Reads the document with a name.

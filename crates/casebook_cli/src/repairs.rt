@@ -1,20 +1,20 @@
 //! Repairs that are asked for.
 ghost use Rattle.std.specs.Prelude.{◌≡◌, IfOk, IfErr, option_map};
+ghost use Rattle.casebook_request.specs.Views.{repair_view, rounds_view};
 ghost use Rattle.casebook_cli.specs.Repairs.{AreEdits, IsAsked, IsRepairBy, LinesRise};
 ghost use Rattle.casebook_cli.specs.Repairs.{lines_in};
 ghost use Rattle.casebook_cli.specs.Screens.{IsSummary};
 ghost use Rattle.casebook_cli.specs.Stops.{IsRefused, StopsAsked, StopsNumbers, StopsRepair};
-ghost use Rattle.casebook_cli.specs.inner.Views.{inputs_view, repair_view, rounds_view};
+ghost use Rattle.casebook_cli.specs.inner.Views.{inputs_view};
 
 use crate::NoMem;
+use crate::inputs::Inputs;
 use crate::labels::labels_of;
 use crate::line_lists::{cancellations, list_given, numbers_of};
 use crate::progress::{Progress, Step};
 use crate::recordings::recording_of;
-use crate::repair_request::RepairRequest;
-use crate::rounds::Rounds;
-use crate::sources::Inputs;
 use crate::stop::Stop;
+use casebook_request::{RepairRequest, Rounds};
 use casebook_view::{Case, Summary};
 use casebook_words::Labels;
 use retro_keep::{Edit, Recording};

@@ -2,25 +2,24 @@
 ghost use Rattle.std.specs.Prelude.{◌≡◌, IfOk, IfErr, IfSome};
 ghost use Rattle.casebook_folder_cli.specs.Views.{undo_view};
 ghost use Rattle.casebook_text.specs.SafeLine.{text_of_lines};
+ghost use Rattle.casebook_request.specs.Views.{folder_repair_view, repair_view};
 ghost use Rattle.casebook_cli.specs.Answers.{AnswersRestore, AnswersUndo, IsRepairOf};
 ghost use Rattle.casebook_cli.specs.Harmless.{IsHarmless};
 ghost use Rattle.casebook_cli.specs.Stops.{StopsFolder, StopsRepairOf, StopsRestore};
-ghost use Rattle.casebook_cli.specs.inner.Views.{answer_view, folder_repair_view, repair_view};
+ghost use Rattle.casebook_cli.specs.inner.Views.{answer_view};
 
 use crate::NoMem;
 use crate::answer::Answer;
 use crate::documents::Documents;
 use crate::plain::plain_lines;
 use crate::progress::Progress;
-use crate::query::repair_sources;
 use crate::reading::read_inputs;
-use crate::repair_request::RepairRequest;
 use crate::repairs::{AskedRepair, asked_repair};
-use crate::request::FolderRepair;
 use crate::stop::Stop;
 use casebook_folder_cli::{
     Folders, RestoreAnswer, RestoreFault, UndoRequest, restore_answer, undo_answer,
 };
+use casebook_request::{FolderRepair, RepairRequest, repair_sources};
 use std::alloc::{AllocGlobal, Global};
 use std::thread::Threads;
 

@@ -6,8 +6,8 @@ ghost use Rattle.casebook_cli.specs.Lines.{numbers_text, rows_text, shown_text, 
 ghost use Rattle.casebook_cli.specs.Lines.{widest_name};
 
 use crate::NoMem;
-use crate::format::Format;
 use crate::plain::{plain_line, plain_lines, plain_rows};
+use casebook_request::Format;
 use casebook_screen::{row_lines, row_numbers, row_table};
 use casebook_text::list_of_numbers;
 use casebook_view::LineRow;

@@ -12,9 +12,9 @@ use crate::NoMem;
 use crate::colours::shown_lines;
 use crate::repairs::{AskedRepair, summary_of};
 use crate::rows_text::widest_name;
-use crate::shown::{Extras, ShownPart};
 use crate::stop::Stop;
 use casebook_json::summary_json;
+use casebook_request::{Extras, ShownPart};
 use casebook_screen::{
     Names, Restoration, Sheet, detail_lines, diff_lines, summary_lines, to_restore, why_lines,
 };

@@ -4,11 +4,11 @@ ghost use Rattle.casebook_cli.specs.Exit.{stop_status};
 ghost use Rattle.casebook_cli.specs.declared.stop.Stop.TheVariants as stops;
 
 use crate::NoMem;
-use crate::problem::Problem;
 use crate::searched::SearchedPart;
 use casebook_about::AboutFault;
 use casebook_folder_cli::FileFault;
 use casebook_recorder_cli::RecorderFault;
+use casebook_request::Problem;
 use casebook_text::ListFault;
 use retro_log::Refusal;
 

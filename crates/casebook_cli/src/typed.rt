@@ -3,12 +3,12 @@ ghost use Rattle.std.specs.Prelude.{◌≡◌, IfOk, map};
 ghost use Rattle.std.specs.List.{filter};
 ghost use Rattle.casebook_about.specs.Rows.{time_view};
 ghost use Rattle.casebook_view.specs.Rows.{row_value};
-ghost use Rattle.casebook_cli.specs.Bounds.{is_typed, row_of_number, typed};
+ghost use Rattle.casebook_request.specs.Bounds.{is_typed};
+ghost use Rattle.casebook_cli.specs.Typed.{row_of_number, typed};
 
 use crate::NoMem;
-use crate::bounds::Bounds;
-use crate::typed_lines::TypedLines;
 use casebook_about::LineTime;
+use casebook_request::{Bounds, TypedLines};
 use casebook_view::LineRow;
 use std::alloc::Global;
 
@@ -31,7 +31,7 @@ fn rows_between<'r>(
 }
 
 /// Returns the rows of lines that were typed between bounds: all, if no bound is a time.
-#[tactic(auto, unfolding(crate::specs::Bounds::typed))]
+#[tactic(auto, unfolding(crate::specs::Typed::typed))]
 pub(crate) fn typed_rows<'r>(
     alloc: Global,
     rows: Vec<LineRow<'r>>,

@@ -2,9 +2,9 @@ use Rattle.std.proofs.Common.{◌≡◌, ◌++◌, ap, map, option_map, subst, �
 use Rattle.casebook_about.specs.Rows.{time_view}
 use Rattle.casebook_view.specs.Filters.{FiltersValue}
 use Rattle.casebook_view.specs.Rows.{row_value, rows_of}
-use Rattle.casebook_cli.specs.Bounds.{typed}
+use Rattle.casebook_cli.specs.Typed.{typed}
 use Rattle.casebook_cli.specs.Lines.{HasUser, user_tests}
-use Rattle.casebook_cli.specs.Request.{test_view}
+use Rattle.casebook_cli.specs.Tests.{test_view}
 use Rattle.casebook_cli.proofs.lines_answer.asked_rows.Goals as goal
 
 pub returns-clause-ok : goal.returns-clause-ok
@@ -17,9 +17,11 @@ returns-clause-ok c =
       tests = tests;
       are_tests = subst
           (λ known_lines. map test_view tests
-          ≡ map test_view request.tests.items
+          ≡ map test_view c.in_ok-tests.tests.items
           ++ user_tests known.labels known_lines (option_map (λ s. s.now) request.user))
-          c.lines.ensures.value c.in_ok-push_user.ensures.ok;
+          c.lines.ensures.value c.in_ok-push_user.ensures.ok
+          ∙ ap (λ named. named ++ user_tests known.labels c.args.recording.now.lines (option_map (λ s. s.now) request.user))
+          c.in_ok-tests.ensures;
       user = subst (λ known_lines. HasUser known.labels known_lines (option_map (λ s. s.now) request.user))
           c.lines.ensures.value c.in_ok-push_user.ensures.known;
       are_rows = c.in_ok-typed_rows.ensures

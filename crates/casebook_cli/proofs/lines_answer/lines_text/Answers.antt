@@ -1,7 +1,7 @@
 use Rattle.std.proofs.Common.{ap, map, refl, ◌∙◌}
 use Rattle.std.proofs.lemmas.Result.{err_from_is_err_and}
 use Rattle.casebook_view.specs.Rows.{row_value, rows_of}
-use Rattle.casebook_cli.specs.Bounds.{typed}
+use Rattle.casebook_cli.specs.Typed.{typed}
 use Rattle.casebook_cli.specs.Lines.{rows_text, widest_name}
 use Rattle.casebook_cli.specs.Stops.{no_memory, no_user}
 use Rattle.casebook_cli.specs.inner.Views.{filters_by}

@@ -1,6 +1,6 @@
 use Rattle.std.proofs.lemmas.Result.{IfErr-weaker}
+use Rattle.casebook_request.specs.Views.{request_view}
 use Rattle.casebook_cli.specs.Stops.{no_answer}
-use Rattle.casebook_cli.specs.inner.Views.{request_view}
 use Rattle.casebook_cli.proofs.Known.{both_known}
 use Rattle.casebook_cli.proofs.program.answer_to.Goals as goal
 

@@ -1,9 +1,9 @@
 use Rattle.std.proofs.Common.{option_map, string_bytes, subst}
 use Rattle.std.proofs.lemmas.Result.{err_from_is_err_and}
 use Rattle.retro_keep.specs.Edit.{edit_of}
+use Rattle.casebook_request.specs.Views.{rounds_view}
 use Rattle.casebook_cli.specs.Repairs.{AreEdits, IsRepairBy, lines_in}
 use Rattle.casebook_cli.specs.Stops.{StopsNumbers, StopsRepair, no_numbers, no_repair}
-use Rattle.casebook_cli.specs.inner.Views.{rounds_view}
 use Rattle.casebook_cli.proofs.RisingLemmas.{lines_rise}
 use Rattle.casebook_cli.proofs.repairs.asked_repair.Goals as goal
 

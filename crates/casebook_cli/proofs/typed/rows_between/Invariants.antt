@@ -2,7 +2,8 @@
 use Rattle.std.proofs.Common.{◌≡◌, ◌++◌, map}
 use Rattle.std.specs.List.{filter}
 use Rattle.casebook_view.specs.Rows.{row_value}
-use Rattle.casebook_cli.specs.Bounds.{is_typed, row_of_number}
+use Rattle.casebook_request.specs.Bounds.{is_typed}
+use Rattle.casebook_cli.specs.Typed.{row_of_number}
 use Rattle.casebook_cli.proofs.typed.rows_between.Given as goal
 
 abbrev pub invariant-loop-row : goal.invariant-loop-row

@@ -1,0 +1,10 @@
+use Rattle.std.proofs.Common.{sym, ap, ◌∙◌}
+use Rattle.std.specs.FinMap as map
+use Rattle.std.specs.Cmp.{nat_cmp_total}
+use Rattle.retro_tree.proofs.MapLemmas.{get_made}
+use Rattle.casebook_request.proofs.typed_lines.TypedLines.get.Goals as goal
+
+pub returns : goal.returns
+returns c =
+    c.get.ensures.value ∙ sym (get_made nat_cmp_total c.self.inside.between.entries c.args.number)
+    ∙ ap (λ m. map.get m c.args.number) c.self.view_is
