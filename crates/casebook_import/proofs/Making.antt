@@ -19,7 +19,7 @@ use Rattle.casebook_needs.specs.Named.{named_path}
 use Rattle.casebook_import.specs.First.{directory_by, first_state, state_by, with_directories, with_notes}
 use Rattle.casebook_import.specs.First.{with_ours, with_places, with_sessions, with_unwatched}
 use Rattle.casebook_import.specs.Directories.{elsewhere}
-use Rattle.casebook_import.specs.Held.{Held}
+use Rattle.casebook_spool.specs.Held.{Held}
 
 pub directories_twice : (a b : List PathValue) (s : State)
     → with_directories (a ++ b) s ≡ with_directories b (with_directories a s)

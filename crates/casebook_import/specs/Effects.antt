@@ -27,7 +27,7 @@ use Rattle.casebook_typed.specs.declared.line.Owner.TheVariants as owners
 use Rattle.casebook_stand_in.specs.Effect.{EffectValue, status_alone, with_cell}
 use Rattle.casebook_explain.specs.Places.{shell_path}
 use Rattle.casebook_import.specs.Directories.{directory_in}
-use Rattle.casebook_import.specs.Held.{Held}
+use Rattle.casebook_spool.specs.Held.{Held}
 use Rattle.casebook_import.specs.Nodes.{node_of}
 use Rattle.casebook_import.specs.Opaque.{opaque}
 use Rattle.casebook_import.specs.Variables.{Vars, changed_var, unset_var, vars_of}

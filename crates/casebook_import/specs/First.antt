@@ -23,7 +23,7 @@ use Rattle.casebook_typed.specs.Sessions.{SessionValue}
 use Rattle.casebook_explain.specs.Places.{shell_path}
 use Rattle.casebook_import.specs.Directories.{elsewhere, first_directory}
 use Rattle.casebook_import.specs.Effects.{shell_bytes}
-use Rattle.casebook_import.specs.Held.{Held}
+use Rattle.casebook_spool.specs.Held.{Held}
 use Rattle.casebook_import.specs.Nodes.{node_of}
 use Rattle.casebook_import.specs.Variables.{Vars, vars_of}
 

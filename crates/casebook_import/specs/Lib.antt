@@ -1,5 +1,4 @@
 pub mod Opaque
-pub mod Held
 pub mod Nodes
 pub mod Directories
 pub mod Variables

@@ -6,7 +6,7 @@ use Rattle.casebook_typed.specs.Lines.{LineValue}
 use Rattle.casebook_stand_in.specs.Effect.{EffectValue, observed}
 use Rattle.casebook_explain.specs.declared.seen_line.SeenLine.{SeenLine}
 use Rattle.casebook_import.specs.Effects.{line_effect}
-use Rattle.casebook_import.specs.Held.{Held}
+use Rattle.casebook_spool.specs.Held.{Held}
 use Rattle.casebook_import.specs.Understood.{understood_text}
 
 -- a line that was seen, by what it stands for

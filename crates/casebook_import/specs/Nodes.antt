@@ -13,7 +13,7 @@ use Rattle.casebook_spool.specs.declared.content.Content.{Content}
 use Rattle.casebook_spool.specs.declared.content.Content.TheVariants as contents
 use Rattle.casebook_spool.specs.declared.content.Unkept.{Unkept}
 use Rattle.casebook_spool.specs.declared.content.Unkept.TheVariants as unkepts
-use Rattle.casebook_import.specs.Held.{Held}
+use Rattle.casebook_spool.specs.Held.{Held}
 use Rattle.casebook_import.specs.Opaque.{opaque}
 
 -- What tells a file from others, and from itself once it was changed: its size, its number, and the

@@ -13,7 +13,6 @@ ghost use Rattle.casebook_import.specs.Effects.{with_said_vars, with_shell, with
 ghost use Rattle.casebook_import.specs.Variables.{changed_var, is_value, unset_var};
 
 use crate::NoMem;
-use crate::contents::Contents;
 use crate::directories::directory_in;
 use crate::nodes::node_of;
 use crate::opaque::opaque_bytes;
@@ -21,6 +20,7 @@ use crate::said_vars::SaidVars;
 use crate::variables::vars_of;
 use casebook_explain::shell_path;
 use casebook_record::{End, Event};
+use casebook_spool::Contents;
 use casebook_stand_in::Effect;
 use casebook_typed::{Extent, PathChange, TypedLine};
 use retro_tree::{Bytes, FILE_LIMIT, Node, Path, State, Text, VarName};

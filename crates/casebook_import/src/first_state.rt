@@ -9,7 +9,6 @@ ghost use Rattle.casebook_typed.specs.Values.{line_value, session_value};
 ghost use Rattle.casebook_import.specs.First as first;
 
 use crate::NoMem;
-use crate::contents::Contents;
 use crate::directories::{elsewhere, first_directory};
 use crate::effects::shell_bytes;
 use crate::nodes::node_of;
@@ -18,7 +17,7 @@ use crate::variables::vars_of;
 use casebook_explain::shell_path;
 use casebook_needs::named_path;
 use casebook_record::Record;
-use casebook_spool::{Note, after_notes};
+use casebook_spool::{Contents, Note, after_notes};
 use casebook_typed::{Session, TypedLine};
 use casebook_watch::Sights;
 use retro_tree::{Bytes, Kind, Node, Path, State};

@@ -8,13 +8,12 @@ ghost use Rattle.casebook_import.specs.Lines.{seen_by, seen_from, seen_value, te
 ghost use Rattle.casebook_import.specs.declared.import_error.ImportError.TheVariants as errors;
 
 use crate::NoMem;
-use crate::contents::Contents;
 use crate::effects::line_effect;
 use crate::first_state::first_state;
 use crate::import_error::ImportError;
 use crate::understood::understood_text;
 use casebook_explain::SeenLine;
-use casebook_spool::Listing;
+use casebook_spool::{Contents, Listing};
 use casebook_typed::{Owner, Typed, TypedLine};
 use retro_tree::{Bytes, Path, State};
 use std::alloc::Global;

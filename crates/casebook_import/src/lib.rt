@@ -2,7 +2,7 @@
 //! line was seen to do.
 //!
 //! A spool has lines, each with what it read, listed and left (`casebook_typed`), and the bytes of
-//! files under their digests ([`Contents`]). [`import`] returns the state before all lines, and a
+//! files under their digests. [`import`] returns the state before all lines, and a
 //! `SeenLine` of `casebook_explain` for each line.
 //!
 //! - A file whose bytes aren't kept, and whatever is neither a file nor a directory, is a file of
@@ -34,10 +34,8 @@
 //!   line read and listed, and its effect, over the state that was observed before it [`lines`]
 //!   (`specs/Effects.antt`, `specs/Understood.antt`). It refuses only sessions that 32 bits can't
 //!   number [`many`].
-//! - [`Contents::add`] keeps bytes under their own digest, so that no others are found there.
 #![tactic(auto)]
 
-mod contents;
 mod directories;
 mod effects;
 mod first_state;
@@ -49,7 +47,6 @@ mod said_vars;
 mod understood;
 mod variables;
 
-pub use contents::Contents;
 pub use import_error::ImportError;
 pub use importing::{Imported, import};
 

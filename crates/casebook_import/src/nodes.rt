@@ -4,9 +4,8 @@ ghost use Rattle.std.specs.Option.{option_copied};
 ghost use Rattle.casebook_import.specs.Nodes.{bytes_by, node_by, node_of, unkept_text};
 
 use crate::NoMem;
-use crate::contents::Contents;
 use crate::opaque::{opaque_digest, opaque_link, opaque_sight};
-use casebook_spool::{Content, Unkept};
+use casebook_spool::{Content, Contents, Unkept};
 use casebook_watch::{Kind, Sight};
 use retro_tree::{Bytes, Node};
 use std::alloc::Global;

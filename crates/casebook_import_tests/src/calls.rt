@@ -1,8 +1,8 @@
 //! The calls of rows.
 use crate::history::rows_in;
 use casebook_explain::tell_lines;
-use casebook_import::{Contents, Imported, import};
-use casebook_spool::{read_lines, read_listing};
+use casebook_import::{Imported, import};
+use casebook_spool::{Contents, read_lines, read_listing};
 use casebook_typed::typed_lines;
 use retro_rows::{cell, fail, value_text};
 use retro_tree::State;

@@ -10,7 +10,7 @@
 //!   the text of its functions, aliases and options. Nothing is said of those that are `-`.
 //! - `begin A 1 /d text` is the beginning of a line, and `end A 1 0 /d text` its end, with its
 //!   status. `ends A 1 0 /d text x=1 shell` also says what is new.
-use casebook_import::Contents;
+use casebook_spool::Contents;
 use retro_path::Bytes;
 use retro_rows::fail;
 use sha2::{Digest as _, Sha256};

@@ -8,4 +8,5 @@ pub mod ReadBack
 pub mod Lines
 pub mod Listings
 pub mod After
+pub mod Held
 pub mod inner

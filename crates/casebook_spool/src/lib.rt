@@ -39,12 +39,14 @@
 //!   texts, one after the other, whatever was cut off after them, and that is known to be all that is
 //!   whole (`lines_are_read_back`). A listing is read back from its text, and no front of the text is
 //!   one (`listings_are_read_back`).
+//! - [`Contents::add`] keeps bytes under their own digest, so that no others are found there.
 //! - [`after_notes`] and [`after_items`] make the notes of sights one after the other
 //!   (`specs/After.antt`).
 #![tactic(auto)]
 
 mod after;
 mod content;
+mod contents;
 mod digest;
 mod head;
 mod item;
@@ -59,6 +61,7 @@ mod writing;
 
 pub use after::{after_items, after_notes};
 pub use content::{Content, Unkept};
+pub use contents::Contents;
 pub use digest::Digest;
 pub use item::Item;
 pub use laws::{lines_are_read_back, listings_are_read_back, notes_are_read_back};

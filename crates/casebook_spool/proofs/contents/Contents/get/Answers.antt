@@ -2,7 +2,7 @@ use Rattle.std.proofs.Common.{◌∙◌, ap, sym}
 use Rattle.std.specs.FinMap as finmap
 use Rattle.retro_path.specs.Order.{text_total}
 use Rattle.retro_tree.proofs.MapLemmas.{get_made}
-use Rattle.casebook_import.proofs.contents.Contents.get.Goals as goal
+use Rattle.casebook_spool.proofs.contents.Contents.get.Goals as goal
 
 pub returns : goal.returns
 returns c =

@@ -3,7 +3,7 @@ use Rattle.std.specs.FinMap as finmap
 use Rattle.sha2.specs.Sha256.{sha256}
 use Rattle.retro_path.specs.Order.{text_exact, text_total}
 use Rattle.retro_tree.proofs.MapLemmas.{made_insert}
-use Rattle.casebook_import.proofs.contents.Contents.add.Goals as goal
+use Rattle.casebook_spool.proofs.contents.Contents.add.Goals as goal
 
 pub returns-clause-ok : goal.returns-clause-ok
 returns-clause-ok c =

@@ -5,8 +5,8 @@ ghost use Rattle.std.specs.FinMap as finmap;
 ghost use Rattle.sha2.specs.Sha256.{sha256};
 
 use crate::NoMem;
-use casebook_spool::Digest;
-use retro_tree::Bytes;
+use crate::digest::Digest;
+use retro_path::Bytes;
 use sha2::{Digest as _, Sha256};
 use std::alloc::Global;
 use std::collections::BTreeMap;
