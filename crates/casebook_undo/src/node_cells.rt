@@ -14,7 +14,7 @@ use serde_json::Value;
 use std::alloc::Global;
 
 /// Returns the items of a list.
-#[tactic(auto, using(crate::proofs::Lists::items_listed))]
+#[tactic(auto, using(retro_json::proofs::Json::items_listed))]
 pub(crate) fn cells_in(value: &Value) -> Option<&[Value]>
     ensures { option_map (λ cells. map view cells.now) result ≡ cells_in (view value.now) }
 {

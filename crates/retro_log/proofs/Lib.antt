@@ -11,3 +11,4 @@ pub mod LogShape
 pub mod ReadBack
 pub mod Newline
 pub mod ReadLimits
+pub mod Parsing

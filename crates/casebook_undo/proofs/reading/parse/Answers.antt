@@ -1,7 +1,7 @@
 use Rattle.std.proofs.Common.{ap}
 use Rattle.std.specs.Prelude.{ok_or}
 use Rattle.casebook_undo.specs.declared.undo_fault.UndoFault.TheVariants.{NotJson}
-use Rattle.casebook_undo.proofs.Parsing.{is_json, no_json}
+use Rattle.retro_log.proofs.Parsing.{is_json, no_json}
 use Rattle.casebook_undo.proofs.reading.parse.Goals as goal
 
 pub returns-in_default : goal.returns-in_default
