@@ -21,10 +21,12 @@ use Rattle.retro_keep.proofs.Recorded.{whole_well_formed}
 use Rattle.casebook_needs.specs.Needs.{note_of}
 use Rattle.casebook_needs.specs.declared.need.Need.{Need}
 use Rattle.casebook_stand_in.specs.Texts.{IsRunIn, Lead}
-use Rattle.casebook_explain.specs.Noting.{first_with_needs, numbered, recorded_lines, texts_of}
-use Rattle.casebook_explain.specs.Noting.{with_needs}
+use Rattle.casebook_explain.specs.Noting.{first_with_needs, needs_noted, numbered, recorded_lines}
+use Rattle.casebook_explain.specs.Noting.{texts_of, with_needs}
 use Rattle.casebook_explain.specs.inner.Sound.{AreRuns, AreSound, HaveRuns, after_lines}
 use Rattle.casebook_explain.specs.inner.Sound.{after_runs, sessions_of}
+use Rattle.casebook_explain.specs.declared.noting.Noting.{Noting}
+use Rattle.casebook_explain.specs.declared.noting.Noting.TheVariants.{RunsAlone, WithNeeds}
 use Rattle.casebook_explain.specs.declared.told.ToldLine.{ToldLine}
 
 -- ---- needs before notes
@@ -162,29 +164,45 @@ after_line needs (run ∷ runs) s =
     ap (after_texts (map noted_of runs)) (same_after needs run.notes s)
     ∙ after_of_runs runs (after run.notes s)
 
+-- ---- needs that are left out
+
+noted_hold : (noting : Noting) (needs : List Need) (s : State) → Holds (map note_of needs) s
+    → Holds (map note_of (needs_noted noting needs)) s
+noted_hold WithNeeds needs s h = h
+noted_hold RunsAlone needs s h = tt
+
+noted_own : (noting : Noting) (sid : ℕ) (needs : List Need) → IsOwn sid (map note_of needs)
+    → IsOwn sid (map note_of (needs_noted noting needs))
+unfolding named_sessions
+noted_own WithNeeds sid needs own = own
+noted_own RunsAlone sid needs own = refl
+
 -- ---- lines
 
 abbrev LineRuns : ToldLine → Type 0
 LineRuns told = AreRuns told.runs.items
 
-all_recorded : (lines : List ToldLine) (s : State) → All LineRuns lines → AreSound lines s
-    → AllTexts (flat_map texts_of lines) s
-all_recorded [] s are sound = tt
-all_recorded (told ∷ lines) s are sound =
-    texts_in_turn (texts_of told) (flat_map texts_of lines) s
-    (line_recorded told.session told.needs.items told.runs.items s _ (All-head LineRuns told lines are).are sound.0.leads
-    sound.0.hold sound.0.own)
-    (subst (AllTexts (flat_map texts_of lines))
-    (sym (after_line told.needs.items told.runs.items s))
-    (all_recorded lines (after_runs told.runs.items s) (All-tail LineRuns told lines are) sound.1))
+all_recorded : (noting : Noting) (lines : List ToldLine) (s : State) → All LineRuns lines
+    → AreSound lines s → AllTexts (flat_map (texts_of noting) lines) s
+all_recorded noting [] s are sound = tt
+all_recorded noting (told ∷ lines) s are sound =
+    let needs = needs_noted noting told.needs.items in
+    texts_in_turn (texts_of noting told) (flat_map (texts_of noting) lines) s
+    (line_recorded told.session needs told.runs.items s _ (All-head LineRuns told lines are).are sound.0.leads
+    (noted_hold noting told.needs.items s sound.0.hold)
+    (noted_own noting told.session told.needs.items sound.0.own))
+    (subst (AllTexts (flat_map (texts_of noting) lines)) (sym (after_line needs told.runs.items s))
+    (all_recorded noting lines (after_runs told.runs.items s) (All-tail LineRuns told lines are)
+    sound.1))
 
-all_after : (lines : List ToldLine) (s : State)
-    → after_texts (flat_map texts_of lines) s ≡ after_lines lines s
-all_after [] s = refl
-all_after (told ∷ lines) s =
-    after_in_turn (texts_of told) (flat_map texts_of lines) s
-    ∙ ap (after_texts (flat_map texts_of lines)) (after_line told.needs.items told.runs.items s)
-    ∙ all_after lines (after_runs told.runs.items s)
+all_after : (noting : Noting) (lines : List ToldLine) (s : State)
+    → after_texts (flat_map (texts_of noting) lines) s ≡ after_lines lines s
+all_after noting [] s = refl
+all_after noting (told ∷ lines) s =
+    after_in_turn (texts_of noting told) (flat_map (texts_of noting) lines) s
+    ∙ ap (after_texts (flat_map (texts_of noting) lines))
+    (after_line (needs_noted noting told.needs.items) told.runs.items s)
+    ∙ all_after noting lines (after_runs told.runs.items s)
 
 -- ---- numbers
 
@@ -234,72 +252,75 @@ first_sids : (needs : List Need) (texts : List Noted)
 first_sids needs [] = refl
 first_sids needs (text ∷ texts) = refl
 
-all_known : (p : ℕ → Bool) (lines : List ToldLine) (s : State)
+all_known : (noting : Noting) (p : ℕ → Bool) (lines : List ToldLine) (s : State)
     → list_all p (sessions_of lines) ≡ true → AreSound lines s
-    → list_all p (sids_of (flat_map texts_of lines)) ≡ true
-all_known p [] s known sound = refl
-all_known p (told ∷ lines) s known sound =
-    known_in_turn p (texts_of told) (flat_map texts_of lines)
-    (ap (list_all p) (first_sids told.needs.items (map noted_of told.runs.items))
+    → list_all p (sids_of (flat_map (texts_of noting) lines)) ≡ true
+all_known noting p [] s known sound = refl
+all_known noting p (told ∷ lines) s known sound =
+    known_in_turn p (texts_of noting told) (flat_map (texts_of noting) lines)
+    (ap (list_all p)
+    (first_sids (needs_noted noting told.needs.items) (map noted_of told.runs.items))
     ∙ runs_known p told.session told.runs.items s _ (first_true (p told.session) _ known)
     sound.0.leads)
-    (all_known p lines (after_runs told.runs.items s) (both_true (p told.session) _ known) sound.1)
+    (all_known noting p lines (after_runs told.runs.items s) (both_true (p told.session) _ known)
+    sound.1)
 
 -- ---- the recording
 
-lines_recorded : (first : State) (lines : List ToldLine) → All LineRuns lines
-    → AreSound lines first → AllRecorded (recorded_lines lines) first
+lines_recorded : (noting : Noting) (first : State) (lines : List ToldLine) → All LineRuns lines
+    → AreSound lines first → AllRecorded (recorded_lines noting lines) first
 unfolding recorded_lines
-lines_recorded first lines are sound =
-    numbered_recorded 1 (flat_map texts_of lines) first (all_recorded lines first are sound)
+lines_recorded noting first lines are sound =
+    numbered_recorded 1 (flat_map (texts_of noting) lines) first
+    (all_recorded noting lines first are sound)
 
-lines_last : (first : State) (lines : List ToldLine)
-    → last_state (recorded_lines lines) first ≡ after_lines lines first
+lines_last : (noting : Noting) (first : State) (lines : List ToldLine)
+    → last_state (recorded_lines noting lines) first ≡ after_lines lines first
 unfolding recorded_lines
-lines_last first lines =
-    numbered_last 1 (flat_map texts_of lines) first ∙ all_after lines first
+lines_last noting first lines =
+    numbered_last 1 (flat_map (texts_of noting) lines) first ∙ all_after noting lines first
 
-lines_well_formed : (first : State) (lines : List ToldLine) → IsLawful first
+lines_well_formed : (noting : Noting) (first : State) (lines : List ToldLine) → IsLawful first
     → IsTrue (have_sessions first (sessions_of lines)) → All LineRuns lines → AreSound lines first
-    → IsWellFormed (record { first = first; from = 1; lines = recorded_lines lines })
+    → IsWellFormed (record { first = first; from = 1; lines = recorded_lines noting lines })
 unfolding recorded_lines
-lines_well_formed first lines lawful known are sound =
+lines_well_formed noting first lines lawful known are sound =
     whole_well_formed
-    (record { first = first; lines = map script_line (recorded_lines lines) })
-    (recorded_lines lines)
+    (record { first = first; lines = map script_line (recorded_lines noting lines) })
+    (recorded_lines noting lines)
     (record {
       lawful = lawful;
-      rising = numbers_rise 0 (flat_map texts_of lines);
+      rising = numbers_rise 0 (flat_map (texts_of noting) lines);
       known =
           ap (list_all (finmap.contains_key first.sessions))
-          (numbered_sids 1 (flat_map texts_of lines))
-          ∙ all_known (finmap.contains_key first.sessions) lines first known sound;
+          (numbered_sids 1 (flat_map (texts_of noting) lines))
+          ∙ all_known noting (finmap.contains_key first.sessions) lines first known sound;
     })
-    refl (lines_recorded first lines are sound)
+    refl (lines_recorded noting first lines are sound)
 
 -- what a recording's parts have to satisfy, and what is said of it
-pub record IsRecordingOf (first end : State) (lines : List ToldLine) (rows : List (ℕ × Noted)) : Type 0 where
+pub record IsRecordingOf (noting : Noting) (first end : State) (lines : List ToldLine) (rows : List (ℕ × Noted)) : Type 0 where
   pub well_formed : IsWellFormed (record { first = first; from = 1; lines = rows })
   pub last : end ≡ last_state rows first
   pub recorded : AllRecorded rows first
-  pub value : rows ≡ recorded_lines lines
+  pub value : rows ≡ recorded_lines noting lines
 
-pub recording : (first end : State) (lines : List ToldLine) (texts : List Noted)
+pub recording : (noting : Noting) (first end : State) (lines : List ToldLine) (texts : List Noted)
     (rows : List (ℕ × Noted)) → IsLawful first
     → IsTrue (have_sessions first (sessions_of lines)) → HaveRuns lines → AreSound lines first
-    → end ≡ after_lines lines first → texts ≡ flat_map texts_of lines → rows ≡ numbered 1 texts
-    → IsRecordingOf first end lines rows
+    → end ≡ after_lines lines first → texts ≡ flat_map (texts_of noting) lines → rows ≡ numbered 1 texts
+    → IsRecordingOf noting first end lines rows
 unfolding recorded_lines
-recording first end lines texts rows lawful known runs sound ends are_texts are_rows =
-    let value : rows ≡ recorded_lines lines = are_rows ∙ ap (numbered 1) are_texts in
+recording noting first end lines texts rows lawful known runs sound ends are_texts are_rows =
+    let value : rows ≡ recorded_lines noting lines = are_rows ∙ ap (numbered 1) are_texts in
     record {
       well_formed =
           subst (λ r. IsWellFormed (record { first = first; from = 1; lines = r })) (sym value)
-          (lines_well_formed first lines lawful known runs.have sound);
+          (lines_well_formed noting first lines lawful known runs.have sound);
       last =
-          ends ∙ sym (lines_last first lines) ∙ ap (λ r. last_state r first) (sym value);
+          ends ∙ sym (lines_last noting first lines) ∙ ap (λ r. last_state r first) (sym value);
       recorded =
           subst (λ r. AllRecorded r first) (sym value)
-          (lines_recorded first lines runs.have sound);
+          (lines_recorded noting first lines runs.have sound);
       value = value;
     }

@@ -8,6 +8,7 @@ use Rattle.retro_keep.specs.Recording.{noted_of}
 use Rattle.retro_keep.specs.declared.noted.Noted.{Noted}
 use Rattle.casebook_explain.specs.Noting.{texts_of}
 use Rattle.casebook_explain.specs.inner.Sound.{AreRuns, HaveRuns}
+use Rattle.casebook_explain.specs.declared.noting.Noting.{Noting}
 use Rattle.casebook_explain.specs.declared.told.ToldLine.{ToldLine}
 
 pub no_runs : AreRuns []
@@ -37,10 +38,10 @@ run_moved texts new all run left runs next is e =
     ap (λ xs. xs ++ map noted_of runs) is ∙ append_assoc texts (noted_of run ∷ []) (map noted_of runs)
     ∙ ap (λ rs. texts ++ map noted_of rs) (sym next) ∙ e
 
-pub line_moved : (texts new all : List Noted) (line : ToldLine) (left lines : List ToldLine)
-    → left ≡ line ∷ lines → new ≡ texts ++ texts_of line → texts ++ flat_map texts_of left ≡ all
-    → new ++ flat_map texts_of lines ≡ all
-line_moved texts new all line left lines next is e =
-    ap (λ xs. xs ++ flat_map texts_of lines) is
-    ∙ append_assoc texts (texts_of line) (flat_map texts_of lines)
-    ∙ ap (λ ls. texts ++ flat_map texts_of ls) (sym next) ∙ e
+pub line_moved : (noting : Noting) (texts new all : List Noted) (line : ToldLine)
+    (left lines : List ToldLine) → left ≡ line ∷ lines → new ≡ texts ++ texts_of noting line
+    → texts ++ flat_map (texts_of noting) left ≡ all → new ++ flat_map (texts_of noting) lines ≡ all
+line_moved noting texts new all line left lines next is e =
+    ap (λ xs. xs ++ flat_map (texts_of noting) lines) is
+    ∙ append_assoc texts (texts_of noting line) (flat_map (texts_of noting) lines)
+    ∙ ap (λ ls. texts ++ flat_map (texts_of noting) ls) (sym next) ∙ e

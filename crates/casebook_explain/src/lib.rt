@@ -15,7 +15,8 @@
 //! (`casebook_needs`). Its texts do what it did, whatever the state is, but the line itself would
 //! do so only where its needs have these answers. So needs are notes of its first text, before
 //! those of its run: a repair keeps the line exactly while they hold. A modelled line means the
-//! same in each state, as long as its session has the same functions, aliases and options.
+//! same in each state, as long as its session has the same functions, aliases and options. A log for
+//! `retro` has the notes of runs alone, since its `check` compares them exactly ([`Noting`]).
 //!
 //! If allocation fails, calls return `NoMem`, alone or as a variant of their error.
 //!
@@ -33,9 +34,10 @@
 //!   each line is what it held on the machine, if it did so before the first one and isn't a status
 //!   (`told_states_are_the_observed_ones`). Of a status it is whether it is 0.
 //! - [`Told::into_recording`] returns the recording that begins at line 1 and has the texts of all
-//!   lines, numbered from 1 on, with their runs' notes and outputs, and the needs of each line as
-//!   notes before those of its first text [`recording`]. Each line is recorded in the state before
-//!   it [`recorded`], so the recording is one of the lines that it has.
+//!   lines, numbered from 1 on, with their runs' notes and outputs, and, unless they are left out, the
+//!   needs of each line as notes before those of its first text [`recording`]. Each line is recorded in the state before
+//!   it [`recorded`], so the recording is one of the lines that it has. It fails only if there are
+//!   more texts than 32 bits can number [`fault`].
 #![tactic(auto)]
 
 mod done;
@@ -49,6 +51,7 @@ mod telling;
 mod told;
 
 pub use laws::{shelves_are_apart, told_states_are_the_observed_ones};
+pub use noting::Noting;
 pub use places::shell_path;
 pub use seen_line::SeenLine;
 pub use tell_fault::{LineFault, TellFault};

@@ -3,6 +3,7 @@ use crate::explaining::{explained, made, shelf_text};
 use crate::tables::{EXPLAINED, SHELVES};
 use crate::telling::{around, recorded, told};
 use crate::told_tables::{REFUSED, TOLD};
+use casebook_explain::Noting;
 use retro_rows::{fail, rows};
 use std::alloc::Global;
 use std::test::Fail;
@@ -11,7 +12,8 @@ use std::test::Fail;
 fn called_of_lines(alloc: Global, call: &str, given: &[String]) -> Result<String, Fail> {
     match (call, given.split_first()) {
         ("told", Some((state, lines))) => told(alloc, state, lines),
-        ("recorded", Some((state, lines))) => recorded(alloc, state, lines),
+        ("recorded", Some((state, lines))) => { recorded(alloc, Noting::WithNeeds, state, lines) }
+        ("logged", Some((state, lines))) => recorded(alloc, Noting::RunsAlone, state, lines),
         ("around", Some((state, more))) => around(alloc, state, more),
         _ => fail("no such call"),
     }

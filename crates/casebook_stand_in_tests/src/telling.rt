@@ -1,6 +1,6 @@
 //! Told lines, as text.
 use crate::words::{bytes, effect_of, spaced, state_of};
-use casebook_explain::{LineFault, SeenLine, TellFault, Told, ToldLine, tell_lines};
+use casebook_explain::{LineFault, Noting, SeenLine, TellFault, Told, ToldLine, tell_lines};
 use retro_keep::Recording;
 use retro_rows::{cell, cell_text, fail, path, value_text};
 use retro_tree::{Ask, Note, Text};
@@ -121,9 +121,14 @@ pub fn told(alloc: Global, state: &str, lines: &[String]) -> Result<String, Fail
 }
 
 /// Returns the recording of told lines.
-fn recording(alloc: Global, state: &str, lines: &[String]) -> Result<Recording, Fail> {
+fn recording(
+    alloc: Global,
+    noting: Noting,
+    state: &str,
+    lines: &[String],
+) -> Result<Recording, Fail> {
     match tell(alloc, state, lines)? {
-        Ok(told) => match told.into_recording(alloc) {
+        Ok(told) => match told.into_recording(alloc, noting) {
             Ok(recording) => Ok(recording),
             Err(_) => fail("no recording"),
         },
@@ -140,9 +145,14 @@ fn push_first(out: &mut String, alloc: Global, notes: &[Note]) -> Result<(), Fai
 }
 
 /// Returns the recording of told lines, each line with the query of its first note.
-pub fn recorded(alloc: Global, state: &str, lines: &[String]) -> Result<String, Fail> {
+pub fn recorded(
+    alloc: Global,
+    noting: Noting,
+    state: &str,
+    lines: &[String],
+) -> Result<String, Fail> {
     let mut out = String::new(alloc);
-    for (number, noted) in recording(alloc, state, lines)?.lines() {
+    for (number, noted) in recording(alloc, noting, state, lines)?.lines() {
         let row = format!(in alloc; "{number} [{}]", noted.text.as_str())?;
         out.push_str(row.as_str())?;
         push_first(&mut out, alloc, noted.notes.as_slice())?;
@@ -157,7 +167,7 @@ pub fn around(alloc: Global, state: &str, given: &[String]) -> Result<String, Fa
         return fail("no cell");
     };
     let cell = cell(alloc, name)?;
-    let recording = recording(alloc, state, lines)?;
+    let recording = recording(alloc, Noting::WithNeeds, state, lines)?;
     let first = value_text(alloc, &recording.first().value(alloc, &cell)?)?;
     let last = value_text(alloc, &recording.last().value(alloc, &cell)?)?;
     Ok(format!(in alloc; "{}, {}", first.as_str(), last.as_str())?)

@@ -30,6 +30,8 @@ given: /tmp/ /srv/ /srv/a=old /srv/t=/tmp/x @/srv ?0
 - recorded: =echo_-n_1_>_b ?0 /srv/b=1 :: x ?0 w*5000 :: =true ?0 => \
   1 [echo -n 1 > b] /.casebook/shell/1;2 [w='%(n*4086)'] /srv/x;3 [w=$w'%(n*914)'] $w;\
   4 [true] /.casebook/shell/1;
+- logged: =echo_-n_1_>_b ?0 /srv/b=1 :: x ?0 w*5000 :: =true ?0 => 1 [echo -n 1 > b] directory;\
+  2 [w='%(n*4086)'];3 [w=$w'%(n*914)'] $w;4 [true];
 
 - around: /srv/a :: x ?0 /srv/a=1 :: x ?0 /srv/a=2 => file 6f6c64, file 32
 - around: /.casebook/2/1 :: x ?0 /srv/a=1 :: x ?0 /srv/a=2 => file 32, file 32

@@ -7,7 +7,7 @@ use Rattle.casebook_explain.proofs.noting.all_texts.Given as goal
 
 abbrev pub invariant-loop-line : goal.invariant-loop-line
 invariant-loop-line l = record {
-  texts : l.texts.items ++ flat_map texts_of l.line-iterator.rest.items
-      ≡ flat_map texts_of l.fn.lines.items;
+  texts : l.texts.items ++ flat_map (texts_of l.noting) l.line-iterator.rest.items
+      ≡ flat_map (texts_of l.noting) l.fn.lines.items;
   runs : HaveRuns l.line-iterator.rest.items → HaveRuns l.fn.lines.items;
 }
