@@ -1,4 +1,4 @@
-//! Tests of `casebook_import`, over public items alone.
+//! Tests of `casebook_import`, `casebook_case` and `casebook_recording`, over public items alone.
 //!
 //! A first look and a history are lists of notes and records, as `history.rt` reads them. What rows
 //! want is worked out by hand, from the rules of the crate and the profile of the shell.
@@ -6,6 +6,10 @@
 
 #[cfg(test)]
 mod calls;
+#[cfg(test)]
+mod case_tables;
+#[cfg(test)]
+mod cases;
 #[cfg(test)]
 mod history;
 #[cfg(test)]

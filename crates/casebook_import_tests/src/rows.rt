@@ -1,5 +1,7 @@
 //! The call that each row names, and the test that makes these calls.
 use crate::calls::{after, first, told};
+use crate::case_tables::{CASES, LOGS, READINGS};
+use crate::cases::{case, log, logged, read};
 use crate::tables::{LINES, NODES, SESSIONS};
 use retro_rows::{fail, rows};
 use std::alloc::Global;
@@ -11,6 +13,10 @@ fn called(alloc: Global, call: &str, given: &[String]) -> Result<String, Fail> {
         ("first", [look, history, of]) => first(alloc, look, history, of),
         ("after", [look, history, of]) => after(alloc, look, history, of),
         ("told", [look, history]) => told(alloc, look, history),
+        ("case", [look, history]) => case(alloc, look, history),
+        ("read", [document]) => read(alloc, document),
+        ("log", [look, history]) => log(alloc, look, history),
+        ("logged", [document]) => logged(alloc, document.as_bytes()),
         _ => fail("no such call"),
     }
 }
@@ -27,7 +33,7 @@ fn hold(alloc: Global, table: &str) -> Result<(), Fail> {
 
 #[test]
 fn rows_hold(rt: HostRuntime) -> Result<(), Fail> {
-    for table in [NODES, SESSIONS, LINES] {
+    for table in [NODES, SESSIONS, LINES, CASES, READINGS, LOGS] {
         hold(rt.alloc(), table)?;
     }
     Ok(())

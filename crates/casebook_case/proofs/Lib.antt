@@ -1,0 +1,5 @@
+pub mod ContentByContent
+pub mod Shapes
+pub mod Made
+pub mod Same
+pub mod Trip
