@@ -4,7 +4,7 @@
 ghost use Rattle.std.specs.Prelude.{None};
 
 use casebook_cli::{Documents, Exit, Output, Problem, Progress, ReadFault, Step, Stop, run_with};
-use casebook_disk::{Disk, DiskListing, DiskSpool, DiskWatched, write_new_file};
+use casebook_disk::{Disk, DiskListing, DiskSource, DiskSpool, DiskWatched, write_new_file};
 use casebook_folder::FolderError;
 use casebook_folder_cli::{Folders, Mounts, Owner};
 use casebook_recorder_cli::{OpenError, OpenSpool, SENT_LIMIT, Spools};
@@ -219,6 +219,8 @@ impl<'a> Spools for Files<'a> {
 
     type Seen = DiskWatched<'a>;
 
+    type Source = DiskSource<'a>;
+
     ghost spools = { λ _. None };
 
     fn sent(&self, alloc: Global) -> Result<Vec<u8>, OpenError> {
@@ -257,6 +259,13 @@ impl<'a> Spools for Files<'a> {
         match DiskWatched::open(self.rt, folders) {
             Ok(watched) => Ok(OpenSpool { spool, watched }),
             Err(error) => Err(watched_fault_of(error)),
+        }
+    }
+
+    fn spool_source(&self, _alloc: Global, name: &str) -> Result<Self::Source, OpenError> {
+        match DiskSource::open(self.rt, name) {
+            Ok(source) => Ok(source),
+            Err(error) => Err(open_fault_of(error)),
         }
     }
 

@@ -1,5 +1,6 @@
 -- The answers to requests.
 use Rattle.std.specs.Prelude.{◌≡◌, ℕ, Bool, false, IfSome, IsTrue, List, [], Ok, Option, Some}
+use Rattle.casebook_case.specs.Written.{IsCaseOf}
 use Rattle.casebook_observe.specs.Files.{SpoolFiles}
 use Rattle.casebook_snapshot.specs.declared.snapshot.Snapshot.{Snapshot}
 use Rattle.casebook_folder_cli.specs.Answers.{IsSnapshotOf}
@@ -12,15 +13,16 @@ use Rattle.casebook_folder_cli.specs.declared.comparing.CompareAnswer.{CompareAn
 use Rattle.casebook_folder_cli.specs.declared.restoring.RestoreAnswer.{RestoreAnswer}
 use Rattle.casebook_recorder_cli.specs.Spools.{AllSpools}
 use Rattle.casebook_recorder_cli.specs.Taking.{TakesRecord}
-use Rattle.casebook_recorder_cli.specs.Words.{ObserveValue}
+use Rattle.casebook_recorder_cli.specs.Words.{ImportValue, ObserveValue}
+use Rattle.casebook_recording.specs.Logs.{IsLogOf}
 use Rattle.casebook_text.specs.SafeLine.{text_of_lines}
 use Rattle.retro_keep.specs.Recording.{RecordingValue, last_state}
 use Rattle.retro_log.specs.Document.{log_in}
 use Rattle.retro_redo.specs.Repair.{repaired_state}
 use Rattle.casebook_request.specs.Sources.{repair_sources, sources_of}
-use Rattle.casebook_request.specs.Request.{Query, Request, ask, check, help, help_text, lines, page, show}
+use Rattle.casebook_request.specs.Request.{Query, Request, ask, case_log, check, help, help_text, lines, page, show}
 use Rattle.casebook_request.specs.Request.{CompareValue, FolderRepair, RepairRequest, compare, restore, script}
-use Rattle.casebook_request.specs.Request.{snapshot, observe, start, undo}
+use Rattle.casebook_request.specs.Request.{import, snapshot, observe, start, undo}
 use Rattle.casebook_cli.specs.Checks.{IsChecked}
 use Rattle.casebook_cli.specs.Documents.{AllDocuments}
 use Rattle.casebook_cli.specs.Harmless.{IsHarmless, is_plain}
@@ -51,6 +53,7 @@ AnswersBy colours inputs (lines request) answer = Says (AreLines inputs request)
 AnswersBy colours inputs (show request) answer = Says (IsShown colours inputs request) answer
 AnswersBy colours inputs (page request) answer = Says (IsPage inputs request) answer
 AnswersBy colours inputs (check log) answer = IsChecked inputs.log answer.is_no answer.text
+AnswersBy colours inputs (case_log case) answer = Says (IsLogOf inputs.log.bytes) answer
 
 -- The answer to a question about the documents that it names. Plain text is harmless on a terminal,
 -- whatever is in the documents.
@@ -115,6 +118,11 @@ pub record AnswersObserve (spools : Option AllSpools) (request : ObserveValue) (
   pub takes : IfSome spools (λ all. TakesRecord all request.spool left)
   pub nothing : answer ≡ saying []
 
+-- the answer to a request for a case: the document of the case of what the spool holds
+abbrev pub AnswersImport : Option AllSpools → ImportValue → AnswerValue → Type 0
+AnswersImport spools request answer =
+    Says (λ text. IfSome spools (λ all. IsCaseOf (all.held request.spool) text)) answer
+
 abbrev pub Answers : Bool → AllDocuments → AllFolders → Option AllSpools → Request → AnswerValue → Type 0
 Answers colours at folders spools (help topic) answer = answer ≡ saying (help_text topic)
 Answers colours at folders spools (ask query) answer = AnswersQuery colours at query answer
@@ -125,3 +133,4 @@ Answers colours at folders spools (undo request) answer = AnswersUndo folders re
 Answers colours at folders spools (script request) answer = Says (IsScriptOf at request) answer
 Answers colours at folders spools (start request) answer = answer ≡ saying []
 Answers colours at folders spools (observe request) answer = AnswersObserve spools request answer
+Answers colours at folders spools (import request) answer = AnswersImport spools request answer

@@ -18,6 +18,7 @@ use Rattle.casebook_cli.specs.declared.exit.Exit.{Exit}
 use Rattle.casebook_cli.specs.declared.exit.Exit.TheVariants as exits
 use Rattle.casebook_folder_cli.specs.FileFaults.{fault_line}
 use Rattle.casebook_recorder_cli.specs.Faults.{fault_line as recorder_line}
+use Rattle.casebook_recording.specs.Refusals.{refusal_words as case_words}
 use Rattle.casebook_cli.specs.declared.searched.SearchedPart.{SearchedPart}
 use Rattle.casebook_cli.specs.declared.searched.SearchedPart.TheVariants.{Text, Outputs}
 use Rattle.casebook_cli.specs.declared.stop.Stop.{Stop}
@@ -143,6 +144,7 @@ stop_message (stops.OtherUndo name) = said_of name.now (codes "the undo file of 
 stop_message (stops.FolderChanged name) = said_of name.now (codes "changed meanwhile; nothing was restored")
 stop_message (stops.Unfinished name) =
     said_of name.now (codes "restored in part; run this again, or take it back by the undo file")
+stop_message (stops.BadCase name refusal) = said_of name.now (case_words refusal)
 stop_message (stops.Recorder name fault) = said_of name.now (recorder_line fault)
 
 -- the line for standard error, empty if an answer was written

@@ -20,8 +20,9 @@ use Rattle.casebook_text.specs.Lists.{lines_of_list}
 use Rattle.casebook_words.specs.declared.labels.Labels.{Labels}
 use Rattle.casebook_request.specs.Sources.{SourcesValue, repair_sources, sources_of}
 use Rattle.casebook_request.specs.Request.{LinesRequest, Query, RepairRequest, Request, RoundsValue, ShowRequest, ask}
-use Rattle.casebook_request.specs.Request.{check, help, lines, page, request_in, show, CompareValue, FolderRepair}
-use Rattle.casebook_request.specs.Request.{compare, observe, restore, script, snapshot, start, undo}
+use Rattle.casebook_request.specs.Request.{case_log, check, help, lines, page, request_in, show}
+use Rattle.casebook_request.specs.Request.{CompareValue, FolderRepair}
+use Rattle.casebook_request.specs.Request.{compare, import, observe, restore, script, snapshot, start, undo}
 use Rattle.casebook_request.specs.declared.shown.ShownPart.{ShownPart}
 use Rattle.casebook_request.specs.declared.shown.ShownPart.TheVariants as parts
 use Rattle.casebook_cli.specs.Documents.{AllDocuments}
@@ -43,9 +44,13 @@ use Rattle.casebook_folder_cli.specs.declared.source_fault.SourceFault.{SourceFa
 use Rattle.casebook_folder_cli.specs.declared.source_fault.SourceFault.TheVariants as source_faults
 use Rattle.casebook_recorder_cli.specs.Spools.{AllSpools}
 use Rattle.casebook_recorder_cli.specs.Taking.{IsNotTaken as IsRecordNotTaken}
-use Rattle.casebook_recorder_cli.specs.Words.{ObserveValue, StartValue}
+use Rattle.casebook_recorder_cli.specs.Words.{ImportValue, ObserveValue, StartValue}
 use Rattle.casebook_recorder_cli.specs.declared.fault.RecorderFault.{RecorderFault}
 use Rattle.casebook_recorder_cli.specs.declared.fault.RecorderFault.TheVariants as recorder_faults
+use Rattle.casebook_recording.specs.Logs.{IsNoLog}
+use Rattle.casebook_recording.specs.Refusals.{refusal_of}
+use Rattle.casebook_recording.specs.declared.recording_fault.RecordingFault.{RecordingFault}
+use Rattle.casebook_recording.specs.declared.refusal.CaseRefusal.{CaseRefusal}
 use Rattle.casebook_cli.specs.Scripts.{AreScriptInputs, ScriptInputs, parts_of, table_name}
 use Rattle.casebook_cli.specs.declared.repairs.AskedRepair.{AskedRepair}
 use Rattle.casebook_cli.specs.declared.searched.SearchedPart.{SearchedPart}
@@ -210,6 +215,24 @@ pub data StopsShow (inputs : InputsValue) (request : ShowRequest) (stop : Stop) 
   not_shown : (asked : AskedRepair) → IsAsked inputs request.repair asked
       → StopsShown request.shown asked.recording stop → StopsShow inputs request stop
 
+-- ---- cases
+
+-- the document with a name is refused like this
+abbrev pub IsBadCase : List ℕ → CaseRefusal → Stop → Type 0
+IsBadCase wanted refusal (stops.BadCase name found) = (name.now ≡ wanted) × (found ≡ refusal)
+IsBadCase wanted refusal other = ⊥
+
+-- the document with a name is named, with why it has no log, or memory ran out
+abbrev pub NamesCase : List ℕ → Option CaseRefusal → Stop → Type 0
+NamesCase name None stop = stop ≡ stops.OutOfMemory
+NamesCase name (Some refusal) stop = IsBadCase name refusal stop
+
+-- There is no log of a case, for a fault that its bytes or its lines have.
+pub record StopsCase (document : DocumentValue) (stop : Stop) : Type 0 where
+  pub fault : RecordingFault
+  pub is_fault : IsNoLog document.bytes fault
+  pub names : NamesCase document.name (refusal_of fault) stop
+
 -- ---- requests
 
 -- a question about documents isn't answered for this reason
@@ -218,6 +241,7 @@ StopsBy inputs (lines request) stop = StopsLines inputs request stop
 StopsBy inputs (show request) stop = StopsShow inputs request stop
 StopsBy inputs (page request) stop = StopsAsked inputs request.repair stop
 StopsBy inputs (check log) stop = stop ≡ stops.OutOfMemory
+StopsBy inputs (case_log case) stop = StopsCase inputs.log stop
 
 pub data StopsQuery (at : AllDocuments) (query : Query) (stop : Stop) : Type 0 where
   unread : StopsReading at (sources_of query) stop → StopsQuery at query stop
@@ -316,7 +340,8 @@ abbrev pub IsBadSpool : List ℕ → RecorderFault → Stop → Type 0
 IsBadSpool wanted fault (stops.Recorder name found) = (name.now ≡ wanted) × (found ≡ fault)
 IsBadSpool wanted fault other = ⊥
 
--- the spool with a name is named, with the fault for which it isn't made or doesn't take a record
+-- the spool with a name is named, with the fault for which it isn't made, takes no record or has no
+-- case
 abbrev pub NamesSpool : List ℕ → RecorderFault → Stop → Type 0
 NamesSpool name recorder_faults.NoMem stop = stop ≡ stops.OutOfMemory
 NamesSpool name fault stop = IsBadSpool name fault stop
@@ -332,6 +357,11 @@ pub record StopsObserve (spools : Option AllSpools) (request : ObserveValue) (st
   pub is_fault : IfSome spools (λ all. IsRecordNotTaken all request.spool fault)
   pub names : NamesSpool request.spool fault stop
 
+-- There is no case of a spool.
+pub record StopsImport (request : ImportValue) (stop : Stop) : Type 0 where
+  pub fault : RecorderFault
+  pub names : NamesSpool request.spool fault stop
+
 -- ---- the program
 
 abbrev pub Stops : AllDocuments → AllFolders → Option AllSpools → Request → Stop → Type 0
@@ -345,6 +375,7 @@ Stops at folders spools (undo request) stop = StopsFolder request.root request.u
 Stops at folders spools (script request) stop = StopsScript at request stop
 Stops at folders spools (start request) stop = StopsStart request stop
 Stops at folders spools (observe request) stop = StopsObserve spools request stop
+Stops at folders spools (import request) stop = StopsImport request stop
 
 -- words make no request
 abbrev pub IsBadWords : List (List ℕ) → Stop → Type 0

@@ -12,6 +12,7 @@ ghost use Rattle.casebook_cli.specs.inner.Views.{answer_view, inputs_view};
 
 use crate::NoMem;
 use crate::answer::Answer;
+use crate::cases::case_answer;
 use crate::checks::check_answer;
 use crate::comparing::compare_text;
 use crate::documents::Documents;
@@ -20,7 +21,7 @@ use crate::lines_answer::lines_text;
 use crate::pages::page_text;
 use crate::progress::Progress;
 use crate::reading::read_inputs;
-use crate::recorder::{observe_text, start_text};
+use crate::recorder::{import_text, observe_text, start_text};
 use crate::repairs::asked_repair;
 use crate::restores::{restore_text, undo_text};
 use crate::screens::shown_text;
@@ -87,6 +88,7 @@ fn answer_by<'a, R: Threads + Sync + AllocGlobal, P: Progress>(
         Query::Show(request) => show_text(rt, progress, inputs, request, colours)?,
         Query::Page(request) => repair_page(rt, progress, inputs, request)?,
         Query::Check(_) => return Ok(check_answer(rt.alloc(), &inputs.log)?),
+        Query::Log(_) => return case_answer(rt.alloc(), &inputs.log),
     };
     Ok(Answer::of(text))
 }
@@ -139,5 +141,6 @@ pub(crate) fn answer<
         Request::Script(request) => script_text(rt.alloc(), documents, request),
         Request::Start(request) => start_text(rt.alloc(), documents, request),
         Request::Observe(request) => observe_text(rt.alloc(), documents, request),
+        Request::Import(request) => import_text(rt.alloc(), documents, request),
     }
 }

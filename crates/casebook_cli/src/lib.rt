@@ -45,23 +45,26 @@
 //!   named [by `AnswersSnapshot`]; `compare` by the paths in which such a snapshot isn't as the log
 //!   has them at its end [by `AnswersCompare`]; `restore` by the plan for the paths in which the
 //!   log and its repair differ, or that takes a restore back [by `AnswersRestore`, `AnswersUndo`];
-//!   `script` by the script of a snapshot's document and of two tables [by `IsScriptOf`].
+//!   `script` by the script of a snapshot's document and of two tables [by `IsScriptOf`]; `import`
+//!   by the document of the case of what a spool holds [by `AnswersImport`]; `log` by the log of
+//!   what tells the lines of the case that is named [by `IsLogOf`].
 //! - After `Stopped` nothing was written [`unwritten`], and the `Stop` is one of `StopsWords`
 //!   (`specs/Stops.antt`): the words are bad, a document can't be read, isn't a log, isn't UTF-8 or
 //!   has no names and times, a pattern or a list is refused, no line has the number, or the repair
 //!   or how lines are run ahead is refused; each as the definitions refuse it. A stream, a
-//!   snapshot's document or a table that is refused is named with the fault that it has. After
+//!   snapshot's document, a table or a case that is refused is named with the fault that it has. After
 //!   `WriteFailed` a part of the answer was written, but not all of it, and it is returned exactly
 //!   if the output failed [`write_failure`].
-//! - All this is said where the documents and the folders are known (`bytes_of` of `Documents`,
-//!   `holds` of `Folders`). Of the files of a process nothing is known, so no proof speaks of what a
-//!   file holds.
+//! - All this is said where the documents, the folders and the spools are known (`bytes_of` of
+//!   `Documents`, `holds` of `Folders`, `spools` of `Spools`). Of the files of a process nothing is
+//!   known, so no proof speaks of what a file holds.
 //! - `Exit::status` and `Exit::message` give the status and the line for standard error, whose
 //!   characters are harmless, as it is a `SafeLine`. What `help` says is a constant.
 #![tactic(auto)]
 
 mod answer;
 mod answers;
+mod cases;
 mod checks;
 mod colours;
 mod comparing;

@@ -2,8 +2,6 @@
 ghost use Rattle.std.specs.Prelude.{◌≡◌, ◌++◌, [], IfOk, IsTrue, OnOk};
 ghost use Rattle.std.specs.List.{list_all};
 ghost use Rattle.casebook_text.specs.SafeText.{is_printable};
-ghost use Rattle.casebook_folder_cli.specs.FileFaults.{fault_line};
-ghost use Rattle.casebook_recorder_cli.specs.Faults.{fault_line as recorder_line};
 ghost use Rattle.casebook_cli.specs.Messages.{about, about_message, about_words, counted};
 ghost use Rattle.casebook_cli.specs.Messages.{item_words, list_message, log_message, message_of};
 ghost use Rattle.casebook_cli.specs.Messages.{number_words, numbered_words, part_words};
@@ -16,8 +14,6 @@ use crate::exit::Exit;
 use crate::searched::SearchedPart;
 use crate::stop::Stop;
 use casebook_about::{AboutFault, Part as AboutPart};
-use casebook_folder_cli::FileFault;
-use casebook_recorder_cli::RecorderFault;
 use casebook_text::{ItemFault, ListFault, SafeLine};
 use retro_log::{Part, Refusal};
 use std::alloc::Global;
@@ -256,23 +252,13 @@ fn about_message(alloc: Global, name: &str, fault: AboutFault) -> Result<SafeLin
     Ok(line)
 }
 
-/// Returns why a file holds no snapshot, after its name.
+/// Returns a line about a document.
 #[tactic(auto, unfolding(crate::specs::Messages::said_of))]
-fn file_message(alloc: Global, name: &str, fault: FileFault) -> Result<SafeLine, NoMem>
-    ensures { IfOk result (λ line. line ≡ said_of name.now (fault_line fault)) }
+fn told_line(alloc: Global, name: &str, words: &SafeLine) -> Result<SafeLine, NoMem>
+    ensures { IfOk result (λ line. line ≡ said_of name.now words.now) }
 {
     let mut line = told_of(alloc, name, "")?;
-    line.push_line(&fault.line(alloc)?)?;
-    Ok(line)
-}
-
-/// Returns why there is no spool with a name, or why it didn't take a record.
-#[tactic(auto, unfolding(crate::specs::Messages::said_of))]
-fn recorder_message(alloc: Global, name: &str, fault: RecorderFault) -> Result<SafeLine, NoMem>
-    ensures { IfOk result (λ line. line ≡ said_of name.now (recorder_line fault)) }
-{
-    let mut line = told_of(alloc, name, "")?;
-    line.push_line(&fault.line(alloc)?)?;
+    line.push_line(words)?;
     Ok(line)
 }
 
@@ -306,7 +292,7 @@ fn stop_message(alloc: Global, stop: Stop<'_>) -> Result<SafeLine, NoMem>
         Stop::OutOfMemory => told(alloc, "out of memory"),
         Stop::ReadFailed(name) => told_of(alloc, name, "can't be read"),
         Stop::NotADirectory(name) => told_of(alloc, name, "not a directory"),
-        Stop::BadFile(name, fault) => file_message(alloc, name, fault),
+        Stop::BadFile(name, fault) => told_line(alloc, name, &fault.line(alloc)?),
         Stop::UndoFailed(name) => told_of(alloc, name, "this undo file can't be read or written"),
         Stop::BadUndo(name) => told_of(alloc, name, "not an undo file"),
         Stop::OtherUndo(name) => told_of(alloc, name, "the undo file of another restore"),
@@ -320,7 +306,8 @@ fn stop_message(alloc: Global, stop: Stop<'_>) -> Result<SafeLine, NoMem>
             name,
             "restored in part; run this again, or take it back by the undo file",
         ),
-        Stop::Recorder(name, fault) => recorder_message(alloc, name, fault),
+        Stop::BadCase(name, refusal) => told_line(alloc, name, &refusal.line(alloc)?),
+        Stop::Recorder(name, fault) => told_line(alloc, name, &fault.line(alloc)?),
     }
 }
 

@@ -1,18 +1,19 @@
-//! Spools that are made, and records that they take.
+//! Spools that are made, records that they take, and their cases.
 ghost use Rattle.std.specs.Prelude.{◌≡◌, [], IfErr, IfOk};
-ghost use Rattle.casebook_recorder_cli.specs.Views.{observe_view, start_view};
-ghost use Rattle.casebook_cli.specs.Answers.{AnswersObserve, saying};
-ghost use Rattle.casebook_cli.specs.Stops.{NamesSpool, StopsObserve, StopsStart};
+ghost use Rattle.casebook_recorder_cli.specs.Views.{import_view, observe_view, start_view};
+ghost use Rattle.casebook_cli.specs.Answers.{AnswersImport, AnswersObserve, saying};
+ghost use Rattle.casebook_cli.specs.Stops.{NamesSpool, StopsImport, StopsObserve, StopsStart};
 ghost use Rattle.casebook_cli.specs.inner.Views.{answer_view};
 
 use crate::answer::Answer;
 use crate::stop::Stop;
 use casebook_recorder_cli::{
-    ObserveRequest, RecorderFault, Spools, StartRequest, observe_in, start_in,
+    ImportRequest, ObserveRequest, RecorderFault, Spools, StartRequest, import_in, observe_in,
+    start_in,
 };
 use std::alloc::Global;
 
-/// Returns why there is no spool with a name, or why it didn't take a record.
+/// Returns why there is no spool with a name, why it didn't take a record, or why it has no case.
 fn recorder_stop(name: &str, fault: RecorderFault) -> Stop<'_>
     ensures { NamesSpool name.entry.now fault result }
 {
@@ -57,6 +58,22 @@ pub(crate) fn observe_text<'a, D: Spools>(
 {
     match observe_in(alloc, spools, request.spool) {
         Ok(_spool) => Ok(nothing(alloc)),
+        Err(fault) => Err(recorder_stop(request.spool, fault)),
+    }
+}
+
+/// Writes the case of a spool.
+pub(crate) fn import_text<'a, D: Spools>(
+    alloc: Global,
+    spools: &D,
+    request: ImportRequest<'a>,
+) -> Result<Answer, Stop<'a>>
+    ensures ok { IfOk result (λ answer.
+        AnswersImport (D.spools spools.now) (import_view request.entry) (answer_view answer)) }
+    ensures err { IfErr result (StopsImport (import_view request.entry)) }
+{
+    match import_in(alloc, spools, request.spool) {
+        Ok(text) => Ok(Answer { text, is_no: false }),
         Err(fault) => Err(recorder_stop(request.spool, fault)),
     }
 }

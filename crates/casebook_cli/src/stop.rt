@@ -8,6 +8,7 @@ use crate::searched::SearchedPart;
 use casebook_about::AboutFault;
 use casebook_folder_cli::FileFault;
 use casebook_recorder_cli::RecorderFault;
+use casebook_recording::CaseRefusal;
 use casebook_request::Problem;
 use casebook_text::ListFault;
 use retro_log::Refusal;
@@ -54,7 +55,9 @@ pub enum Stop<'a> {
     FolderChanged(&'a str),
     /// A part of a folder is restored, and then a step failed.
     Unfinished(&'a str),
-    /// There is no spool with the name, or it didn't take a record.
+    /// A document has no log: it isn't a case, or what it says can't be.
+    BadCase(&'a str, CaseRefusal),
+    /// There is no spool with the name, it didn't take a record, or it has no case.
     Recorder(&'a str, RecorderFault),
 }
 
@@ -87,7 +90,8 @@ impl Stop<'_> {
             | Stop::BadFile(_, _)
             | Stop::BadUndo(_)
             | Stop::OtherUndo(_)
-            | Stop::FolderChanged(_) => 1,
+            | Stop::FolderChanged(_)
+            | Stop::BadCase(_, _) => 1,
             Stop::OutOfMemory => 2,
             Stop::ReadFailed(_) | Stop::UndoFailed(_) | Stop::Unfinished(_) => 3,
             Stop::Recorder(_, fault) if fault.is_refusal() => 1,

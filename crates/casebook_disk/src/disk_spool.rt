@@ -1,12 +1,14 @@
 //! Spools in a directory of the file system.
 ghost use Rattle.std.specs.Prelude.{None};
 
-use crate::errors::spool_error;
+use crate::errors::spool_result;
 use crate::folder_list::{folders_in, folders_text};
 use crate::new_file::{directory_of, write_new_file};
 use crate::place::{look_at, name_in, opened};
+use crate::shelf::Shelf;
 use crate::spool_files::{
-    lock, make_dir, make_dir_if_missing, read_from, read_whole, write_anew, write_from,
+    CONTENTS, FIRST, LINES, LOCK, LockKind, lock, make_dir, make_dir_if_missing, read_from,
+    read_or_empty, read_whole, write_anew, write_from,
 };
 use crate::temporary::temporary;
 use casebook_observe::{Spool, SpoolError};
@@ -19,23 +21,8 @@ use std::io::{self, ErrorKind};
 /// The folders that are watched.
 const WATCH: &str = "watch";
 
-/// The first look.
-const FIRST: &str = "first";
-
-/// The observations since.
-const LINES: &str = "lines";
-
-/// What can be made of both.
+/// What can be made of the first look and of the observations.
 const LISTING: &str = "listing";
-
-/// The contents of files.
-const CONTENTS: &str = "contents";
-
-/// What is locked.
-const LOCK: &str = "lock";
-
-/// How many hexadecimal digits of a digest name the directory of a content.
-const SHELF: usize = 2;
 
 /// A spool in a directory of the file system. Nobody else has it as long as this is open.
 #[derive(Drop)]
@@ -46,17 +33,6 @@ pub struct DiskSpool<'a> {
     root: File,
     /// The locked file.
     lock: File,
-}
-
-/// Where the content with a digest is kept.
-#[derive(Drop)]
-struct Shelf {
-    /// The directory.
-    dir: String,
-    /// The file.
-    file: String,
-    /// Its temporary name.
-    beside: String,
 }
 
 /// Returns an empty spool's files in an open directory: `watch` comes last, so a spool that has it
@@ -101,10 +77,11 @@ impl<'a> DiskSpool<'a> {
 
     /// Opens the spool in an open directory.
     fn in_dir(rt: &'a HostRuntime, alloc: Global, root: File) -> io::Result<DiskSpool<'a>> {
+        let lock_name = name_in(alloc, &root, LOCK)?;
         Ok(DiskSpool {
             rt,
             alloc,
-            lock: lock(rt, name_in(alloc, &root, LOCK)?.as_str())?,
+            lock: lock(rt, lock_name.as_str(), LockKind::Alone)?,
             root,
         })
     }
@@ -144,27 +121,6 @@ impl<'a> DiskSpool<'a> {
         self.root.sync_all()
     }
 
-    /// Returns where the content is kept of whose digest these are the first digits, and the rest.
-    fn shelf(&self, front: &str, rest: &str) -> Result<Shelf, NoMem> {
-        let alloc = self.alloc;
-        let dir = self.at(format!(in alloc; "{CONTENTS}/{front}")?.as_str())?;
-        let beside = temporary(alloc, rest)?;
-        Ok(Shelf {
-            file: format!(in alloc; "{}/{rest}", dir.as_str())?,
-            beside: format!(in alloc; "{}/{}", dir.as_str(), beside.as_str())?,
-            dir,
-        })
-    }
-
-    /// Returns where the content with a digest is kept: `contents/ab/REST`.
-    fn shelf_of(&self, digest: &Digest) -> Result<Shelf, NoMem> {
-        let digits = hex::encode(self.alloc, digest.bytes)?;
-        match digits.as_str().split_at_checked(SHELF) {
-            Some((front, rest)) => self.shelf(front, rest),
-            None => self.shelf("", digits.as_str()),
-        }
-    }
-
     /// Syncs a directory.
     fn sync_dir(&self, name: &str) -> io::Result<()> {
         fs::open(self.rt, format!(in self.alloc; "{name}/")?.as_str())?.sync_all()
@@ -172,7 +128,7 @@ impl<'a> DiskSpool<'a> {
 
     /// Keeps the bytes of a file under their digest.
     fn put_content(&self, digest: &Digest, bytes: &[u8]) -> io::Result<()> {
-        let shelf = self.shelf_of(digest)?;
+        let shelf = Shelf::of(self.alloc, &self.root, digest)?;
         if make_dir_if_missing(self.rt, shelf.dir.as_str())? {
             self.sync_dir(self.at(CONTENTS)?.as_str())?;
         }
@@ -201,6 +157,11 @@ impl<'a> DiskSpool<'a> {
         read_whole(self.rt, alloc, self.at(name)?.as_str())
     }
 
+    /// Reads the file `listing`, which is empty if there is none.
+    fn read_listing(&self, alloc: Global) -> io::Result<Vec<u8>> {
+        read_or_empty(self.rt, alloc, self.at(LISTING)?.as_str())
+    }
+
     /// Reads the file `lines` from a byte on.
     fn read_lines(&self, alloc: Global, from: u64) -> io::Result<Option<Vec<u8>>> {
         read_from(self.rt, alloc, self.at(LINES)?.as_str(), from)
@@ -209,14 +170,6 @@ impl<'a> DiskSpool<'a> {
     /// Writes a text in place of what the file `lines` has from a byte on.
     fn put_lines(&self, at: u64, text: &[u8]) -> io::Result<()> {
         write_from(self.rt, self.at(LINES)?.as_str(), at, text)
-    }
-}
-
-/// Returns the result of a call on a spool, of what calls of the system gave.
-fn spool_result<T>(given: io::Result<T>) -> Result<T, SpoolError> {
-    match given {
-        Ok(value) => Ok(value),
-        Err(error) => Err(spool_error(error)),
     }
 }
 
@@ -229,10 +182,7 @@ impl Spool for DiskSpool<'_> {
     }
 
     fn listing(&self, alloc: Global) -> Result<Vec<u8>, SpoolError> {
-        match self.read(alloc, LISTING) {
-            Err(error) if error.kind() == ErrorKind::NotFound => Ok(Vec::new(alloc)),
-            given => spool_result(given),
-        }
+        spool_result(self.read_listing(alloc))
     }
 
     fn lines(&self, alloc: Global, from: u64) -> Result<Option<Vec<u8>>, SpoolError> {

@@ -39,9 +39,17 @@ pub(crate) fn watch_error(error: io::Error) -> WatchError {
 }
 
 /// Returns the error of a spool that an error of the system is.
-pub(crate) fn spool_error(error: io::Error) -> SpoolError {
+fn spool_error(error: io::Error) -> SpoolError {
     match error.kind() {
         ErrorKind::OutOfMemory => SpoolError::NoMem,
         _ => SpoolError::Failed,
+    }
+}
+
+/// Returns the result of a call on a spool, of what calls of the system gave.
+pub(crate) fn spool_result<T>(given: io::Result<T>) -> Result<T, SpoolError> {
+    match given {
+        Ok(value) => Ok(value),
+        Err(error) => Err(spool_error(error)),
     }
 }

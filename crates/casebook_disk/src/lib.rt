@@ -1,7 +1,8 @@
 //! A folder of the real file system, which is read and changed without following links.
 //!
 //! [`Disk`] is a `Folder`, and [`DiskListing`] is a `Listing`, a folder that is only looked at.
-//! [`DiskWatched`] are folders that are `Watched`, and [`DiskSpool`] is a `Spool`.
+//! [`DiskWatched`] are folders that are `Watched`, [`DiskSpool`] is a `Spool`, and [`DiskSource`] is
+//! a `SpoolSource`, a spool that is only read.
 //! Each call names a file in a directory that is open, by `/proc/self/fd/N/NAME`. The directories
 //! above it are opened one by one, from the root folder down, and none of them through a link. So
 //! nothing outside of the root folder is read or changed, also if somebody else exchanges
@@ -56,6 +57,11 @@
 //! temporary names and then renamed, but for `lines`, to which texts are appended. All of them are
 //! synced. What can't be written as a whole, as on a full disk, is removed again.
 //!
+//! A `DiskSource` locks the file `lock` only while it reads `first` and `lines`, so both are of one
+//! moment, and others can have the spool while contents are read. What `lines` names was kept
+//! before `lines` named it, and is never changed or removed. It writes nothing, so the disk can be
+//! mounted read-only.
+//!
 //! # What is left to chance
 //!
 //! - Between the last look and the rename somebody who can write into the directory can still
@@ -68,7 +74,8 @@
 //!
 //! Start reading at `disk.rt`, then `place.rt` and `temporary.rt`; for listings at
 //! `disk_listing.rt`, then `item.rt` and `names.rt`; for watched folders at `disk_watched.rt`, then
-//! `walk.rt`, `level.rt` and `earlier.rt`; for spools at `disk_spool.rt`, then `spool_files.rt`.
+//! `walk.rt`, `level.rt` and `earlier.rt`; for spools at `disk_spool.rt`, then `spool_files.rt`,
+//! `shelf.rt` and `disk_source.rt`.
 //!
 //! # What is proved
 //!
@@ -76,11 +83,12 @@
 //! the steps for which it is asked, in their order, that `Changed` is returned only before a step,
 //! and what each `Folder` and `Listing` promises besides. What `DiskListing` finds in real folders
 //! is tested by `checks/folders`, and what `Disk` does in them by `checks/restores`. Of
-//! `DiskWatched` and `DiskSpool` only that they stop at no fault is proved.
+//! `DiskWatched`, `DiskSpool` and `DiskSource` only that they stop at no fault is proved.
 #![tactic(auto)]
 
 mod disk;
 mod disk_listing;
+mod disk_source;
 mod disk_spool;
 mod disk_watched;
 mod earlier;
@@ -94,6 +102,7 @@ mod own_readings;
 mod place;
 mod reading;
 mod scope;
+mod shelf;
 mod sighting;
 mod spool_files;
 mod target;
@@ -103,6 +112,7 @@ mod watched_node;
 
 pub use disk::Disk;
 pub use disk_listing::DiskListing;
+pub use disk_source::DiskSource;
 pub use disk_spool::DiskSpool;
 pub use disk_watched::DiskWatched;
 pub use new_file::write_new_file;

@@ -8,6 +8,18 @@ use std::os::unix::fs::{DirBuilderExt, FileExt, OpenOptionsExt};
 use std::thread;
 use std::time::{Duration, Instant};
 
+/// The first look.
+pub(crate) const FIRST: &str = "first";
+
+/// The observations since.
+pub(crate) const LINES: &str = "lines";
+
+/// The contents of files.
+pub(crate) const CONTENTS: &str = "contents";
+
+/// What is locked.
+pub(crate) const LOCK: &str = "lock";
+
 /// How long a spool is waited for that somebody else has, in milliseconds.
 const WAIT: u64 = 1_000;
 
@@ -88,6 +100,27 @@ pub(crate) fn read_whole(rt: &HostRuntime, alloc: Global, name: &str) -> io::Res
     }
 }
 
+/// Reads a file, or returns `None` if there is none.
+pub(crate) fn read_if_there(
+    rt: &HostRuntime,
+    alloc: Global,
+    name: &str,
+) -> io::Result<Option<Vec<u8>>> {
+    match read_whole(rt, alloc, name) {
+        Ok(text) => Ok(Some(text)),
+        Err(error) if error.kind() == ErrorKind::NotFound => Ok(None),
+        Err(error) => Err(error),
+    }
+}
+
+/// Reads a file, which is empty if there is none.
+pub(crate) fn read_or_empty(rt: &HostRuntime, alloc: Global, name: &str) -> io::Result<Vec<u8>> {
+    match read_if_there(rt, alloc, name)? {
+        Some(text) => Ok(text),
+        None => Ok(Vec::new(alloc)),
+    }
+}
+
 /// Writes a text behind the end of a file, and syncs it.
 fn write_at_end(file: &File, end: u64, text: &[u8]) -> io::Result<()> {
     file.write_all_at(text, end)?;
@@ -113,17 +146,45 @@ pub(crate) fn write_from(rt: &HostRuntime, name: &str, at: u64, text: &[u8]) -> 
     }
 }
 
+/// How a spool is locked.
+#[derive(Clone, Copy, Debug, Drop, PartialEq, Eq)]
+pub(crate) enum LockKind {
+    /// Nobody else has it.
+    Alone,
+    /// Others only read it, too.
+    Shared,
+}
+
+impl LockKind {
+    /// Opens the file that is locked. On a disk that is mounted read-only it can be locked for
+    /// readers.
+    fn open(self, rt: &HostRuntime, name: &str) -> io::Result<File> {
+        match self {
+            LockKind::Alone => open_to_write(rt, name),
+            LockKind::Shared => fs::open(rt, name),
+        }
+    }
+
+    /// Locks an open file, if nobody has locked it otherwise.
+    fn try_on(self, file: &File) -> Result<(), TryLockError> {
+        match self {
+            LockKind::Alone => file.try_lock(),
+            LockKind::Shared => file.try_lock_shared(),
+        }
+    }
+}
+
 /// Opens a file and locks it, until it is closed. If somebody else has locked it, that is waited
 /// for.
 ///
 /// # Errors
 ///
 /// `WouldBlock` if somebody else has locked it for a second.
-pub(crate) fn lock(rt: &HostRuntime, name: &str) -> io::Result<File> {
-    let file = open_to_write(rt, name)?;
+pub(crate) fn lock(rt: &HostRuntime, name: &str, kind: LockKind) -> io::Result<File> {
+    let file = kind.open(rt, name)?;
     let began = Instant::now(rt)?;
     for _ in 0..u64::MAX {
-        match file.try_lock() {
+        match kind.try_on(&file) {
             Ok(()) => return Ok(file),
             Err(TryLockError::Error(error)) => return Err(error),
             Err(TryLockError::WouldBlock) => {

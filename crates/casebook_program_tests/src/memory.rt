@@ -1,6 +1,7 @@
 //! Documents and folders in memory, and runs of the program on them.
 ghost use Rattle.std.specs.Prelude.{None};
 
+use crate::cases::case_document;
 use crate::recorder::RECORD;
 use crate::streams::stream;
 use casebook_cli::{Documents, Exit, NoMem, Output, Progress, ReadFault, Step, run_with};
@@ -119,7 +120,7 @@ fn bytes_of(name: &str) -> Option<&'static [u8]> {
         "script" => Some(br#"{"script":1,"tree":[],"sessions":[],"lines":[]}"#),
         "torn" => Some(br#"{"script":1,"tree":[],"sessions":[],"lines":[[1,1,"ls"]]}"#),
         "shape" => Some(br#"{"from":1,"lines":5,"log":2,"sessions":[],"tree":[]}"#),
-        _ => None,
+        _ => case_document(name),
     }
 }
 

@@ -4,6 +4,7 @@
 //! folder. The others fail: each name says how.
 ghost use Rattle.std.specs.Prelude.{None};
 
+use crate::cases::{NamedSource, source_of};
 use crate::memory::Memory;
 use casebook_observe::{Found, Spool, SpoolError, WatchError, Watched};
 use casebook_recorder_cli::{OpenError, OpenSpool, Spools};
@@ -98,7 +99,7 @@ impl Watched for NamedFolders {
 }
 
 /// Returns what a name has in place of a spool with its folders.
-fn fault_of(name: &str) -> Option<OpenError> {
+pub(crate) fn fault_of(name: &str) -> Option<OpenError> {
     match name {
         "none" => Some(OpenError::Missing),
         "there" => Some(OpenError::Exists),
@@ -140,6 +141,8 @@ impl Spools for Memory {
 
     type Seen = NamedFolders;
 
+    type Source = NamedSource;
+
     ghost spools = { λ _. None };
 
     fn sent(&self, alloc: Global) -> Result<Vec<u8>, OpenError> {
@@ -159,6 +162,10 @@ impl Spools for Memory {
         name: &str,
     ) -> Result<OpenSpool<NamedSpool, NamedFolders>, OpenError> {
         spool_of(name)
+    }
+
+    fn spool_source(&self, _alloc: Global, name: &str) -> Result<NamedSource, OpenError> {
+        source_of(name)
     }
 
     fn make_spool(
@@ -183,8 +190,8 @@ same: observe --help :: help observe => yes
 
 /// What is refused of the recorder: the exit status and the message.
 pub(crate) const REFUSED_RECORDS: &str = r##"
-refused: observe => 1 casebook: no SPOOL is given; see casebook help observe
-refused: observe --start => 1 casebook: no SPOOL is given; see casebook help observe
+refused: observe => 1 casebook: no SPOOL is given; see casebook help
+refused: observe --start => 1 casebook: no SPOOL is given; see casebook help
 refused: observe --start spool => 1 casebook: --start needs a FOLDER after SPOOL; see casebook help
   observe
 refused: observe spool /srv => 1 casebook: FOLDER needs --start

@@ -2,6 +2,7 @@
 //!
 //! The first field of a row has the words of a command line, with spaces between them, or for
 //! `numbers` the filters of `lines log`. In a word `_` is a space.
+use crate::cases::{CASES, REFUSED_CASES};
 use crate::memory::{coloured, ended, kept, refused, remarked, sent, written};
 use crate::recorder::{RECORDED, REFUSED_RECORDS};
 use crate::restores::{REFUSED_RESTORES, RESTORES};
@@ -116,7 +117,15 @@ fn lines_and_repairs_are_shown(rt: HostRuntime) -> Result<(), Fail> {
 
 #[test]
 fn pages_checks_folders_and_helps_are_written(rt: HostRuntime) -> Result<(), Fail> {
-    for table in [PAGES, OTHERS, SNAPSHOTS, COMPARISONS, SCRIPTS, RECORDED] {
+    for table in [
+        PAGES,
+        OTHERS,
+        SNAPSHOTS,
+        COMPARISONS,
+        SCRIPTS,
+        RECORDED,
+        CASES,
+    ] {
         hold(&rt, table)?;
     }
     Ok(())
@@ -135,6 +144,7 @@ fn words_and_documents_are_refused(rt: HostRuntime) -> Result<(), Fail> {
         REFUSED_SNAPSHOTS,
         REFUSED_SCRIPTS,
         REFUSED_RECORDS,
+        REFUSED_CASES,
     ] {
         hold(&rt, table)?;
     }

@@ -1,5 +1,7 @@
--- Why there is no spool or why a record isn't taken, in words.
+-- Why there is no spool, why a record isn't taken or why there is no case, in words.
 use Rattle.std.specs.Prelude.{ℕ, Bool, true, false, List, ◌++◌, codes, decimal}
+use Rattle.casebook_case.specs.declared.case_fault.CaseFault.{CaseFault}
+use Rattle.casebook_case.specs.declared.case_fault.CaseFault.TheVariants as cases
 use Rattle.casebook_observe.specs.declared.observe_error.ObserveError.{ObserveError}
 use Rattle.casebook_observe.specs.declared.observe_error.ObserveError.TheVariants as observing
 use Rattle.casebook_observe.specs.declared.watch_error.WatchError.TheVariants as watches
@@ -29,6 +31,10 @@ of_observing (observing.Watched watches.TooSlow) = faults.TooSlow
 of_observing (observing.Watched error) = faults.Unseen
 of_observing (observing.Spool error) = faults.Unwritten
 
+abbrev pub of_case : CaseFault → RecorderFault
+of_case cases.NoMem = faults.NoMem
+of_case fault = faults.Case fault
+
 -- whether a document or a name is refused, and not a call of the system
 abbrev pub is_refusal : RecorderFault → Bool
 is_refusal (faults.Open opens.Exists) = true
@@ -38,6 +44,9 @@ is_refusal faults.Forged = true
 is_refusal (faults.Record error) = true
 is_refusal faults.First = true
 is_refusal (faults.Lines at row) = true
+is_refusal (faults.Case cases.NoMem) = false
+is_refusal (faults.Case cases.Unread) = false
+is_refusal (faults.Case fault) = true
 is_refusal other = false
 
 unfoldable pub open_words : OpenError → List ℕ
@@ -75,6 +84,25 @@ unfoldable pub lines_words : ℕ → ℕ → List ℕ
 lines_words at row =
     codes "its lines are damaged: row " ++ decimal row ++ codes " after byte " ++ decimal at
 
+-- words, a number and words
+abbrev pub around : List ℕ → ℕ → List ℕ → List ℕ
+around before number after = before ++ decimal number ++ after
+
+-- why there is no case
+unfoldable pub case_line : CaseFault → List ℕ
+case_line cases.NoMem = codes "out of memory"
+case_line cases.Unread = codes "it can't be read"
+case_line cases.NotText = codes "a file of it isn't text"
+case_line cases.NotJson = codes "not a JSON text"
+case_line cases.NotACase = codes "not a case: \"case\" isn't 1, or keys are wrong"
+case_line (cases.BadContent place) = around (codes "content ") place (codes ": not hexadecimal digits")
+case_line cases.BadFirst = codes "its first look can't be read"
+case_line (cases.BadLine row) = around (codes "row ") row (codes " of its lines: neither a note nor a record")
+case_line (cases.MissingFirst row) =
+    around (codes "row ") row (codes " of its first look: the bytes are missing or were altered")
+case_line (cases.MissingLine row) =
+    around (codes "row ") row (codes " of its lines: the bytes are missing or were altered")
+
 -- what is wrong, in a line
 unfoldable pub fault_line : RecorderFault → List ℕ
 fault_line faults.NoMem = codes "out of memory"
@@ -87,3 +115,4 @@ fault_line (faults.Lines at row) = lines_words at row
 fault_line faults.Unseen = codes "a folder that it watches can't be looked at"
 fault_line faults.TooSlow = codes "its folders hold too much to be looked at in time"
 fault_line faults.Unwritten = codes "it can't be read or written"
+fault_line (faults.Case fault) = case_line fault

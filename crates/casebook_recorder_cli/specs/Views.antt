@@ -1,7 +1,8 @@
 -- The values of the code as the definitions have them.
 use Rattle.std.specs.Prelude.{Option, Some, None, Result, Ok, Err}
 use Rattle.retro_path.specs.OutOfMemory.{UnlessOutOfMemory}
-use Rattle.casebook_recorder_cli.specs.Words.{ObserveValue, StartValue}
+use Rattle.casebook_recorder_cli.specs.Words.{ImportValue, ObserveValue, StartValue}
+use Rattle.casebook_recorder_cli.specs.declared.request.ImportRequest.{ImportRequest}
 use Rattle.casebook_recorder_cli.specs.declared.request.ObserveRequest.{ObserveRequest}
 use Rattle.casebook_recorder_cli.specs.declared.request.RecorderProblem.{RecorderProblem}
 use Rattle.casebook_recorder_cli.specs.declared.request.StartRequest.{StartRequest}
@@ -13,6 +14,9 @@ observe_view request = record { spool = request.spool.now }
 
 abbrev pub start_view : StartRequest → StartValue
 start_view request = record { spool = request.spool.now; folders = request.folders.items }
+
+abbrev pub import_view : ImportRequest → ImportValue
+import_view request = record { spool = request.spool.now }
 
 -- what a fault says of the words: what is wrong with them, or None if memory ran out
 abbrev pub refused : {Y : Type 0} → WordsFault → Option (Result Y RecorderProblem)

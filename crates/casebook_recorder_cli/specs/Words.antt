@@ -1,4 +1,4 @@
--- The command `observe`, as `clap` reads it, and what it asks for.
+-- The commands of the recorder, as `clap` reads them, and what they ask for.
 use Rattle.std.specs.Prelude.{List, [], ◌∷◌, Option, Some, None, Result, Ok, Err, codes}
 use Rattle.std.specs.Prelude.{if◌then◌else◌, is_some, ok_or}
 use Rattle.clap.specs.Words.{Rule, Text}
@@ -10,10 +10,14 @@ use Rattle.retro_edge.specs.Rules.{flag, help_flag, word, words}
 use Rattle.casebook_recorder_cli.specs.declared.request.RecorderProblem.{RecorderProblem}
 use Rattle.casebook_recorder_cli.specs.declared.request.RecorderProblem.TheVariants as problems
 
--- whether a spool is made, which one, and the folders that it watches
+-- of `observe`: whether a spool is made, which one, and the folders that it watches
 abbrev pub observe_rules : List Rule
 observe_rules =
     help_flag ∷ flag (codes "start") ∷ word (codes "spool") ∷ words (codes "folder") ∷ []
+
+-- of `import`: which spool
+abbrev pub import_rules : List Rule
+import_rules = help_flag ∷ word (codes "spool") ∷ []
 
 -- the spool that takes a record
 pub record ObserveValue : Type 0 where
@@ -23,6 +27,10 @@ pub record ObserveValue : Type 0 where
 pub record StartValue : Type 0 where
   pub spool : Text
   pub folders : List PathValue
+
+-- the spool of which the case is written
+pub record ImportValue : Type 0 where
+  pub spool : Text
 
 infixl 10 ◌>>=◌
 abbrev pub ◌>>=◌ : {A B : Type 0} → Result A RecorderProblem → (A → Result B RecorderProblem) → Result B RecorderProblem
@@ -56,3 +64,10 @@ start_in call = do
   spool ← spool_given call
   folders ← folders_given (all_given (codes "folder") call)
   Ok (start_with spool folders)
+
+abbrev pub import_of : Text → Result ImportValue RecorderProblem
+import_of spool = Ok (record { spool = spool })
+
+-- of which spool the case is written
+abbrev pub import_in : Call → Result ImportValue RecorderProblem
+import_in call = spool_given call >>= import_of

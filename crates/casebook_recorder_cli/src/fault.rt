@@ -1,20 +1,22 @@
-//! Why there is no spool, or why a record isn't taken.
+//! Why there is no spool, why a record isn't taken, or why there is no case.
 ghost use Rattle.std.specs.Prelude.{◌≡◌, ◌++◌, IfOk, IsTrue, OnOk, decimal};
 ghost use Rattle.std.specs.List.{list_all};
 ghost use Rattle.casebook_text.specs.SafeText.{is_printable};
 ghost use Rattle.casebook_recorder_cli.specs.Faults.{fault_line, field_words, is_refusal};
-ghost use Rattle.casebook_recorder_cli.specs.Faults.{lines_words, of_observing, of_opening};
-ghost use Rattle.casebook_recorder_cli.specs.Faults.{of_record};
-ghost use Rattle.casebook_recorder_cli.specs.Faults.{open_words, record_words};
+ghost use Rattle.casebook_recorder_cli.specs.Faults.{lines_words, of_case, of_observing};
+ghost use Rattle.casebook_recorder_cli.specs.Faults.{of_opening, of_record, open_words};
+ghost use Rattle.casebook_recorder_cli.specs.Faults.{record_words};
 
 use crate::NoMem;
+use crate::case_line::case_line;
 use crate::spools::OpenError;
+use casebook_case::CaseFault;
 use casebook_observe::{ObserveError, WatchError};
 use casebook_record::{Field, RecordError};
 use casebook_text::SafeLine;
 use std::alloc::Global;
 
-/// Why there is no spool, or why a record isn't taken.
+/// Why there is no spool, why a record isn't taken, or why there is no case.
 #[derive(Clone, Copy, Debug, Drop, PartialEq, Eq)]
 pub enum RecorderFault {
     /// Allocation failed.
@@ -37,6 +39,8 @@ pub enum RecorderFault {
     TooSlow,
     /// The spool can't be read or written.
     Unwritten,
+    /// There is no case.
+    Case(CaseFault),
 }
 
 impl From<OpenError> for RecorderFault {
@@ -73,6 +77,17 @@ impl From<ObserveError> for RecorderFault {
             ObserveError::Watched(WatchError::TooSlow) => RecorderFault::TooSlow,
             ObserveError::Watched(_) => RecorderFault::Unseen,
             ObserveError::Spool(_) => RecorderFault::Unwritten,
+        }
+    }
+}
+
+impl From<CaseFault> for RecorderFault {
+    ghost from_gives = { λ error fault. fault ≡ of_case error };
+
+    fn from(error: CaseFault) -> RecorderFault {
+        match error {
+            CaseFault::NoMem => RecorderFault::NoMem,
+            other => RecorderFault::Case(other),
         }
     }
 }
@@ -132,7 +147,7 @@ fn record_words(error: RecordError) -> &'static str
 }
 
 /// Returns a constant text as a line.
-fn said(alloc: Global, words: &str) -> Result<SafeLine, NoMem>
+pub(crate) fn said(alloc: Global, words: &str) -> Result<SafeLine, NoMem>
     requires { IsTrue (list_all is_printable words.now) }
     ensures { IfOk result (λ line. line ≡ words.now) }
 {
@@ -142,7 +157,12 @@ fn said(alloc: Global, words: &str) -> Result<SafeLine, NoMem>
 }
 
 /// Appends words and a number to a line.
-fn push_counted(alloc: Global, line: &mut SafeLine, words: &str, number: u64) -> Result<(), NoMem>
+pub(crate) fn push_counted(
+    alloc: Global,
+    line: &mut SafeLine,
+    words: &str,
+    number: u64,
+) -> Result<(), NoMem>
     requires { IsTrue (list_all is_printable words.now) }
     ensures { OnOk result (line.new ≡ line.old ++ words.now ++ decimal number) }
 {
@@ -173,6 +193,8 @@ impl RecorderFault {
             | RecorderFault::Record(_)
             | RecorderFault::First
             | RecorderFault::Lines(_, _) => true,
+            RecorderFault::Case(CaseFault::NoMem | CaseFault::Unread) => false,
+            RecorderFault::Case(_) => true,
             _ => false,
         }
     }
@@ -196,6 +218,7 @@ impl RecorderFault {
                 "its folders hold too much to be looked at in time",
             ),
             RecorderFault::Unwritten => said(alloc, "it can't be read or written"),
+            RecorderFault::Case(fault) => case_line(alloc, fault),
         }
     }
 }

@@ -1,9 +1,9 @@
 //! Requests to the recorder.
 ghost use Rattle.std.specs.Prelude.{◌≡◌, map, option_map};
 ghost use Rattle.retro_edge.specs.Calls.{call_view};
-ghost use Rattle.casebook_recorder_cli.specs.Views.{Means, observe_view, start_view};
-ghost use Rattle.casebook_recorder_cli.specs.Words.{folders_given, observe_in, spool_given};
-ghost use Rattle.casebook_recorder_cli.specs.Words.{start_in};
+ghost use Rattle.casebook_recorder_cli.specs.Views.{Means, import_view, observe_view, start_view};
+ghost use Rattle.casebook_recorder_cli.specs.Words.{folders_given, import_in, observe_in};
+ghost use Rattle.casebook_recorder_cli.specs.Words.{spool_given, start_in};
 ghost use Rattle.casebook_recorder_cli.specs.declared.request.WordsFault.TheVariants as faults;
 
 use crate::NoMem;
@@ -65,6 +65,13 @@ pub struct StartRequest<'a> {
     pub folders: Vec<Path>,
 }
 
+/// The case of which spool is written.
+#[derive(Clone, Copy, Debug, Drop, PartialEq, Eq)]
+pub struct ImportRequest<'a> {
+    /// The name of the spool.
+    pub spool: &'a str,
+}
+
 /// Returns the name of the spool.
 fn spool_given<'a>(call: &CommandCall<'a>) -> Result<&'a str, WordsFault>
     ensures { Means (λ s. s.now) result (spool_given (call_view call.now)) }
@@ -107,4 +114,12 @@ pub fn start_request<'a>(
     let spool = spool_given(call)?;
     let folders = folders_given(alloc, call.texts_of("folder"))?;
     Ok(StartRequest { spool, folders })
+}
+
+/// Returns of which spool `import` writes the case.
+pub fn import_request<'a>(call: &CommandCall<'a>) -> Result<ImportRequest<'a>, WordsFault>
+    ensures { Means import_view result (import_in (call_view call.now)) }
+{
+    let spool = spool_given(call)?;
+    Ok(ImportRequest { spool })
 }

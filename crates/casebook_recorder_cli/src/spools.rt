@@ -2,6 +2,7 @@
 ghost use Rattle.std.specs.Prelude.{◌≡◌, IfOk, IfSome, Option, Some};
 ghost use Rattle.casebook_recorder_cli.specs.Spools.{AllSpools, empty};
 
+use casebook_case::SpoolSource;
 use casebook_observe::{Spool, Watched};
 use retro_path::Path;
 use std::alloc::Global;
@@ -53,6 +54,9 @@ pub trait Spools {
     /// Folders that are open to be looked at.
     type Seen: Watched + Drop;
 
+    /// A spool that is open to be read.
+    type Source: SpoolSource + Drop;
+
     // What the spools with names hold, what a look at folders finds, and what was sent by whom; or
     // `None` where nothing is said of that.
     ghost spools: { Self → Option AllSpools };
@@ -77,6 +81,12 @@ pub trait Spools {
         ensures { IfSome (spools self.now) (λ all. IfOk result (λ opened.
             (Self.Kept.holds opened.spool ≡ Some (all.held name.now))
             × (Self.Seen.finds opened.watched ≡ Some (all.found (all.watched name.now))))) };
+
+    /// Opens the spool with a name to be read: its files as they are at one moment. Its folders
+    /// needn't be there.
+    fn spool_source(&self, alloc: Global, name: &str) -> Result<Self::Source, OpenError>
+        ensures { IfSome (spools self.now) (λ all. IfOk result (λ source.
+            Self.Source.holds source ≡ Some (all.held name.now))) };
 
     /// Makes a spool with a name, for folders, and opens it. It has no first look.
     fn make_spool(

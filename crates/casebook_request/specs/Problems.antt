@@ -10,6 +10,7 @@ problem_words problems.NotText = codes "a word of the command line isn't UTF-8"
 problem_words problems.Words = codes "these words are no command with its options; see casebook help"
 problem_words problems.Topic = codes "there is no help on this; see casebook help"
 problem_words problems.NoLog = codes "no LOG is given; see casebook help"
+problem_words problems.NoCase = codes "no CASE is given; see casebook help log"
 problem_words problems.InputTwice = codes "- is standard input, which can be named once"
 problem_words problems.NoList = codes "no --cancel LIST is given; see casebook help show"
 problem_words problems.Replace = codes "--replace: not a list like [[4,\"cat f\"]]"
@@ -47,8 +48,7 @@ problem_words (problems.Folder folder_problems.NoSessions) =
     codes "no --sessions FILE is given; see casebook help script"
 problem_words (problems.Folder folder_problems.NoLines) =
     codes "no --lines FILE is given; see casebook help script"
-problem_words (problems.Recorder recorder_problems.NoSpool) =
-    codes "no SPOOL is given; see casebook help observe"
+problem_words (problems.Recorder recorder_problems.NoSpool) = codes "no SPOOL is given; see casebook help"
 problem_words (problems.Recorder recorder_problems.NoFolder) =
     codes "--start needs a FOLDER after SPOOL; see casebook help observe"
 problem_words (problems.Recorder recorder_problems.HasFolder) = codes "FOLDER needs --start"

@@ -17,7 +17,8 @@ use Rattle.casebook_folder_cli.specs.Words.{ComparedValue, SnapshotValue, compar
 use Rattle.casebook_folder_cli.specs.declared.request.FolderFault.{FolderFault}
 use Rattle.casebook_folder_cli.specs.declared.request.FolderFault.TheVariants as folder_faults
 use Rattle.casebook_folder_cli.specs.declared.request.FolderProblem.{FolderProblem}
-use Rattle.casebook_recorder_cli.specs.Words.{ObserveValue, StartValue, observe_in, start_in}
+use Rattle.casebook_recorder_cli.specs.Words.{ImportValue, ObserveValue, StartValue}
+use Rattle.casebook_recorder_cli.specs.Words.{import_in, observe_in, start_in}
 use Rattle.casebook_recorder_cli.specs.declared.request.RecorderProblem.{RecorderProblem}
 use Rattle.casebook_recorder_cli.specs.declared.request.WordsFault.{WordsFault as RecorderFault}
 use Rattle.casebook_recorder_cli.specs.declared.request.WordsFault.TheVariants as recorder_faults
@@ -32,7 +33,7 @@ use Rattle.casebook_request.specs.declared.format.Format.TheVariants as formats
 use Rattle.casebook_request.specs.declared.folder_help.TheConstants.{COMPARE, RESTORE, SCRIPT, SNAPSHOT}
 use Rattle.casebook_request.specs.declared.document_help.TheConstants.{DOCUMENTS, LISTS, PROFILE, REFUSALS}
 use Rattle.casebook_request.specs.declared.help.TheConstants.{PROGRAM, LINES, SHOW, PAGE, CHECK}
-use Rattle.casebook_request.specs.declared.recorder_help.TheConstants.{OBSERVE}
+use Rattle.casebook_request.specs.declared.recorder_help.TheConstants.{IMPORT, LOG, OBSERVE}
 use Rattle.casebook_request.specs.declared.path_filters.NamedPath.{NamedPath}
 use Rattle.casebook_request.specs.declared.path_filters.PathFilters.{PathFilters}
 use Rattle.casebook_request.specs.declared.problem.Problem.{Problem}
@@ -87,13 +88,14 @@ pub record PageRequest : Type 0 where
   pub title : Option Text
   pub all : Bool
 
--- a question about documents: which lines are in a log, what a repair would do, that as a page, and
--- whether a document is a recording of its lines, or a script
+-- a question about documents: which lines are in a log, what a repair would do, that as a page,
+-- whether a document is a recording of its lines, or a script, and which log explains a case
 pub data Query : Type 0 where
   lines : LinesRequest → Query
   show : ShowRequest → Query
   page : PageRequest → Query
   check : Text → Query
+  case_log : Text → Query
 
 -- which recording is compared with which snapshot
 pub record CompareValue : Type 0 where
@@ -115,6 +117,7 @@ pub data Request : Type 0 where
   script : ScriptValue → Request
   start : StartValue → Request
   observe : ObserveValue → Request
+  import : ImportValue → Request
 
 -- ---- steps, of which the first problem ends them
 
@@ -139,6 +142,8 @@ topic_in text =
     else if is_text (codes "restore") text then Some topics.Restore
     else if is_text (codes "script") text then Some topics.Script
     else if is_text (codes "observe") text then Some topics.Observe
+    else if is_text (codes "import") text then Some topics.Import
+    else if is_text (codes "log") text then Some topics.Log
     else if is_text (codes "lists") text then Some topics.Lists
     else if is_text (codes "documents") text then Some topics.Documents
     else if is_text (codes "refusals") text then Some topics.Refusals
@@ -165,6 +170,8 @@ help_text topics.Compare = COMPARE.now
 help_text topics.Restore = RESTORE.now
 help_text topics.Script = SCRIPT.now
 help_text topics.Observe = OBSERVE.now
+help_text topics.Import = IMPORT.now
+help_text topics.Log = LOG.now
 help_text topics.Lists = LISTS.now
 help_text topics.Documents = DOCUMENTS.now
 help_text topics.Refusals = REFUSALS.now
@@ -182,6 +189,9 @@ is_given name call = is_set (given name call)
 
 abbrev pub log_given : Call → Result Text Problem
 log_given call = ok_or (given (codes "log") call) problems.NoLog
+
+abbrev pub case_given : Call → Result Text Problem
+case_given call = ok_or (given (codes "case") call) problems.NoCase
 
 abbrev pub some_or : {A : Type 0} → Problem → Option A → Result (Option A) Problem
 some_or problem None = Err problem
@@ -398,6 +408,7 @@ query_in call =
     else if is_text (codes "show") call.name then result_map show (show_request call)
     else if is_text (codes "page") call.name then result_map page (page_request call)
     else if is_text (codes "check") call.name then result_map check (log_given call)
+    else if is_text (codes "log") call.name then result_map case_log (case_given call)
     else Err problems.Words
 
 -- what is wrong with the words of a command about folders
@@ -457,6 +468,7 @@ command_request call =
     else if is_text (codes "restore") call.name then restore_asked call
     else if is_text (codes "script") call.name then in_folder script (script_asked call)
     else if is_text (codes "observe") call.name then observe_asked call
+    else if is_text (codes "import") call.name then in_recorder import (import_in call)
     else result_map ask (query_in call)
 
 abbrev pub request_of : Named → Result Request Problem

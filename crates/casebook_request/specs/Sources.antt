@@ -1,6 +1,6 @@
 -- The documents that a request names.
 use Rattle.std.specs.Prelude.{ℕ, ◌==◌, if◌then◌else◌, List, [], ◌∷◌, Option, Some, None}
-use Rattle.casebook_request.specs.Request.{Query, RepairRequest, check, lines, page, show}
+use Rattle.casebook_request.specs.Request.{Query, RepairRequest, case_log, check, lines, page, show}
 
 -- the names of the log, of the document with the list of lines to cancel, and of that with names
 -- and times
@@ -30,3 +30,4 @@ sources_of (lines request) = record { log = request.log; list = None; about = re
 sources_of (show request) = repair_sources request.repair
 sources_of (page request) = repair_sources request.repair
 sources_of (check log) = record { log = log; list = None; about = None }
+sources_of (case_log case) = record { log = case; list = None; about = None }

@@ -5,7 +5,7 @@ use Rattle.retro_edge.specs.Rules.{flag, help_flag, option, with_command, word}
 use Rattle.casebook_folder_cli.specs.RestoreWords.{restore_rules}
 use Rattle.casebook_folder_cli.specs.ScriptWords.{script_rules}
 use Rattle.casebook_folder_cli.specs.Words.{compare_rules, snapshot_rules}
-use Rattle.casebook_recorder_cli.specs.Words.{observe_rules}
+use Rattle.casebook_recorder_cli.specs.Words.{import_rules, observe_rules}
 
 -- ---- the command line
 
@@ -49,6 +49,9 @@ page_rules = repair_rules ++ (option (codes "title") ∷ flag (codes "all") ∷ 
 abbrev pub check_rules : List Rule
 check_rules = help_flag ∷ word (codes "log") ∷ []
 
+abbrev pub log_rules : List Rule
+log_rules = help_flag ∷ word (codes "case") ∷ []
+
 -- help is a command of the program's own, and no command is required
 abbrev pub bare : App
 bare = record {
@@ -79,4 +82,7 @@ without_recorder =
     (codes "script") script_rules
 
 abbrev pub program : App
-program = with_command without_recorder (codes "observe") observe_rules
+program =
+    with_command
+    (with_command (with_command without_recorder (codes "observe") observe_rules) (codes "import") import_rules)
+    (codes "log") log_rules

@@ -9,7 +9,7 @@ ghost use Rattle.casebook_request.specs.Views.{Means, compare_view, folder_repai
 ghost use Rattle.casebook_request.specs.Views.{query_view, request_view};
 
 use crate::line_options::lines_request;
-use crate::options::{is_given, log_of};
+use crate::options::{case_of, is_given, log_of};
 use crate::problem::Problem;
 use crate::query::Query;
 use crate::repair_options::{page_request, repair_request, show_request};
@@ -19,7 +19,7 @@ use crate::words::{WordsFault, call_in};
 use casebook_folder_cli::{
     compared_snapshot, restore_request, script_request, snapshot_request, undo_request,
 };
-use casebook_recorder_cli::{observe_request, start_request};
+use casebook_recorder_cli::{import_request, observe_request, start_request};
 use retro_edge::{CallFault, CommandCall};
 use std::alloc::Global;
 
@@ -38,6 +38,8 @@ fn topic_of(text: &str) -> Option<Topic>
         "restore" => Some(Topic::Restore),
         "script" => Some(Topic::Script),
         "observe" => Some(Topic::Observe),
+        "import" => Some(Topic::Import),
+        "log" => Some(Topic::Log),
         "lists" => Some(Topic::Lists),
         "documents" => Some(Topic::Documents),
         "refusals" => Some(Topic::Refusals),
@@ -76,6 +78,7 @@ fn query_of<'a>(alloc: Global, call: &CommandCall<'a>) -> Result<Query<'a>, Word
         "show" => Ok(Query::Show(show_request(alloc, call)?)),
         "page" => Ok(Query::Page(page_request(alloc, call)?)),
         "check" => Ok(Query::Check(log_of(call)?)),
+        "log" => Ok(Query::Log(case_of(call)?)),
         _ => Err(WordsFault::Bad(Problem::Words)),
     }
 }
@@ -154,6 +157,9 @@ fn command_request<'a>(alloc: Global, call: &CommandCall<'a>) -> Result<Request<
     }
     if call.name == "observe" {
         return observe_of(alloc, call);
+    }
+    if call.name == "import" {
+        return Ok(Request::Import(import_request(call)?));
     }
     Ok(Request::Ask(query_of(alloc, call)?))
 }

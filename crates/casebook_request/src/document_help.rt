@@ -35,6 +35,9 @@ LOG is a log as `retro record` and `retro relog` write it: JSON with the files a
 sessions at the start, and the lines with what they read, changed and printed.
 `retro record` makes it of a script: the files, sessions and lines alone.
 
+CASE is a case as `casebook import` writes it: JSON with what the recorder saw of a
+machine. `casebook log` makes a log of it.
+
 The FILE of --about says who typed in which session, and when. It is JSON like this,
 of which both lists may be missing:
 

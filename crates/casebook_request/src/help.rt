@@ -4,7 +4,7 @@ ghost use Rattle.casebook_request.specs.Request.{help_text};
 
 use crate::document_help::{DOCUMENTS, LISTS, PROFILE, REFUSALS};
 use crate::folder_help::{COMPARE, RESTORE, SCRIPT, SNAPSHOT};
-use crate::recorder_help::OBSERVE;
+use crate::recorder_help::{IMPORT, LOG, OBSERVE};
 use crate::topic::Topic;
 
 /// Help on the program.
@@ -14,7 +14,8 @@ casebook - what an intruder's commands led to, and what to do about it
 A log holds lines of shell, what each line read and wrote, and what it printed.
 `retro record` makes it of a script that somebody wrote: it plays the lines in
 retro's own shell. What people's shells do on a real machine `casebook observe`
-keeps in a spool, of which nothing makes a log yet.
+keeps in a spool, `casebook import` writes as a document, and `casebook log` makes a
+log of that.
 
 casebook reads a log. It shows which lines there are, and what would be if some of
 them had never run: which files to restore, whom to tell what, and what leaked. It
@@ -41,8 +42,12 @@ it is told to restore, and spools.
         What would change in a folder, and with --apply the change itself.
     casebook observe [--start] SPOOL [FOLDER..]
         Keeps what lines do in folders: for the hook of the recorder.
+    casebook import SPOOL
+        What was kept, as a document: a case.
+    casebook log CASE
+        A log that explains it, line by line.
     casebook help [lines|show|page|check|snapshot|script|compare|restore|observe|
-                   lists|documents|refusals|profile]
+                   import|log|lists|documents|refusals|profile]
         This text, or more on a command, on lists of lines, on the documents that
         casebook reads, on why it refuses them, or on what a line may be.
 
@@ -285,6 +290,8 @@ pub fn help_text(topic: Topic) -> &'static str
         Topic::Restore => RESTORE,
         Topic::Script => SCRIPT,
         Topic::Observe => OBSERVE,
+        Topic::Import => IMPORT,
+        Topic::Log => LOG,
         Topic::Lists => LISTS,
         Topic::Documents => DOCUMENTS,
         Topic::Refusals => REFUSALS,

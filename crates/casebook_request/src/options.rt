@@ -1,8 +1,8 @@
 //! What the words of the command line give a command.
 ghost use Rattle.std.specs.Prelude.{◌≡◌, option_map};
 ghost use Rattle.retro_text.specs.Numbers.{number_in};
-ghost use Rattle.casebook_request.specs.Request.{is_given, is_input_twice, log_given, once};
-ghost use Rattle.casebook_request.specs.Request.{read_option};
+ghost use Rattle.casebook_request.specs.Request.{case_given, is_given, is_input_twice, log_given};
+ghost use Rattle.casebook_request.specs.Request.{once, read_option};
 ghost use Rattle.retro_edge.specs.Calls.{call_view};
 ghost use Rattle.casebook_request.specs.Views.{Means};
 
@@ -16,6 +16,13 @@ pub(crate) fn log_of<'a>(call: &CommandCall<'a>) -> Result<&'a str, WordsFault>
     ensures { Means (λ s. s.now) result (log_given (call_view call.now)) }
 {
     call.text_of("log").ok_or(WordsFault::Bad(Problem::NoLog))
+}
+
+/// Returns the case that a command is given.
+pub(crate) fn case_of<'a>(call: &CommandCall<'a>) -> Result<&'a str, WordsFault>
+    ensures { Means (λ s. s.now) result (case_given (call_view call.now)) }
+{
+    call.text_of("case").ok_or(WordsFault::Bad(Problem::NoCase))
 }
 
 /// Returns whether more than one of a log, a list and a document with names and times is standard

@@ -19,6 +19,8 @@ pub enum Problem {
     Topic,
     /// No log is named.
     NoLog,
+    /// No case is named.
+    NoCase,
     /// Standard input is named as two documents.
     InputTwice,
     /// No list of lines to cancel is given, and no lines to replace.
@@ -69,6 +71,7 @@ impl Problem {
             Problem::Words => "these words are no command with its options; see casebook help",
             Problem::Topic => "there is no help on this; see casebook help",
             Problem::NoLog => "no LOG is given; see casebook help",
+            Problem::NoCase => "no CASE is given; see casebook help log",
             Problem::InputTwice => "- is standard input, which can be named once",
             Problem::NoList => "no --cancel LIST is given; see casebook help show",
             Problem::Replace => "--replace: not a list like [[4,\"cat f\"]]",
@@ -110,8 +113,7 @@ impl Problem {
                 "no --sessions FILE is given; see casebook help script",
             Problem::Folder(FolderProblem::NoLines) =>
                 "no --lines FILE is given; see casebook help script",
-            Problem::Recorder(RecorderProblem::NoSpool) =>
-                "no SPOOL is given; see casebook help observe",
+            Problem::Recorder(RecorderProblem::NoSpool) => "no SPOOL is given; see casebook help",
             Problem::Recorder(RecorderProblem::NoFolder) =>
                 "--start needs a FOLDER after SPOOL; see casebook help observe",
             Problem::Recorder(RecorderProblem::HasFolder) => "FOLDER needs --start",

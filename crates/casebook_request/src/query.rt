@@ -18,6 +18,8 @@ pub enum Query<'a> {
     Page(PageRequest<'a>),
     /// Whether the document with this name is a recording of its lines, or a script.
     Check(&'a str),
+    /// Which log explains the case with this name.
+    Log(&'a str),
 }
 
 /// Returns the name that is given after `@`.
@@ -53,6 +55,11 @@ impl<'a> Query<'a> {
             Query::Page(request) => repair_sources(&request.repair),
             Query::Check(log) => Sources {
                 log,
+                list: None,
+                about: None,
+            },
+            Query::Log(case) => Sources {
+                log: case,
                 list: None,
                 about: None,
             },

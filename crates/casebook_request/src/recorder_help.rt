@@ -28,8 +28,62 @@ folders with strictatime, or only what lines write is known.
     casebook observe --start /var/lib/retro/spool /srv /home
 
 SPOOL's files are text, but for the contents; docs/FORMATS.md says how to read them.
-Nothing makes a log of them yet.
+`casebook import SPOOL` writes them as one document.
 
 Exit status: 0 done, 1 what was sent isn't a record, or SPOOL is damaged or there
 already, 3 a folder or SPOOL can't be read or written, or somebody else has it.
+";
+
+/// Help on the command `import`.
+pub(crate) const IMPORT: &str = "\
+casebook import SPOOL > CASE
+
+Writes what `casebook observe` kept in SPOOL as one document, a case: JSON with the
+first look at the folders, the observations since, and the bytes of files that both
+name. All of it is as it is in SPOOL, and nothing is worked out of it; docs/FORMATS.md
+describes it.
+
+SPOOL isn't changed, and its folders needn't be there. The observations are those of
+one moment. Records that are sent while they are read wait, those that are sent
+later aren't in the case, and nobody waits while the bytes of files are read.
+
+A CASE has what was typed and what the files held. So nobody should read it who may
+not read SPOOL:
+
+    (umask 077; casebook import /var/lib/retro/spool > case.json)
+
+Bytes are in a case once, however often they are named. If some are missing that are
+named, or were altered, nothing is written, and standard error has the first row that
+names them.
+
+Exit status: 0 done, 1 SPOOL is damaged, or bytes are missing, 3 there is no SPOOL, it
+can't be read, or somebody else has it.
+";
+
+/// Help on the command `log`.
+pub(crate) const LOG: &str = "\
+casebook log CASE > LOG
+
+Writes a log that explains a case: its lines lead from each state that was observed to
+the next one. retro and casebook's other commands read it.
+
+A line has the text that was typed if retro's shell knows what it means, and does just
+what was seen. Any other one stands as one or several lines that do what was seen:
+
+    cp /.casebook/62/1 /srv/prices; cd /srv
+
+Here 62 is the place of the line in the case, counted from 1, and /.casebook has what
+it wrote. Such a line does the same whatever happened before it. A repair takes that
+for all that it did, although it may have read what would be another: what it read
+isn't in the log.
+
+What somebody did while no line was open is a line of session 0. The other sessions are
+numbered from 1 on, in the order in which they began. A link, a file that is too large
+or one that couldn't be read is a file of the log with a text that says what it is.
+
+    casebook log case.json > log.json
+    casebook lines log.json --session 2
+
+Exit status: 0 done, 1 CASE is no case, or what it says can't be: then standard error
+has the first line or row that is wrong; 3 CASE can't be read.
 ";

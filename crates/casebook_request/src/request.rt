@@ -5,7 +5,7 @@ use crate::topic::Topic;
 use casebook_folder_cli::{
     ComparedSnapshot, RestoreRequest, ScriptRequest, SnapshotRequest, UndoRequest,
 };
-use casebook_recorder_cli::{ObserveRequest, StartRequest};
+use casebook_recorder_cli::{ImportRequest, ObserveRequest, StartRequest};
 
 /// Which recording is compared with which snapshot.
 #[derive(Drop)]
@@ -46,4 +46,6 @@ pub enum Request<'a> {
     Start(StartRequest<'a>),
     /// Take a record.
     Observe(ObserveRequest<'a>),
+    /// Write the case of a spool.
+    Import(ImportRequest<'a>),
 }

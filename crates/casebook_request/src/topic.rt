@@ -23,6 +23,10 @@ pub enum Topic {
     Script,
     /// The command `observe`.
     Observe,
+    /// The command `import`.
+    Import,
+    /// The command `log`.
+    Log,
     /// Lists of lines.
     Lists,
     /// The documents that the program reads.

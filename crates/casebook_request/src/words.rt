@@ -7,9 +7,9 @@ ghost use Rattle.retro_edge.specs.Calls.{Names, named_in};
 ghost use Rattle.retro_edge.specs.Rules.{command};
 ghost use Rattle.casebook_request.specs.Request.{folder_fault, recorder_fault};
 ghost use Rattle.casebook_request.specs.Words.{bare, check_rules, edit_rules, help_rules};
-ghost use Rattle.casebook_request.specs.Words.{lines_rules, number_rules, page_rules, path_rules};
-ghost use Rattle.casebook_request.specs.Words.{pattern_rules, program, repair_rules, show_rules};
-ghost use Rattle.casebook_request.specs.Words.{without_recorder, without_repairs};
+ghost use Rattle.casebook_request.specs.Words.{lines_rules, log_rules, number_rules, page_rules};
+ghost use Rattle.casebook_request.specs.Words.{path_rules, pattern_rules, program, repair_rules};
+ghost use Rattle.casebook_request.specs.Words.{show_rules, without_recorder, without_repairs};
 ghost use Rattle.casebook_request.specs.declared.words.WordsFault.TheVariants as faults;
 
 use crate::NoMem;
@@ -184,6 +184,15 @@ fn check_command<'a>(alloc: Global) -> Result<Command<'a>, NoMem>
     bare_command(alloc, "check")?.arg(word(alloc, "log"))
 }
 
+/// Returns the command that writes the log of a case.
+fn log_command<'a>(alloc: Global) -> Result<Command<'a>, NoMem>
+    ensures shape { IfOk result (λ c.
+        app_of c ≡ record { top = command (codes "log") log_rules; subs = [] }) }
+    ensures local { IfOk result (λ c. (fields_of c).has_globals ≡ false) }
+{
+    bare_command(alloc, "log")?.arg(word(alloc, "case"))
+}
+
 /// Returns the program's command line without its commands. Of `clap`'s own help nothing is left.
 fn bare_program<'a>(alloc: Global) -> Result<Command<'a>, NoMem>
     ensures { IfOk result (λ c. app_of c ≡ bare) }
@@ -221,7 +230,10 @@ fn program_without_recorder<'a>(alloc: Global) -> Result<Command<'a>, NoMem>
 fn program_command<'a>(alloc: Global) -> Result<Command<'a>, NoMem>
     ensures { IfOk result (λ c. app_of c ≡ program) }
 {
-    program_without_recorder(alloc)?.subcommand(recorder::observe_command(alloc)?)
+    program_without_recorder(alloc)?
+        .subcommand(recorder::observe_command(alloc)?)?
+        .subcommand(recorder::import_command(alloc)?)?
+        .subcommand(log_command(alloc)?)
 }
 
 /// Returns the command that words name, as `clap` reads them, or `None` if they name none.
