@@ -1,5 +1,5 @@
 -- Why there is no answer.
-use Rattle.std.specs.Prelude.{◌≡◌, ◌≢◌, ℕ, ℤ, false, IfSome, List, [], Option, Some, None, Ok, Err}
+use Rattle.std.specs.Prelude.{◌≡◌, ◌≢◌, ℕ, ℤ, IfSome, List, [], Option, Some, None, Ok, Err}
 use Rattle.std.specs.List.{slice_get}
 use Rattle.std.specs.Str.{IsUtf8}
 use Rattle.regex.specs.Sources.{IsRefusal as IsRefusedAs}
