@@ -11,9 +11,10 @@
 //!
 //! # What is proved
 //!
-//! - [`told_case`] returns told lines that tell exactly the lines that a case says, from the state
-//!   that it says was there before them (`IsToldOf` in `specs/Told.antt`) [`ok`]. Its fault is the
-//!   first one that there is [`err`].
+//! - [`told_case`] returns the sessions and the lines that a case says [`sessions`, `lines`], and
+//!   told lines that tell exactly these lines, from the state that the case says was there before
+//!   them (`IsToldOf` in `specs/Told.antt`) [`ok`]. Its fault is the first one that there is
+//!   [`err`].
 //! - [`case_log`] returns the log of the recording of such lines, with the notes of their runs alone,
 //!   for bytes that are a case (`IsLogOf` in `specs/Logs.antt`) [`ok`]. Otherwise its fault is that
 //!   of the bytes or of the lines [`err`].
@@ -28,7 +29,7 @@ mod telling;
 pub use logging::case_log;
 pub use recording_fault::RecordingFault;
 pub use refusal::CaseRefusal;
-pub use telling::told_case;
+pub use telling::{ToldCase, told_case};
 
 /// Allocation failed.
 pub use retro_tree::NoMem;

@@ -15,8 +15,8 @@ fn recording_of(alloc: Global, case: &Case) -> Result<Recording, RecordingFault>
     ensures ok { IfOk result (λ recording. IsRecordingOf case.now recording) }
     ensures err { IfErr result (IsUnrecorded case.now) }
 {
-    let told = told_case(alloc, case)?;
-    Ok(told.into_recording(alloc, Noting::RunsAlone)?)
+    let found = told_case(alloc, case)?;
+    Ok(found.told.into_recording(alloc, Noting::RunsAlone)?)
 }
 
 /// Returns the log of a case, by the bytes of its document.

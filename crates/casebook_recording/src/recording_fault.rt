@@ -8,6 +8,7 @@ use casebook_case::CaseFault;
 use casebook_explain::{LineFault, TellFault};
 use casebook_import::ImportError;
 use casebook_typed::TypedError;
+use std::alloc::AllocFailed;
 
 /// Why a case has no recording.
 #[derive(Drop)]
@@ -32,6 +33,14 @@ impl From<NoMem> for RecordingFault {
     ghost from_gives = { λ _ fault. fault ≡ faults.NoMem };
 
     fn from(_error: NoMem) -> RecordingFault {
+        RecordingFault::NoMem
+    }
+}
+
+impl<T: Drop> From<AllocFailed<T>> for RecordingFault {
+    ghost from_gives = { λ _ fault. fault ≡ faults.NoMem };
+
+    fn from(_error: AllocFailed<T>) -> RecordingFault {
         RecordingFault::NoMem
     }
 }

@@ -8,5 +8,12 @@ returns-in_err-into_recording-clause-err c =
     err_from_is_err_and c.from_residual-in_err-into_recording.result
     c.from_residual-in_err-into_recording.ensures.1 in
     rw (p.1, p.2)
-    (not_recorded c.args.case.now c.in_ok-told.told c.in_ok-told.ensures.ok
+    (not_recorded c.args.case.now c.in_ok-found.found.told c.in_ok-found.ensures.ok
     c.in_err-into_recording.field-0.0 c.in_err-into_recording.ensures.fault)
+
+pub returns-clause-ok : goal.returns-clause-ok
+returns-clause-ok c = record {
+  told = c.in_ok-found.found.told;
+  is_told = c.in_ok-found.ensures.ok;
+  is_recording = c.in_ok-into_recording.ensures.recording;
+}

@@ -8,10 +8,9 @@ use Rattle.casebook_recording.proofs.telling.imported.Goals as goal
 pub returns-in_err-import-clause-err : goal.returns-in_err-import-clause-err
 returns-in_err-import-clause-err c =
     let p =
-    err_from_is_err_and c.from_residual-in_err-import.result
-    c.from_residual-in_err-import.ensures.1 in
+    err_from_is_err_and c.from_residual.result c.from_residual.ensures.1 in
     rw (p.1, p.2)
     (not_imported c.args.case.now c.in_err-import.field-0.0
-    (λ is. many c.in_ok-typed.typed.sessions.items c.in_ok-typed.typed.lines.items
-    (sessions_in c.args.case.now) (lines_in c.args.case.now) c.in_ok-typed.ensures.sessions
-    c.in_ok-typed.ensures.lines (c.in_err-import.ensures.many (ap Err is))))
+    (λ is. many c.args.typed.now.sessions.items c.args.typed.now.lines.items
+    (sessions_in c.args.case.now) (lines_in c.args.case.now) c.requires.sessions
+    c.requires.lines (c.in_err-import.ensures.many (ap Err is))))
