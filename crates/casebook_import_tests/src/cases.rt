@@ -124,11 +124,17 @@ pub fn logged(alloc: Global, document: &[u8]) -> Result<String, Fail> {
     })
 }
 
-/// Returns the same of the log of a spool's case.
-pub fn log(alloc: Global, first: &str, history: &str) -> Result<String, Fail> {
+/// Returns the document of a spool's case.
+pub fn document(alloc: Global, first: &str, history: &str) -> Result<Vec<u8>, Fail> {
     let spool = spool(alloc, first, history)?;
     match spool_case(alloc, &spool) {
-        Ok(text) => logged(alloc, text.as_slice()),
+        Ok(text) => Ok(text),
         Err(_) => fail("no case"),
     }
+}
+
+/// Returns the same of the log of a spool's case.
+pub fn log(alloc: Global, first: &str, history: &str) -> Result<String, Fail> {
+    let document = document(alloc, first, history)?;
+    logged(alloc, document.as_slice())
 }

@@ -1,4 +1,6 @@
 //! The call that each row names, and the test that makes these calls.
+use crate::account_tables::ACCOUNTS;
+use crate::accounts::{account, repaired, shown};
 use crate::calls::{after, first, told};
 use crate::case_tables::{CASES, LOGS, READINGS};
 use crate::cases::{case, log, logged, read};
@@ -16,6 +18,9 @@ fn called(alloc: Global, call: &str, given: &[String]) -> Result<String, Fail> {
         ("case", [look, history]) => case(alloc, look, history),
         ("read", [document]) => read(alloc, document),
         ("log", [look, history]) => log(alloc, look, history),
+        ("account", [look, history]) => account(alloc, look, history),
+        ("shown", [look, history]) => shown(alloc, look, history),
+        ("repaired", [look, history, edits]) => repaired(alloc, look, history, edits),
         ("logged", [document]) => logged(alloc, document.as_bytes()),
         _ => fail("no such call"),
     }
@@ -33,7 +38,7 @@ fn hold(alloc: Global, table: &str) -> Result<(), Fail> {
 
 #[test]
 fn rows_hold(rt: HostRuntime) -> Result<(), Fail> {
-    for table in [NODES, SESSIONS, LINES, CASES, READINGS, LOGS] {
+    for table in [NODES, SESSIONS, LINES, CASES, READINGS, LOGS, ACCOUNTS] {
         hold(rt.alloc(), table)?;
     }
     Ok(())

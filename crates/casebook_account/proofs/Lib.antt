@@ -1,0 +1,5 @@
+mod EditLists
+mod Fronts
+mod Printed
+pub mod Rising
+mod Telling

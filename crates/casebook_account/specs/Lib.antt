@@ -1,0 +1,6 @@
+pub mod Machine
+pub mod Faults
+pub mod Accounts
+pub mod Edits
+pub mod Ours
+pub mod Shown
