@@ -10,6 +10,7 @@ use Rattle.casebook_profile.specs.declared.unknown_line.UnknownLine.{UnknownLine
 use Rattle.casebook_view.specs.Effects.{EffectValue, effect_value}
 use Rattle.casebook_view.specs.Groups.{GroupValue, group_value}
 use Rattle.casebook_view.specs.Reasons.{cause_in, failing_in, reason_at}
+use Rattle.casebook_view.specs.Sources.{SourceValue}
 use Rattle.casebook_view.specs.declared.effect.Effect.{Effect}
 use Rattle.casebook_view.specs.declared.fate.Fate.{Fate}
 use Rattle.casebook_view.specs.declared.group.Group.{Group}
@@ -26,6 +27,7 @@ use Rattle.casebook_json.specs.Counts.{counts_data}
 use Rattle.casebook_json.specs.Leaked.{leak_data}
 use Rattle.casebook_json.specs.Lines.{line_data, line_with_reason, origin_in, why_or_null}
 use Rattle.casebook_json.specs.Restore.{added_in, removed_in, restoration_data}
+use Rattle.casebook_json.specs.Source.{observed_in}
 use Rattle.casebook_json.specs.Summary.{summary_data, summary_with}
 use Rattle.casebook_json.specs.Tell.{group_data, subject_path, subject_variable}
 use Rattle.casebook_json.specs.Unknown.{unknown_data}
@@ -117,10 +119,10 @@ unfolding counts_data
 counts_low fates = omega arith
 
 pub summary_low : (r : RecordingValue) (summary : Summary) (restorations : List Restoration)
-    (groups : List Group) (is_recording : Bool) (labels : Labels)
-    → depth (summary_data r summary restorations groups is_recording labels) ≤ max_depth
+    (groups : List Group) (is_recording : Bool) (source : SourceValue) (labels : Labels)
+    → depth (summary_data r summary restorations groups is_recording source labels) ≤ max_depth
 unfolding summary_with
-summary_low r summary restorations groups is_recording labels =
+summary_low r summary restorations groups is_recording source labels =
     let a =
     items_low (λ (e : Effect). effect_data (effect_value e)) 2 (λ e. effect_low (effect_value e))
     summary.effects.items in
@@ -135,4 +137,5 @@ summary_low r summary restorations groups is_recording labels =
     (λ g. group_low labels (group_value g)) groups in
     let g = items_low path_data 0 (λ p. omega arith) summary.doubtful.items in
     let h = items_low unknown_data 1 unknown_low summary.unknown.items in
-    omega (arith, a, b, c, d, e, f, g, h)
+    let i = items_low number_data 0 (λ n. omega arith) (observed_in source) in
+    omega (arith, a, b, c, d, e, f, g, h, i)

@@ -8,6 +8,7 @@ use Rattle.casebook_profile.specs.declared.unknown_line.UnknownLine.{UnknownLine
 use Rattle.casebook_view.specs.Effects.{EffectValue, effect_value}
 use Rattle.casebook_view.specs.Groups.{GroupValue, group_value}
 use Rattle.casebook_view.specs.Reasons.{cause_in, failing_in, reason_at}
+use Rattle.casebook_view.specs.Sources.{SourceValue}
 use Rattle.casebook_view.specs.declared.effect.Effect.{Effect}
 use Rattle.casebook_view.specs.declared.fate.Fate.{Fate}
 use Rattle.casebook_view.specs.declared.group.Group.{Group}
@@ -24,6 +25,7 @@ use Rattle.casebook_json.specs.Counts.{counts_data}
 use Rattle.casebook_json.specs.Leaked.{leak_data}
 use Rattle.casebook_json.specs.Lines.{line_data, line_with_reason, origin_in, why_or_null}
 use Rattle.casebook_json.specs.Restore.{added_in, removed_in, restoration_data}
+use Rattle.casebook_json.specs.Source.{observed_in}
 use Rattle.casebook_json.specs.Summary.{summary_data, summary_with}
 use Rattle.casebook_json.specs.Tell.{group_data, subject_path, subject_variable}
 use Rattle.casebook_json.specs.Unknown.{unknown_data}
@@ -104,10 +106,10 @@ unknown_float : (line : UnknownLine) → has_float (unknown_data line) ≡ false
 unknown_float line = refl
 
 pub summary_float : (r : RecordingValue) (summary : Summary) (restorations : List Restoration)
-    (groups : List Group) (is_recording : Bool) (labels : Labels)
-    → has_float (summary_data r summary restorations groups is_recording labels) ≡ false
+    (groups : List Group) (is_recording : Bool) (source : SourceValue) (labels : Labels)
+    → has_float (summary_data r summary restorations groups is_recording source labels) ≡ false
 unfolding summary_with
-summary_float r summary restorations groups is_recording labels = rw (
+summary_float r summary restorations groups is_recording source labels = rw (
   array_float (λ (e : Effect). effect_data (effect_value e)) (λ e. effect_float (effect_value e))
       summary.effects.items,
   counts_float summary.fates.items,
@@ -115,6 +117,7 @@ summary_float r summary restorations groups is_recording labels = rw (
   array_float (leak_data labels) (leak_float labels) summary.leaks.items,
   array_float (line_data r summary.reasons.items) (line_float r summary.reasons.items)
       summary.fates.items,
+  array_float number_data (λ n. refl) (observed_in source),
   array_float restoration_data restoration_float restorations,
   array_float (λ (g : Group). group_data labels (group_value g))
       (λ g. group_float labels (group_value g)) groups,

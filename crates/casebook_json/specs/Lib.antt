@@ -6,5 +6,6 @@ pub mod Leaked
 pub mod Unknown
 pub mod Causes
 pub mod Lines
+pub mod Source
 pub mod Summary
 pub mod inner

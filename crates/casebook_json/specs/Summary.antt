@@ -1,11 +1,12 @@
 -- What a repair would do, as JSON.
 use Rattle.std.specs.Prelude.{ℕ, Bool, List, ◌++◌, codes, map}
-use Rattle.serde_json.specs.Data.{Data, boolean, object, no_members, member}
+use Rattle.serde_json.specs.Data.{Data, boolean, string, object, no_members, member}
 use Rattle.serde_json.specs.Written.{compact_text}
 use Rattle.retro_json.specs.Values.{array_of, number_data}
 use Rattle.retro_keep.specs.Recording.{RecordingValue}
 use Rattle.casebook_view.specs.Effects.{effect_value}
 use Rattle.casebook_view.specs.Groups.{group_value}
+use Rattle.casebook_view.specs.Sources.{SourceValue}
 use Rattle.casebook_view.specs.declared.group.Group.{Group}
 use Rattle.casebook_view.specs.declared.summary.Summary.{Summary}
 use Rattle.casebook_words.specs.declared.labels.Labels.{Labels}
@@ -15,37 +16,42 @@ use Rattle.casebook_json.specs.Counts.{counts_data}
 use Rattle.casebook_json.specs.Leaked.{leak_data}
 use Rattle.casebook_json.specs.Lines.{line_data}
 use Rattle.casebook_json.specs.Restore.{restoration_data}
+use Rattle.casebook_json.specs.Source.{observed_data, source_name}
 use Rattle.casebook_json.specs.Tell.{group_data}
 use Rattle.casebook_json.specs.Unknown.{unknown_data}
 use Rattle.casebook_json.specs.Values.{path_data}
 
--- `{"causes":..,"counts":..,"doubtful":..,"leaked":..,"lines":..,"recording":..,"restore":..,
--- "show":1,"tell":..,"unknown":..}`, with the keys in byte order, where these are the lines
-unfoldable pub summary_with : Data → Summary → List Restoration → List Group → Bool → Labels → Data
-summary_with lines summary restorations groups is_recording labels = object
+-- `{"causes":..,"counts":..,"doubtful":..,"leaked":..,"lines":..,"observed":..,"recording":..,
+-- "restore":..,"show":1,"source":..,"tell":..,"unknown":..}`, with the keys in byte order, where
+-- these are the lines
+unfoldable pub summary_with :
+    Data → Summary → List Restoration → List Group → Bool → SourceValue → Labels → Data
+summary_with lines summary restorations groups is_recording source labels = object
     (member (codes "causes")
     (array_of (map (λ effect. effect_data (effect_value effect)) summary.effects.items))
     (member (codes "counts") (counts_data summary.fates.items)
     (member (codes "doubtful") (array_of (map path_data summary.doubtful.items))
     (member (codes "leaked") (array_of (map (leak_data labels) summary.leaks.items))
     (member (codes "lines") lines
+    (member (codes "observed") (observed_data source)
     (member (codes "recording") (boolean is_recording)
     (member (codes "restore") (array_of (map restoration_data restorations))
     (member (codes "show") (number_data 1)
+    (member (codes "source") (string (source_name source))
     (member (codes "tell")
     (array_of (map (λ group. group_data labels (group_value group)) groups))
-    (member (codes "unknown") (array_of (map unknown_data summary.unknown.items)) no_members))))))))))
+    (member (codes "unknown") (array_of (map unknown_data summary.unknown.items)) no_members))))))))))))
 
 abbrev pub lines_data : RecordingValue → Summary → Data
 lines_data r summary = array_of (map (line_data r summary.reasons.items) summary.fates.items)
 
 abbrev pub summary_data :
-    RecordingValue → Summary → List Restoration → List Group → Bool → Labels → Data
-summary_data r summary restorations groups is_recording labels =
-    summary_with (lines_data r summary) summary restorations groups is_recording labels
+    RecordingValue → Summary → List Restoration → List Group → Bool → SourceValue → Labels → Data
+summary_data r summary restorations groups is_recording source labels =
+    summary_with (lines_data r summary) summary restorations groups is_recording source labels
 
 -- the document: compact, with a newline at the end
 unfoldable pub summary_text :
-    RecordingValue → Summary → List Restoration → List Group → Bool → Labels → List ℕ
-summary_text r summary restorations groups is_recording labels =
-    compact_text (summary_data r summary restorations groups is_recording labels) ++ codes "\n"
+    RecordingValue → Summary → List Restoration → List Group → Bool → SourceValue → Labels → List ℕ
+summary_text r summary restorations groups is_recording source labels =
+    compact_text (summary_data r summary restorations groups is_recording source labels) ++ codes "\n"

@@ -2,6 +2,7 @@
 ghost use Rattle.std.specs.Prelude.{◌≡◌, IfOk, map};
 ghost use Rattle.serde_json.specs.View.{view};
 ghost use Rattle.retro_json.specs.Values.{array_of};
+ghost use Rattle.casebook_view.specs.Sources.{source_view};
 ghost use Rattle.casebook_json.specs.inner.Parts.{AreParts, document};
 
 use crate::NoMem;
@@ -10,11 +11,12 @@ use crate::effect_value::effect_values;
 use crate::group_value::group_values;
 use crate::leak_value::leak_values;
 use crate::restoration_value::restoration_values;
+use crate::source_value::{observed_values, source_name};
 use crate::unknown_value::unknown_values;
 use crate::value::path_values;
 use casebook_screen::Sheet;
 use casebook_words::Labels;
-use serde_json::{Value, json};
+use serde_json::{Map, Value, put};
 use std::alloc::Global;
 
 /// The version of the document.
@@ -27,7 +29,9 @@ pub(crate) struct Parts {
     counts: Value,
     doubtful: Vec<Value>,
     leaked: Vec<Value>,
+    observed: Vec<Value>,
     restore: Vec<Value>,
+    source: &'static str,
     tell: Vec<Value>,
     unknown: Vec<Value>,
 }
@@ -36,7 +40,7 @@ impl Parts {
     /// Returns the parts of the document of a repair.
     pub(crate) fn of(alloc: Global, sheet: Sheet<'_>, labels: &Labels) -> Result<Parts, NoMem>
         ensures { IfOk result (AreParts sheet.entry.summary.now sheet.entry.restorations.now
-            sheet.entry.groups.now labels.now) }
+            sheet.entry.groups.now (source_view sheet.entry.source) labels.now) }
     {
         let summary = sheet.summary;
         Ok(Parts {
@@ -44,7 +48,9 @@ impl Parts {
             counts: counts_value(alloc, summary.fates.as_slice())?,
             doubtful: path_values(alloc, summary.doubtful.as_slice())?,
             leaked: leak_values(alloc, labels, summary.leaks.as_slice())?,
+            observed: observed_values(alloc, sheet.source)?,
             restore: restoration_values(alloc, sheet.restorations)?,
+            source: source_name(sheet.source),
             tell: group_values(alloc, labels, sheet.groups)?,
             unknown: unknown_values(alloc, summary.unknown.as_slice())?,
         })
@@ -60,17 +66,24 @@ impl Parts {
         ensures { IfOk result (λ v.
             view v ≡ document (array_of (map view lines.items)) is_recording self) }
     {
-        json!(in alloc; {
-            "causes": self.causes,
-            "counts": self.counts,
-            "doubtful": self.doubtful,
-            "leaked": self.leaked,
-            "lines": lines,
-            "recording": is_recording,
-            "restore": self.restore,
-            "show": VERSION,
-            "tell": self.tell,
-            "unknown": self.unknown
-        })
+        let mut map = Map::new(alloc);
+        put(&mut map, alloc, "causes", Value::Array(self.causes))?;
+        put(&mut map, alloc, "counts", self.counts)?;
+        put(&mut map, alloc, "doubtful", Value::Array(self.doubtful))?;
+        put(&mut map, alloc, "leaked", Value::Array(self.leaked))?;
+        put(&mut map, alloc, "lines", Value::Array(lines))?;
+        put(&mut map, alloc, "observed", Value::Array(self.observed))?;
+        put(&mut map, alloc, "recording", Value::Bool(is_recording))?;
+        put(&mut map, alloc, "restore", Value::Array(self.restore))?;
+        put(&mut map, alloc, "show", Value::from(VERSION))?;
+        put(
+            &mut map,
+            alloc,
+            "source",
+            Value::try_from_str(alloc, self.source)?,
+        )?;
+        put(&mut map, alloc, "tell", Value::Array(self.tell))?;
+        put(&mut map, alloc, "unknown", Value::Array(self.unknown))?;
+        Ok(Value::Object(map))
     }
 }

@@ -1,4 +1,4 @@
-//! Lines that aren't understood, as JSON.
+//! Lines that aren't understood or have to be run for real, as JSON.
 ghost use Rattle.std.specs.Prelude.{◌≡◌, IfOk, map};
 ghost use Rattle.serde_json.specs.View.{view};
 ghost use Rattle.casebook_json.specs.Unknown.{obstacle_name, unknown_data};
@@ -17,10 +17,12 @@ fn obstacle_name(obstacle: Obstacle) -> &'static str
         Obstacle::Form => "form",
         Obstacle::Expansion => "expansion",
         Obstacle::Terminal => "terminal",
+        Obstacle::Observed => "observed",
+        Obstacle::Need => "need",
     }
 }
 
-/// Returns the JSON value of a line that isn't understood.
+/// Returns the JSON value of a line, with its obstacle.
 fn unknown_value(alloc: Global, line: &UnknownLine) -> Result<Value, NoMem>
     ensures { IfOk result (λ v. view v ≡ unknown_data line.now) }
 {
@@ -28,7 +30,7 @@ fn unknown_value(alloc: Global, line: &UnknownLine) -> Result<Value, NoMem>
     json!(in alloc; [line.number, name])
 }
 
-/// Returns the JSON values of lines that aren't understood, in order.
+/// Returns the JSON values of lines, in order, with their obstacles.
 pub(crate) fn unknown_values(alloc: Global, unknown: &[UnknownLine]) -> Result<Vec<Value>, NoMem>
     ensures { IfOk result (λ vs. map view vs.items ≡ map unknown_data unknown.now) }
 {

@@ -3,9 +3,11 @@ use crate::NoMem;
 use crate::contents::Contents;
 use crate::html::Html;
 use crate::pair::push_output;
-use crate::shown::{push_command, push_fated_links, push_link, push_name, push_none, push_paths};
+use crate::shown::{
+    push_command, push_fated_links, push_link, push_name, push_none, push_paths, sign_of,
+};
 use crate::tag::Tag;
-use casebook_view::Effect;
+use casebook_view::{Effect, Source};
 use std::alloc::Global;
 
 /// Returns the numbers of the lines that are run again because of a line, in order.
@@ -54,7 +56,8 @@ fn push_led(html: &mut Html, alloc: Global, effect: &Effect, most: usize) -> Res
     html.count(alloc, count, "line")
 }
 
-/// Appends how many lines a line led to, or that it isn't known, if the line wasn't understood.
+/// Appends how many lines a line led to, or that it isn't known, if the line wasn't understood. Of
+/// a machine's line it is known what it did, but maybe not what it would do.
 fn push_known(
     html: &mut Html,
     alloc: Global,
@@ -62,11 +65,14 @@ fn push_known(
     effect: &Effect,
     most: usize,
 ) -> Result<(), NoMem> {
-    if contents.obstacle_of(effect.number).is_none() {
+    let Some(obstacle) = contents.obstacle_of(effect.number) else {
         return push_led(html, alloc, effect, most);
+    };
+    html.fixed(sign_of(obstacle))?;
+    match contents.case.source() {
+        Source::Played => html.words(alloc, "what it did isn't known"),
+        Source::Seen(_) => html.words(alloc, "what it would do isn't known"),
     }
-    html.fixed(Tag::SignUnknown)?;
-    html.words(alloc, "what it did isn't known")
 }
 
 /// Appends how many bytes a cancelled line showed, unless it showed none.

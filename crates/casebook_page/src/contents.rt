@@ -38,12 +38,29 @@ impl<'a> Contents<'a, '_> {
         }
     }
 
-    /// Returns why a line isn't understood, or `None` if it is.
+    /// Returns why a line isn't understood or has to be run for real, or `None` if neither is so.
     pub(crate) fn obstacle_of(&self, number: u32) -> Option<Obstacle> {
         let unknown = self.summary.unknown.as_slice();
         match unknown.binary_search_by_key(&number, |line| line.number) {
             Ok(index) => Some(unknown[index].obstacle),
             Err(_) => None,
+        }
+    }
+
+    /// Returns whether a line was observed on a machine.
+    fn is_observed(&self, number: u32) -> bool {
+        match self.line(number) {
+            Some(line) => line.obstacle == Some(Obstacle::Observed),
+            None => false,
+        }
+    }
+
+    /// Returns what the row of a line says of it: why it isn't understood or has to be run for
+    /// real, or else that it stands as it was observed. Returns `None` of all other lines.
+    pub(crate) fn remark_of(&self, number: u32) -> Option<Obstacle> {
+        match self.obstacle_of(number) {
+            None if self.is_observed(number) => Some(Obstacle::Observed),
+            obstacle => obstacle,
         }
     }
 

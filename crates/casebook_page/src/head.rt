@@ -6,7 +6,7 @@ use crate::number_tag::NumberTag;
 use crate::tag::Tag;
 use crate::unknown::push_unknown_link;
 use casebook_text::SafeLine;
-use casebook_view::Fate;
+use casebook_view::{Fate, Source};
 use std::alloc::Global;
 use std::collections::BTreeSet;
 
@@ -54,8 +54,38 @@ fn push_told(html: &mut Html, alloc: Global, contents: Contents<'_, '_>) -> Resu
     html.fixed(Tag::StrongEnd)
 }
 
-/// Appends what the page rests on: how many lines the log has, that they were played, and how many
-/// of them weren't understood.
+/// Appends how many lines of a machine's recording stand as they were observed, or that each did
+/// what Retro's shell does.
+fn push_observed(html: &mut Html, alloc: Global, count: usize) -> Result<(), NoMem> {
+    html.words(alloc, ". Recorded on the machine. ")?;
+    if count == 0 {
+        return html.words(alloc, "Each line did what Retro's shell does.");
+    }
+    html.count(alloc, count, "line")?;
+    if count == 1 {
+        html.words(alloc, " stands as it was observed.")
+    } else {
+        html.words(alloc, " stand as they were observed.")
+    }
+}
+
+/// Appends how the log came about: from a machine, by playing its lines, or otherwise.
+fn push_basis(html: &mut Html, alloc: Global, contents: Contents<'_, '_>) -> Result<(), NoMem> {
+    match contents.case.source() {
+        Source::Seen(numbers) => push_observed(html, alloc, numbers.len()),
+        Source::Played if contents.is_recording => html.words(
+            alloc,
+            ". Played in Retro's shell. Whether the machine did the same isn't known.",
+        ),
+        Source::Played => html.words(
+            alloc,
+            ". The log isn't as its lines run: what was recorded is only what its notes say.",
+        ),
+    }
+}
+
+/// Appends what the page rests on: how many lines the log has, how it came about, and how many of
+/// the lines weren't understood or have to be run for real.
 fn push_rests(
     html: &mut Html,
     alloc: Global,
@@ -65,17 +95,7 @@ fn push_rests(
     html.count(alloc, contents.summary.fates.len(), "line")?;
     html.words(alloc, " of ")?;
     html.count(alloc, sessions, "session")?;
-    if contents.is_recording {
-        html.words(
-            alloc,
-            ". Played in Retro's shell. Whether the machine did the same isn't known.",
-        )?;
-    } else {
-        html.words(
-            alloc,
-            ". The log isn't as its lines run: what was recorded is only what its notes say.",
-        )?;
-    }
+    push_basis(html, alloc, contents)?;
     push_unknown_link(html, alloc, contents)
 }
 

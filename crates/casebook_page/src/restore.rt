@@ -7,6 +7,7 @@ use crate::pair::{push_diff, push_preview};
 use crate::shown::{push_link, push_none, push_shown_path};
 use crate::tag::Tag;
 use casebook_changes::{ChangedPath, PathChange};
+use casebook_view::Source;
 use retro_tree::{Ask, Entry, Path, Tree};
 use std::alloc::Global;
 
@@ -81,9 +82,17 @@ fn push_writer(
     Ok(())
 }
 
-/// Returns whether a line wrote a path that wasn't understood.
+/// Returns whether a line wrote a path that wasn't understood or has to be run for real.
 fn is_doubtful(contents: Contents<'_, '_>, path: &Path) -> bool {
     contents.summary.doubtful.binary_search(path).is_ok()
+}
+
+/// Returns the sign of such a path.
+fn doubt_of(source: Source<'_>) -> Tag {
+    match source {
+        Source::Played => Tag::SignDoubtful,
+        Source::Seen(_) => Tag::SignDoubtfulNeed,
+    }
 }
 
 /// Appends the row of a path: how it differs, the first line that differs, and the diff.
@@ -104,7 +113,7 @@ fn push_row(
     push_kind(html, alloc, before.get(&path.path), after.get(&path.path))?;
     push_preview(html, alloc, &merged)?;
     if is_doubtful(contents, &path.path) {
-        html.fixed(Tag::SignDoubtful)?;
+        html.fixed(doubt_of(contents.case.source()))?;
     }
     html.fixed(Tag::RowBody)?;
     push_writer(html, alloc, contents, &path.path)?;

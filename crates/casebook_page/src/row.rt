@@ -5,11 +5,11 @@ use crate::html::Html;
 use crate::merged_texts::MergedTexts;
 use crate::number_tag::NumberTag;
 use crate::pair::{push_output, push_pair};
-use crate::shown::{command_of, push_link, push_name, push_paths, push_shown_path};
+use crate::shown::{command_of, push_link, push_name, push_paths, push_shown_path, sign_of};
 use crate::tag::Tag;
 use crate::tell::outputs_of;
 use casebook_text::SafeLine;
-use casebook_view::{Fate, LineRow, PathWrite, WriteKind, chain};
+use casebook_view::{Fate, LineRow, Obstacle, PathWrite, WriteKind, chain};
 use casebook_words::obstacle_text;
 use std::alloc::Global;
 use std::collections::BTreeMap;
@@ -37,6 +37,24 @@ fn code_of(fate: Fate) -> NumberTag {
         Fate::Alike => NumberTag::CodeAlike,
         Fate::Kept => NumberTag::CodeKept,
         Fate::Untouched => NumberTag::CodeUntouched,
+    }
+}
+
+/// Returns the start of what is said of a line that isn't understood, has to be run for real, or
+/// was observed. The last is in small type.
+fn paragraph_of(obstacle: Obstacle) -> Tag {
+    match obstacle {
+        Obstacle::Observed => Tag::Small,
+        _ => Tag::Paragraph,
+    }
+}
+
+/// Appends whether a line isn't understood, has to be run for real, or was observed.
+fn push_standing(html: &mut Html, alloc: Global, obstacle: Obstacle) -> Result<(), NoMem> {
+    match obstacle {
+        Obstacle::Need => html.words(alloc, "has to be run for real: "),
+        Obstacle::Observed => html.words(alloc, "as it was observed: "),
+        _ => html.words(alloc, "not understood: "),
     }
 }
 
@@ -136,14 +154,15 @@ impl Rows<'_, '_> {
         html.fixed(Tag::BodyNameEnd)
     }
 
-    /// Appends why a line isn't understood, unless it is.
-    fn push_obstacle(&self, html: &mut Html, number: u32) -> Result<(), NoMem> {
-        let Some(obstacle) = self.contents.obstacle_of(number) else {
+    /// Appends why a line isn't understood or has to be run for real, or that it stands as it was
+    /// observed and why, if one of these is so.
+    fn push_remark(&self, html: &mut Html, number: u32) -> Result<(), NoMem> {
+        let Some(obstacle) = self.contents.remark_of(number) else {
             return Ok(());
         };
-        html.fixed(Tag::Paragraph)?;
-        html.fixed(Tag::SignUnknown)?;
-        html.words(self.alloc, "not understood: ")?;
+        html.fixed(paragraph_of(obstacle))?;
+        html.fixed(sign_of(obstacle))?;
+        push_standing(html, self.alloc, obstacle)?;
         html.words(self.alloc, obstacle_text(obstacle))?;
         html.fixed(Tag::ParagraphEnd)
     }
@@ -154,7 +173,7 @@ impl Rows<'_, '_> {
         html.fixed(Tag::Command)?;
         html.part(command)?;
         html.fixed(Tag::PreEnd)?;
-        self.push_obstacle(html, number)?;
+        self.push_remark(html, number)?;
         self.push_why(html, number)?;
         if let Some(row) = self.contents.line(number) {
             self.push_notes(html, row)?;
@@ -174,8 +193,8 @@ impl Rows<'_, '_> {
         push_name(html, self.alloc, self.contents, line.0)?;
         let column = u64::from(self.column_of(line.0));
         html.numbered(self.alloc, code_of(line.1), column)?;
-        if self.contents.obstacle_of(line.0).is_some() {
-            html.fixed(Tag::SignUnknown)?;
+        if let Some(obstacle) = self.contents.remark_of(line.0) {
+            html.fixed(sign_of(obstacle))?;
         }
         html.part(command)?;
         html.fixed(Tag::LineEnd)

@@ -1,14 +1,24 @@
-//! What several sections show: links to lines, commands and paths.
+//! What several sections show: signs of lines, links to them, commands and paths.
 use crate::NoMem;
 use crate::contents::Contents;
 use crate::html::Html;
 use crate::number_tag::NumberTag;
 use crate::tag::Tag;
 use casebook_text::SafeLine;
-use casebook_view::Fate;
+use casebook_view::{Fate, Obstacle};
 use casebook_words::push_path;
 use retro_tree::Path;
 use std::alloc::Global;
+
+/// Returns the sign of a line that isn't understood, has to be run for real, or was observed.
+pub(crate) fn sign_of(obstacle: Obstacle) -> Tag {
+    match obstacle {
+        Obstacle::Command | Obstacle::Form | Obstacle::Expansion | Obstacle::Terminal =>
+            Tag::SignUnknown,
+        Obstacle::Need => Tag::SignNeed,
+        Obstacle::Observed => Tag::SignObserved,
+    }
+}
 
 /// Appends the number of a line as a link to its row.
 pub(crate) fn push_link(html: &mut Html, alloc: Global, number: u32) -> Result<(), NoMem> {

@@ -29,7 +29,7 @@ pub enum Tag {
     Strong,
     /// The end of a strong text.
     StrongEnd,
-    /// The start of the block of lines that weren't understood.
+    /// The start of the block of lines that weren't understood or have to be run for real.
     Unknown,
     /// What comes before the lines of that block by their obstacles.
     UnknownList,
@@ -37,14 +37,20 @@ pub enum Tag {
     UnknownRow,
     /// The end of that.
     UnknownRowEnd,
-    /// The end of the block of lines that weren't understood.
+    /// The end of that block.
     UnknownEnd,
     /// The start of a link to that block.
     UnknownLink,
     /// The sign of a line that wasn't understood.
     SignUnknown,
+    /// The sign of a line that has to be run for real.
+    SignNeed,
+    /// The sign of a line that stands as it was observed.
+    SignObserved,
     /// The sign of a path that a line wrote which wasn't understood.
     SignDoubtful,
+    /// The sign of a path that a line wrote which has to be run for real.
+    SignDoubtfulNeed,
     /// The overview.
     Map,
     /// The end of a block.
@@ -203,8 +209,12 @@ impl Tag {
             Tag::UnknownEnd => "</ul></section>",
             Tag::UnknownLink => " <a class=q href=#unknown>? ",
             Tag::SignUnknown => "<i class=q title=\"not understood\">?</i> ",
+            Tag::SignNeed => "<i class=q title=\"has to be run for real\">?</i> ",
+            Tag::SignObserved => "<u title=\"as it was observed\">o</u> ",
             Tag::SignDoubtful =>
                 " <i class=q title=\"written by a line that wasn't understood\">?</i>",
+            Tag::SignDoubtfulNeed =>
+                " <i class=q title=\"written by a line that has to be run for real\">?</i>",
             Tag::Map => "<div class=map>",
             Tag::BlockEnd => "</div>",
             Tag::Span => "<span>",

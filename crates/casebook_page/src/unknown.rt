@@ -1,10 +1,10 @@
-//! What a page rests on: the lines that weren't understood.
+//! What a page rests on: the lines that weren't understood, or have to be run for real.
 use crate::NoMem;
 use crate::contents::Contents;
 use crate::html::Html;
 use crate::shown::push_link;
 use crate::tag::Tag;
-use casebook_view::{Fate, Obstacle};
+use casebook_view::{Fate, Obstacle, Source};
 use casebook_words::{obstacle_text, obstacles_text};
 use std::alloc::Global;
 
@@ -17,13 +17,20 @@ fn count_cancelled(contents: Contents<'_, '_>) -> usize {
         .count()
 }
 
-/// Appends how many lines weren't understood: `1 line wasn't understood`.
-fn push_count(html: &mut Html, alloc: Global, count: usize) -> Result<(), NoMem> {
+/// Appends how many lines of a log that was played weren't understood, or how many of a machine's
+/// have to be run for real: `1 line wasn't understood`.
+fn push_count(
+    html: &mut Html,
+    alloc: Global,
+    source: Source<'_>,
+    count: usize,
+) -> Result<(), NoMem> {
     html.count(alloc, count, "line")?;
-    if count == 1 {
-        html.words(alloc, " wasn't understood")
-    } else {
-        html.words(alloc, " weren't understood")
+    match source {
+        Source::Played if count == 1 => html.words(alloc, " wasn't understood"),
+        Source::Played => html.words(alloc, " weren't understood"),
+        Source::Seen(_) if count == 1 => html.words(alloc, " has to be run for real"),
+        Source::Seen(_) => html.words(alloc, " have to be run for real"),
     }
 }
 
@@ -95,8 +102,8 @@ fn push_with(
     html.fixed(Tag::UnknownRowEnd)
 }
 
-/// Appends how many lines weren't understood as a link to the block that names them, unless all
-/// were.
+/// Appends how many lines weren't understood or have to be run for real, as a link to the block
+/// that names them, unless there are none.
 pub(crate) fn push_unknown_link(
     html: &mut Html,
     alloc: Global,
@@ -107,41 +114,84 @@ pub(crate) fn push_unknown_link(
         return Ok(());
     }
     html.fixed(Tag::UnknownLink)?;
-    push_count(html, alloc, count)?;
+    push_count(html, alloc, contents.case.source(), count)?;
     html.words(alloc, ".")?;
     html.fixed(Tag::LinkEnd)
 }
 
-/// Appends which lines weren't understood, by their obstacles, or that all were. No line is left
-/// out. `shows_untouched` says whether untouched lines have rows.
+/// Appends that every line was understood, or that none has to be run for real.
+fn push_no_unknown(html: &mut Html, alloc: Global, source: Source<'_>) -> Result<(), NoMem> {
+    html.fixed(Tag::Small)?;
+    match source {
+        Source::Played => html.words(alloc, "Every line was understood.")?,
+        Source::Seen(_) => html.words(alloc, "No line has to be run for real.")?,
+    }
+    html.fixed(Tag::ParagraphEnd)
+}
+
+/// Appends how many of the lines that weren't understood are cancelled, and what isn't in the
+/// answer.
+fn push_missing(
+    html: &mut Html,
+    alloc: Global,
+    count: usize,
+    cancelled: usize,
+) -> Result<(), NoMem> {
+    html.words(alloc, ", ")?;
+    html.number(alloc, cancelled as u64)?;
+    if count == 1 {
+        html.words(alloc, " cancelled. What it did isn't in this answer.")
+    } else {
+        html.words(
+            alloc,
+            " of them cancelled. What they did isn't in this answer.",
+        )
+    }
+}
+
+/// Appends what the lines that have to be run for real are until then.
+fn push_until(html: &mut Html, alloc: Global, count: usize) -> Result<(), NoMem> {
+    html.words(alloc, " before this answer is whole. Until then ")?;
+    if count == 1 {
+        html.words(alloc, "it stands as it was observed.")
+    } else {
+        html.words(alloc, "they stand as they were observed.")
+    }
+}
+
+/// Appends the head of the block: how many lines it has, and what that means for the answer.
+fn push_block_head(
+    html: &mut Html,
+    alloc: Global,
+    contents: Contents<'_, '_>,
+) -> Result<(), NoMem> {
+    let count = contents.summary.unknown.len();
+    let source = contents.case.source();
+    push_count(html, alloc, source, count)?;
+    match source {
+        Source::Played => push_missing(html, alloc, count, count_cancelled(contents)),
+        Source::Seen(_) => push_until(html, alloc, count),
+    }
+}
+
+/// Appends which lines weren't understood or have to be run for real, by their obstacles, or that
+/// there are none. No line is left out. `shows_untouched` says whether untouched lines have rows.
 pub(crate) fn push_unknown(
     html: &mut Html,
     alloc: Global,
     contents: Contents<'_, '_>,
     shows_untouched: bool,
 ) -> Result<(), NoMem> {
-    let count = contents.summary.unknown.len();
-    if count == 0 {
-        html.fixed(Tag::Small)?;
-        html.words(alloc, "Every line was understood.")?;
-        return html.fixed(Tag::ParagraphEnd);
+    if contents.summary.unknown.is_empty() {
+        return push_no_unknown(html, alloc, contents.case.source());
     }
     html.fixed(Tag::Unknown)?;
-    push_count(html, alloc, count)?;
-    html.words(alloc, ", ")?;
-    html.number(alloc, count_cancelled(contents) as u64)?;
-    if count == 1 {
-        html.words(alloc, " cancelled. What it did isn't in this answer.")?;
-    } else {
-        html.words(
-            alloc,
-            " of them cancelled. What they did isn't in this answer.",
-        )?;
-    }
+    push_block_head(html, alloc, contents)?;
     html.fixed(Tag::UnknownList)?;
     push_with(html, alloc, contents, shows_untouched, Obstacle::Command)?;
     push_with(html, alloc, contents, shows_untouched, Obstacle::Form)?;
     push_with(html, alloc, contents, shows_untouched, Obstacle::Expansion)?;
     push_with(html, alloc, contents, shows_untouched, Obstacle::Terminal)?;
+    push_with(html, alloc, contents, shows_untouched, Obstacle::Need)?;
     html.fixed(Tag::UnknownEnd)
 }

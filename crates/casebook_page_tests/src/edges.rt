@@ -2,6 +2,7 @@
 use crate::given::{Given, page_of};
 use crate::market::market;
 use crate::reading::hold_counts;
+use casebook_view::Source;
 use std::test::Fail;
 
 /// All lines of the market.
@@ -67,6 +68,8 @@ fn a_log_is_empty(rt: HostRuntime) -> Result<(), Fail> {
         names: &[],
         title: "",
         shows_all: false,
+        source: Source::Played,
+        is_recording: true,
     };
     let page = page_of(alloc, given)?;
     hold_counts(alloc, page.as_str(), &EMPTY)

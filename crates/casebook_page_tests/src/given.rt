@@ -1,6 +1,6 @@
 //! Pages of scripts with cancelled lines.
 use casebook_page::{Contents, page};
-use casebook_view::{Case, Filters, Summary, rows};
+use casebook_view::{Case, Filters, Source, Summary, rows};
 use casebook_words::Labels;
 use retro_keep::{Edit, Recording, keep_alone};
 use retro_log::read_script;
@@ -22,6 +22,10 @@ pub(crate) struct Given<'a> {
     pub(crate) title: &'a str,
     /// Whether untouched lines have rows also if there are many lines.
     pub(crate) shows_all: bool,
+    /// Where the lines come from.
+    pub(crate) source: Source<'a>,
+    /// Whether the log is as its lines run.
+    pub(crate) is_recording: bool,
 }
 
 /// Returns the recording of a script.
@@ -67,7 +71,7 @@ fn page_of_case(alloc: Global, case: &Case<'_>, given: Given<'_>) -> Result<Stri
         shown: None,
         is_unknown: false,
     };
-    let lines = rows(alloc, case.recording(), &mut filters)?;
+    let lines = rows(alloc, case.recording(), given.source, &mut filters)?;
     let labels = labels_of(alloc, given.names)?;
     let contents = Contents {
         case,
@@ -75,17 +79,22 @@ fn page_of_case(alloc: Global, case: &Case<'_>, given: Given<'_>) -> Result<Stri
         lines: lines.as_slice(),
         labels: &labels,
         title: given.title,
-        is_recording: true,
+        is_recording: given.is_recording,
         shows_all: given.shows_all,
     };
     Ok(page(alloc, contents)?)
 }
 
+/// Returns the page of a script with some lines edited, whatever the given cancelled lines are.
+pub(crate) fn page_by(alloc: Global, given: Given<'_>, edits: &[Edit]) -> Result<String, Fail> {
+    let recording = recording_of(alloc, given.script)?;
+    let repair = repair_of(alloc, &recording, edits)?;
+    let case = Case::of(alloc, &recording, &repair, edits, given.source)?;
+    page_of_case(alloc, &case, given)
+}
+
 /// Returns the page of a script with some lines cancelled.
 pub(crate) fn page_of(alloc: Global, given: Given<'_>) -> Result<String, Fail> {
-    let recording = recording_of(alloc, given.script)?;
     let edits = edits_of(alloc, given.cancelled)?;
-    let repair = repair_of(alloc, &recording, edits.as_slice())?;
-    let case = Case::of(alloc, &recording, &repair, edits.as_slice())?;
-    page_of_case(alloc, &case, given)
+    page_by(alloc, given, edits.as_slice())
 }

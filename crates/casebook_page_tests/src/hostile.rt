@@ -1,6 +1,7 @@
 //! A log whose names, lines, files and outputs would do harm if a page had them as they are.
 use crate::given::{Given, page_of};
 use crate::reading::hold_counts;
+use casebook_view::Source;
 use retro_rows::fail;
 use std::alloc::Global;
 use std::test::Fail;
@@ -152,6 +153,8 @@ fn pages_are_harmless(rt: HostRuntime) -> Result<(), Fail> {
         ],
         title: "</title><script>alert(\"t\")</script>\u{1B}[31m\u{202E}",
         shows_all: false,
+        source: Source::Played,
+        is_recording: true,
     };
     let page = page_of(alloc, given)?;
     hold_bytes(page.as_str())?;

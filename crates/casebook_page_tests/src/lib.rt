@@ -17,4 +17,6 @@ mod policy;
 #[cfg(test)]
 mod reading;
 #[cfg(test)]
+mod seen;
+#[cfg(test)]
 mod unknown;

@@ -1,6 +1,7 @@
 //! Long texts, and logs of many lines.
 use crate::given::{Given, page_of};
 use crate::reading::hold_counts;
+use casebook_view::Source;
 use std::alloc::Global;
 use std::test::Fail;
 
@@ -94,6 +95,8 @@ fn long_texts_are_cut(rt: HostRuntime) -> Result<(), Fail> {
         names: &[],
         title: "Long texts",
         shows_all: false,
+        source: Source::Played,
+        is_recording: true,
     };
     let page = page_of(alloc, given)?;
     hold_counts(alloc, page.as_str(), &CUT)
@@ -108,6 +111,8 @@ fn hold_many(alloc: Global, shows_all: bool, wanted: &[(&str, usize)]) -> Result
         names: &[],
         title: "Many lines",
         shows_all,
+        source: Source::Played,
+        is_recording: true,
     };
     let page = page_of(alloc, given)?;
     hold_counts(alloc, page.as_str(), wanted)

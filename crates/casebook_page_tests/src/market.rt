@@ -1,6 +1,7 @@
 //! The market: three people, of whom one is an intruder. What is wanted is the mock's.
 use crate::given::{Given, page_of};
 use crate::reading::{hold_counts, hold_rows};
+use casebook_view::Source;
 use retro_rows::MARKET;
 use std::alloc::Global;
 use std::test::Fail;
@@ -130,6 +131,8 @@ pub(crate) fn market(cancelled: &[u32]) -> Given<'_> {
         names: &NAMES,
         title: "The market",
         shows_all: false,
+        source: Source::Played,
+        is_recording: true,
     }
 }
 

@@ -1,6 +1,7 @@
 //! Pages of logs with lines that aren't understood.
 use crate::given::{Given, page_of};
 use crate::reading::hold_counts;
+use casebook_view::Source;
 use std::test::Fail;
 
 /// A script with three such lines: a command that isn't known, a pattern, and a form of `grep` that
@@ -50,6 +51,8 @@ fn lines_that_are_not_understood_are_named(rt: HostRuntime) -> Result<(), Fail> 
         names: &[],
         title: "",
         shows_all: false,
+        source: Source::Played,
+        is_recording: true,
     };
     let page = page_of(alloc, given)?;
     hold_counts(alloc, page.as_str(), &UNKNOWN)

@@ -8,6 +8,7 @@ pub mod Causes
 pub mod Unknown
 pub mod Restorations
 pub mod Notices
+pub mod Basis
 pub mod Summary
 pub mod Why
 pub mod Unified

@@ -1,5 +1,5 @@
 -- Summaries of repairs, as a terminal shows them.
-use Rattle.std.specs.Prelude.{ℕ, ◌-◌, Bool, true, false, List, [], ◌∷◌, ◌++◌, codes, decimal, length, map}
+use Rattle.std.specs.Prelude.{ℕ, ◌-◌, Bool, List, [], ◌∷◌, ◌++◌, codes, decimal, length, map}
 use Rattle.std.specs.Prelude.{Option, Some, None}
 use Rattle.std.specs.BTreeSet.{insert_key}
 use Rattle.std.specs.List.{fold, slice_get}
@@ -7,12 +7,14 @@ use Rattle.std.specs.Ordering.{nat_cmp}
 use Rattle.retro_keep.specs.Recording.{RecordingValue}
 use Rattle.retro_keep.specs.declared.noted.Noted.{Noted}
 use Rattle.casebook_view.specs.Effects.{effect_value}
+use Rattle.casebook_view.specs.Sources.{SourceValue}
 use Rattle.casebook_view.specs.declared.fate.Fate.{Fate}
 use Rattle.casebook_view.specs.declared.fate.Fate.TheVariants.{Cancelled}
 use Rattle.casebook_view.specs.declared.summary.Summary.{Summary}
 use Rattle.casebook_words.specs.Labels.{time_words}
 use Rattle.casebook_words.specs.Words.{count_words}
 use Rattle.casebook_words.specs.declared.labels.Labels.{Labels}
+use Rattle.casebook_screen.specs.Basis.{basis_text}
 use Rattle.casebook_screen.specs.Causes.{effect_lines}
 use Rattle.casebook_screen.specs.Counts.{count_lines, count_of}
 use Rattle.casebook_screen.specs.Leaks.{leak_lines}
@@ -51,22 +53,17 @@ head_text r labels fates =
     ++ count_words (codes "session") (length (sessions_in r.lines)) ++ period_words labels r.lines
     ++ codes ". " ++ decimal (count_of fates Cancelled) ++ codes " cancelled."
 
-unfoldable pub basis_text : Bool → List ℕ
-basis_text true = codes "Played in Retro's shell. Whether the machine did the same isn't known."
-basis_text false = codes "The log isn't as its lines run: what was recorded is only what its notes say."
-
 -- what the log holds, what it rests on, and an empty line
-abbrev pub head_lines : RecordingValue → Labels → List (ℕ × Fate) → Bool → List (List ℕ)
-head_lines r labels fates is_recording =
-    head_text r labels fates ∷ basis_text is_recording ∷ [] ∷ []
+abbrev pub head_lines : RecordingValue → Labels → List (ℕ × Fate) → List ℕ → List (List ℕ)
+head_lines r labels fates basis = head_text r labels fates ∷ basis ∷ [] ∷ []
 
 -- the head, which lines aren't understood, how many lines have which fate, what is to be restored,
 -- whom to tell, what cancelled lines showed, and what they led to
 abbrev pub summary_lines :
-    RecordingValue → Summary → List Restoration → List Group → Bool → Labels → ℕ → List (List ℕ)
-summary_lines r summary restorations groups is_recording labels width =
-    head_lines r labels summary.fates.items is_recording
-    ++ unknown_lines summary.unknown.items summary.fates.items
+    SourceValue → RecordingValue → Summary → List Restoration → List Group → Bool → Labels → ℕ → List (List ℕ)
+summary_lines source r summary restorations groups is_recording labels width =
+    head_lines r labels summary.fates.items (basis_text source is_recording)
+    ++ unknown_lines source summary.unknown.items summary.fates.items
     ++ [] ∷ count_lines summary.fates.items
     ++ restoration_lines summary.doubtful.items restorations
     ++ notice_lines labels width (length summary.notices.items) groups

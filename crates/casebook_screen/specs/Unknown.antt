@@ -1,13 +1,14 @@
--- Lines that aren't understood, as a summary shows them.
+-- Lines that aren't understood or have to be run for real, as a summary shows them.
 use Rattle.std.specs.Prelude.{ℕ, zero, suc, ◌==◌, Bool, true, false, ◌&&◌, List, [], ◌∷◌, ◌++◌, codes, decimal}
 use Rattle.std.specs.Prelude.{count_by, drop, flat_map, if◌then◌else◌, length, map, replicate, take}
 use Rattle.std.specs.List.{filter}
 use Rattle.casebook_view.specs.Fates.{fate_eq}
+use Rattle.casebook_view.specs.Sources.{SourceValue, Played, Seen}
 use Rattle.casebook_view.specs.Unknown.{is_unknown}
 use Rattle.casebook_view.specs.declared.fate.Fate.{Fate}
 use Rattle.casebook_view.specs.declared.fate.Fate.TheVariants.{Cancelled}
 use Rattle.casebook_usage.specs.declared.obstacle.Obstacle.{Obstacle}
-use Rattle.casebook_usage.specs.declared.obstacle.Obstacle.TheVariants.{Command, Form, Expansion, Terminal}
+use Rattle.casebook_usage.specs.declared.obstacle.Obstacle.TheVariants.{Command, Form, Expansion, Terminal, Observed, Need}
 use Rattle.casebook_profile.specs.declared.unknown_line.UnknownLine.{UnknownLine}
 use Rattle.casebook_words.specs.Obstacles.{obstacle_text, obstacles_text}
 use Rattle.casebook_screen.specs.Layout.{SPACE, count_width, left_aligned, right_aligned}
@@ -54,6 +55,8 @@ obstacle_eq Command Command = true
 obstacle_eq Form Form = true
 obstacle_eq Expansion Expansion = true
 obstacle_eq Terminal Terminal = true
+obstacle_eq Observed Observed = true
+obstacle_eq Need Need = true
 obstacle_eq _ _ = false
 
 -- the numbers of the lines with an obstacle, in order
@@ -102,11 +105,11 @@ understood_text = codes "Every line was understood."
 unfoldable pub hint_text : List ℕ
 hint_text = codes "  casebook lines LOG --unknown shows them."
 
--- the lines that aren't understood, by their obstacles
+-- the lines that aren't understood, by their obstacles; a summary names none that is only observed
 abbrev pub lines_by_obstacle : List UnknownLine → List (List ℕ)
 lines_by_obstacle unknown =
     lines_with unknown Command ++ lines_with unknown Form ++ lines_with unknown Expansion
-    ++ lines_with unknown Terminal
+    ++ lines_with unknown Terminal ++ lines_with unknown Need
 
 -- how many lines aren't understood, all of them, and which command shows them
 abbrev pub lines_of_unknown : List UnknownLine → List (ℕ × Fate) → List (List ℕ)
@@ -114,7 +117,45 @@ lines_of_unknown unknown fates =
     unknown_head (length unknown) (count_cancelled unknown fates)
     ∷ (lines_by_obstacle unknown ++ hint_text ∷ [])
 
--- which lines aren't understood
-abbrev pub unknown_lines : List UnknownLine → List (ℕ × Fate) → List (List ℕ)
-unknown_lines [] fates = understood_text ∷ []
-unknown_lines (line ∷ unknown) fates = lines_of_unknown (line ∷ unknown) fates
+-- which lines aren't understood, of lines that were played
+abbrev pub played_lines : List UnknownLine → List (ℕ × Fate) → List (List ℕ)
+played_lines [] fates = understood_text ∷ []
+played_lines (line ∷ unknown) fates = lines_of_unknown (line ∷ unknown) fates
+
+-- ---- lines that a recorder saw
+
+-- how many lines have to be run
+unfoldable pub one_to_run : List ℕ
+one_to_run = codes "? 1 line has to be run for real before this answer is whole."
+
+unfoldable pub many_to_run : ℕ → List ℕ
+many_to_run count =
+    codes "? " ++ decimal count ++ codes " lines have to be run for real before this answer is whole."
+
+abbrev pub to_run_head : ℕ → List ℕ
+to_run_head count = if count == 1 then one_to_run else many_to_run count
+
+unfoldable pub nothing_to_run_text : List ℕ
+nothing_to_run_text = codes "No line has to be run for real."
+
+-- what holds of so many lines until then
+unfoldable pub until_text : ℕ → List ℕ
+until_text count =
+    if count == 1 then codes "  Until then it stands as it was observed."
+    else codes "  Until then they stand as they were observed."
+
+-- how many lines have to be run, all of them, and what holds until then
+abbrev pub lines_to_run : List UnknownLine → List (List ℕ)
+lines_to_run unknown =
+    to_run_head (length unknown) ∷ (lines_by_obstacle unknown ++ until_text (length unknown) ∷ [])
+
+-- which lines have to be run, of lines that a recorder saw
+abbrev pub seen_lines : List UnknownLine → List (List ℕ)
+seen_lines [] = nothing_to_run_text ∷ []
+seen_lines (line ∷ unknown) = lines_to_run (line ∷ unknown)
+
+-- ---- both
+
+abbrev pub unknown_lines : SourceValue → List UnknownLine → List (ℕ × Fate) → List (List ℕ)
+unknown_lines Played unknown fates = played_lines unknown fates
+unknown_lines (Seen observed) unknown fates = seen_lines unknown

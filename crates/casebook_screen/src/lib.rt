@@ -4,7 +4,10 @@
 //!
 //! [`summary_lines`] shows a [`Sheet`], which says what a repair would do: which lines aren't
 //! understood, how many lines have which fate, what is to be restored (by [`to_restore`]), whom to
-//! tell about what, which cancelled lines showed something, and what each edited line led to.
+//! tell about what, which cancelled lines showed something, and what each edited line led to. If a
+//! recorder saw the lines on a machine, it says which ones have to be run there for real in place
+//! of which ones aren't understood. Rows mark the lines that stand as they were observed with an
+//! `o`.
 //!
 //! [`why_lines`] says why lines are run again, [`diff_lines`] shows what changes as unified diffs,
 //! and [`detail_lines`] shows one line in full.
@@ -40,6 +43,7 @@
 //! - What all these return are `SafeLine`s, so their characters are harmless.
 #![tactic(auto)]
 
+mod basis_text;
 mod detail_text;
 mod diff_text;
 mod effect_text;
@@ -55,6 +59,7 @@ mod row_text;
 mod summary_head;
 mod summary_text;
 mod table;
+mod to_run_text;
 mod unified;
 mod unknown_numbers;
 mod unknown_text;

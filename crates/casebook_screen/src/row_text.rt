@@ -2,7 +2,8 @@
 ghost use Rattle.std.specs.Prelude.{◌≡◌, ◌++◌, IfOk, OnOk, flat_map, is_some, map};
 ghost use Rattle.std.specs.List.{list_any};
 ghost use Rattle.casebook_screen.specs.RowTexts.{head_text, lines_below, lines_of_row};
-ghost use Rattle.casebook_screen.specs.RowTexts.{lines_of_rows, mark_column, obstacle_line};
+ghost use Rattle.casebook_screen.specs.RowTexts.{is_observed, lines_of_rows, mark_column};
+ghost use Rattle.casebook_screen.specs.RowTexts.{mark_in, obstacle_line};
 ghost use Rattle.casebook_screen.specs.RowTexts.{obstacle_lines, read_lines, read_piece};
 ghost use Rattle.casebook_screen.specs.RowTexts.{read_text, shown_lines, shown_text, time_column};
 ghost use Rattle.casebook_screen.specs.RowTexts.{write_piece, wrote_lines, wrote_text};
@@ -33,7 +34,7 @@ struct Columns<'a> {
     labels: &'a Labels,
     /// The width of the column of names.
     width: usize,
-    /// Whether there is a column of question marks.
+    /// Whether there is a column of marks.
     has_marks: bool,
 }
 
@@ -48,20 +49,35 @@ pub(crate) fn push_time(line: &mut SafeLine, time: &SafeLine) -> Result<(), NoMe
     line.push_line(time)
 }
 
-/// Appends a question mark if a line isn't understood, in a column that is there if `has_marks`.
-fn push_mark(line: &mut SafeLine, has_marks: bool, obstacle: Option<Obstacle>) -> Result<(), NoMem>
-    ensures { OnOk result (line.new ≡ line.old ++ mark_column has_marks obstacle) }
+/// Returns whether an obstacle only says that the line stands as it was observed.
+fn is_observed(obstacle: Obstacle) -> bool
+    ensures { result ≡ is_observed obstacle }
 {
-    if !has_marks {
-        return Ok(());
-    }
+    matches!(obstacle, Obstacle::Observed)
+}
+
+/// Appends an `o` if a line stands as it was observed, and a question mark if it isn't understood.
+fn push_mark_in(line: &mut SafeLine, obstacle: Option<Obstacle>) -> Result<(), NoMem>
+    ensures { OnOk result (line.new ≡ line.old ++ mark_in obstacle) }
+{
     match obstacle {
+        Some(obstacle) if is_observed(obstacle) => line.push_ascii(" o"),
         Some(_) => line.push_ascii(" ?"),
         None => line.push_ascii("  "),
     }
 }
 
-/// Returns the number, the question mark, the time, the session and the text of a line.
+/// Appends the mark of a line, in a column that is there if `has_marks`.
+fn push_mark(line: &mut SafeLine, has_marks: bool, obstacle: Option<Obstacle>) -> Result<(), NoMem>
+    ensures { OnOk result (line.new ≡ line.old ++ mark_column has_marks obstacle) }
+{
+    if has_marks {
+        return push_mark_in(line, obstacle);
+    }
+    Ok(())
+}
+
+/// Returns the number, the mark, the time, the session and the text of a line.
 fn head_line(alloc: Global, row: &LineRow<'_>, columns: Columns<'_>) -> Result<SafeLine, NoMem>
     ensures { IfOk result (λ line. line ≡ head_text columns.entry.labels.now
         columns.entry.width columns.entry.has_marks (row_value row.now)) }
@@ -154,10 +170,13 @@ pub(crate) fn push_obstacle(
 ) -> Result<(), NoMem>
     ensures { OnOk result (lines.new.items ≡ lines.old.items ++ obstacle_lines obstacle) }
 {
-    if let Some(obstacle) = obstacle {
-        lines.push(obstacle_line(alloc, obstacle)?)?;
+    match obstacle {
+        Some(obstacle) if !is_observed(obstacle) => {
+            lines.push(obstacle_line(alloc, obstacle)?)?;
+            Ok(())
+        }
+        _ => Ok(()),
     }
-    Ok(())
 }
 
 /// Appends what a line read, if it read anything.
@@ -222,7 +241,7 @@ fn push_row(
     push_below(alloc, lines, row)
 }
 
-/// Returns whether some row is that of a line that isn't understood.
+/// Returns whether some row is that of a line that isn't understood or stands as it was observed.
 fn has_unknown(rows: &[LineRow<'_>]) -> bool
     ensures { result ≡ list_any (λ row. is_some row.obstacle) rows.now }
 {
@@ -230,7 +249,8 @@ fn has_unknown(rows: &[LineRow<'_>]) -> bool
 }
 
 /// Returns rows as the lines that a terminal shows: one to five for each. `width` is that of the
-/// column of names. If some line isn't understood, there is a column of question marks.
+/// column of names. If some line isn't understood or stands as it was observed, there is a column
+/// of marks: a question mark or an `o`.
 pub fn row_lines(
     alloc: Global,
     rows: &[LineRow<'_>],

@@ -1,7 +1,7 @@
 //! What a log holds, as a terminal shows it.
 ghost use Rattle.std.specs.Prelude.{◌≡◌, ◌++◌, [], IfOk, OnOk, length};
 ghost use Rattle.std.specs.Option.{option_copied};
-ghost use Rattle.casebook_screen.specs.Summary.{basis_text, head_lines, head_text, period_words};
+ghost use Rattle.casebook_screen.specs.Summary.{head_lines, head_text, period_words};
 ghost use Rattle.casebook_screen.specs.Summary.{sessions_in, span_words, times_words};
 
 use crate::NoMem;
@@ -105,36 +105,20 @@ fn head_line(
     Ok(line)
 }
 
-/// Returns what the log rests on.
-#[tactic(auto, unfolding(crate::specs::Summary::basis_text))]
-fn basis_line(alloc: Global, is_recording: bool) -> Result<SafeLine, NoMem>
-    ensures { IfOk result (λ line. line ≡ basis_text is_recording) }
-{
-    let mut line = SafeLine::new(alloc);
-    if is_recording {
-        line.push_ascii("Played in Retro's shell. Whether the machine did the same isn't known.")?;
-    } else {
-        line.push_ascii(
-            "The log isn't as its lines run: what was recorded is only what its notes say.",
-        )?;
-    }
-    Ok(line)
-}
-
 /// Returns what the log holds, what it rests on, and an empty line.
 pub(crate) fn head_lines(
     alloc: Global,
     recording: &Recording,
     labels: &Labels,
     fates: &[(u32, Fate)],
-    is_recording: bool,
+    basis: SafeLine,
 ) -> Result<Vec<SafeLine>, NoMem>
     ensures { IfOk result (λ lines.
-        lines.items ≡ head_lines recording.now labels.now fates.now is_recording) }
+        lines.items ≡ head_lines recording.now labels.now fates.now basis) }
 {
     let mut lines = Vec::new(alloc);
     lines.push(head_line(alloc, recording, labels, fates)?)?;
-    lines.push(basis_line(alloc, is_recording)?)?;
+    lines.push(basis)?;
     lines.push(SafeLine::new(alloc))?;
     Ok(lines)
 }

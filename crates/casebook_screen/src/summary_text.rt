@@ -1,8 +1,10 @@
 //! Summaries of repairs, as a terminal shows them.
 ghost use Rattle.std.specs.Prelude.{◌≡◌, IfOk};
+ghost use Rattle.casebook_view.specs.Sources.{source_view};
 ghost use Rattle.casebook_screen.specs.Summary.{summary_lines};
 
 use crate::NoMem;
+use crate::basis_text::basis_line;
 use crate::effect_text::effect_lines;
 use crate::fate_counts::count_lines;
 use crate::leak_text::leak_lines;
@@ -13,7 +15,7 @@ use crate::restoration_text::restoration_lines;
 use crate::summary_head::head_lines;
 use crate::unknown_text::unknown_lines;
 use casebook_text::SafeLine;
-use casebook_view::{Group, Summary};
+use casebook_view::{Group, Source, Summary};
 use retro_keep::Recording;
 use std::alloc::Global;
 
@@ -28,20 +30,25 @@ pub struct Sheet<'a> {
     pub restorations: &'a [Restoration],
     /// The summary's notices, by session and subject.
     pub groups: &'a [Group],
-    /// Whether the log is as its lines run. If not, the screen says so.
+    /// Where the recording's lines come from.
+    pub source: Source<'a>,
+    /// Whether the log is as its lines run. If not, the screen says so. Of lines that a recorder
+    /// saw it says nothing of that.
     pub is_recording: bool,
 }
 
-/// Returns a summary as the lines that a terminal shows: what the log holds, which lines aren't
-/// understood, how many lines have which fate, what is to be restored, whom to tell about what,
-/// which cancelled lines showed something, and what each edited line led to.
+/// Returns a summary as the lines that a terminal shows: what the log holds and what it rests on,
+/// which lines aren't understood or have to be run for real, how many lines have which fate, what
+/// is to be restored, whom to tell about what, which cancelled lines showed something, and what
+/// each edited line led to.
 pub fn summary_lines(
     alloc: Global,
     sheet: Sheet<'_>,
     names: Names<'_>,
 ) -> Result<Vec<SafeLine>, NoMem>
     ensures { IfOk result (λ lines. lines.items
-        ≡ summary_lines sheet.entry.recording.now sheet.entry.summary.now
+        ≡ summary_lines (source_view sheet.entry.source)
+        sheet.entry.recording.now sheet.entry.summary.now
         sheet.entry.restorations.now sheet.entry.groups.now sheet.entry.is_recording
         names.entry.labels.now names.entry.width) }
 {
@@ -50,8 +57,9 @@ pub fn summary_lines(
     let unknown = summary.unknown.as_slice();
     let fates = summary.fates.as_slice();
     let screens = summary.notices.len();
-    let mut lines = head_lines(alloc, recording, names.labels, fates, sheet.is_recording)?;
-    lines.append(&mut unknown_lines(alloc, unknown, fates)?)?;
+    let basis = basis_line(alloc, sheet.source, sheet.is_recording)?;
+    let mut lines = head_lines(alloc, recording, names.labels, fates, basis)?;
+    lines.append(&mut unknown_lines(alloc, sheet.source, unknown, fates)?)?;
     lines.push(SafeLine::new(alloc))?;
     lines.append(&mut count_lines(alloc, fates)?)?;
     lines.append(&mut restoration_lines(alloc, summary.doubtful.as_slice(), sheet.restorations)?)?;

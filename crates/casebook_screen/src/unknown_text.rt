@@ -1,17 +1,19 @@
-//! Lines that aren't understood, as a terminal shows them.
+//! Lines that aren't understood or have to be run for real, as a terminal shows them.
 ghost use Rattle.std.specs.Prelude.{◌≡◌, ◌++◌, IfOk, OnOk, drop, map, take};
 ghost use Rattle.casebook_screen.specs.Unknown.{count_cancelled, first_row, hint_text};
 ghost use Rattle.casebook_screen.specs.Unknown.{lines_by_obstacle, lines_of_obstacle, lines_of_unknown};
 ghost use Rattle.casebook_screen.specs.Unknown.{many_head, numbers_in_row, numbers_with, obstacle_words, one_head};
 ghost use Rattle.casebook_screen.specs.Unknown.{row_text, rows_of, understood_text, unknown_head};
-ghost use Rattle.casebook_screen.specs.Unknown.{lines_with, unknown_lines};
+ghost use Rattle.casebook_screen.specs.Unknown.{lines_with, played_lines, unknown_lines};
+ghost use Rattle.casebook_view.specs.Sources.{source_view};
 
 use crate::NoMem;
 use crate::layout::{COUNT_WIDTH, indented, number_column, push_padded};
 use crate::notice_text::push_numbers;
+use crate::to_run_text::seen_lines;
 use crate::unknown_numbers::UnknownNumbers;
 use casebook_text::SafeLine;
-use casebook_view::{Fate, Obstacle, UnknownLine};
+use casebook_view::{Fate, Obstacle, Source, UnknownLine};
 use casebook_words::{obstacle_text, obstacles_text};
 use std::alloc::Global;
 
@@ -187,7 +189,10 @@ fn push_with(
 }
 
 /// Returns the lines that aren't understood, by their obstacles.
-fn lines_by_obstacle(alloc: Global, unknown: &[UnknownLine]) -> Result<Vec<SafeLine>, NoMem>
+pub(crate) fn lines_by_obstacle(
+    alloc: Global,
+    unknown: &[UnknownLine],
+) -> Result<Vec<SafeLine>, NoMem>
     ensures { IfOk result (λ lines. lines.items ≡ lines_by_obstacle unknown.now) }
 {
     let mut lines = Vec::new(alloc);
@@ -195,6 +200,7 @@ fn lines_by_obstacle(alloc: Global, unknown: &[UnknownLine]) -> Result<Vec<SafeL
     push_with(alloc, &mut lines, unknown, Obstacle::Form)?;
     push_with(alloc, &mut lines, unknown, Obstacle::Expansion)?;
     push_with(alloc, &mut lines, unknown, Obstacle::Terminal)?;
+    push_with(alloc, &mut lines, unknown, Obstacle::Need)?;
     Ok(lines)
 }
 
@@ -236,12 +242,12 @@ fn lines_of_unknown(
 }
 
 /// Returns which lines aren't understood, or that every line is understood.
-pub(crate) fn unknown_lines(
+fn played_lines(
     alloc: Global,
     unknown: &[UnknownLine],
     fates: &[(u32, Fate)],
 ) -> Result<Vec<SafeLine>, NoMem>
-    ensures { IfOk result (λ lines. lines.items ≡ unknown_lines unknown.now fates.now) }
+    ensures { IfOk result (λ lines. lines.items ≡ played_lines unknown.now fates.now) }
 {
     if !unknown.is_empty() {
         return lines_of_unknown(alloc, unknown, fates);
@@ -249,4 +255,21 @@ pub(crate) fn unknown_lines(
     let mut lines = Vec::new(alloc);
     lines.push(understood_line(alloc)?)?;
     Ok(lines)
+}
+
+/// Returns which lines aren't understood if they were played, or which ones have to be run for real
+/// if a recorder saw them.
+pub(crate) fn unknown_lines(
+    alloc: Global,
+    source: Source<'_>,
+    unknown: &[UnknownLine],
+    fates: &[(u32, Fate)],
+) -> Result<Vec<SafeLine>, NoMem>
+    ensures { IfOk result (λ lines.
+        lines.items ≡ unknown_lines (source_view source.entry) unknown.now fates.now) }
+{
+    match source {
+        Source::Played => played_lines(alloc, unknown, fates),
+        Source::Seen(_) => seen_lines(alloc, unknown),
+    }
 }

@@ -1,10 +1,11 @@
 //! What rows are given: recordings, edits, repairs and labels.
 use crate::logs::named;
+use casebook_view::Source;
 use casebook_words::Labels;
 use retro_keep::{Edit, Recording, Script, keep_alone};
 use retro_log::{read_log, read_script};
 use retro_redo::{Repair, repair_alone};
-use retro_rows::{fail, numbered};
+use retro_rows::{fail, numbered, numbers};
 use retro_tree::Text;
 use std::alloc::Global;
 use std::test::Fail;
@@ -58,6 +59,25 @@ pub fn repair_of(alloc: Global, recording: &Recording, edits: &[Edit]) -> Result
     match repair_alone(alloc, recording, edits) {
         Ok(repair) => Ok(repair),
         Err(_) => fail("the edits are refused"),
+    }
+}
+
+/// Returns the numbers of the observed lines if a field says that a recorder saw the lines of a
+/// log, or `None` if it says something else. `observed 2 4` says that it observed two lines, and
+/// `observed none` that it observed none.
+pub fn observed_of(alloc: Global, field: &str) -> Result<Option<Vec<u32>>, Fail> {
+    match field.split_once(' ') {
+        Some(("observed", "none")) => Ok(Some(Vec::new(alloc))),
+        Some(("observed", list)) => Ok(Some(numbers(alloc, list)?)),
+        _ => Ok(None),
+    }
+}
+
+/// Returns where lines come from of which these were observed, or that they were played.
+pub fn source_of(observed: &Option<Vec<u32>>) -> Source<'_> {
+    match observed {
+        Some(numbers) => Source::Seen(numbers.as_slice()),
+        None => Source::Played,
     }
 }
 

@@ -3,8 +3,9 @@
 //! `docs/FORMATS.md`.
 //!
 //! A header has a log, the edits of its lines, names of sessions, times of lines, and whether the
-//! log is a recording. A row below it has a part of what is shown of the repair, a line that is
-//! shown in full, or a pointer into its document (RFC 6901), whose value is wanted as compact JSON.
+//! log is a recording or which of its lines a recorder observed. A row below it has a part of what
+//! is shown of the repair, a line that is shown in full, or a pointer into its document (RFC 6901),
+//! whose value is wanted as compact JSON.
 #![tactic(auto)]
 
 #[cfg(test)]
@@ -22,7 +23,11 @@ mod market_table;
 #[cfg(test)]
 mod rows;
 #[cfg(test)]
+mod seen_table;
+#[cfg(test)]
 mod show;
+#[cfg(test)]
+mod source_table;
 #[cfg(test)]
 mod unknown_table;
 #[cfg(test)]

@@ -1,7 +1,8 @@
 //! The tables of rows about lines of logs; `retro_rows` says how they are written.
 
 /// Lines from one number to another as a table, as a terminal shows them, or as a list of numbers.
-/// A table doesn't say what is understood.
+/// A table doesn't say what is understood. If a recorder saw the lines, no text is tested, and
+/// those that it observed have their own mark.
 pub const LINES: &str = r##"
 given: market :: 1=alice :: 16=May 06 10:52
 - table: 15 :: 16 => 15%(TAB)%(TAB)1%(TAB)alice%(TAB)echo call Bob >> notes; cat notes%(TAB)\
@@ -51,6 +52,20 @@ given: unknown :: 1=ann, 2=eve :: %(EMPTY)
 |         unknown: a pattern or value that a shell expands
 |         read  /home/ann/*
 |         shown 34 bytes: cat: *: No such file or directory
+
+- screen: 2 :: 4 :: observed 3 4 =>
+|     2   eve     sed -i s/a/b/ list
+|         shown 19 bytes: sh: sed: not found
+|     3 o eve     cat list
+|         read  /srv/list
+|         shown 2 bytes: a
+|     4 o ann     cat *
+|         read  /home/ann/*
+|         shown 34 bytes: cat: *: No such file or directory
+
+- screen: 2 :: 2 :: observed 3 4 =>
+|     2 eve     sed -i s/a/b/ list
+|         shown 19 bytes: sh: sed: not found
 
 - table: 2 :: 3 => 2%(TAB)%(TAB)2%(TAB)eve%(TAB)sed -i s/a/b/ list%(TAB)\
   sh: sed: not found⟨U+000A⟩%(NL)3%(TAB)%(TAB)2%(TAB)eve%(TAB)cat list%(TAB)a⟨U+000A⟩%(TAB)\

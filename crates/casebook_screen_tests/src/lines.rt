@@ -1,7 +1,7 @@
 //! What is shown of lines.
 use casebook_screen::{NoMem, row_lines, row_numbers, row_table};
 use casebook_text::{list_of_numbers, text_of_lines, text_of_rows};
-use casebook_view::{Filters, LineRow, LineTest, rows};
+use casebook_view::{Filters, LineRow, LineTest, Source, rows};
 use casebook_words::Labels;
 use retro_keep::Recording;
 use retro_rows::text;
@@ -19,19 +19,19 @@ fn tests_of(alloc: Global, from: u32, to: u32) -> Result<Vec<LineTest>, NoMem> {
 }
 
 /// Returns the rows of the lines from one number to another.
-fn rows_between(
+fn rows_between<'a>(
     alloc: Global,
-    recording: &Recording,
-    from: u32,
-    to: u32,
-) -> Result<Vec<LineRow<'_>>, NoMem> {
+    recording: &'a Recording,
+    source: Source<'_>,
+    (from, to): (u32, u32),
+) -> Result<Vec<LineRow<'a>>, NoMem> {
     let mut filters = Filters {
         tests: tests_of(alloc, from, to)?,
         text: None,
         shown: None,
         is_unknown: false,
     };
-    rows(alloc, recording, &mut filters)
+    rows(alloc, recording, source, &mut filters)
 }
 
 /// Returns rows as the text of a table.
@@ -55,12 +55,12 @@ fn list_text(alloc: Global, found: &[LineRow<'_>]) -> Result<String, NoMem> {
 /// Returns the lines from one number to another as a table, as a screen or as a list of numbers.
 pub fn lines(
     alloc: Global,
-    recording: &Recording,
+    (recording, source): (&Recording, Source<'_>),
     labels: &Labels,
     form: &str,
-    (from, to): (u32, u32),
+    between: (u32, u32),
 ) -> Result<String, NoMem> {
-    let found = rows_between(alloc, recording, from, to)?;
+    let found = rows_between(alloc, recording, source, between)?;
     match form {
         "table" => table_text(alloc, found.as_slice(), labels),
         "screen" => screen_text(alloc, found.as_slice(), labels),

@@ -1,10 +1,12 @@
 //! The call that each row names, and the tests that make these calls.
 use crate::case_tables::{AGAIN, EDGES, FEW, KINDS, QUOTED};
-use crate::given::{edits_of, labels_of, recording_of, repair_of};
+use crate::given::{edits_of, labels_of, observed_of, recording_of, repair_of, source_of};
 use crate::line_tables::{FORGED, LINES};
 use crate::lines::lines;
 use crate::market_table::MARKET;
+use crate::seen_table::SEEN;
 use crate::show::Shown;
+use crate::source_table::SOURCES;
 use crate::unknown_table::UNKNOWN;
 use crate::unlike::unlike;
 use casebook_view::{Case, Summary};
@@ -20,7 +22,7 @@ struct Asked<'a> {
     call: &'a str,
     names: &'a str,
     times: &'a str,
-    is_recording: bool,
+    kind: &'a str,
     of: &'a str,
 }
 
@@ -46,7 +48,7 @@ fn of_summary(
         case,
         summary,
         labels: &labels,
-        is_recording: asked.is_recording,
+        is_recording: asked.kind == "recording",
     };
     told(alloc, shown, asked.call, asked.of)
 }
@@ -65,7 +67,8 @@ fn of_repair(
     repair: &Repair,
     asked: Asked<'_>,
 ) -> Result<String, Fail> {
-    let case = Case::of(alloc, recording, repair, edits)?;
+    let observed = observed_of(alloc, asked.kind)?;
+    let case = Case::of(alloc, recording, repair, edits, source_of(&observed))?;
     of_case(alloc, &case, asked)
 }
 
@@ -83,12 +86,14 @@ fn listed(
     call: &str,
     log: &str,
     (names, times): (&str, &str),
-    (from, to): (&str, &str),
+    (from, to, kind): (&str, &str, &str),
 ) -> Result<String, Fail> {
     let between = (from.parse()?, to.parse()?);
     let labels = labels_of(alloc, names, times)?;
     let recording = recording_of(alloc, log)?;
-    Ok(lines(alloc, &recording, &labels, call, between)?)
+    let observed = observed_of(alloc, kind)?;
+    let source = source_of(&observed);
+    Ok(lines(alloc, (&recording, source), &labels, call, between)?)
 }
 
 /// Returns what is said of a log with a line changed.
@@ -102,14 +107,17 @@ fn called(alloc: Global, call: &str, given: &[String]) -> Result<String, Fail> {
     match (call, given) {
         ("unlike", [log, names, forgery]) => forged(alloc, log, names, forgery),
         ("table" | "screen" | "numbers", [log, names, times, from, to]) => {
-            listed(alloc, call, log, (names, times), (from, to))
+            listed(alloc, call, log, (names, times), (from, to, "recording"))
+        }
+        ("screen", [log, names, times, from, to, kind]) => {
+            listed(alloc, call, log, (names, times), (from, to, kind))
         }
         (_, [log, edits, names, times, kind, of]) => {
             let asked = Asked {
                 call,
                 names,
                 times,
-                is_recording: kind.as_str() == "recording",
+                kind,
                 of,
             };
             repaired(alloc, log, edits, asked)
@@ -135,7 +143,9 @@ fn the_market_is_shown(rt: HostRuntime) -> Result<(), Fail> {
 
 #[test]
 fn other_logs_are_shown(rt: HostRuntime) -> Result<(), Fail> {
-    for table in [EDGES, KINDS, UNKNOWN, AGAIN, QUOTED, FEW, LINES, FORGED] {
+    for table in [
+        EDGES, KINDS, UNKNOWN, SEEN, SOURCES, AGAIN, QUOTED, FEW, LINES, FORGED,
+    ] {
         hold(rt.alloc(), table)?;
     }
     Ok(())

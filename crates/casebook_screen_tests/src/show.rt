@@ -59,6 +59,7 @@ impl<'a> Shown<'a, '_> {
             summary: self.summary,
             restorations: restorations.as_slice(),
             groups: groups.as_slice(),
+            source: self.case.source(),
             is_recording: self.is_recording,
         };
         self.sheet_text(alloc, sheet, is_document)

@@ -37,6 +37,8 @@ fn name_of(obstacle: Obstacle) -> &'static str {
         Obstacle::Form => "form",
         Obstacle::Expansion => "expansion",
         Obstacle::Terminal => "terminal",
+        Obstacle::Observed => "observed",
+        Obstacle::Need => "need",
     }
 }
 

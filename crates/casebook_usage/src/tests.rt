@@ -90,6 +90,7 @@ fn name(found: Option<Obstacle>) -> &'static str {
         Some(Obstacle::Form) => "Form",
         Some(Obstacle::Expansion) => "Expansion",
         Some(Obstacle::Terminal) => "Terminal",
+        Some(Obstacle::Observed | Obstacle::Need) => "of no use",
     }
 }
 

@@ -1,4 +1,5 @@
 pub mod ByNumber
+pub mod Sources
 pub mod FirstOfEach
 pub mod NotePaths
 pub mod Filters

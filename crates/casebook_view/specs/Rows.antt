@@ -6,12 +6,14 @@ use Rattle.retro_tree.specs.Path.{PathValue}
 use Rattle.retro_keep.specs.Recording.{RecordingValue}
 use Rattle.retro_keep.specs.declared.noted.Noted.{Noted}
 use Rattle.casebook_usage.specs.declared.obstacle.Obstacle.{Obstacle}
+use Rattle.casebook_usage.specs.declared.obstacle.Obstacle.TheVariants.{Observed}
 use Rattle.casebook_profile.specs.UnknownLines.{unknown_lines_of}
 use Rattle.casebook_profile.specs.declared.unknown_line.UnknownLine.{UnknownLine}
 use Rattle.casebook_view.specs.Filters.{FiltersValue, passes}
 use Rattle.casebook_view.specs.FirstOfEach.{first_of_each}
 use Rattle.casebook_view.specs.NotePaths.{asked_path, write_eq, write_in}
-use Rattle.casebook_view.specs.Unknown.{obstacle_at}
+use Rattle.casebook_view.specs.Sources.{SourceValue, Played, Seen}
+use Rattle.casebook_view.specs.Unknown.{obstacle_at, unknown_line}
 use Rattle.casebook_view.specs.declared.line_row.LineRow.{LineRow}
 use Rattle.casebook_view.specs.declared.path_write.PathWrite.{PathWrite}
 
@@ -56,6 +58,16 @@ row_of unknown line = row_with (obstacle_at line.0 unknown) line
 abbrev pub rows_among : FiltersValue → List UnknownLine → List (ℕ × Noted) → List RowValue
 rows_among filters unknown lines = map (row_of unknown) (filter (passes filters unknown) lines)
 
--- the rows of the lines of a recording that pass filters
-abbrev pub rows_of : FiltersValue → RecordingValue → List RowValue
-rows_of filters r = rows_among filters (unknown_lines_of r) r.lines
+-- the lines with these numbers, as lines that stand as they were observed
+abbrev pub observed_lines : List ℕ → List UnknownLine
+observed_lines numbers = map (λ n. unknown_line n Observed) numbers
+
+-- The lines of a recording that aren't understood, if they were played; those that stand as they
+-- were observed, if a recorder saw them.
+abbrev pub unknown_of : SourceValue → RecordingValue → List UnknownLine
+unknown_of Played r = unknown_lines_of r
+unknown_of (Seen numbers) r = observed_lines numbers
+
+-- the rows of the lines of a recording from a source that pass filters
+abbrev pub rows_of : SourceValue → FiltersValue → RecordingValue → List RowValue
+rows_of source filters r = rows_among filters (unknown_of source r) r.lines

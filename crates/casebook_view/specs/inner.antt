@@ -5,3 +5,4 @@ pub mod Names
 pub mod NewTexts
 pub mod Obstacles
 pub mod Origins
+pub mod Redone

@@ -5,8 +5,10 @@ ghost use Rattle.retro_keep.specs.Recorded.{recorded_before};
 ghost use Rattle.retro_keep.specs.Recording.{noted_at};
 ghost use Rattle.casebook_view.specs.Fates.{session_in};
 ghost use Rattle.casebook_view.specs.Reasons.{IsCauseOf};
+ghost use Rattle.casebook_view.specs.Sources.{source_view};
 
 use crate::NoMem;
+use crate::source::Source;
 use casebook_cause::Differences;
 use retro_history::{At, History};
 use retro_keep::{Edit, Noted, Recording};
@@ -15,8 +17,8 @@ use retro_tree::Ask;
 use std::alloc::Global;
 use std::marker::Model;
 
-/// A recording, a repair of it, and the edits of that repair. Everything that is shown of a repair
-/// is read from these.
+/// A recording, a repair of it, the edits of that repair, and where the lines of the recording come
+/// from. Everything that is shown of a repair is read from these.
 ///
 /// A case borrows them, and keeps what the lines of both recordings change differently and the
 /// history of the repaired one. Making it takes one pass over the notes of each.
@@ -27,9 +29,11 @@ pub struct Case<'a> {
     repaired: History<'a>,
     repair: &'a Repair,
     edits: &'a [Edit],
+    source: Source<'a>,
 }
 
 impl<'a> Model for Case<'a> {
+    ghost use Rattle.casebook_view.specs.Sources.{source_view};
     ghost use Rattle.casebook_view.specs.inner.Cases.{AreOfCase, CaseValue, coded_case};
 
     ghost Value = { CaseValue };
@@ -40,6 +44,7 @@ impl<'a> Model for Case<'a> {
       recording = a.recording.now;
       repair = a.repair.now;
       edits = a.edits.now;
+      source = source_view a.source;
     } };
 
     ghost invariant = { λ a.
@@ -47,16 +52,18 @@ impl<'a> Model for Case<'a> {
 }
 
 impl<'a> Case<'a> {
-    /// Returns a recording with a repair of it by these edits.
+    /// Returns a recording, whose lines come from this source, with a repair of it by these edits.
     pub fn of(
         alloc: Global,
         recording: &'a Recording,
         repair: &'a Repair,
         edits: &'a [Edit],
+        source: Source<'a>,
     ) -> Result<Case<'a>, NoMem>
         ensures recording { IfOk result (λ case. case.recording ≡ recording.now) }
         ensures repair { IfOk result (λ case. case.repair ≡ repair.now) }
         ensures edits { IfOk result (λ case. case.edits ≡ edits.now) }
+        ensures source { IfOk result (λ case. case.source ≡ source_view source.entry) }
     {
         Ok(Case {
             recording,
@@ -64,6 +71,7 @@ impl<'a> Case<'a> {
             repaired: History::of(alloc, &repair.recording)?,
             repair,
             edits,
+            source,
         })
     }
 
@@ -86,6 +94,13 @@ impl<'a> Case<'a> {
         ensures { result.now ≡ self.now.edits }
     {
         self.edits
+    }
+
+    /// Returns where the lines of the recording come from.
+    pub fn source(&self) -> Source<'a>
+        ensures { source_view result ≡ self.now.source }
+    {
+        self.source
     }
 
     /// Returns the cause of what a query answers before the line with a number: the last line

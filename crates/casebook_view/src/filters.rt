@@ -17,7 +17,7 @@ pub struct Filters<'r> {
     pub text: Option<Matcher<'r>>,
     /// A pattern that is found in what the line printed.
     pub shown: Option<Matcher<'r>>,
-    /// Whether only lines pass that aren't understood.
+    /// Whether only lines pass that aren't understood, or that stand as they were observed.
     pub is_unknown: bool,
 }
 

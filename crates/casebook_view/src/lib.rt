@@ -3,6 +3,11 @@
 //! [`rows`] returns the lines of a recording that pass [`Filters`], each with what it read and
 //! wrote, and with why it isn't understood if it isn't.
 //!
+//! A [`Source`] says where the lines come from. They were played in Retro's shell, or a recorder
+//! saw them on a machine. Of the latter some stand as they were observed, whatever Retro's shell
+//! does with their texts; each other one did there what it does in Retro's shell. No recorded text
+//! is tested of such lines.
+//!
 //! A [`Case`] is a recording with its repair, and a [`Summary`] says what the repair would do: the
 //! [`Fate`] of each line, the paths to restore, the [`Notice`]s to people, the [`Leak`]s, the
 //! [`Effect`] of each cancelled or replaced line, and the [`Reason`] for which each line is run
@@ -11,7 +16,8 @@
 //!
 //! Lines of which Retro's shell knows nothing are named, with why they aren't understood. Their
 //! output is Retro's own, so it makes no notice and no leak. A path is doubtful if such a line
-//! wrote to it.
+//! wrote to it. Of lines that a recorder saw, an observed one counts among them only if a repair
+//! runs it again: what it would do isn't known until a shell on a machine runs it.
 //!
 //! No line is run: everything is read from recordings and repairs. For it the lines of both
 //! recordings are compared, and the history of the repaired one is made.
@@ -25,9 +31,10 @@
 //! - `rows` returns exactly the lines of a recording for which all filters hold (`passes` of
 //!   `specs/Filters.antt`), in order. A row names each path about which a note asks and each write
 //!   of a note, once, in the order in which they first occur (`row_of` of `specs/Rows.antt`).
-//!   Whether a file can be written counts only if it can't.
-//! - `Case::of` returns a recording with its repair and the edits: it is the three of them in
-//!   contracts, and its type keeps that its differences and its history are theirs.
+//!   Whether a file can be written counts only if it can't. Of lines that a recorder saw, exactly
+//!   those that stand as they were observed have an obstacle (`unknown_of`).
+//! - `Case::of` returns a recording with its repair, the edits and the source: it is the four of
+//!   them in contracts, and its type keeps that its differences and its history are theirs.
 //!   `Case::cause_of` returns the last line before another one that changes differently what a
 //!   query asks about, or says that there is none [by `IsCauseOf`].
 //! - `fates` returns one fate for each line, in order [by `AreFates`]: a line that is run again
@@ -45,8 +52,10 @@
 //! - `restorations` returns exactly the paths in which the final trees of the recording and of the
 //!   repair differ, each once and with how they differ.
 //! - `unknown_in` returns the lines that aren't understood, and the replaced ones whose new text
-//!   isn't, in order of numbers [by `specs/Unknown.antt`]. `Summary::of` names the paths to restore
-//!   that one of these lines wrote, in one of the two recordings.
+//!   isn't, in order of numbers [by `specs/Unknown.antt`]. Of lines that a recorder saw, the former
+//!   are exactly those that stand as they were observed and that the repair ran again with their
+//!   own texts (`lines_to_run`). `Summary::of` names the paths to restore that one of these lines
+//!   wrote, in one of the two recordings.
 //! - `leaks_of` returns what the compensations of cancelled lines say, and `notices` what all
 //!   others say, but for lines that aren't understood: an equation each. So by
 //!   `leaks_and_tellings_are_all` each compensation of a line that is understood is in one of them.
@@ -76,6 +85,7 @@ mod line_test;
 mod new_texts;
 mod note_paths;
 mod notice;
+mod observed;
 mod obstacles;
 mod origins;
 mod other_answer;
@@ -83,9 +93,12 @@ mod path_set;
 mod path_test;
 mod path_write;
 mod reason;
+mod redone;
 mod restoration;
+mod source;
 mod subject;
 mod summary;
+mod to_run;
 mod unknown;
 mod why;
 
@@ -106,6 +119,7 @@ pub use path_test::PathTest;
 pub use path_write::{PathWrite, WriteKind};
 pub use reason::{Reason, chain, reasons};
 pub use restoration::restorations;
+pub use source::Source;
 pub use subject::Subject;
 pub use summary::Summary;
 pub use unknown::unknown_in;

@@ -17,7 +17,7 @@ pub struct LineRow<'a> {
     /// What the line wrote, each kind of write to a path once, in the order in which they first
     /// occur.
     pub wrote: Vec<PathWrite>,
-    /// Why the line isn't understood, or `None` if it is.
+    /// Why the line isn't understood, or that it stands as it was observed; else `None`.
     pub obstacle: Option<Obstacle>,
     /// What the line printed.
     pub output: &'a Bytes,

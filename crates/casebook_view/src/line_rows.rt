@@ -3,13 +3,15 @@ ghost use Rattle.std.specs.Prelude.{◌≡◌, ◌++◌, ◌∷◌, [], List, If
 ghost use Rattle.casebook_profile.specs.declared.unknown_line.UnknownLine.{UnknownLine};
 ghost use Rattle.casebook_view.specs.Filters.{filters_of};
 ghost use Rattle.casebook_view.specs.Rows.{row_value, row_with, rows_among, rows_of};
+ghost use Rattle.casebook_view.specs.Sources.{source_view};
 ghost use Rattle.casebook_view.specs.inner.Obstacles.{AreObstacles};
 
 use crate::filters::Filters;
 use crate::line_row::LineRow;
 use crate::note_paths::{read_paths, writes_of};
+use crate::observed::unknown_of;
 use crate::obstacles::Obstacles;
-use crate::unknown::obstacles_of;
+use crate::source::Source;
 use casebook_profile::Obstacle;
 use retro_keep::{Noted, Recording};
 use retro_tree::NoMem;
@@ -56,17 +58,21 @@ fn push_row<'a>(
     Ok(())
 }
 
-/// Returns the rows of the lines of a recording that pass the filters, in order.
+/// Returns the rows of the lines of a recording that pass the filters, in order. Of lines that a
+/// recorder saw, those that stand as they were observed have the obstacle `Observed`, and count as
+/// lines that aren't understood; the others have none, and no text is tested.
 pub fn rows<'a>(
     alloc: Global,
     recording: &'a Recording,
+    source: Source<'_>,
     filters: &mut Filters<'_>,
 ) -> Result<Vec<LineRow<'a>>, NoMem>
     ensures { IfOk result (λ found. map row_value found.items
-        ≡ rows_of (filters_of filters.old) recording.now) }
+        ≡ rows_of (source_view source.entry) (filters_of filters.old) recording.now) }
 {
     let lines = recording.lines();
-    let obstacles = obstacles_of(alloc, recording)?;
+    let unknown = unknown_of(alloc, recording, source)?;
+    let obstacles = Obstacles::of(alloc, unknown.as_slice())?;
     let mut found = Vec::new(alloc);
     for line in lines {
         push_row(alloc, &mut found, filters, &obstacles, line)?;

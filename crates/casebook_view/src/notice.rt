@@ -94,7 +94,7 @@ fn notice_of(
 
 /// Returns whom to tell about what: a notice for each line that isn't cancelled and prints
 /// something else, in order, without those that aren't understood. What such a line printed is
-/// Retro's own, and nobody saw it.
+/// Retro's own, and nobody saw it; or what it would print isn't known.
 pub fn notices(
     alloc: Global,
     case: &Case<'_>,

@@ -31,8 +31,9 @@ use std::alloc::Global;
 /// What a repair would do.
 #[derive(Drop)]
 pub struct Summary {
-    /// The lines that aren't understood, in order: those whose recorded text isn't, and those that
-    /// run another text in the repaired recording that isn't.
+    /// The lines that aren't understood, in order: those whose recorded text isn't if they were
+    /// played, those that a recorder observed and that have to be run, and those that run another
+    /// text in the repaired recording that isn't understood.
     pub unknown: Vec<UnknownLine>,
     /// What becomes of each line, in order.
     pub fates: Vec<(u32, Fate)>,
@@ -66,7 +67,7 @@ impl Summary {
     /// Returns the summary of a repair.
     pub fn of(alloc: Global, case: &Case<'_>) -> Result<Summary, NoMem>
         ensures unknown { IfOk result (λ summary. summary.unknown.items
-            ≡ unknown_in case.now.recording case.now.repair.recording) }
+            ≡ unknown_in case.now.source case.now.recording case.now.repair) }
         ensures fates { IfOk result (λ summary.
             AreFates case.now.recording case.now.repair
             case.now.repair.lines.items summary.fates.items) }

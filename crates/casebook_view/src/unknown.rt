@@ -14,7 +14,7 @@ use retro_keep::{Noted, Recording};
 use std::alloc::Global;
 
 /// Returns why the lines of a recording aren't understood.
-pub(crate) fn obstacles_of(alloc: Global, recording: &Recording) -> Result<Obstacles, NoMem>
+fn obstacles_of(alloc: Global, recording: &Recording) -> Result<Obstacles, NoMem>
     ensures { IfOk result (AreObstacles (unknown_lines_of recording.now)) }
 {
     let unknown = unknown_lines(alloc, recording)?;
@@ -60,11 +60,15 @@ pub(crate) fn replaced_obstacles(alloc: Global, case: &Case<'_>) -> Result<Obsta
     }
 }
 
-/// Returns the lines of a repair that aren't understood, in order: the lines whose recorded text
-/// isn't understood, and those that run another text in the repaired recording that isn't.
+/// Returns the lines of a repair that aren't understood, in order.
+///
+/// Of lines that were played these are the ones whose recorded text isn't understood. Of lines that
+/// a recorder saw these are the ones that it observed, that are run again and that run their own
+/// texts: they have the obstacle `Need`. Of both these are also the lines that run another text in
+/// the repaired recording that isn't understood.
 pub fn unknown_in(alloc: Global, case: &Case<'_>) -> Result<Vec<UnknownLine>, NoMem>
     ensures { IfOk result (λ found. found.items
-        ≡ unknown_in case.now.recording case.now.repair.recording) }
+        ≡ unknown_in case.now.source case.now.recording case.now.repair) }
 {
     let obstacles = CaseObstacles::of(alloc, case)?;
     let mut found = Vec::new(alloc);

@@ -2,7 +2,7 @@
 use retro_keep::{Edit, Recording, Script, keep_alone};
 use retro_log::{read_log, read_script};
 use retro_redo::{Repair, repair_alone};
-use retro_rows::{document, fail, numbered};
+use retro_rows::{document, fail, numbered, numbers};
 use retro_tree::Text;
 use std::alloc::Global;
 use std::test::Fail;
@@ -49,6 +49,14 @@ pub fn edits_of(alloc: Global, list: &str) -> Result<Vec<Edit>, Fail> {
         })?;
     }
     Ok(edits)
+}
+
+/// Returns the numbers of observed lines, which spaces separate, or no numbers for `none`.
+pub fn observed_of(alloc: Global, list: &str) -> Result<Vec<u32>, Fail> {
+    if list == "none" {
+        return Ok(Vec::new(alloc));
+    }
+    numbers(alloc, list)
 }
 
 /// Returns the repair by edits.

@@ -1,8 +1,9 @@
 //! Rows of lines as texts.
 use crate::filters::{Patterns, tests_of, value_of};
+use crate::given::observed_of;
 use crate::words::{obstacle_word, push_item, write_sign};
 use casebook_text::list_of_numbers;
-use casebook_view::{Filters, LineRow, rows};
+use casebook_view::{Filters, LineRow, Source, rows};
 use retro_keep::Recording;
 use retro_rows::text;
 use retro_tree::NoMem;
@@ -69,10 +70,11 @@ fn rows_text(alloc: Global, found: &[LineRow<'_>]) -> Result<String, NoMem> {
 fn told(
     alloc: Global,
     recording: &Recording,
+    source: Source<'_>,
     filters: &mut Filters<'_>,
     call: &str,
 ) -> Result<String, NoMem> {
-    let found = rows(alloc, recording, filters)?;
+    let found = rows(alloc, recording, source, filters)?;
     match call {
         "lines" => numbers_text(alloc, found.as_slice()),
         "obstacles" => obstacles_text(alloc, found.as_slice()),
@@ -80,10 +82,11 @@ fn told(
     }
 }
 
-/// Returns the rows that pass the filters of a row, as its call tells them.
-pub fn listed(
+/// Returns the rows of lines from a source that pass the filters of a row, as its call tells them.
+fn listed_from(
     alloc: Global,
     recording: &Recording,
+    source: Source<'_>,
     call: &str,
     fields: &[String],
 ) -> Result<String, Fail> {
@@ -91,5 +94,23 @@ pub fn listed(
     let patterns = Patterns::of(alloc, fields)?;
     let tests = tests_of(alloc, fields)?;
     let mut filters = patterns.filters(alloc, tests, is_unknown)?;
-    Ok(told(alloc, recording, &mut filters, call)?)
+    Ok(told(alloc, recording, source, &mut filters, call)?)
+}
+
+/// Returns the rows that pass the filters of a row, as its call tells them. The lines were played,
+/// or seen if the row says which ones were observed.
+pub fn listed(
+    alloc: Global,
+    recording: &Recording,
+    call: &str,
+    fields: &[String],
+) -> Result<String, Fail> {
+    match value_of(fields, "observed") {
+        None => listed_from(alloc, recording, Source::Played, call, fields),
+        Some(list) => {
+            let observed = observed_of(alloc, list)?;
+            let source = Source::Seen(observed.as_slice());
+            listed_from(alloc, recording, source, call, fields)
+        }
+    }
 }

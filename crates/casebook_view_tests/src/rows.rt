@@ -1,13 +1,13 @@
 //! The call that each row names, and the test that makes these calls.
 use crate::answers::answers;
 use crate::causes::{compensated, met};
-use crate::given::{edits_of, recording_of, repair_of};
+use crate::given::{edits_of, observed_of, recording_of, repair_of};
 use crate::listed::listed;
 use crate::parts::part;
-use crate::tables::{INCIDENTS, LISTED, SHOWN, TREES};
+use crate::tables::{INCIDENTS, LISTED, SEEN, SHOWN, TREES};
 use crate::trees::changed;
 use crate::words::fate_sign;
-use casebook_view::{Case, Summary};
+use casebook_view::{Case, Source, Summary};
 use retro_keep::{Edit, Recording};
 use retro_redo::Repair;
 use retro_rows::{fail, rows, text};
@@ -57,7 +57,7 @@ fn of_repair(
         "compensated" => Ok(compensated(alloc, recording, repair, of)?),
         "met" => Ok(met(alloc, recording, &repair.recording, of.parse()?)?),
         _ => {
-            let case = Case::of(alloc, recording, repair, edits)?;
+            let case = Case::of(alloc, recording, repair, edits, Source::Played)?;
             of_case(alloc, &case, call, of)
         }
     }
@@ -76,6 +76,23 @@ fn repaired(
     of_repair(alloc, recording, &repair, edits.as_slice(), call, of)
 }
 
+/// Returns the result of a call on the repair by edits of a recording of which a recorder observed
+/// the lines of a list, as text.
+fn seen(
+    alloc: Global,
+    recording: &Recording,
+    (list, observed): (&str, &str),
+    call: &str,
+    of: &str,
+) -> Result<String, Fail> {
+    let edits = edits_of(alloc, list)?;
+    let repair = repair_of(alloc, recording, edits.as_slice())?;
+    let observed = observed_of(alloc, observed)?;
+    let source = Source::Seen(observed.as_slice());
+    let case = Case::of(alloc, recording, &repair, edits.as_slice(), source)?;
+    of_case(alloc, &case, call, of)
+}
+
 /// Returns the result of a call on a recording, as text.
 fn of_recording(
     alloc: Global,
@@ -86,6 +103,7 @@ fn of_recording(
     match (call, given) {
         ("lines" | "rows" | "obstacles", filters) => listed(alloc, recording, call, filters),
         (_, [edits, of]) => repaired(alloc, recording, edits, call, of),
+        (_, [edits, observed, of]) => seen(alloc, recording, (edits, observed), call, of),
         _ => fail("no such call"),
     }
 }
@@ -114,7 +132,7 @@ fn hold(alloc: Global, table: &str) -> Result<(), Fail> {
 
 #[test]
 fn rows_hold(rt: HostRuntime) -> Result<(), Fail> {
-    for table in [LISTED, SHOWN, INCIDENTS, TREES] {
+    for table in [LISTED, SHOWN, SEEN, INCIDENTS, TREES] {
         hold(rt.alloc(), table)?;
     }
     Ok(())

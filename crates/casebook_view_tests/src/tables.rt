@@ -6,7 +6,8 @@
 
 /// Rows of lines: number, session, how many bytes are printed, paths that are read, and writes.
 /// Then filters, of which `all` is none, and the numbers of the lines that pass all of them; and
-/// why lines aren't understood.
+/// why lines aren't understood. `observed` isn't a filter: it says that a recorder saw the lines,
+/// and which ones stand as they were observed.
 pub const LISTED: &str = r##"
 given: market
 - rows: all =>
@@ -46,8 +47,12 @@ given: market
 - lines: text nothing => none
 - lines: only unknown => none
 - lines: session 3 :: only unknown => none
+- lines: session 3 :: only unknown :: observed 6 7 13 21 => 6,13
 
 given: unknown
+- obstacles: to 5 :: observed none => 1 none, 2 none, 3 none, 4 none, 5 none
+- obstacles: to 5 :: observed 2 3 5 20 => 1 none, 2 observed, 3 observed, 4 none, 5 observed
+- obstacles: observed 2 3 20 :: only unknown => 2 observed, 3 observed, 20 observed
 - obstacles: to 10
   => 1 command, 2 command, 3 none, 4 expansion, 5 command, 6 none, 7 command, 8 terminal, 9 form,
   10 none
@@ -99,6 +104,33 @@ given: unknown :: 1=echo, 6=ls, 10=echo z > /srv/other; ls
 - show: leaked => %(EMPTY)
 - show: tell => %(EMPTY)
 - show: doubtful => /srv/other
+"##;
+
+/// Edits of lines of which a recorder observed some, and parts of the summary of their repair. The
+/// observed line 2 is run again, since `/f` would be another file; so it has to be run for real,
+/// nobody is told about it, and what it wrote is doubtful. Line 3 is run again too, but does what
+/// Retro's shell does. The observed lines 4 and 8 are kept and cancelled. Lines 5 to 7 run other
+/// texts, which are tested as ever. No recorded text is tested, as that of line 9. A line that an
+/// edit gives its own text is run again with it.
+pub const SEEN: &str = r##"
+given: {"script":1,"tree":[["/f","610a"]],"sessions":[[1,"/",0,[]]],\
+  "lines":[[1,1,"echo b > f"],[2,1,"cat f > g; cat g"],[3,1,"cat f"],[4,1,"echo a"],\
+  [5,1,"cat f"],[6,1,"cat f"],[7,1,"echo b"],[8,1,"cat f"],[9,1,"ls"]]} ::
+  1 8, 5=echo x, 6=ls, 7=ls > h
+- show: 2 4 5 6 8 :: unknown => 2 need, 6 command, 7 command
+- show: 2 4 5 6 8 :: fates => 1x 2c 3c 4u 5c 6c 7c 8x 9k
+- show: 2 4 5 6 8 :: tell => 3 1 /f, 5 1 text
+- show: 2 4 5 6 8 :: leaked => 8 1 2
+- show: 2 4 5 6 8 :: restore => M /f, M /g, A /h
+- show: 2 4 5 6 8 :: doubtful => /g, /h
+- show: none :: unknown => 6 command, 7 command
+- show: unknown => 6 command, 7 command, 9 command
+
+given: {"script":1,"tree":[["/f","610a"]],"sessions":[[1,"/",0,[]]],\
+  "lines":[[1,1,"cat f"],[2,1,"ls"],[3,1,"cat g"]]} :: 1=cat f, 2=ls
+- show: 1 3 :: unknown => 1 need
+- show: 1 2 3 :: unknown => 1 need, 2 need
+- show: unknown => 2 command
 "##;
 
 /// Why lines are run again: for each of the three reasons, of recordings and of a log that isn't as

@@ -18,6 +18,8 @@ pub fn obstacle_word(obstacle: Obstacle) -> &'static str {
         Obstacle::Form => "form",
         Obstacle::Expansion => "expansion",
         Obstacle::Terminal => "terminal",
+        Obstacle::Observed => "observed",
+        Obstacle::Need => "need",
     }
 }
 

@@ -4,7 +4,7 @@
 //! wrote, [`push_path`] a path, and [`push_cut`] bytes up to a limit. [`push_difference`] says how
 //! two answers to a query differ. [`FileLines`] has the lines of a file before and after, and
 //! merges them. [`Labels`] has the names of sessions and the times of lines. [`obstacle_text`] and
-//! [`obstacles_text`] say why one line isn't understood, and why several aren't.
+//! [`obstacles_text`] say why it isn't known what one line does, and what several do.
 //!
 //! All that is appended is a `SafeLine`, so no byte of a log gets into it but as `casebook_text`
 //! shows it. In contracts a line is the list of its bytes.

@@ -1,10 +1,11 @@
 -- The parts of the document, as the code has them.
 use Rattle.std.specs.Prelude.{◌≡◌, Bool, List, codes, map}
-use Rattle.serde_json.specs.Data.{Data, boolean, object, no_members, member}
+use Rattle.serde_json.specs.Data.{Data, boolean, string, object, no_members, member}
 use Rattle.serde_json.specs.View.{view}
 use Rattle.retro_json.specs.Values.{array_of, number_data}
 use Rattle.casebook_view.specs.Effects.{effect_value}
 use Rattle.casebook_view.specs.Groups.{group_value}
+use Rattle.casebook_view.specs.Sources.{SourceValue}
 use Rattle.casebook_view.specs.declared.group.Group.{Group}
 use Rattle.casebook_view.specs.declared.summary.Summary.{Summary}
 use Rattle.casebook_words.specs.declared.labels.Labels.{Labels}
@@ -13,6 +14,7 @@ use Rattle.casebook_json.specs.Causes.{effect_data}
 use Rattle.casebook_json.specs.Counts.{counts_data}
 use Rattle.casebook_json.specs.Leaked.{leak_data}
 use Rattle.casebook_json.specs.Restore.{restoration_data}
+use Rattle.casebook_json.specs.Source.{observed_in, source_name}
 use Rattle.casebook_json.specs.Tell.{group_data}
 use Rattle.casebook_json.specs.Unknown.{unknown_data}
 use Rattle.casebook_json.specs.Values.{path_data}
@@ -26,19 +28,23 @@ document lines is_recording parts = object
     (member (codes "doubtful") (array_of (map view parts.doubtful.items))
     (member (codes "leaked") (array_of (map view parts.leaked.items))
     (member (codes "lines") lines
+    (member (codes "observed") (array_of (map view parts.observed.items))
     (member (codes "recording") (boolean is_recording)
     (member (codes "restore") (array_of (map view parts.restore.items))
     (member (codes "show") (number_data 1)
+    (member (codes "source") (string parts.source.now)
     (member (codes "tell") (array_of (map view parts.tell.items))
-    (member (codes "unknown") (array_of (map view parts.unknown.items)) no_members))))))))))
+    (member (codes "unknown") (array_of (map view parts.unknown.items)) no_members))))))))))))
 
 -- These are the parts of the document of a repair.
-pub record AreParts (summary : Summary) (restorations : List Restoration) (groups : List Group) (labels : Labels)
-    (parts : Parts) : Type 0 where
+pub record AreParts (summary : Summary) (restorations : List Restoration) (groups : List Group) (source : SourceValue)
+    (labels : Labels) (parts : Parts) : Type 0 where
   pub causes : map view parts.causes.items ≡ map (λ effect. effect_data (effect_value effect)) summary.effects.items
   pub counts : view parts.counts ≡ counts_data summary.fates.items
   pub doubtful : map view parts.doubtful.items ≡ map path_data summary.doubtful.items
   pub leaked : map view parts.leaked.items ≡ map (leak_data labels) summary.leaks.items
+  pub observed : map view parts.observed.items ≡ map number_data (observed_in source)
   pub restore : map view parts.restore.items ≡ map restoration_data restorations
+  pub named : parts.source.now ≡ source_name source
   pub tell : map view parts.tell.items ≡ map (λ group. group_data labels (group_value group)) groups
   pub unknown : map view parts.unknown.items ≡ map unknown_data summary.unknown.items

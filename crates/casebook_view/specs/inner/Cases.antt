@@ -1,6 +1,6 @@
 -- Recordings with their repairs, as the type of cases has them in contracts.
-use Rattle.std.specs.Prelude.{◌≡◌, List, refl}
-use Rattle.std.specs.Coded.{Coded, code_by, coded×, coded_list}
+use Rattle.std.specs.Prelude.{◌≡◌, ℕ, List, Option, Some, None, refl}
+use Rattle.std.specs.Coded.{Coded, code_by, coded×, coded_list, coded_option, coded_ℕ}
 use Rattle.retro_keep.specs.Recording.{RecordingValue}
 use Rattle.retro_keep.specs.inner.EditCode.{coded_edit}
 use Rattle.retro_keep.specs.inner.RecordingCode.{coded_recording}
@@ -8,23 +8,41 @@ use Rattle.retro_keep.specs.declared.edit.Edit.{Edit}
 use Rattle.retro_redo.specs.declared.repair.Repair.{Repair}
 use Rattle.retro_redo.specs.contracts.repair.Repair as repair_type
 use Rattle.casebook_cause.specs.Cause.{TwoRecordings}
+use Rattle.casebook_view.specs.Sources.{SourceValue, Played, Seen}
 
--- a recording, a repair of it, and the edits of that repair
+-- a recording, a repair of it, the edits of that repair, and where the lines come from
 pub record CaseValue : Type 0 where
   pub recording : RecordingValue
   pub repair : Repair
   pub edits : List Edit
+  pub source : SourceValue
 
 abbrev pub coded_repair : Coded Repair
 coded_repair = (repair_type.the_row).coded
 
--- a recording with its repair and the edits is stored as pairs of them
+-- a source is stored as the numbers of the observed lines, if a recorder saw the lines
+abbrev pub numbers_seen : SourceValue → Option (List ℕ)
+numbers_seen Played = None
+numbers_seen (Seen numbers) = Some numbers
+
+abbrev pub source_seen : Option (List ℕ) → SourceValue
+source_seen None = Played
+source_seen (Some numbers) = Seen numbers
+
+pub seen_again : (source : SourceValue) → source_seen (numbers_seen source) ≡ source
+seen_again Played = refl
+seen_again (Seen numbers) = refl
+
+abbrev pub coded_source : Coded SourceValue
+coded_source = code_by (Option (List ℕ)) (coded_option (coded_list coded_ℕ)) numbers_seen source_seen seen_again
+
+-- a recording with its repair, the edits and the source is stored as pairs of them
 abbrev pub coded_case : Coded CaseValue
 coded_case =
-    code_by (RecordingValue × (Repair × List Edit))
-    (coded× coded_recording (coded× coded_repair (coded_list coded_edit)))
-    (λ c. (c.recording, (c.repair, c.edits)))
-    (λ p. record { recording = p.0; repair = p.1.0; edits = p.1.1 }) (λ _. refl)
+    code_by (RecordingValue × (Repair × (List Edit × SourceValue)))
+    (coded× coded_recording (coded× coded_repair (coded× (coded_list coded_edit) coded_source)))
+    (λ c. (c.recording, (c.repair, (c.edits, c.source))))
+    (λ p. record { recording = p.0; repair = p.1.0; edits = p.1.1.0; source = p.1.1.1 }) (λ _. refl)
 
 -- what a case keeps: the differences of its two recordings, and the history of the repaired one
 pub record AreOfCase (recorded repaired : RecordingValue) (differences : TwoRecordings) (history : RecordingValue)

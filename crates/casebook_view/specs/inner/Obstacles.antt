@@ -6,10 +6,11 @@ use Rattle.std.specs.Ordering.{nat_cmp}
 use Rattle.retro_tree.specs.Order.{path_cmp}
 use Rattle.retro_tree.specs.Path.{PathValue}
 use Rattle.retro_keep.specs.Recording.{RecordingValue}
-use Rattle.casebook_profile.specs.UnknownLines.{unknown_lines_of}
+use Rattle.retro_redo.specs.declared.repair.Repair.{Repair}
 use Rattle.casebook_profile.specs.declared.unknown_line.UnknownLine.{UnknownLine}
 use Rattle.casebook_usage.specs.declared.obstacle.Obstacle.{Obstacle}
-use Rattle.casebook_view.specs.Unknown.{is_replaced, obstacle_at, replaced_obstacle}
+use Rattle.casebook_view.specs.Sources.{SourceValue}
+use Rattle.casebook_view.specs.Unknown.{is_replaced, obstacle_at, recorded_unknown, replaced_obstacle}
 use Rattle.casebook_view.specs.declared.case_obstacles.CaseObstacles.{CaseObstacles}
 use Rattle.casebook_view.specs.declared.obstacles.Obstacles.{Obstacles}
 
@@ -26,10 +27,11 @@ abbrev pub AreReplaced : RecordingValue → RecordingValue → Obstacles → Typ
 AreReplaced r repaired obstacles =
     (n : ℕ) → (if is_replaced r repaired n then obstacle_of n obstacles else None) ≡ replaced_obstacle r repaired n
 
--- These are the obstacles of the lines of a recording and its repaired one.
-pub record AreOfLines (r repaired : RecordingValue) (obstacles : CaseObstacles) : Type 0 where
-  pub recorded : AreObstacles (unknown_lines_of r) obstacles.recorded
-  pub replaced : AreReplaced r repaired obstacles.replaced
+-- These are the obstacles of the lines of a recording from a source and its repair.
+pub record AreOfLines (source : SourceValue) (r : RecordingValue) (repair : Repair) (obstacles : CaseObstacles)
+    : Type 0 where
+  pub recorded : AreObstacles (recorded_unknown source r repair) obstacles.recorded
+  pub replaced : AreReplaced r repair.recording obstacles.replaced
 
 -- whether a set has a path
 abbrev pub has_path : PathValue → List PathValue → Bool

@@ -1,12 +1,64 @@
 -- Each call is for a smaller tree, and the views of `if` and `for`.
-use Rattle.std.proofs.Common.{rules, arith, ◌+◌, ◌*◌, ◌<◌, option_map}
+use Rattle.std.proofs.Common.{rules, arith, ◌≡◌, ℕ, ◌+◌, ◌-◌, ◌*◌, ◌<◌, List, [], ◌∷◌, Option, Some, option_map}
+use Rattle.std.proofs.Common.{IfOk, ap, sym, subst, ◌∙◌, drop, get_or, length, map, take, take_all, length-drop}
+use Rattle.std.proofs.lemmas.List.{drop_more}
+use Rattle.retro_syntax.specs.Parsing.{join}
+use Rattle.retro_syntax.specs.Tree as T
+use Rattle.retro_syntax.specs.declared.tree.Command.{Command}
+use Rattle.retro_syntax.specs.declared.tree.Commands.{Commands}
+use Rattle.retro_syntax.specs.declared.tree.Conditional.{Conditional}
+use Rattle.retro_syntax.specs.declared.tree.Connector.{Connector}
+use Rattle.casebook_usage.specs.declared.obstacle.Obstacle.{Obstacle}
+use Rattle.casebook_profile.specs.Commands.{first_of}
+use Rattle.casebook_profile.specs.Lines as L
+use Rattle.casebook_profile.specs.Scope.{Scope}
+use Rattle.casebook_profile.specs.inner.Scopes.{scope_view}
 use Rattle.retro_syntax.specs.View.{view, pipeline_of, and_or_of, commands_of, arms_of, arms_else_of}
 use Rattle.retro_syntax.proofs.ViewLemmas.{view_if, view_if_else, view_for}
-use Rattle.retro_shell.specs.inner.Trees.{arm_of, last_arm}
+use Rattle.retro_shell.specs.inner.Trees.{arm_of, arms_with, last_arm}
 use Rattle.retro_shell.proofs.Sizes.{size, and_or_size, command_size, arms_size, joint_smaller, last_joint_smaller}
 use Rattle.retro_shell.proofs.Sizes.{listed_smaller, last_listed_smaller}
 use Rattle.casebook_profile.proofs.Sizes.{arm_smaller, last_arm_smaller, ending_arm}
 use Rattle.casebook_profile.proofs.lines.+lines.Goals as goal
+
+-- several pipelines are the first one and those after it
+first_joined : {A : Type 0} (f : A → T.Pipeline × Connector) (xs : List A) (x : A) (p : T.Pipeline) → 0 < length xs
+    → x ≡ get_or xs 0 x → T.chain (f x).0 (f x).1 (join (map f (take (length xs - 1) (drop 1 xs))) p) ≡ join (map f xs) p
+first_joined f [] x p some is = absurd (omega (arith, some))
+first_joined f (y ∷ ys) x p some is =
+    ap (λ zs. T.chain (f x).0 (f x).1 (join (map f zs) p))
+    (take_all _ (drop 1 (y ∷ ys)) (omega (arith, length-drop 1 (y ∷ ys))))
+    ∙ ap (λ z. T.chain (f z).0 (f z).1 (join (map f ys) p)) is
+
+-- an arm that isn't understood, and the arms after it
+arm_found : (scope : Scope) (before : List (Commands Command × Commands Command)) (i : ℕ)
+    (arm : Commands Command × Commands Command) (parts : Conditional Command) (other : Option T.Commands) (o : Obstacle)
+    → i < length before → arm ≡ get_or before i arm
+    → L.arm_obstacle scope (commands_of view arm.0) (commands_of view arm.1) ≡ Some o
+    → Some o ≡ L.arms_obstacle scope (arms_with (drop i before) parts other)
+arm_found scope before i arm parts other o lt is found =
+    sym (ap (λ rest. L.arms_obstacle scope (arms_with rest parts other)) (drop_more before i arm lt)
+    ∙ ap (λ a. L.arms_obstacle scope (arms_with (a ∷ drop (i + 1) before) parts other)) (sym is)
+    ∙ ap (λ (s : Option Obstacle). first_of s (L.arms_obstacle scope (arms_with (drop (i + 1) before) parts other))) found)
+
+pub and_or_obstacle-returns-in-len1-up : goal.and_or_obstacle-returns-in-len1-up
+and_or_obstacle-returns-in-len1-up t c =
+    let last = pipeline_of view c.args.and_or.now.last in
+    let same = first_joined (λ j. (pipeline_of view j.0, j.1)) c.as_slice.result.now c.first-item.result last (omega arith)
+    c.first-item.is
+    ∙ ap (λ js. join (map (λ j. (pipeline_of view j.0, j.1)) js) last) c.as_slice.ensures.value in
+    subst (λ (a : T.AndOr). IfOk c.chain_obstacle.result (λ found. found ≡ L.and_or_obstacle (scope_view c.args.scope.now) a))
+    same c.chain_obstacle.ensures
+
+pub if_obstacle-returns-in-Some : goal.if_obstacle-returns-in-Some
+if_obstacle-returns-in-Some t c =
+    let same = c.as_slice-arm-items.ensures.value in
+    arm_found (scope_view c.args.scope.now) c.args.parts.now.before.items c.loop-arm.arm-index c.arm-item.result
+    c.args.parts.now (option_map (λ e. commands_of view e.now) c.args.other) c.in-Some.obstacle
+    (subst (λ arms. c.loop-arm.arm-index < length arms) same c.loop-arm-test.true)
+    (subst (λ arms. c.arm-item.result ≡ get_or arms c.loop-arm.arm-index c.arm-item.result) same c.arm-item.is)
+    (sym c.in_ok-obstacle.ensures ∙ c.in-Some.is)
+    ∙ c.loop-arm.invariant
 
 pub command_obstacle-returns-in-If : goal.command_obstacle-returns-in-If
 command_obstacle-returns-in-If t c =

@@ -7,6 +7,6 @@ use Rattle.casebook_view.proofs.unknown.unknown_in.Given as goal
 abbrev pub invariant-loop-line : goal.invariant-loop-line
 invariant-loop-line l =
     l.found.items
-    ++ filter_map (λ line. unknown_line_in l.case.recording l.case.repair.recording line.0)
+    ++ filter_map (λ line. unknown_line_in l.case.source l.case.recording l.case.repair line.0)
     (drop l.line-index l.case.recording.lines)
-    ≡ unknown_in l.case.recording l.case.repair.recording
+    ≡ unknown_in l.case.source l.case.recording l.case.repair

@@ -1,0 +1,34 @@
+//! Where a recording comes from, as JSON.
+ghost use Rattle.std.specs.Prelude.{◌≡◌, IfOk, map};
+ghost use Rattle.serde_json.specs.View.{view};
+ghost use Rattle.retro_json.specs.Values.{number_data};
+ghost use Rattle.casebook_view.specs.Sources.{source_view};
+ghost use Rattle.casebook_json.specs.Source.{observed_in, source_name};
+
+use crate::NoMem;
+use crate::value::number_values;
+use casebook_view::Source;
+use serde_json::Value;
+use std::alloc::Global;
+
+/// Returns the name of where a recording comes from.
+pub(crate) fn source_name(source: Source<'_>) -> &'static str
+    ensures { result.now ≡ source_name (source_view source.entry) }
+{
+    match source {
+        Source::Played => "played",
+        Source::Seen(_) => "machine",
+    }
+}
+
+/// Returns the JSON values of the numbers of the observed lines, in order. Lines that were played
+/// have none.
+pub(crate) fn observed_values(alloc: Global, source: Source<'_>) -> Result<Vec<Value>, NoMem>
+    ensures { IfOk result (λ vs.
+        map view vs.items ≡ map number_data (observed_in (source_view source.entry))) }
+{
+    match source {
+        Source::Played => Ok(Vec::new(alloc)),
+        Source::Seen(numbers) => number_values(alloc, numbers),
+    }
+}

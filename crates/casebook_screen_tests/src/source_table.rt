@@ -1,0 +1,41 @@
+//! The table of rows about where lines come from, in documents; `retro_rows` says how they are
+//! written.
+
+/// What a document says of where lines come from: of a log that was played; of one of which a
+/// recorder observed four lines, of which two are run again and a third runs another text; of one
+/// whose lines did what Retro's shell does; and a document as a whole.
+pub const SOURCES: &str = r##"
+given: market :: 3 6 9 13 18 :: 1=alice :: %(EMPTY) :: recording
+- document: /source => "played"
+- document: /observed => []
+
+given: market :: 3 6 9 13 18 :: 1=alice :: %(EMPTY) :: log
+- document: /source => "played"
+- document: /observed => []
+
+given: {"script":1,"tree":[["/f","610a"]],"sessions":[[1,"/",0,[]],[2,"/",0,[]]],"lines":\
+  [[1,2,"echo b > f"],[2,1,"cat f > g; cat g"],[3,1,"cat f"],[4,1,"cat f"],[5,1,"echo done"],\
+  [6,1,"ls"]]} :: 1, 4=ls :: 1=ann, 2=eve :: %(EMPTY) :: observed 2 3 5 6
+- document: /source => "machine"
+- document: /observed => [2,3,5,6]
+- document: /unknown => [[2,"need"],[3,"need"],[4,"command"]]
+- document: /doubtful => ["/g"]
+- document: /tell => []
+
+given: {"script":1,"tree":[["/f","610a"]],"sessions":[[1,"/",0,[]]],"lines":\
+  [[1,1,"echo b > f"],[2,1,"ls"]]} :: 1 :: %(EMPTY) :: %(EMPTY) :: observed none
+- document: /source => "machine"
+- document: /observed => []
+- document: /unknown => []
+
+given: {"script":1,"tree":[["/f","610a"]],"sessions":[[1,"/",0,[]]],"lines":\
+  [[1,1,"echo b > f"],[2,1,"cat f"]]} :: 1 :: %(EMPTY) :: %(EMPTY) :: observed 2
+- document: %(EMPTY)
+  => {"causes":[{"alike":0,"changed":1,"line":1,"paths":["/f"]}],\
+  "counts":{"alike":0,"cancelled":1,"changed":1,"kept":0,"untouched":0},"doubtful":[],"leaked":[],\
+  "lines":[{"because_of":null,"fate":"cancelled","line":1,"note":null,"origin":null,"session":1,\
+  "why":null},{"because_of":1,"fate":"changed","line":2,"note":1,"origin":1,"session":1,\
+  "why":"query"}],"observed":[2],"recording":false,\
+  "restore":[{"added":1,"change":"modified","extent":"lines","path":"/f","removed":1}],"show":1,\
+  "source":"machine","tell":[],"unknown":[[2,"need"]]}
+"##;
