@@ -1,3 +1,4 @@
+pub mod AccountLemmas
 pub mod CheckLemmas
 pub mod HarmlessLemmas
 pub mod KindLemmas

@@ -23,6 +23,7 @@ use Rattle.casebook_cause.specs.Compensations.{leaks, tellings}
 use Rattle.casebook_view.specs.Effects.{effect_value, effects_of}
 use Rattle.casebook_view.specs.Fates.{AreFates}
 use Rattle.casebook_view.specs.Reasons.{AreReasons, number_in as number_of}
+use Rattle.casebook_view.specs.Sources.{SourceValue}
 use Rattle.casebook_view.specs.Summaries.{leak_for, notice_for}
 use Rattle.casebook_view.specs.Unknown.{is_doubtful, is_understood, unknown_in}
 use Rattle.casebook_view.specs.declared.fate.Fate.{Fate}
@@ -111,9 +112,9 @@ rises edits r repair summary verdicts fates reasons = (
   ap (rises_from 0) reasons.lines ∙ redone_rise 0 repair.lines.items verdicts,
 )
 
-pub whole_summary : {E : Type 0} (edits : List Edit) (r : RecordingValue) (repair : Repair) (found : Result Summary E)
+pub whole_summary : {E : Type 0} (source : SourceValue) (edits : List Edit) (r : RecordingValue) (repair : Repair) (found : Result Summary E)
     → LinesRise repair
-    → IfOk found (λ s. s.unknown.items ≡ unknown_in r repair.recording)
+    → IfOk found (λ s. s.unknown.items ≡ unknown_in source r repair)
     → IfOk found (λ s. s.doubtful.items
     ≡ filter (is_doubtful r repair.recording s.unknown.items) (map path_in s.restorations.items))
     → IfOk found (λ s. AreFates r repair repair.lines.items s.fates.items)
@@ -124,8 +125,8 @@ pub whole_summary : {E : Type 0} (edits : List Edit) (r : RecordingValue) (repai
     → IfOk found (λ s. s.leaks.items ≡ map (leak_for r) (filter (is_understood s.unknown.items) (leaks r repair)))
     → IfOk found (λ s. IsTrue (rises_from 0 (map number_of s.reasons.items))
     → map effect_value s.effects.items ≡ effects_of r s.reasons.items s.fates.items)
-    → IfOk found (IsSummary edits r repair)
-whole_summary edits r repair (Ok s) verdicts unknown doubtful fates reasons restorations notices leaked effects =
+    → IfOk found (IsSummary source edits r repair)
+whole_summary source edits r repair (Ok s) verdicts unknown doubtful fates reasons restorations notices leaked effects =
     let both : Rise s = rises edits r repair s verdicts fates reasons in
     record {
       fates = fates;
@@ -138,4 +139,4 @@ whole_summary edits r repair (Ok s) verdicts unknown doubtful fates reasons rest
       effects = effects both.1;
       rise = both;
     }
-whole_summary edits r repair (Err e) verdicts unknown doubtful fates reasons restorations notices leaked effects = tt
+whole_summary source edits r repair (Err e) verdicts unknown doubtful fates reasons restorations notices leaked effects = tt

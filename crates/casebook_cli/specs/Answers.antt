@@ -1,5 +1,7 @@
 -- The answers to requests.
-use Rattle.std.specs.Prelude.{◌≡◌, ℕ, Bool, false, IfSome, IsTrue, List, [], Ok, Option, Some}
+use Rattle.std.specs.Prelude.{◌≡◌, ℕ, Bool, false, IfSome, IsTrue, List, [], Option, Some}
+use Rattle.casebook_account.specs.Accounts.{IsShownAccount}
+use Rattle.casebook_account.specs.declared.account.Account.{Account}
 use Rattle.casebook_case.specs.Written.{IsCaseOf}
 use Rattle.casebook_observe.specs.Files.{SpoolFiles}
 use Rattle.casebook_snapshot.specs.declared.snapshot.Snapshot.{Snapshot}
@@ -16,8 +18,7 @@ use Rattle.casebook_recorder_cli.specs.Taking.{TakesRecord}
 use Rattle.casebook_recorder_cli.specs.Words.{ImportValue, ObserveValue}
 use Rattle.casebook_recording.specs.Logs.{IsLogOf}
 use Rattle.casebook_text.specs.SafeLine.{text_of_lines}
-use Rattle.retro_keep.specs.Recording.{RecordingValue, last_state}
-use Rattle.retro_log.specs.Document.{log_in}
+use Rattle.retro_keep.specs.Recording.{last_state}
 use Rattle.retro_redo.specs.Repair.{repaired_state}
 use Rattle.casebook_request.specs.Sources.{repair_sources, sources_of}
 use Rattle.casebook_request.specs.Request.{Query, Request, ask, case_log, check, help, help_text, lines, page, show}
@@ -68,16 +69,17 @@ abbrev pub AnswersSnapshot : AllFolders → SnapshotValue → AnswerValue → Ty
 AnswersSnapshot folders request answer =
     Says (λ text. (s : Snapshot) × IsSnapshotOf folders request s text) answer
 
--- The answer to a comparison: what it says of the recording of the log and of a snapshot of the
--- folder, and no if a path isn't as recorded. It is harmless on a terminal.
+-- The answer to a comparison: what it says of the recording of the log or of the case, as it is
+-- shown, and of a snapshot of the folder, and no if a path isn't as recorded. It is harmless on a
+-- terminal.
 pub record AnswersCompare (at : AllDocuments) (folders : AllFolders) (request : CompareValue) (answer : AnswerValue)
     : Type 0 where
   pub document : DocumentValue
   pub is_document : IsDocument at request.log document
-  pub recording : RecordingValue
-  pub is_recording : log_in document.bytes ≡ Ok recording
+  pub account : Account
+  pub is_account : IsShownAccount document.bytes account
   pub compared : CompareAnswer
-  pub is_compared : IsCompareAnswer folders request.snapshot recording compared
+  pub is_compared : IsCompareAnswer folders request.snapshot account.recording compared
   pub text : answer.text ≡ text_of_lines compared.lines.items
   pub is_no : answer.is_no ≡ compared.is_no
   pub harmless : IsHarmless answer.text

@@ -1,4 +1,4 @@
--- What is said of whether a document is a recording or a script.
+-- What is said of whether a document is a recording, a case or a script.
 use Rattle.std.specs.Prelude.{◌≡◌, ℕ, Bool, true, false, List, [], ◌∷◌, ◌++◌, Option, Some, None, Result, Ok, Err}
 use Rattle.std.specs.Prelude.{codes, decimal, is_some, length}
 use Rattle.serde_json.specs.Data.{Data}
@@ -8,8 +8,16 @@ use Rattle.retro_keep.specs.Recording.{RecordingValue, IsRecordingOf, noted_at}
 use Rattle.retro_keep.specs.Recording as recordings
 use Rattle.retro_keep.specs.declared.noted.Noted.{Noted}
 use Rattle.retro_keep.specs.Script.{ScriptValue}
-use Rattle.retro_log.specs.Document.{json_of, log_in, script_in}
+use Rattle.retro_log.specs.Document.{json_of, script_in}
+use Rattle.casebook_account.specs.Accounts.{IsAccountOf, IsNoAccount}
+use Rattle.casebook_account.specs.Edits.{observed_numbers}
+use Rattle.casebook_account.specs.declared.account.Account.{Account}
+use Rattle.casebook_account.specs.declared.account.Machine.{Machine}
+use Rattle.casebook_account.specs.declared.account_fault.AccountFault.{AccountFault}
+use Rattle.casebook_account.specs.declared.account_fault.AccountFault.TheVariants as accounts
 use Rattle.casebook_check.specs.Texts.{AreUnlikeLines}
+use Rattle.casebook_recording.specs.Refusals.{refusal_of, refusal_words}
+use Rattle.casebook_recording.specs.declared.refusal.CaseRefusal.{CaseRefusal}
 use Rattle.retro_keep.specs.Unlike.{IsFirstUnlike}
 use Rattle.retro_keep.specs.declared.unlike.Unlike.{Unlike}
 use Rattle.casebook_place.specs.Place.{IsPlaceInLog, IsPlaceInScript}
@@ -19,7 +27,6 @@ use Rattle.casebook_text.specs.SafeLine.{text_of_lines}
 use Rattle.casebook_words.specs.Labels.{no_labels}
 use Rattle.casebook_cli.specs.Inputs.{DocumentValue}
 use Rattle.casebook_cli.specs.Messages.{about, numbered_words}
-use Rattle.casebook_cli.specs.declared.answer.Answer.{Answer}
 
 -- a document is refused, after words of what it isn't, and where
 unfoldable pub refused_line : List ℕ → List ℕ → Refusal → Place → List ℕ
@@ -61,9 +68,6 @@ abbrev pub SaysOf : Bool → List ℕ → RecordingValue → List ℕ → Type 0
 SaysOf false name r text = SaysYes name r text
 SaysOf true name r text = SaysNo name r text
 
-abbrev pub IsCheckedAs : List ℕ → RecordingValue → Answer → Type 0
-IsCheckedAs name r answer = SaysOf answer.is_no name r answer.text.items
-
 -- The answer says that a document is refused, after words of what it isn't, and a place where it
 -- breaks the rule.
 pub record SaysWhere (IsPlace : Place → Type 0) (name words : List ℕ) (refusal : Refusal) (is_no : Bool) (text : List ℕ)
@@ -73,11 +77,44 @@ pub record SaysWhere (IsPlace : Place → Type 0) (name words : List ℕ) (refus
   pub says_no : is_no ≡ true
   pub shown : text ≡ text_of_lines (refused_line name words refusal place ∷ [])
 
--- the answer about a document that was read as a log
-abbrev pub IsCheckedLog : DocumentValue → Result RecordingValue Refusal → Bool → List ℕ → Type 0
-IsCheckedLog document (Ok r) is_no text = SaysOf is_no document.name r text
-IsCheckedLog document (Err refusal) is_no text =
+-- a document is a case, of so many lines, of which so many stand as they were observed
+abbrev pub case_text : List ℕ → ℕ → ℕ → List ℕ
+case_text name count observed = text_of_lines ((about name (codes "a case of ") ++ decimal count ++ codes " lines, "
+    ++ decimal observed ++ codes " of them as they were observed") ∷ [])
+
+-- the answer says that a document is a case
+abbrev pub SaysCase : List ℕ → Machine → Bool → List ℕ → Type 0
+SaysCase name machine is_no text =
+    (is_no ≡ false)
+    × (text ≡ case_text name (length machine.lines.items) (length (observed_numbers machine.lines.items)))
+
+-- the answer says why a document that says that it is a case isn't one, or why its lines can't be
+abbrev pub SaysNoCaseOf : List ℕ → CaseRefusal → Bool → List ℕ → Type 0
+SaysNoCaseOf name refusal is_no text =
+    (is_no ≡ true) × (text ≡ text_of_lines ((about name (codes "not a case: ") ++ refusal_words refusal) ∷ []))
+
+-- the answer about an account: that a log is a recording or isn't, or that a case is one
+abbrev pub IsCheckedAs : List ℕ → Account → Option Machine → Bool → List ℕ → Type 0
+IsCheckedAs name account None is_no text = SaysOf is_no name account.recording text
+IsCheckedAs name account (Some machine) is_no text = SaysCase name machine is_no text
+
+abbrev pub SaysRefusal : List ℕ → Option CaseRefusal → Bool → List ℕ → Type 0
+SaysRefusal name None is_no text = ⊥
+SaysRefusal name (Some refusal) is_no text = SaysNoCaseOf name refusal is_no text
+
+-- the answer about a document without an account: where it isn't a log, or why it is no case
+abbrev pub IsRefusedAs : DocumentValue → AccountFault → Bool → List ℕ → Type 0
+IsRefusedAs document (accounts.Log refusal) is_no text =
     SaysWhere (IsPlaceInLog document.bytes refusal) document.name (codes "not a log: ") refusal is_no text
+IsRefusedAs document (accounts.Case fault) is_no text = SaysRefusal document.name (refusal_of fault) is_no text
+IsRefusedAs document fault is_no text = ⊥
+
+-- the answer about a document that was read as a log or as a case
+pub data IsCheckedAccount (document : DocumentValue) (is_no : Bool) (text : List ℕ) : Type 0 where
+  has_account : (account : Account) → IsAccountOf document.bytes account
+      → IsCheckedAs document.name account account.machine is_no text → IsCheckedAccount document is_no text
+  no_account : (fault : AccountFault) → IsNoAccount document.bytes fault → IsRefusedAs document fault is_no text
+      → IsCheckedAccount document is_no text
 
 -- the answer about a document that was read as a script
 abbrev pub IsCheckedScript : DocumentValue → Result ScriptValue Refusal → Bool → List ℕ → Type 0
@@ -96,7 +133,7 @@ is_for_script bytes = has_script_key (json_of bytes)
 
 abbrev pub IsCheckedIf : Bool → DocumentValue → Bool → List ℕ → Type 0
 IsCheckedIf true document is_no text = IsCheckedScript document (script_in document.bytes) is_no text
-IsCheckedIf false document is_no text = IsCheckedLog document (log_in document.bytes) is_no text
+IsCheckedIf false document is_no text = IsCheckedAccount document is_no text
 
 abbrev pub IsChecked : DocumentValue → Bool → List ℕ → Type 0
 IsChecked document is_no text = IsCheckedIf (is_for_script document.bytes) document is_no text

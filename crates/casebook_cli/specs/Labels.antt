@@ -1,10 +1,15 @@
--- The names and times that an about document has.
-use Rattle.std.specs.Prelude.{◌≡◌, ℕ, ℤ, List, [], ◌∷◌, Option, Some, None, Result, Ok, Err}
+-- The names and times of lines: those that a machine says, and those of an about document.
+use Rattle.std.specs.Prelude.{◌≡◌, ℕ, ℤ, List, [], ◌∷◌, ◌++◌, Option, Some, None, Result, Ok, Err, map}
 use Rattle.std.specs.List.{fold}
 use Rattle.std.specs.Str.{IsUtf8}
 use Rattle.casebook_about.specs.About.{AboutView, about_in}
+use Rattle.casebook_about.specs.Rows.{user_view}
 use Rattle.casebook_about.specs.Time.{IsTimeText}
 use Rattle.casebook_about.specs.declared.fault.AboutFault.{AboutFault}
+use Rattle.casebook_account.specs.Edits.{observed_numbers}
+use Rattle.casebook_account.specs.declared.account.Machine.{Machine}
+use Rattle.casebook_account.specs.declared.machine_line.MachineLine.{MachineLine}
+use Rattle.casebook_view.specs.Sources.{SourceValue, Played, Seen}
 use Rattle.casebook_words.specs.Labels.{named, no_labels, timed}
 use Rattle.casebook_words.specs.declared.labels.Labels.{Labels}
 use Rattle.casebook_cli.specs.Inputs.{DocumentValue}
@@ -33,23 +38,61 @@ pub data AreTimesAdded : List (ℕ × ℤ) → Labels → Labels → Type 0 wher
   one : {time : ℕ × ℤ} {times : List (ℕ × ℤ)} {old between new : Labels} → IsTimeAdded time old between
       → AreTimesAdded times between new → AreTimesAdded (time ∷ times) old new
 
--- The labels are those of what an about document says.
-pub record AreLabelsIn (document : DocumentValue) (labels : Labels) : Type 0 where
+-- ---- what a machine says
+
+-- the users of a machine's sessions; none, if there is no machine
+abbrev pub users_by : Option Machine → List (ℕ × List ℕ)
+users_by None = []
+users_by (Some machine) = map user_view machine.users.items
+
+abbrev pub line_time : MachineLine → ℕ × ℤ
+line_time line = (line.number, line.second)
+
+-- when its lines were seen
+abbrev pub times_by : Option Machine → List (ℕ × ℤ)
+times_by None = []
+times_by (Some machine) = map line_time machine.lines.items
+
+-- the labels are those of what a machine says; none, if there is no machine
+abbrev pub AreOwnLabels : Option Machine → Labels → Type 0
+AreOwnLabels machine labels =
+    AreTimesAdded (times_by machine) (with_users (users_by machine) no_labels) labels
+
+-- the numbers of the lines of a machine that stand as they were observed
+abbrev pub observed_by : Option Machine → Option (List ℕ)
+observed_by None = None
+observed_by (Some machine) = Some (observed_numbers machine.lines.items)
+
+-- where lines come from: those of a machine were seen, and others were played
+abbrev pub source_by : Option (List ℕ) → SourceValue
+source_by None = Played
+source_by (Some numbers) = Seen numbers
+
+-- ---- what an about document says
+
+-- The labels are others with what an about document says.
+pub record AreLabelsIn (document : DocumentValue) (own labels : Labels) : Type 0 where
   pub about : AboutView
   pub is_about : IsAbout document about
-  pub times : AreTimesAdded about.times (with_users about.users no_labels) labels
+  pub times : AreTimesAdded about.times (with_users about.users own) labels
 
--- none, if there is no such document
-abbrev pub AreLabels : Option DocumentValue → Labels → Type 0
-AreLabels None labels = labels ≡ no_labels
-AreLabels (Some document) labels = AreLabelsIn document labels
+-- The labels are those of what a machine says, and then those of an about document.
+pub record AreLabelsOfBoth (machine : Option Machine) (document : DocumentValue) (labels : Labels) : Type 0 where
+  pub own : Labels
+  pub are_own : AreOwnLabels machine own
+  pub more : AreLabelsIn document own labels
+
+-- the labels of lines: without an about document those of what a machine says
+abbrev pub AreLabels : Option Machine → Option DocumentValue → Labels → Type 0
+AreLabels machine None labels = AreOwnLabels machine labels
+AreLabels machine (Some document) labels = AreLabelsOfBoth machine document labels
 
 -- the times of lines that an about document says; none, if it is refused
 abbrev pub times_of : Result AboutView AboutFault → List (ℕ × ℤ)
 times_of (Ok about) = about.times
 times_of (Err fault) = []
 
--- none, if there is no such document
-abbrev pub times_in : Option DocumentValue → List (ℕ × ℤ)
-times_in None = []
-times_in (Some document) = times_of (about_in document.bytes)
+-- the times of lines: those that a machine says, and then those of an about document
+abbrev pub times_in : Option Machine → Option DocumentValue → List (ℕ × ℤ)
+times_in machine None = times_by machine
+times_in machine (Some document) = times_by machine ++ times_of (about_in document.bytes)

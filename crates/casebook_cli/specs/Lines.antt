@@ -1,6 +1,6 @@
 -- What text answers a request for rows of lines.
 use Rattle.std.specs.Cmp.Lexicographic.{pointwise}
-use Rattle.std.specs.Prelude.{◌≡◌, ◌≢◌, ℕ, ◌==◌, if◌then◌else◌, Bool, true, false, List, [], ◌∷◌, ◌++◌, nat_eq, Option, Some, None, Ok, chars, decimal}
+use Rattle.std.specs.Prelude.{◌≡◌, ◌≢◌, ℕ, ◌==◌, if◌then◌else◌, Bool, true, false, List, [], ◌∷◌, ◌++◌, nat_eq, Option, Some, None, chars, decimal}
 use Rattle.std.specs.Prelude.{fold, length, map, max}
 use Rattle.std.specs.List.{filter, join_with_byte, list_any}
 use Rattle.regex.specs.Bytes.{IsReadFromSource, regex_config, regex_pattern, regex_source}
@@ -8,9 +8,9 @@ use Rattle.regex.specs.Patterns.{Re}
 use Rattle.regex.specs.declared.bytes.regex.Regex.{Regex}
 use Rattle.regex_syntax.specs.Verdict.{default_config}
 use Rattle.regex_syntax.specs.declared.Config.{Config}
-use Rattle.retro_keep.specs.Recording.{RecordingValue}
 use Rattle.retro_keep.specs.declared.noted.Noted.{Noted}
-use Rattle.retro_log.specs.Document.{log_in}
+use Rattle.casebook_account.specs.Accounts.{IsShownAccount}
+use Rattle.casebook_account.specs.declared.account.Account.{Account}
 use Rattle.casebook_text.specs.Lists.{comma}
 use Rattle.casebook_text.specs.SafeLine.{text_of_lines, text_of_rows}
 use Rattle.casebook_view.specs.Filters.{FiltersValue}
@@ -23,7 +23,7 @@ use Rattle.casebook_request.specs.Request.{LinesRequest}
 use Rattle.casebook_request.specs.declared.format.Format.{Format}
 use Rattle.casebook_request.specs.declared.format.Format.TheVariants as formats
 use Rattle.casebook_cli.specs.Inputs.{InputsValue}
-use Rattle.casebook_cli.specs.Labels.{AreLabels, times_in}
+use Rattle.casebook_cli.specs.Labels.{AreLabels, observed_by, source_by, times_in}
 use Rattle.casebook_cli.specs.Tests.{Test, of_sessions, test_view, tests_of}
 use Rattle.casebook_cli.specs.Typed.{typed}
 
@@ -118,14 +118,18 @@ rows_text formats.Numbers labels width rows = numbers_text rows
 
 -- ---- the answer
 
--- The text shows exactly the lines of the log that pass the filters and were typed between the
--- bounds, in order.
+-- the rows of an account's lines that pass filters
+abbrev pub account_rows : Account → FiltersValue → List RowValue
+account_rows account filters = rows_of (source_by (observed_by account.machine)) filters account.recording
+
+-- The text shows exactly the lines of the log or of the case that pass the filters and were typed
+-- between the bounds, in order.
 pub record AreLines (inputs : InputsValue) (request : LinesRequest) (text : List ℕ) : Type 0 where
-  pub recording : RecordingValue
-  pub log : log_in inputs.log.bytes ≡ Ok recording
+  pub account : Account
+  pub is_account : IsShownAccount inputs.log.bytes account
   pub labels : Labels
-  pub are_labels : AreLabels inputs.about labels
+  pub are_labels : AreLabels account.machine inputs.about labels
   pub filters : FiltersValue
-  pub are_filters : AreFilters request labels recording.lines filters
-  pub shown : text ≡ rows_text request.format labels (widest_name labels recording.lines)
-      (typed request.bounds (times_in inputs.about) (rows_of filters recording))
+  pub are_filters : AreFilters request labels account.recording.lines filters
+  pub shown : text ≡ rows_text request.format labels (widest_name labels account.recording.lines)
+      (typed request.bounds (times_in account.machine inputs.about) (account_rows account filters))

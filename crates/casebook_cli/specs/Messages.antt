@@ -145,6 +145,7 @@ stop_message (stops.FolderChanged name) = said_of name.now (codes "changed meanw
 stop_message (stops.Unfinished name) =
     said_of name.now (codes "restored in part; run this again, or take it back by the undo file")
 stop_message (stops.BadCase name refusal) = said_of name.now (case_words refusal)
+stop_message (stops.Unshown name) = said_of name.now (codes "its lines can't be shown one by one")
 stop_message (stops.Recorder name fault) = said_of name.now (recorder_line fault)
 
 -- the line for standard error, empty if an answer was written

@@ -5,23 +5,24 @@ use Rattle.retro_keep.specs.declared.edit.Edit.{Edit}
 use Rattle.retro_redo.specs.declared.repair.Repair.{Repair}
 use Rattle.casebook_page.specs.Page.{IsPageText}
 use Rattle.casebook_page.specs.Rows.{shows_untouched, written_lines}
+use Rattle.casebook_view.specs.Sources.{SourceValue}
 use Rattle.casebook_view.specs.declared.summary.Summary.{Summary}
 use Rattle.casebook_request.specs.Request.{PageRequest}
 use Rattle.casebook_cli.specs.Inputs.{InputsValue}
 use Rattle.casebook_cli.specs.Repairs.{IsAsked}
-use Rattle.casebook_cli.specs.Screens.{IsSummary}
+use Rattle.casebook_cli.specs.Screens.{IsSummary, asked_source}
 use Rattle.casebook_cli.specs.declared.repairs.AskedRepair.{AskedRepair}
 
 -- The text is a page with a row for each line of the recording, but for untouched lines if they are
 -- many and not all are asked for.
-pub record IsPageOf (edits : List Edit) (r : RecordingValue) (repair : Repair) (all : Bool) (text : List ℕ)
+pub record IsPageOf (source : SourceValue) (edits : List Edit) (r : RecordingValue) (repair : Repair) (all : Bool) (text : List ℕ)
     : Type 0 where
   pub summary : Summary
-  pub is_summary : IsSummary edits r repair summary
+  pub is_summary : IsSummary source edits r repair summary
   pub page : IsPageText (written_lines (shows_untouched all summary.fates.items) summary.fates.items) text
 
--- The text is a page of the repair of the log that is asked for.
+-- The text is a page of the repair of the log or of the case that is asked for.
 pub record IsPage (inputs : InputsValue) (request : PageRequest) (text : List ℕ) : Type 0 where
   pub asked : AskedRepair
   pub is_asked : IsAsked inputs request.repair asked
-  pub is_page : IsPageOf asked.edits.items asked.recording asked.repair request.all text
+  pub is_page : IsPageOf (asked_source asked) asked.edits.items asked.recording asked.repair request.all text

@@ -1,25 +1,27 @@
 -- The repairs that are asked for.
-use Rattle.std.specs.Prelude.{◌≡◌, ℕ, List, ◌++◌, Option, Some, None, Ok, IsTrue, map}
+use Rattle.std.specs.Prelude.{◌≡◌, List, ℕ, ◌++◌, Option, Some, None, Ok, IsTrue, map, option_map}
 use Rattle.std.specs.Str.{IsUtf8}
 use Rattle.retro_keep.specs.Edit.{edit_of}
 use Rattle.retro_keep.specs.Recording.{RecordingValue, IsRecordingOf}
 use Rattle.retro_keep.specs.Recording as recordings
 use Rattle.retro_keep.specs.Script.{rises_from}
-use Rattle.retro_keep.specs.declared.noted.Noted.{Noted}
 use Rattle.retro_keep.specs.declared.edit.Edit.{Edit}
 use Rattle.retro_keep.specs.declared.edit.Edit.TheVariants.{Cancel}
-use Rattle.retro_log.specs.Document.{log_in}
 use Rattle.retro_redo.specs.Editing.{AreAccepted}
 use Rattle.retro_redo.specs.Repair.{IsRepair}
 use Rattle.retro_redo.specs.Settled.{AreSettled}
 use Rattle.retro_redo.specs.declared.repair.Repair.{Repair}
 use Rattle.retro_rounds.specs.Refusals.{IsAccepted}
+use Rattle.casebook_account.specs.Accounts.{IsAccountOf}
+use Rattle.casebook_account.specs.Edits.{known_lines, text_edits}
+use Rattle.casebook_account.specs.Shown.{shown, shown_settled}
+use Rattle.casebook_account.specs.declared.account.Account.{Account}
 use Rattle.casebook_text.specs.ListFile.{list_of_file}
 use Rattle.casebook_text.specs.Item.{Line}
 use Rattle.casebook_text.specs.Lists.{lines_of_list}
 use Rattle.casebook_request.specs.Request.{RepairRequest, RoundsValue}
 use Rattle.casebook_cli.specs.Inputs.{DocumentValue, InputsValue}
-use Rattle.casebook_cli.specs.Labels.{AreLabels}
+use Rattle.casebook_cli.specs.Labels.{AreLabels, observed_by}
 use Rattle.casebook_cli.specs.declared.repairs.AskedRepair.{AskedRepair}
 
 -- ---- lists of lines
@@ -33,13 +35,6 @@ pub record IsListIn (document : DocumentValue) (list : List ℕ) : Type 0 where
 abbrev pub IsListGiven : List ℕ → Option DocumentValue → List ℕ → Type 0
 IsListGiven given None list = list ≡ given
 IsListGiven given (Some document) list = IsListIn document list
-
--- the numbers and sessions of a recording's lines
-abbrev pub line_of : ℕ × Noted → Line
-line_of line = (line.0, line.1.sid)
-
-abbrev pub lines_in : RecordingValue → List Line
-lines_in r = map line_of r.lines
 
 -- ---- repairs
 
@@ -65,17 +60,37 @@ LinesRise repair = IsTrue (rises_from 0 (map (λ l. l.number) repair.lines.items
 abbrev pub cancelled : List ℕ → List Edit
 cancelled numbers = map Cancel numbers
 
--- The edits of a recording: the lines that a list names are left out, and then some are replaced.
-pub record AreEdits (list : List ℕ) (replacements : List Edit) (r : RecordingValue) (edits : List Edit) : Type 0 where
+-- The edits of lines: those that a list names are left out, and then some are replaced.
+pub record AreEdits (list : List ℕ) (replacements : List Edit) (lines : List Line) (edits : List Edit) : Type 0 where
   pub numbers : List ℕ
-  pub are_numbers : lines_of_list (lines_in r) list ≡ Ok numbers
+  pub are_numbers : lines_of_list lines list ≡ Ok numbers
   pub are_edits : edits ≡ cancelled numbers ++ replacements
 
--- The repair of the log that is asked for, with names and times.
+-- What is shown of a repair of an account is its recording and the repaired one, each as it is shown,
+-- and what the repair did with each line.
+pub record IsShownRepair (account : Account) (repair : Repair) (r : RecordingValue) (repaired : Repair) : Type 0 where
+  pub recording : r ≡ shown account account.recording
+  pub repaired_recording : repaired.recording ≡ shown account repair.recording
+  pub lines : repaired.lines.items ≡ shown_settled account repair.lines.items
+  pub tally : repaired.tally ≡ repair.tally
+
+-- A repair of an account by edits of its lines, as it is shown.
+pub record IsRepairedBy (rounds : Option RoundsValue) (account : Account) (edits : List Edit) (r : RecordingValue)
+    (repaired : Repair) : Type 0 where
+  pub texts : List Edit
+  pub are_texts : text_edits account edits ≡ Ok texts
+  pub repair : Repair
+  pub is_repair : IsRepairBy rounds texts account.recording repair
+  pub is_shown : IsShownRepair account repair r repaired
+
+-- The repair of the log or of the case that is asked for, with names and times, and with the numbers
+-- of the lines that stand as they were observed.
 pub record IsAsked (inputs : InputsValue) (request : RepairRequest) (asked : AskedRepair) : Type 0 where
-  pub log : log_in inputs.log.bytes ≡ Ok asked.recording
+  pub account : Account
+  pub is_account : IsAccountOf inputs.log.bytes account
   pub list : List ℕ
   pub is_list : IsListGiven request.cancel inputs.list list
-  pub are_edits : AreEdits list request.replacements asked.recording asked.edits.items
-  pub is_repair : IsRepairBy request.rounds asked.edits.items asked.recording asked.repair
-  pub labels : AreLabels inputs.about asked.labels
+  pub are_edits : AreEdits list request.replacements (known_lines account) asked.edits.items
+  pub is_repair : IsRepairedBy request.rounds account asked.edits.items asked.recording asked.repair
+  pub labels : AreLabels account.machine inputs.about asked.labels
+  pub observed : option_map (λ numbers. numbers.items) asked.observed ≡ observed_by account.machine

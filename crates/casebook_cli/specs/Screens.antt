@@ -1,5 +1,5 @@
 -- What a terminal shows of a repair.
-use Rattle.std.specs.Prelude.{◌≡◌, ◌≢◌, None, ℕ, Bool, true, false, IsTrue, List, [], ◌++◌, map}
+use Rattle.std.specs.Prelude.{◌≡◌, ◌≢◌, None, ℕ, Bool, true, false, IsTrue, List, [], ◌++◌, map, option_map}
 use Rattle.std.specs.List.{filter}
 use Rattle.retro_keep.specs.Recording.{RecordingValue, IsRecordingOf, last_state, noted_at}
 use Rattle.retro_keep.specs.Recording as recordings
@@ -13,6 +13,7 @@ use Rattle.casebook_view.specs.Effects.{effect_value, effects_of}
 use Rattle.casebook_view.specs.Fates.{AreFates}
 use Rattle.casebook_view.specs.Groups.{group_value, grouped}
 use Rattle.casebook_view.specs.Reasons.{AreReasons, number_in}
+use Rattle.casebook_view.specs.Sources.{SourceValue}
 use Rattle.casebook_view.specs.Summaries.{leak_for, notice_for}
 use Rattle.casebook_view.specs.Unknown.{is_doubtful, is_understood, unknown_in}
 use Rattle.casebook_view.specs.declared.group.Group.{Group}
@@ -29,6 +30,7 @@ use Rattle.casebook_request.specs.declared.shown.Extras.{Extras}
 use Rattle.casebook_request.specs.declared.shown.ShownPart.{ShownPart}
 use Rattle.casebook_request.specs.declared.shown.ShownPart.TheVariants as parts
 use Rattle.casebook_cli.specs.Inputs.{InputsValue}
+use Rattle.casebook_cli.specs.Labels.{source_by}
 use Rattle.casebook_cli.specs.Lines.{widest_name}
 use Rattle.casebook_cli.specs.Repairs.{IsAsked}
 use Rattle.casebook_cli.specs.declared.repairs.AskedRepair.{AskedRepair}
@@ -44,13 +46,14 @@ Rise summary =
     IsTrue (rises_from 0 (map (λ f. f.0) summary.fates.items))
     × IsTrue (rises_from 0 (map number_in summary.reasons.items))
 
--- What a repair by edits would do.
-pub record IsSummary (edits : List Edit) (r : RecordingValue) (repair : Repair) (summary : Summary) : Type 0 where
+-- What a repair by edits of lines from a source would do.
+pub record IsSummary (source : SourceValue) (edits : List Edit) (r : RecordingValue) (repair : Repair)
+    (summary : Summary) : Type 0 where
   pub fates : AreFates r repair repair.lines.items summary.fates.items
   pub reasons : AreReasons edits r repair summary.reasons.items
   pub restorations : AreChangedPaths (last_state r.lines r.first).tree (repaired_state repair).tree
       summary.restorations.items
-  pub unknown : summary.unknown.items ≡ unknown_in r repair.recording
+  pub unknown : summary.unknown.items ≡ unknown_in source r repair
   pub doubtful : summary.doubtful.items
       ≡ filter (is_doubtful r repair.recording summary.unknown.items) (map path_in summary.restorations.items)
   pub notices : summary.notices.items ≡ map (notice_for r summary.reasons.items)
@@ -59,9 +62,11 @@ pub record IsSummary (edits : List Edit) (r : RecordingValue) (repair : Repair) 
   pub effects : map effect_value summary.effects.items ≡ effects_of r summary.reasons.items summary.fates.items
   pub rise : Rise summary
 
--- what is shown of a repair, and how: the recording, its repair, what that would do, names and
--- times, the width of the column of names, and whether the terminal has colours
+-- what is shown of a repair, and how: where the recording's lines come from, the recording, its
+-- repair, what that would do, names and times, the width of the column of names, and whether the
+-- terminal has colours
 pub record ScreenValue : Type 0 where
+  pub source : SourceValue
   pub recording : RecordingValue
   pub repair : Repair
   pub summary : Summary
@@ -70,7 +75,7 @@ pub record ScreenValue : Type 0 where
   pub colours : Bool
 
 -- What a summary shows beside what the repair would do. It says that the log is as its lines run
--- only if it is a recording of them.
+-- only if it is a recording of them. Of lines that were seen on a machine that isn't said.
 pub record IsSheet (s : ScreenValue) (restorations : List Restoration) (groups : List Group) (is_recording : Bool)
     : Type 0 where
   pub are_restorations : AreRestorations (last_state s.recording.lines s.recording.first).tree
@@ -85,7 +90,7 @@ AreParts s parts = IsSheet s parts.restorations.items parts.groups.items parts.i
 pub record AreSummaryLines (s : ScreenValue) (lines : List (List ℕ)) : Type 0 where
   pub parts : Parts
   pub are_parts : AreParts s parts
-  pub are_lines : lines ≡ summary_lines s.recording s.summary parts.restorations.items parts.groups.items
+  pub are_lines : lines ≡ summary_lines s.source s.recording s.summary parts.restorations.items parts.groups.items
       parts.is_recording s.labels s.width
 
 -- The text is the same for programs.
@@ -93,7 +98,7 @@ pub record IsJson (s : ScreenValue) (text : List ℕ) : Type 0 where
   pub parts : Parts
   pub are_parts : AreParts s parts
   pub is_text : text ≡ summary_text s.recording s.summary parts.restorations.items parts.groups.items
-      parts.is_recording s.labels
+      parts.is_recording s.source s.labels
 
 -- ---- reasons and differences
 
@@ -129,12 +134,13 @@ IsTextOf (parts.Summary extras) s text = IsScreenText extras s text
 IsTextOf (parts.Line number) s text = IsLineText number s text
 IsTextOf parts.Json s text = IsJson s text
 
--- The text shows a recording and its repair by edits.
-pub record IsShownOf (edits : List Edit) (r : RecordingValue) (repair : Repair) (labels : Labels) (shown : ShownPart)
+-- The text shows a recording of lines from a source and its repair by edits.
+pub record IsShownOf (source : SourceValue) (edits : List Edit) (r : RecordingValue) (repair : Repair) (labels : Labels) (shown : ShownPart)
     (colours : Bool) (text : List ℕ) : Type 0 where
   pub summary : Summary
-  pub is_summary : IsSummary edits r repair summary
+  pub is_summary : IsSummary source edits r repair summary
   pub is_text : IsTextOf shown (record {
+    source = source;
     recording = r;
     repair = repair;
     summary = summary;
@@ -143,8 +149,12 @@ pub record IsShownOf (edits : List Edit) (r : RecordingValue) (repair : Repair) 
     colours = colours;
   }) text
 
--- The text shows the repair of the log that is asked for.
+-- where the lines of a repair come from that is asked for
+abbrev pub asked_source : AskedRepair → SourceValue
+asked_source asked = source_by (option_map (λ numbers. numbers.items) asked.observed)
+
+-- The text shows the repair of the log or of the case that is asked for.
 pub record IsShown (colours : Bool) (inputs : InputsValue) (request : ShowRequest) (text : List ℕ) : Type 0 where
   pub asked : AskedRepair
   pub is_asked : IsAsked inputs request.repair asked
-  pub is_shown : IsShownOf asked.edits.items asked.recording asked.repair asked.labels request.shown colours text
+  pub is_shown : IsShownOf (asked_source asked) asked.edits.items asked.recording asked.repair asked.labels request.shown colours text

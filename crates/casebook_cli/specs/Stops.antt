@@ -8,13 +8,21 @@ use Rattle.regex.specs.declared.error.Error.TheVariants.{OutOfMemory}
 use Rattle.retro_keep.specs.Recording.{RecordingValue, noted_at}
 use Rattle.retro_keep.specs.declared.edit.Edit.{Edit}
 use Rattle.retro_keep.specs.declared.noted.Noted.{Noted}
-use Rattle.retro_log.specs.Document.{log_in}
+use Rattle.retro_json.specs.declared.fault.Refusal.{Refusal}
 use Rattle.retro_redo.specs.Editing.{Refuses}
 use Rattle.retro_redo.specs.RepairFault.{fault_number}
+use Rattle.retro_redo.specs.declared.repair.Repair.{Repair}
 use Rattle.retro_redo.specs.declared.repair_fault.RepairFault.{RepairFault}
 use Rattle.retro_redo.specs.declared.repair_fault.RepairFault.TheVariants as repair_faults
 use Rattle.retro_rounds.specs.Refusals.{IsRefusal}
 use Rattle.casebook_about.specs.About.{AboutView, about_in}
+use Rattle.casebook_account.specs.Accounts.{IsAccountOf, IsNotShown, IsShownAccount}
+use Rattle.casebook_account.specs.Edits.{HasNoText, known_lines, text_edits}
+use Rattle.casebook_account.specs.Shown.{HasNoShown}
+use Rattle.casebook_account.specs.declared.account.Account.{Account}
+use Rattle.casebook_account.specs.declared.account.Machine.{Machine}
+use Rattle.casebook_account.specs.declared.account_fault.AccountFault.{AccountFault}
+use Rattle.casebook_account.specs.declared.account_fault.AccountFault.TheVariants as accounts
 use Rattle.casebook_text.specs.Item.{Line}
 use Rattle.casebook_text.specs.Lists.{lines_of_list}
 use Rattle.casebook_words.specs.declared.labels.Labels.{Labels}
@@ -27,9 +35,9 @@ use Rattle.casebook_request.specs.declared.shown.ShownPart.{ShownPart}
 use Rattle.casebook_request.specs.declared.shown.ShownPart.TheVariants as parts
 use Rattle.casebook_cli.specs.Documents.{AllDocuments}
 use Rattle.casebook_cli.specs.Inputs.{AreInputs, DocumentValue, InputsValue, IsDocument}
-use Rattle.casebook_cli.specs.Labels.{AreLabels, IsAbout}
+use Rattle.casebook_cli.specs.Labels.{AreLabels, IsAbout, times_by}
 use Rattle.casebook_cli.specs.Lines.{pattern_config, sessions_named}
-use Rattle.casebook_cli.specs.Repairs.{AreEdits, IsAsked, IsListGiven, lines_in}
+use Rattle.casebook_cli.specs.Repairs.{AreEdits, IsAsked, IsListGiven}
 use Rattle.casebook_folder_cli.specs.Folders.{AllFolders}
 use Rattle.casebook_folder_cli.specs.ScriptWords.{ScriptValue}
 use Rattle.casebook_folder_cli.specs.Scripting.{IsNoScript}
@@ -78,11 +86,40 @@ pub data StopsReading (at : AllDocuments) (sources : SourcesValue) (stop : Stop)
 
 -- ---- documents
 
--- a document isn't a log
-abbrev pub StopsLog : DocumentValue → Stop → Type 0
-StopsLog document (stops.BadLog name refusal) = (name.now ≡ document.name) × (log_in document.bytes ≡ Err refusal)
-StopsLog document stops.OutOfMemory = Unit {0}
-StopsLog document other = ⊥
+-- the document with a name is no log, for this refusal
+abbrev pub IsBadLog : List ℕ → Refusal → Stop → Type 0
+IsBadLog wanted refusal (stops.BadLog name found) = (name.now ≡ wanted) × (found ≡ refusal)
+IsBadLog wanted refusal other = ⊥
+
+-- the document with a name is refused like this
+abbrev pub IsBadCase : List ℕ → CaseRefusal → Stop → Type 0
+IsBadCase wanted refusal (stops.BadCase name found) = (name.now ≡ wanted) × (found ≡ refusal)
+IsBadCase wanted refusal other = ⊥
+
+-- the document with a name is named, with why it has no log, or memory ran out
+abbrev pub NamesCase : List ℕ → Option CaseRefusal → Stop → Type 0
+NamesCase name None stop = stop ≡ stops.OutOfMemory
+NamesCase name (Some refusal) stop = IsBadCase name refusal stop
+
+-- the lines of the document with a name can't be shown
+abbrev pub IsUnshown : List ℕ → Stop → Type 0
+IsUnshown wanted (stops.Unshown name) = name.now ≡ wanted
+IsUnshown wanted other = ⊥
+
+-- The fault of an account is said, with the name of its document where it is one of that. That no
+-- line is replaced which isn't there is refused as it is of a log.
+abbrev pub NamesAccount : List ℕ → AccountFault → Stop → Type 0
+NamesAccount name accounts.NoMem stop = stop ≡ stops.OutOfMemory
+NamesAccount name (accounts.Log refusal) stop = IsBadLog name refusal stop
+NamesAccount name (accounts.Case fault) stop = NamesCase name (refusal_of fault) stop
+NamesAccount name (accounts.NoLine number) stop = stop ≡ stops.BadRepair 21
+NamesAccount name accounts.Unshown stop = IsUnshown name stop
+
+-- A document has no account, or one that can't be shown.
+pub record StopsAccount (document : DocumentValue) (stop : Stop) : Type 0 where
+  pub fault : AccountFault
+  pub is_fault : IsNotShown document.bytes fault
+  pub names : NamesAccount document.name fault stop
 
 -- a document doesn't hold names and times
 abbrev pub IsNoAbout : DocumentValue → Stop → Type 0
@@ -109,9 +146,16 @@ pub data StopsAbout (document : DocumentValue) (stop : Stop) : Type 0 where
   bad_time : (about : AboutView) → IsAbout document about → AreBadTimes about.times stop → StopsAbout document stop
   no_memory : stop ≡ stops.OutOfMemory → StopsAbout document stop
 
-abbrev pub StopsLabels : Option DocumentValue → Stop → Type 0
-StopsLabels None stop = ⊥
-StopsLabels (Some document) stop = StopsAbout document stop
+-- the time of a line of a machine can't be shown, or memory ran out
+pub data StopsOwn (machine : Option Machine) (stop : Stop) : Type 0 where
+  bad_own_time : AreBadTimes (times_by machine) stop → StopsOwn machine stop
+  no_own_memory : stop ≡ stops.OutOfMemory → StopsOwn machine stop
+
+-- the names and times of lines aren't read
+pub data StopsLabels (machine : Option Machine) (about : Option DocumentValue) (stop : Stop) : Type 0 where
+  bad_own : StopsOwn machine stop → StopsLabels machine about stop
+  bad_about : (document : DocumentValue) → about ≡ Some document → StopsAbout document stop
+      → StopsLabels machine about stop
 
 -- ---- rows of lines
 
@@ -141,11 +185,12 @@ StopsUser labels known user other = ⊥
 
 pub data StopsLines (inputs : InputsValue) (request : LinesRequest) (stop : Stop) : Type 0 where
   no_patterns : StopsPatterns request stop → StopsLines inputs request stop
-  no_labels : StopsLabels inputs.about stop → StopsLines inputs request stop
-  no_log : StopsLog inputs.log stop → StopsLines inputs request stop
-  no_user : (r : RecordingValue) (labels : Labels) → log_in inputs.log.bytes ≡ Ok r
-      → AreLabels inputs.about labels → StopsUser labels r.lines request.user stop
-      → StopsLines inputs request stop
+  no_account : StopsAccount inputs.log stop → StopsLines inputs request stop
+  no_labels : (account : Account) → IsShownAccount inputs.log.bytes account
+      → StopsLabels account.machine inputs.about stop → StopsLines inputs request stop
+  no_user : (account : Account) (labels : Labels) → IsShownAccount inputs.log.bytes account
+      → AreLabels account.machine inputs.about labels
+      → StopsUser labels account.recording.lines request.user stop → StopsLines inputs request stop
   no_memory : stop ≡ stops.OutOfMemory → StopsLines inputs request stop
 
 -- ---- repairs
@@ -188,17 +233,39 @@ abbrev pub IsRefused : RepairFault → Stop → Type 0
 IsRefused repair_faults.OutOfMemory stop = stop ≡ stops.OutOfMemory
 IsRefused fault stop = stop ≡ stops.BadRepair (fault_number fault)
 
+-- An account's lines aren't edited, or they or their repair can't be shown.
+pub record StopsEdits (IsFault : AccountFault → Type 0) (document : DocumentValue) (stop : Stop) : Type 0 where
+  pub fault : AccountFault
+  pub is_fault : IsFault fault
+  pub names : NamesAccount document.name fault stop
+
+-- A repair of an account can't be shown, or memory ran out.
+pub data IsUnshownRepair (account : Account) (repair : Repair) (document : DocumentValue) (stop : Stop) : Type 0 where
+  is_unshown : StopsEdits (HasNoShown account repair.recording) document stop
+      → IsUnshownRepair account repair document stop
+  out_of_memory : stop ≡ stops.OutOfMemory → IsUnshownRepair account repair document stop
+
+-- There is no repair of the account of the document that is named.
+pub data StopsRepaired (inputs : InputsValue) (request : RepairRequest) (account : Account) (stop : Stop)
+    : Type 0 where
+  no_labels : StopsLabels account.machine inputs.about stop → StopsRepaired inputs request account stop
+  no_list : IsNoText inputs.list stop → StopsRepaired inputs request account stop
+  no_numbers : (list : List ℕ) → IsListGiven request.cancel inputs.list list
+      → StopsNumbers (known_lines account) list stop → StopsRepaired inputs request account stop
+  no_texts : (list : List ℕ) (edits : List Edit) → IsListGiven request.cancel inputs.list list
+      → AreEdits list request.replacements (known_lines account) edits
+      → StopsEdits (HasNoText account edits) inputs.log stop → StopsRepaired inputs request account stop
+  no_repair : (list : List ℕ) (edits texts : List Edit) → IsListGiven request.cancel inputs.list list
+      → AreEdits list request.replacements (known_lines account) edits → text_edits account edits ≡ Ok texts
+      → StopsRepair request.rounds texts account.recording stop → StopsRepaired inputs request account stop
+  no_screen : (r : RecordingValue) → StopsEdits (HasNoShown account r) inputs.log stop
+      → StopsRepaired inputs request account stop
+  no_memory : stop ≡ stops.OutOfMemory → StopsRepaired inputs request account stop
+
 pub data StopsAsked (inputs : InputsValue) (request : RepairRequest) (stop : Stop) : Type 0 where
-  no_labels : StopsLabels inputs.about stop → StopsAsked inputs request stop
-  no_log : StopsLog inputs.log stop → StopsAsked inputs request stop
-  no_list : IsNoText inputs.list stop → StopsAsked inputs request stop
-  no_numbers : (r : RecordingValue) (list : List ℕ) → log_in inputs.log.bytes ≡ Ok r
-      → IsListGiven request.cancel inputs.list list → StopsNumbers (lines_in r) list stop
-      → StopsAsked inputs request stop
-  no_repair : (r : RecordingValue) (list : List ℕ) (edits : List Edit) → log_in inputs.log.bytes ≡ Ok r
-      → IsListGiven request.cancel inputs.list list → AreEdits list request.replacements r edits
-      → StopsRepair request.rounds edits r stop → StopsAsked inputs request stop
-  no_memory : stop ≡ stops.OutOfMemory → StopsAsked inputs request stop
+  no_account : StopsAccount inputs.log stop → StopsAsked inputs request stop
+  not_repaired : (account : Account) → IsAccountOf inputs.log.bytes account
+      → StopsRepaired inputs request account stop → StopsAsked inputs request stop
 
 -- no line has the number that is asked about
 abbrev pub IsNoLine : ℕ → RecordingValue → Stop → Type 0
@@ -216,16 +283,6 @@ pub data StopsShow (inputs : InputsValue) (request : ShowRequest) (stop : Stop) 
       → StopsShown request.shown asked.recording stop → StopsShow inputs request stop
 
 -- ---- cases
-
--- the document with a name is refused like this
-abbrev pub IsBadCase : List ℕ → CaseRefusal → Stop → Type 0
-IsBadCase wanted refusal (stops.BadCase name found) = (name.now ≡ wanted) × (found ≡ refusal)
-IsBadCase wanted refusal other = ⊥
-
--- the document with a name is named, with why it has no log, or memory ran out
-abbrev pub NamesCase : List ℕ → Option CaseRefusal → Stop → Type 0
-NamesCase name None stop = stop ≡ stops.OutOfMemory
-NamesCase name (Some refusal) stop = IsBadCase name refusal stop
 
 -- There is no log of a case, for a fault that its bytes or its lines have.
 pub record StopsCase (document : DocumentValue) (stop : Stop) : Type 0 where
@@ -282,7 +339,7 @@ pub record StopsSnapshot (IsFault : SourceFault → Type 0) (name : List ℕ) (s
 pub data StopsCompare (at : AllDocuments) (folders : AllFolders) (request : CompareValue) (stop : Stop)
     : Type 0 where
   no_document : IsUnread at request.log stop → StopsCompare at folders request stop
-  no_log : (document : DocumentValue) → IsDocument at request.log document → StopsLog document stop
+  no_account : (document : DocumentValue) → IsDocument at request.log document → StopsAccount document stop
       → StopsCompare at folders request stop
   no_snapshot : StopsSnapshot (IsNotCompared folders request.snapshot) (compared_name request.snapshot) stop
       → StopsCompare at folders request stop

@@ -13,7 +13,7 @@ use casebook_recording::{RecordingFault, case_log};
 use std::alloc::Global;
 
 /// Returns why a case has no log.
-fn case_stop<'a>(name: &'a str, fault: &RecordingFault) -> Stop<'a>
+pub(crate) fn case_stop<'a>(name: &'a str, fault: &RecordingFault) -> Stop<'a>
     ensures { NamesCase name.entry.now (refusal_of fault.now) result }
 {
     match fault.refusal() {

@@ -1,13 +1,15 @@
-//! Whether documents are recordings or scripts.
+//! Whether documents are recordings, cases or scripts.
 ghost use Rattle.std.specs.Prelude.{◌≡◌, ◌∷◌, [], true, IfOk, IsTrue, codes, string_bytes};
 ghost use Rattle.std.specs.List.{list_all};
 ghost use Rattle.casebook_text.specs.SafeLine.{text_of_lines};
 ghost use Rattle.casebook_text.specs.SafeText.{is_printable};
 ghost use Rattle.retro_keep.specs.Recording.{noted_at};
-ghost use Rattle.retro_log.specs.Document.{log_in, script_in};
-ghost use Rattle.casebook_cli.specs.Checks.{AreUnlike, IsChecked, IsCheckedAs, IsCheckedLog};
-ghost use Rattle.casebook_cli.specs.Checks.{IsCheckedScript, IsUnlikeText, counted_text};
-ghost use Rattle.casebook_cli.specs.Checks.{SaysWhere, is_for_script, refused_line};
+ghost use Rattle.retro_log.specs.Document.{script_in};
+ghost use Rattle.casebook_account.specs.Accounts.{IsNoAccount};
+ghost use Rattle.casebook_cli.specs.Checks.{AreUnlike, IsChecked, IsCheckedAccount, IsCheckedAs};
+ghost use Rattle.casebook_cli.specs.Checks.{IsCheckedScript, IsRefusedAs, IsUnlikeText, SaysCase};
+ghost use Rattle.casebook_cli.specs.Checks.{SaysNoCaseOf, SaysOf, SaysWhere, counted_text};
+ghost use Rattle.casebook_cli.specs.Checks.{is_for_script, refused_line};
 ghost use Rattle.casebook_place.specs.Place.{IsPlaceInLog, IsPlaceInScript};
 ghost use Rattle.casebook_cli.specs.Harmless.{IsHarmless};
 ghost use Rattle.casebook_cli.specs.inner.Views.{document_view};
@@ -17,12 +19,14 @@ use crate::answer::Answer;
 use crate::document::Document;
 use crate::messages::{about, push_refusal};
 use crate::plain::{plain_line, plain_lines};
+use casebook_account::{Account, AccountFault, Machine, read_account};
 use casebook_check::unlike_lines;
 use casebook_place::{Place, place_in_log, place_in_script, push_place};
+use casebook_recording::CaseRefusal;
 use casebook_text::SafeLine;
 use casebook_words::Labels;
 use retro_keep::{Recording, Unlike, first_unlike};
-use retro_log::{LogFault, Refusal, read_log, read_script};
+use retro_log::{LogFault, Refusal, read_script};
 use serde_json::Value;
 use std::alloc::Global;
 
@@ -102,7 +106,8 @@ fn unlike_text(
 
 /// Returns whether a log is a recording of its lines.
 fn checked_log(alloc: Global, name: &str, recording: &Recording) -> Result<Answer, NoMem>
-    ensures checked { IfOk result (IsCheckedAs name.now recording.now) }
+    ensures checked { IfOk result (λ answer.
+        SaysOf answer.is_no name.now recording.now answer.text.items) }
     ensures harmless { IfOk result (λ answer. IsHarmless answer.text.items) }
 {
     match first_unlike(alloc, recording)? {
@@ -141,16 +146,78 @@ fn refused_script(alloc: Global, document: &Document<'_>, refusal: Refusal) -> R
     refused(alloc, document.name, "not a script: ", refusal, &place)
 }
 
-/// Returns whether a document is a log and a recording of its lines.
-fn log_answer(alloc: Global, document: &Document<'_>) -> Result<Answer, NoMem>
-    ensures checked { IfOk result (λ answer. IsCheckedLog (document_view document.now)
-        (log_in (document_view document.now).bytes) answer.is_no answer.text.items) }
+/// Returns that a document is a case.
+fn checked_case(alloc: Global, name: &str, machine: &Machine) -> Result<Answer, NoMem>
+    ensures checked { IfOk result (λ answer.
+        SaysCase name.now machine.now answer.is_no answer.text.items) }
     ensures harmless { IfOk result (λ answer. IsHarmless answer.text.items) }
 {
-    match read_log(alloc, document.bytes.as_slice()) {
-        Ok(recording) => checked_log(alloc, document.name, &recording),
-        Err(LogFault::NoMem) => Err(NoMem),
-        Err(LogFault::Refused(refusal)) => refused_log(alloc, document, refusal),
+    let observed = machine.observed(alloc)?.len();
+    let mut line = about(alloc, name, "a case of ")?;
+    line.push_number(alloc, machine.lines.len() as u64)?;
+    line.push_ascii(" lines, ")?;
+    line.push_number(alloc, observed as u64)?;
+    line.push_ascii(" of them as they were observed")?;
+    Ok(Answer::of(plain_line(alloc, line)?))
+}
+
+/// Returns why a document that says that it is a case isn't one, or why its lines can't be.
+fn refused_case(alloc: Global, name: &str, refusal: CaseRefusal) -> Result<Answer, NoMem>
+    ensures checked { IfOk result (λ answer.
+        SaysNoCaseOf name.now refusal answer.is_no answer.text.items) }
+    ensures harmless { IfOk result (λ answer. IsHarmless answer.text.items) }
+{
+    let mut line = about(alloc, name, "not a case: ")?;
+    line.push_line(&refusal.line(alloc)?)?;
+    Ok(Answer {
+        text: plain_line(alloc, line)?.into_bytes(),
+        is_no: true,
+    })
+}
+
+/// Returns whether a log is a recording of its lines, or that a document is a case.
+fn checked_account(alloc: Global, name: &str, account: &Account) -> Result<Answer, NoMem>
+    ensures checked { IfOk result (λ answer.
+        IsCheckedAs name.now account.now account.now.machine answer.is_no answer.text.items) }
+    ensures harmless { IfOk result (λ answer. IsHarmless answer.text.items) }
+{
+    match &account.machine {
+        Some(machine) => checked_case(alloc, name, machine),
+        None => checked_log(alloc, name, &account.recording),
+    }
+}
+
+/// Returns why a document has no account.
+fn refused_account(
+    alloc: Global,
+    document: &Document<'_>,
+    fault: &AccountFault,
+) -> Result<Answer, NoMem>
+    requires { IsNoAccount (document_view document.now).bytes fault.now }
+    ensures checked { IfOk result (λ answer.
+        IsRefusedAs (document_view document.now) fault.now answer.is_no answer.text.items) }
+    ensures harmless { IfOk result (λ answer. IsHarmless answer.text.items) }
+{
+    match fault {
+        AccountFault::NoMem => Err(NoMem),
+        AccountFault::Log(refusal) => refused_log(alloc, document, *refusal),
+        AccountFault::Case(fault) => match fault.refusal() {
+            Some(refusal) => refused_case(alloc, document.name, refusal),
+            None => Err(NoMem),
+        },
+        AccountFault::NoLine(_) | AccountFault::Unshown => unreachable!(),
+    }
+}
+
+/// Returns whether a document is a log and a recording of its lines, or a case.
+fn log_answer(alloc: Global, document: &Document<'_>) -> Result<Answer, NoMem>
+    ensures checked { IfOk result (λ answer.
+        IsCheckedAccount (document_view document.now) answer.is_no answer.text.items) }
+    ensures harmless { IfOk result (λ answer. IsHarmless answer.text.items) }
+{
+    match read_account(alloc, document.bytes.as_slice()) {
+        Ok(account) => checked_account(alloc, document.name, &account),
+        Err(fault) => refused_account(alloc, document, &fault),
     }
 }
 
@@ -184,7 +251,7 @@ fn is_for_script(alloc: Global, bytes: &[u8]) -> Result<bool, NoMem>
     }
 }
 
-/// Returns whether a document is a recording of its lines, or a script.
+/// Returns whether a document is a recording of its lines, a case, or a script.
 pub(crate) fn check_answer(alloc: Global, document: &Document<'_>) -> Result<Answer, NoMem>
     ensures checked { IfOk result (λ answer. IsChecked (document_view document.now) answer.is_no
         answer.text.items) }

@@ -8,12 +8,12 @@ ghost use Rattle.casebook_cli.specs.Stops.{StopsCompare};
 ghost use Rattle.casebook_cli.specs.inner.Views.{answer_view};
 
 use crate::NoMem;
+use crate::accounts::shown_account;
 use crate::answer::Answer;
 use crate::documents::Documents;
 use crate::plain::plain_lines;
 use crate::progress::{Progress, Step};
 use crate::reading::read_document;
-use crate::recordings::recording_of;
 use crate::snapshots::snapshot_stop;
 use crate::stop::Stop;
 use casebook_folder_cli::{CompareAnswer, Folders, compare_answer};
@@ -48,8 +48,8 @@ pub(crate) fn compare_text<'a, D: Documents + Folders + Progress>(
 {
     let log = read_document(alloc, documents, request.log)?;
     documents.begin(Step::Reading(log.bytes.len()));
-    let recording = recording_of(alloc, &log)?;
-    match compare_answer(alloc, documents, &request.snapshot, &recording) {
+    let account = shown_account(alloc, &log)?;
+    match compare_answer(alloc, documents, &request.snapshot, &account.recording) {
         Ok(answer) => {
             documents.remark(&answer.remark);
             Ok(shown(alloc, &answer)?)

@@ -1,12 +1,12 @@
-//! What is known of a log beside itself.
+//! What is known of lines beside their recording.
 use casebook_about::LineTime;
 use casebook_words::Labels;
 
-/// What is known of a log beside itself.
+/// What is known of lines beside their recording.
 #[derive(Drop)]
 pub(crate) struct Knowledge {
     /// What sessions are called, and when lines were typed, as text.
     pub(crate) labels: Labels,
-    /// When lines were typed.
+    /// When lines were typed. The last time of a line counts.
     pub(crate) times: Vec<LineTime>,
 }

@@ -1,11 +1,12 @@
-//! Names and times of about documents.
-ghost use Rattle.std.specs.Prelude.{◌≡◌, IfOk, IfErr, OnOk, map, option_map};
+//! Names and times of lines: those of a machine, and those of about documents.
+ghost use Rattle.std.specs.Prelude.{◌≡◌, ◌++◌, IfOk, IfErr, OnOk, Some, map, option_map};
 ghost use Rattle.casebook_about.specs.About.{about_in, about_view};
 ghost use Rattle.casebook_about.specs.Rows.{time_view, user_view};
-ghost use Rattle.casebook_cli.specs.Labels.{AreLabels, AreLabelsIn, AreTimesAdded, IsAbout};
-ghost use Rattle.casebook_cli.specs.Labels.{IsTimeAdded, times_in, times_of, with_users};
+ghost use Rattle.casebook_cli.specs.Labels.{AreLabels, AreLabelsIn, AreOwnLabels, AreTimesAdded};
+ghost use Rattle.casebook_cli.specs.Labels.{IsAbout, IsTimeAdded, line_time, times_by, times_in};
+ghost use Rattle.casebook_cli.specs.Labels.{times_of, with_users};
 ghost use Rattle.casebook_cli.specs.Stops.{AreBadTimes, IsBadTime, IsNoAbout, StopsAbout};
-ghost use Rattle.casebook_cli.specs.Stops.{StopsLabels};
+ghost use Rattle.casebook_cli.specs.Stops.{StopsLabels, StopsOwn};
 ghost use Rattle.casebook_cli.specs.inner.Views.{document_view};
 
 use crate::NoMem;
@@ -13,6 +14,7 @@ use crate::document::Document;
 use crate::knowledge::Knowledge;
 use crate::stop::Stop;
 use casebook_about::{About, AboutFault, LineTime, SessionUser, read_about, time_text};
+use casebook_account::{Machine, MachineLine};
 use casebook_words::Labels;
 use jiff::Error;
 use std::alloc::Global;
@@ -65,37 +67,53 @@ fn add_times<'a>(alloc: Global, labels: &mut Labels, times: &[LineTime]) -> Resu
     Ok(())
 }
 
-/// Returns what an about document says of a log.
-fn known_in<'a>(alloc: Global, document: &Document<'a>) -> Result<Knowledge, Stop<'a>>
-    ensures labels { IfOk result (λ known.
-        AreLabelsIn (document_view document.now) known.labels) }
-    ensures times { IfOk result (λ known. map time_view known.times.items
-        ≡ times_of (about_in (document_view document.now).bytes)) }
-    ensures err { IfErr result (StopsAbout (document_view document.now)) }
+/// Adds the names of a machine's users.
+fn add_own_users(alloc: Global, labels: &mut Labels, users: &[SessionUser]) -> Result<(), NoMem>
+    ensures { OnOk result (labels.new ≡ with_users (map user_view users.now) labels.old) }
 {
-    let about = about_of(alloc, document)?;
-    let mut labels = Labels::none(alloc);
-    add_users(&mut labels, about.users)?;
-    add_times(alloc, &mut labels, about.times.as_slice())?;
-    Ok(Knowledge {
-        labels,
-        times: about.times,
-    })
+    for user in users {
+        let name = String::from_str(alloc, user.user.as_str())?;
+        labels.add_name(user.session, name)?;
+    }
+    Ok(())
 }
 
-/// Returns what an about document says of a log: nothing, if none is given.
-pub(crate) fn known_of<'a>(
-    alloc: Global,
-    about: &Option<Document<'a>>,
-) -> Result<Knowledge, Stop<'a>>
-    ensures labels { IfOk result (λ known.
-        AreLabels (option_map document_view about.now) known.labels) }
-    ensures times { IfOk result (λ known. map time_view known.times.items
-        ≡ times_in (option_map document_view about.now)) }
-    ensures err { IfErr result (StopsLabels (option_map document_view about.now)) }
+/// Returns when the lines of a machine were seen.
+fn own_times(alloc: Global, lines: &[MachineLine]) -> Result<Vec<LineTime>, NoMem>
+    ensures { IfOk result (λ times. map time_view times.items ≡ map line_time lines.now) }
 {
-    match about {
-        Some(document) => known_in(alloc, document),
+    let mut times = Vec::with_capacity(alloc, lines.len())?;
+    for line in lines {
+        times.push(LineTime {
+            number: line.number,
+            second: line.second,
+        })?;
+    }
+    Ok(times)
+}
+
+/// Returns what a machine says of its lines.
+fn known_by_machine<'a>(alloc: Global, machine: &Machine) -> Result<Knowledge, Stop<'a>>
+    ensures labels { IfOk result (λ known. AreOwnLabels (Some machine.now) known.labels) }
+    ensures times { IfOk result (λ known.
+        map time_view known.times.items ≡ times_by (Some machine.now)) }
+    ensures err { IfErr result (StopsOwn (Some machine.now)) }
+{
+    let mut labels = Labels::none(alloc);
+    add_own_users(alloc, &mut labels, machine.users.as_slice())?;
+    let times = own_times(alloc, machine.lines.as_slice())?;
+    add_times(alloc, &mut labels, times.as_slice())?;
+    Ok(Knowledge { labels, times })
+}
+
+/// Returns what is known of lines without a document about them: what a machine says, or nothing.
+fn own_knowledge<'a>(alloc: Global, machine: &Option<Machine>) -> Result<Knowledge, Stop<'a>>
+    ensures labels { IfOk result (λ known. AreOwnLabels machine.now known.labels) }
+    ensures times { IfOk result (λ known. map time_view known.times.items ≡ times_by machine.now) }
+    ensures err { IfErr result (StopsOwn machine.now) }
+{
+    match machine {
+        Some(machine) => known_by_machine(alloc, machine),
         None => Ok(Knowledge {
             labels: Labels::none(alloc),
             times: Vec::new(alloc),
@@ -103,10 +121,58 @@ pub(crate) fn known_of<'a>(
     }
 }
 
-/// Returns the names and times of an about document, or none if none is given.
-pub(crate) fn labels_of<'a>(alloc: Global, about: &Option<Document<'a>>) -> Result<Labels, Stop<'a>>
-    ensures ok { IfOk result (AreLabels (option_map document_view about.now)) }
-    ensures err { IfErr result (StopsLabels (option_map document_view about.now)) }
+/// Adds what an about document says.
+fn add_about<'a>(
+    alloc: Global,
+    known: Knowledge,
+    document: &Document<'a>,
+) -> Result<Knowledge, Stop<'a>>
+    ensures labels { IfOk result (λ more.
+        AreLabelsIn (document_view document.now) known.labels more.labels) }
+    ensures times { IfOk result (λ more. map time_view more.times.items
+        ≡ map time_view known.times.items
+        ++ times_of (about_in (document_view document.now).bytes)) }
+    ensures err { IfErr result (StopsAbout (document_view document.now)) }
 {
-    Ok(known_of(alloc, about)?.labels)
+    let Knowledge {
+        mut labels,
+        mut times,
+    } = known;
+    let mut about = about_of(alloc, document)?;
+    add_users(&mut labels, about.users)?;
+    add_times(alloc, &mut labels, about.times.as_slice())?;
+    times.append(&mut about.times)?;
+    Ok(Knowledge { labels, times })
+}
+
+/// Returns what is known of lines: what a machine says, and then what an about document says, if one
+/// is given.
+pub(crate) fn known_of<'a>(
+    alloc: Global,
+    machine: &Option<Machine>,
+    about: &Option<Document<'a>>,
+) -> Result<Knowledge, Stop<'a>>
+    ensures labels { IfOk result (λ known.
+        AreLabels machine.now (option_map document_view about.now) known.labels) }
+    ensures times { IfOk result (λ known. map time_view known.times.items
+        ≡ times_in machine.now (option_map document_view about.now)) }
+    ensures err { IfErr result (StopsLabels machine.now (option_map document_view about.now)) }
+{
+    let known = own_knowledge(alloc, machine)?;
+    match about {
+        Some(document) => add_about(alloc, known, document),
+        None => Ok(known),
+    }
+}
+
+/// Returns the names and times of lines.
+pub(crate) fn labels_of<'a>(
+    alloc: Global,
+    machine: &Option<Machine>,
+    about: &Option<Document<'a>>,
+) -> Result<Labels, Stop<'a>>
+    ensures ok { IfOk result (AreLabels machine.now (option_map document_view about.now)) }
+    ensures err { IfErr result (StopsLabels machine.now (option_map document_view about.now)) }
+{
+    Ok(known_of(alloc, machine, about)?.labels)
 }

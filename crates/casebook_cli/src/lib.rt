@@ -62,6 +62,7 @@
 //!   characters are harmless, as it is a `SafeLine`. What `help` says is a constant.
 #![tactic(auto)]
 
+mod accounts;
 mod answer;
 mod answers;
 mod cases;
@@ -85,7 +86,6 @@ mod program;
 mod progress;
 mod reading;
 mod recorder;
-mod recordings;
 mod repairs;
 mod restores;
 mod rows_text;

@@ -1,7 +1,7 @@
 //! Lists of the lines to cancel.
-ghost use Rattle.std.specs.Prelude.{◌≡◌, Ok, IfOk, IfErr, map, option_map, string_bytes};
+ghost use Rattle.std.specs.Prelude.{◌≡◌, Ok, IfOk, IfErr, option_map, string_bytes};
 ghost use Rattle.casebook_text.specs.Lists.{lines_of_list};
-ghost use Rattle.casebook_cli.specs.Repairs.{IsListGiven, cancelled, line_of};
+ghost use Rattle.casebook_cli.specs.Repairs.{IsListGiven, cancelled};
 ghost use Rattle.casebook_cli.specs.Stops.{IsNoText, StopsNumbers};
 ghost use Rattle.casebook_cli.specs.inner.Views.{document_view};
 
@@ -9,7 +9,7 @@ use crate::NoMem;
 use crate::document::Document;
 use crate::stop::Stop;
 use casebook_text::{ListFault, lines_of_list, list_of_file};
-use retro_keep::{Edit, Noted};
+use retro_keep::Edit;
 use std::alloc::Global;
 
 /// Returns the list in a document, if there is one, and otherwise what is given.
@@ -31,29 +31,16 @@ pub(crate) fn list_given<'a>(
     }
 }
 
-/// Returns the numbers and sessions of lines.
-fn lines_of(alloc: Global, lines: &[(u32, Noted)]) -> Result<Vec<(u32, u32)>, NoMem>
-    ensures { IfOk result (λ found. found.items ≡ map line_of lines.now) }
-{
-    let mut found = Vec::new(alloc);
-    for line in lines {
-        found.push((line.0, line.1.sid))?;
-    }
-    Ok(found)
-}
-
-/// Returns the numbers of the lines that a list names.
+/// Returns the numbers of the lines that a list names, by the numbers and the sessions of all lines.
 pub(crate) fn numbers_of<'a>(
     alloc: Global,
-    lines: &[(u32, Noted)],
+    lines: &[(u32, u32)],
     list: &str,
 ) -> Result<Vec<u32>, Stop<'a>>
-    ensures ok { IfOk result (λ numbers.
-        lines_of_list (map line_of lines.now) list.now ≡ Ok numbers.items) }
-    ensures err { IfErr result (StopsNumbers (map line_of lines.now) list.now) }
+    ensures ok { IfOk result (λ numbers. lines_of_list lines.now list.now ≡ Ok numbers.items) }
+    ensures err { IfErr result (StopsNumbers lines.now list.now) }
 {
-    let lines = lines_of(alloc, lines)?;
-    match lines_of_list(alloc, list, lines.as_slice()) {
+    match lines_of_list(alloc, list, lines) {
         Ok(numbers) => Ok(numbers),
         Err(ListFault::NoMem) => Err(Stop::OutOfMemory),
         Err(fault) => Err(Stop::BadList(fault)),

@@ -5,6 +5,7 @@ ghost use Rattle.casebook_about.specs.Rows.{time_view};
 ghost use Rattle.casebook_view.specs.Rows.{row_value};
 ghost use Rattle.casebook_request.specs.Views.{lines_view};
 ghost use Rattle.casebook_cli.specs.Harmless.{IsHarmless};
+ghost use Rattle.casebook_cli.specs.Labels.{observed_by, source_by};
 ghost use Rattle.casebook_cli.specs.Lines.{AreLines, HasUser, is_named};
 ghost use Rattle.casebook_cli.specs.Lines.{sessions_named, user_tests, with_number};
 ghost use Rattle.casebook_cli.specs.Tests.{of_sessions, test_view};
@@ -12,19 +13,20 @@ ghost use Rattle.casebook_cli.specs.Stops.{StopsLines, StopsUser};
 ghost use Rattle.casebook_cli.specs.inner.Views.{AreAskedRows, inputs_view};
 
 use crate::NoMem;
+use crate::accounts::{observed_by, shown_account, source_by};
 use crate::inputs::Inputs;
 use crate::knowledge::Knowledge;
 use crate::labels::known_of;
 use crate::line_tests::tests_of;
 use crate::patterns::Patterns;
-use crate::recordings::recording_of;
 use crate::rows_text::{rows_text, widest_name};
 use crate::stop::Stop;
 use crate::typed::typed_rows;
+use casebook_account::Account;
 use casebook_request::LinesRequest;
 use casebook_view::{LineRow, LineTest, rows};
 use casebook_words::Labels;
-use retro_keep::{Noted, Recording};
+use retro_keep::Noted;
 use std::alloc::Global;
 
 /// Appends a session, if the list doesn't have it.
@@ -100,20 +102,22 @@ fn push_user<'a>(
     Ok(())
 }
 
-/// Returns the rows of the lines of a recording that are asked for.
+/// Returns the rows of the lines of an account that are asked for.
 fn asked_rows<'r, 'a>(
     alloc: Global,
-    recording: &'r Recording,
+    account: &'r Account,
     known: &Knowledge,
     patterns: &Patterns,
     request: LinesRequest<'_>,
 ) -> Result<Vec<LineRow<'r>>, Stop<'a>>
     ensures ok { IfOk result (λ rows. AreAskedRows (lines_view request.entry) known.now.labels
-        (map time_view known.now.times.items) recording.entry.now patterns.now
+        (map time_view known.now.times.items) account.entry.now.recording
+        (source_by (observed_by account.entry.now.machine)) patterns.now
         (map row_value rows.items)) }
-    ensures err { IfErr result (StopsUser known.now.labels recording.entry.now.lines
+    ensures err { IfErr result (StopsUser known.now.labels account.entry.now.recording.lines
         (option_map (λ s. s.now) request.entry.user)) }
 {
+    let recording = &account.recording;
     let mut tests = tests_of(alloc, request.session, request.bounds, request.paths)?;
     push_user(
         alloc,
@@ -123,7 +127,8 @@ fn asked_rows<'r, 'a>(
         request.user,
     )?;
     let mut filters = patterns.filters(alloc, tests, request.is_unknown)?;
-    let found = rows(alloc, recording, &mut filters)?;
+    let observed = observed_by(alloc, &account.machine)?;
+    let found = rows(alloc, recording, source_by(&observed), &mut filters)?;
     Ok(typed_rows(alloc, found, known.times.as_slice(), request.bounds)?)
 }
 
@@ -139,10 +144,10 @@ pub(crate) fn lines_text<'a>(
     ensures err { IfErr result (StopsLines (inputs_view inputs.now) (lines_view request.entry)) }
 {
     let patterns = Patterns::of(alloc, &request)?;
-    let known = known_of(alloc, &inputs.about)?;
-    let recording = recording_of(alloc, &inputs.log)?;
+    let account = shown_account(alloc, &inputs.log)?;
+    let known = known_of(alloc, &account.machine, &inputs.about)?;
     let format = request.format;
-    let found = asked_rows(alloc, &recording, &known, &patterns, request)?;
-    let width = widest_name(alloc, &known.labels, recording.lines())?;
+    let found = asked_rows(alloc, &account, &known, &patterns, request)?;
+    let width = widest_name(alloc, &known.labels, account.recording.lines())?;
     Ok(rows_text(alloc, found.as_slice(), &known.labels, width, format)?)
 }

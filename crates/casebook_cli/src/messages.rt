@@ -307,6 +307,7 @@ fn stop_message(alloc: Global, stop: Stop<'_>) -> Result<SafeLine, NoMem>
             "restored in part; run this again, or take it back by the undo file",
         ),
         Stop::BadCase(name, refusal) => told_line(alloc, name, &refusal.line(alloc)?),
+        Stop::Unshown(name) => told_of(alloc, name, "its lines can't be shown one by one"),
         Stop::Recorder(name, fault) => told_line(alloc, name, &fault.line(alloc)?),
     }
 }

@@ -2,13 +2,14 @@
 ghost use Rattle.std.specs.Prelude.{IfOk, string_bytes};
 ghost use Rattle.casebook_cli.specs.Pages.{IsPageOf};
 ghost use Rattle.casebook_cli.specs.Repairs.{LinesRise};
+ghost use Rattle.casebook_cli.specs.Screens.{asked_source};
 
 use crate::NoMem;
 use crate::repairs::{AskedRepair, summary_of};
+use crate::screens::is_recording;
 use casebook_page::{Contents, page};
 use casebook_view::{Case, Filters, rows};
 use casebook_words::Labels;
-use retro_log::check;
 use std::alloc::Global;
 
 /// Returns filters that all lines pass.
@@ -31,19 +32,19 @@ fn page_of_case<'x>(
 ) -> Result<String, NoMem>
     requires { LinesRise case.now.repair }
     ensures { IfOk result (λ text.
-        IsPageOf case.entry.now.edits case.entry.now.recording case.entry.now.repair all
-        (string_bytes text)) }
+        IsPageOf case.entry.now.source case.entry.now.edits case.entry.now.recording
+        case.entry.now.repair all (string_bytes text)) }
 {
     let summary = summary_of(alloc, case)?;
     let mut filters = no_filters(alloc);
-    let lines = rows(alloc, case.recording(), &mut filters)?;
+    let lines = rows(alloc, case.recording(), case.source(), &mut filters)?;
     let contents = Contents {
         case,
         summary: &summary,
         lines: lines.as_slice(),
         labels,
         title,
-        is_recording: check(alloc, case.recording())?,
+        is_recording: is_recording(alloc, case)?,
         shows_all: all,
     };
     page(alloc, contents)
@@ -59,8 +60,8 @@ pub(crate) fn page_text(
 ) -> Result<String, NoMem>
     requires { LinesRise asked.now.repair }
     ensures { IfOk result (λ text.
-        IsPageOf asked.now.edits.items asked.now.recording asked.now.repair all
-        (string_bytes text)) }
+        IsPageOf (asked_source asked.now) asked.now.edits.items asked.now.recording
+        asked.now.repair all (string_bytes text)) }
 {
     let case = asked.case(alloc)?;
     page_of_case(alloc, &case, &asked.labels, title, all)

@@ -1,19 +1,24 @@
 //! Repairs that are asked for.
-ghost use Rattle.std.specs.Prelude.{◌≡◌, IfOk, IfErr, option_map};
+ghost use Rattle.std.specs.Prelude.{◌≡◌, IfOk, IfErr, Ok, option_map};
+ghost use Rattle.casebook_account.specs.Accounts.{IsAccountOf};
+ghost use Rattle.casebook_account.specs.Edits.{HasNoText, known_lines, text_edits};
+ghost use Rattle.casebook_account.specs.Shown.{HasNoShown, shown, shown_settled};
 ghost use Rattle.casebook_request.specs.Views.{repair_view, rounds_view};
 ghost use Rattle.casebook_cli.specs.Repairs.{AreEdits, IsAsked, IsRepairBy, LinesRise};
-ghost use Rattle.casebook_cli.specs.Repairs.{lines_in};
-ghost use Rattle.casebook_cli.specs.Screens.{IsSummary};
-ghost use Rattle.casebook_cli.specs.Stops.{IsRefused, StopsAsked, StopsNumbers, StopsRepair};
-ghost use Rattle.casebook_cli.specs.inner.Views.{inputs_view};
+ghost use Rattle.casebook_cli.specs.Screens.{IsSummary, asked_source};
+ghost use Rattle.casebook_cli.specs.Stops.{IsRefused, IsUnshownRepair, StopsAsked, StopsEdits};
+ghost use Rattle.casebook_cli.specs.Stops.{StopsNumbers, StopsRepair, StopsRepaired};
+ghost use Rattle.casebook_cli.specs.inner.Views.{document_view, inputs_view};
 
 use crate::NoMem;
+use crate::accounts::{account_of, account_stop, observed_by, source_by};
+use crate::document::Document;
 use crate::inputs::Inputs;
 use crate::labels::labels_of;
 use crate::line_lists::{cancellations, list_given, numbers_of};
 use crate::progress::{Progress, Step};
-use crate::recordings::recording_of;
 use crate::stop::Stop;
+use casebook_account::Account;
 use casebook_request::{RepairRequest, Rounds};
 use casebook_view::{Case, Summary};
 use casebook_words::Labels;
@@ -23,10 +28,11 @@ use retro_rounds::repair;
 use std::alloc::{AllocGlobal, Global};
 use std::thread::Threads;
 
-/// A repair that is asked for, with what it is a repair of.
+/// A repair that is asked for, with what it is a repair of, both as they are shown: each line of a
+/// case is one line.
 #[derive(Drop)]
 pub(crate) struct AskedRepair {
-    /// The recording of the log.
+    /// The recording of the log or of the case.
     pub(crate) recording: Recording,
     /// Its repair by the edits, as it is asked for.
     pub(crate) repair: Repair,
@@ -34,6 +40,8 @@ pub(crate) struct AskedRepair {
     pub(crate) edits: Vec<Edit>,
     /// The names and times.
     pub(crate) labels: Labels,
+    /// Of a case the numbers of the lines that stand as they were observed.
+    pub(crate) observed: Option<Vec<u32>>,
 }
 
 impl AskedRepair {
@@ -42,15 +50,24 @@ impl AskedRepair {
         ensures recording { IfOk result (λ case. case.recording ≡ self.now.recording) }
         ensures repair { IfOk result (λ case. case.repair ≡ self.now.repair) }
         ensures edits { IfOk result (λ case. case.edits ≡ self.now.edits.items) }
+        ensures source { IfOk result (λ case. case.source ≡ asked_source self.now) }
     {
-        Case::of(alloc, &self.recording, &self.repair, self.edits.as_slice())
+        let source = source_by(&self.observed);
+        Case::of(
+            alloc,
+            &self.recording,
+            &self.repair,
+            self.edits.as_slice(),
+            source,
+        )
     }
 }
 
 /// Returns what a repair would do.
 pub(crate) fn summary_of(alloc: Global, case: &Case<'_>) -> Result<Summary, NoMem>
     requires { LinesRise case.now.repair }
-    ensures { IfOk result (IsSummary case.now.edits case.now.recording case.now.repair) }
+    ensures { IfOk result
+        (IsSummary case.now.source case.now.edits case.now.recording case.now.repair) }
 {
     Summary::of(alloc, case)
 }
@@ -102,22 +119,133 @@ fn repair_by<'a, R: Threads + Sync + AllocGlobal>(
 /// Returns the edits of lines: those that a list names are left out, and then some are replaced.
 fn edits_of<'a>(
     alloc: Global,
-    recording: &Recording,
+    account: &Account,
     list: &str,
     replacements: &mut Vec<Edit>,
 ) -> Result<Vec<Edit>, Stop<'a>>
     ensures ok { IfOk result (λ edits.
-        AreEdits list.now replacements.old.items recording.now edits.items) }
-    ensures err { IfErr result (StopsNumbers (lines_in recording.now) list.now) }
+        AreEdits list.now replacements.old.items (known_lines account.now) edits.items) }
+    ensures err { IfErr result (StopsNumbers (known_lines account.now) list.now) }
 {
-    let numbers = numbers_of(alloc, recording.lines(), list)?;
+    let known = account.known_lines(alloc)?;
+    let numbers = numbers_of(alloc, known.as_slice(), list)?;
     let mut edits = cancellations(alloc, numbers.as_slice())?;
     edits.append(replacements)?;
     Ok(edits)
 }
 
-/// Returns the repair of the log of some documents that is asked for. The list of the lines to
+/// Returns the edits of an account's lines as edits of its recording's.
+fn texts_of<'a>(
+    alloc: Global,
+    account: &Account,
+    log: &Document<'a>,
+    edits: &[Edit],
+) -> Result<Vec<Edit>, Stop<'a>>
+    ensures ok { IfOk result (λ texts. text_edits account.now edits.now ≡ Ok texts.items) }
+    ensures err { IfErr result
+        (StopsEdits (HasNoText account.now edits.now) (document_view log.now)) }
+{
+    match account.text_edits(alloc, edits) {
+        Ok(texts) => Ok(texts),
+        Err(fault) => Err(account_stop(log.name, &fault)),
+    }
+}
+
+/// Returns a recording of an account as it is shown.
+fn shown_recording<'a>(
+    alloc: Global,
+    account: &Account,
+    log: &Document<'a>,
+    some: Recording,
+) -> Result<Recording, Stop<'a>>
+    ensures ok { IfOk result (λ found. found ≡ shown account.now some) }
+    ensures err { IfErr result (StopsEdits (HasNoShown account.now some) (document_view log.now)) }
+{
+    match account.shown(alloc, some) {
+        Ok(recording) => Ok(recording),
+        Err(fault) => Err(account_stop(log.name, &fault)),
+    }
+}
+
+/// Returns an account's own recording as it is shown.
+fn own_recording<'a>(
+    alloc: Global,
+    account: Account,
+    log: &Document<'a>,
+) -> Result<Recording, Stop<'a>>
+    ensures ok { IfOk result (λ found. found ≡ shown account account.recording) }
+    ensures err { IfErr result
+        (StopsEdits (HasNoShown account account.recording) (document_view log.now)) }
+{
+    match account.into_shown(alloc) {
+        Ok(account) => Ok(account.recording),
+        Err(fault) => Err(account_stop(log.name, &fault)),
+    }
+}
+
+/// Returns a repair of an account as it is shown.
+fn shown_repair<'a>(
+    alloc: Global,
+    account: &Account,
+    log: &Document<'a>,
+    repair: Repair,
+) -> Result<Repair, Stop<'a>>
+    ensures recording { IfOk result (λ found. found.recording ≡ shown account.now repair.recording) }
+    ensures lines { IfOk result (λ found.
+        found.lines.items ≡ shown_settled account.now repair.lines.items) }
+    ensures tally { IfOk result (λ found. found.tally ≡ repair.tally) }
+    ensures err { IfErr result (IsUnshownRepair account.now repair (document_view log.now)) }
+{
+    let Repair {
+        lines,
+        tally,
+        recording,
+    } = repair;
+    Ok(Repair {
+        lines: account.shown_lines(alloc, lines)?,
+        tally,
+        recording: shown_recording(alloc, account, log, recording)?,
+    })
+}
+
+/// Returns the repair that is asked for of the account of some documents. The list of the lines to
 /// leave out may be in one of the documents.
+fn repaired<'a, R: Threads + Sync + AllocGlobal, P: Progress>(
+    rt: &R,
+    progress: &P,
+    inputs: &Inputs<'a>,
+    account: Account,
+    request: RepairRequest<'a>,
+) -> Result<AskedRepair, Stop<'a>>
+    requires { IsAccountOf (inputs_view inputs.now).log.bytes account }
+    ensures ok { IfOk result (IsAsked (inputs_view inputs.now) (repair_view request.entry)) }
+    ensures rise { IfOk result (λ asked. LinesRise asked.repair) }
+    ensures err { IfErr result
+        (StopsRepaired (inputs_view inputs.now) (repair_view request.entry) account) }
+{
+    let alloc = rt.alloc();
+    let labels = labels_of(alloc, &account.machine, &inputs.about)?;
+    let list = list_given(alloc, request.cancel, &inputs.list)?;
+    let mut replacements = request.replacements;
+    let edits = edits_of(alloc, &account, list.as_str(), &mut replacements)?;
+    let texts = texts_of(alloc, &account, &inputs.log, edits.as_slice())?;
+    let count = account.recording.lines().len();
+    progress.begin(Step::Repairing(count));
+    let repair = repair_by(rt, &account.recording, texts.as_slice(), &request.rounds)?;
+    progress.begin(Step::Showing(count));
+    let observed = observed_by(alloc, &account.machine)?;
+    let shown = shown_repair(alloc, &account, &inputs.log, repair)?;
+    let recording = own_recording(alloc, account, &inputs.log)?;
+    Ok(AskedRepair {
+        recording,
+        repair: shown,
+        edits,
+        labels,
+        observed,
+    })
+}
+
+/// Returns the repair that is asked for of the log or of the case of some documents.
 pub(crate) fn asked_repair<'a, R: Threads + Sync + AllocGlobal, P: Progress>(
     rt: &R,
     progress: &P,
@@ -128,20 +256,7 @@ pub(crate) fn asked_repair<'a, R: Threads + Sync + AllocGlobal, P: Progress>(
     ensures rise { IfOk result (λ asked. LinesRise asked.repair) }
     ensures err { IfErr result (StopsAsked (inputs_view inputs.now) (repair_view request.entry)) }
 {
-    let alloc = rt.alloc();
-    let labels = labels_of(alloc, &inputs.about)?;
     progress.begin(Step::Reading(inputs.log.bytes.len()));
-    let recording = recording_of(alloc, &inputs.log)?;
-    let list = list_given(alloc, request.cancel, &inputs.list)?;
-    let mut replacements = request.replacements;
-    let edits = edits_of(alloc, &recording, list.as_str(), &mut replacements)?;
-    progress.begin(Step::Repairing(recording.lines().len()));
-    let repair = repair_by(rt, &recording, edits.as_slice(), &request.rounds)?;
-    progress.begin(Step::Showing(recording.lines().len()));
-    Ok(AskedRepair {
-        recording,
-        repair,
-        edits,
-        labels,
-    })
+    let account = account_of(rt.alloc(), &inputs.log)?;
+    repaired(rt, progress, inputs, account, request)
 }

@@ -20,6 +20,8 @@ use casebook_folder_cli::{
     Folders, RestoreAnswer, RestoreFault, UndoRequest, restore_answer, undo_answer,
 };
 use casebook_request::{FolderRepair, RepairRequest, repair_sources};
+use casebook_text::SafeLine;
+use casebook_view::unknown_in;
 use std::alloc::{AllocGlobal, Global};
 use std::thread::Threads;
 
@@ -67,6 +69,27 @@ fn repair_of<'a, R: Threads + Sync + AllocGlobal, D: Documents + Progress>(
     asked_repair(rt, documents, &inputs, request)
 }
 
+/// Tells how many lines of a case have to be run for real, if there are some: what they wrote is
+/// restored as it was observed.
+fn tell_to_run<P: Progress>(alloc: Global, progress: &P, asked: &AskedRepair) -> Result<(), NoMem> {
+    if asked.observed.is_none() {
+        return Ok(());
+    }
+    let count = unknown_in(alloc, &asked.case(alloc)?)?.len();
+    if count == 0 {
+        return Ok(());
+    }
+    let mut line = SafeLine::new(alloc);
+    line.push_number(alloc, count as u64)?;
+    line.push_ascii(if count == 1 {
+        " line has to be run for real; casebook show says which"
+    } else {
+        " lines have to be run for real; casebook show says which"
+    })?;
+    progress.remark(&line);
+    Ok(())
+}
+
 /// Returns what a restore of a folder does or would do, and tells whether it was done.
 pub(crate) fn restore_text<'a, R: Threads + Sync + AllocGlobal, D: Documents + Folders + Progress>(
     rt: &R,
@@ -82,6 +105,7 @@ pub(crate) fn restore_text<'a, R: Threads + Sync + AllocGlobal, D: Documents + F
 {
     let FolderRepair { repair, folder } = request;
     let asked = repair_of(rt, documents, repair)?;
+    tell_to_run(rt.alloc(), documents, &asked)?;
     let recorded = asked.recording.last().tree();
     let repaired = asked.repair.state().tree();
     match restore_answer(rt.alloc(), documents, &folder, recorded, repaired) {

@@ -1,10 +1,11 @@
 //! What is shown of repairs.
-ghost use Rattle.std.specs.Prelude.{◌≡◌, IfOk, IfErr, IsTrue, not, string_bytes};
+ghost use Rattle.std.specs.Prelude.{◌≡◌, IfOk, IfErr, IsTrue, not, string_bytes, true};
+ghost use Rattle.retro_keep.specs.Recording.{IsRecordingOf, script_in};
 ghost use Rattle.casebook_cli.specs.Harmless.{IsHarmless, is_plain_shown};
 ghost use Rattle.casebook_cli.specs.Repairs.{LinesRise};
 ghost use Rattle.casebook_cli.specs.Screens.{AreDiffLines, AreParts, AreSummaryLines, AreWhyLines};
 ghost use Rattle.casebook_cli.specs.Screens.{IsJson, IsLineText, IsScreenText, IsShownOf, IsTextOf};
-ghost use Rattle.casebook_cli.specs.Screens.{Rise};
+ghost use Rattle.casebook_cli.specs.Screens.{Rise, asked_source};
 ghost use Rattle.casebook_cli.specs.Stops.{IsNoLine, StopsShown};
 ghost use Rattle.casebook_cli.specs.inner.Views.{screen_view};
 
@@ -19,7 +20,7 @@ use casebook_screen::{
     Names, Restoration, Sheet, detail_lines, diff_lines, summary_lines, to_restore, why_lines,
 };
 use casebook_text::SafeLine;
-use casebook_view::{Case, Group, Summary, grouped};
+use casebook_view::{Case, Group, Source, Summary, grouped};
 use casebook_words::Labels;
 use retro_log::check;
 use std::alloc::Global;
@@ -35,6 +36,17 @@ struct Screen<'s, 'c> {
     names: Names<'s>,
     /// Whether the terminal has colours.
     colours: bool,
+}
+
+/// Returns whether a log is as its lines run. Of lines that were seen on a machine that isn't said.
+pub(crate) fn is_recording(alloc: Global, case: &Case<'_>) -> Result<bool, NoMem>
+    ensures { IfOk result (λ yes. yes ≡ true
+        → IsRecordingOf (script_in case.now.recording) case.now.recording) }
+{
+    match case.source() {
+        Source::Played => check(alloc, case.recording()),
+        Source::Seen(_) => Ok(false),
+    }
 }
 
 /// What a sheet has beside a recording and a summary.
@@ -57,7 +69,7 @@ impl Screen<'_, '_> {
         Ok(Parts {
             restorations: to_restore(alloc, self.case, summary.restorations.as_slice())?,
             groups: grouped(alloc, summary.notices.as_slice())?,
-            is_recording: check(alloc, self.case.recording())?,
+            is_recording: is_recording(alloc, self.case)?,
         })
     }
 
@@ -71,6 +83,7 @@ impl Screen<'_, '_> {
             summary: self.summary,
             restorations: parts.restorations.as_slice(),
             groups: parts.groups.as_slice(),
+            source: self.case.source(),
             is_recording: parts.is_recording,
         };
         summary_lines(alloc, sheet, self.names)
@@ -87,6 +100,7 @@ impl Screen<'_, '_> {
             summary: self.summary,
             restorations: parts.restorations.as_slice(),
             groups: parts.groups.as_slice(),
+            source: self.case.source(),
             is_recording: parts.is_recording,
         };
         summary_json(alloc, sheet, self.names.labels)
@@ -171,8 +185,8 @@ fn text_of_case<'a>(
     colours: bool,
 ) -> Result<String, Stop<'a>>
     requires { LinesRise case.now.repair }
-    ensures ok { IfOk result (λ text. IsShownOf case.now.edits case.now.recording
-        case.now.repair labels.now shown colours (string_bytes text)) }
+    ensures ok { IfOk result (λ text. IsShownOf case.now.source case.now.edits
+        case.now.recording case.now.repair labels.now shown colours (string_bytes text)) }
     ensures harmless { IfOk result (λ text. IsTrue (is_plain_shown colours shown)
         → IsHarmless (string_bytes text)) }
     ensures err { IfErr result (StopsShown shown case.now.recording) }
@@ -196,8 +210,9 @@ pub(crate) fn shown_text<'a>(
     colours: bool,
 ) -> Result<String, Stop<'a>>
     requires { LinesRise asked.now.repair }
-    ensures ok { IfOk result (λ text. IsShownOf asked.now.edits.items asked.now.recording
-        asked.now.repair asked.now.labels shown colours (string_bytes text)) }
+    ensures ok { IfOk result (λ text. IsShownOf (asked_source asked.now) asked.now.edits.items
+        asked.now.recording asked.now.repair asked.now.labels shown colours
+        (string_bytes text)) }
     ensures harmless { IfOk result (λ text. IsTrue (is_plain_shown colours shown)
         → IsHarmless (string_bytes text)) }
     ensures err { IfErr result (StopsShown shown asked.now.recording) }

@@ -57,6 +57,8 @@ pub enum Stop<'a> {
     Unfinished(&'a str),
     /// A document has no log: it isn't a case, or what it says can't be.
     BadCase(&'a str, CaseRefusal),
+    /// The lines of a case can't be shown as they were typed.
+    Unshown(&'a str),
     /// There is no spool with the name, it didn't take a record, or it has no case.
     Recorder(&'a str, RecorderFault),
 }
@@ -91,7 +93,8 @@ impl Stop<'_> {
             | Stop::BadUndo(_)
             | Stop::OtherUndo(_)
             | Stop::FolderChanged(_)
-            | Stop::BadCase(_, _) => 1,
+            | Stop::BadCase(_, _)
+            | Stop::Unshown(_) => 1,
             Stop::OutOfMemory => 2,
             Stop::ReadFailed(_) | Stop::UndoFailed(_) | Stop::Unfinished(_) => 3,
             Stop::Recorder(_, fault) if fault.is_refusal() => 1,

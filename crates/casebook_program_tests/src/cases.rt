@@ -5,6 +5,7 @@
 //! nothing, `kept` saw three files, and what `cut` saw last was cut off.
 ghost use Rattle.std.specs.Prelude.{None};
 
+use crate::accounts::account_document;
 use crate::recorder::fault_of;
 use casebook_case::SpoolSource;
 use casebook_observe::SpoolError;
@@ -59,7 +60,7 @@ pub(crate) fn case_document(name: &str) -> Option<&'static [u8]> {
             br#"{"case":1,"contents":[],"first":"listing\t0\t0\n","lines":"x\ny\n"}"#,
         ),
         "digits" => Some(br#"{"case":1,"contents":["0"],"first":"listing\t0\t0\n","lines":""}"#),
-        _ => None,
+        _ => account_document(name),
     }
 }
 

@@ -2,6 +2,7 @@
 //!
 //! The first field of a row has the words of a command line, with spaces between them, or for
 //! `numbers` the filters of `lines log`. In a word `_` is a space.
+use crate::accounts::{ACCOUNTS, REFUSED_ACCOUNTS};
 use crate::cases::{CASES, REFUSED_CASES};
 use crate::memory::{coloured, ended, kept, refused, remarked, sent, written};
 use crate::recorder::{RECORDED, REFUSED_RECORDS};
@@ -125,6 +126,7 @@ fn pages_checks_folders_and_helps_are_written(rt: HostRuntime) -> Result<(), Fai
         SCRIPTS,
         RECORDED,
         CASES,
+        ACCOUNTS,
     ] {
         hold(&rt, table)?;
     }
@@ -145,6 +147,7 @@ fn words_and_documents_are_refused(rt: HostRuntime) -> Result<(), Fail> {
         REFUSED_SCRIPTS,
         REFUSED_RECORDS,
         REFUSED_CASES,
+        REFUSED_ACCOUNTS,
     ] {
         hold(&rt, table)?;
     }

@@ -36,7 +36,7 @@ sessions at the start, and the lines with what they read, changed and printed.
 `retro record` makes it of a script: the files, sessions and lines alone.
 
 CASE is a case as `casebook import` writes it: JSON with what the recorder saw of a
-machine. `casebook log` makes a log of it.
+machine. Each command takes one where it takes a LOG.
 
 The FILE of --about says who typed in which session, and when. It is JSON like this,
 of which both lists may be missing:
@@ -47,7 +47,8 @@ of which both lists may be missing:
 
 A session has a number and a name, and a line a number and a time: seconds since the
 start of 1970 (UTC), as `date +%s` prints them. Times are shown in UTC. More cells in
-a row, and more keys, don't count.
+a row, and more keys, don't count. A case has names and times of its own; those of
+FILE come in their place.
 
 The FILE of --cancel @FILE has a list: see casebook help lists.
 ";
@@ -75,7 +76,8 @@ Why documents are refused
     26  a line is to be cancelled or replaced twice
     31  the words of the command line
 
-`casebook check DOCUMENT` says which of them holds of a log or a script.
+`casebook check DOCUMENT` says which of them holds of a log or a script. Why a case is
+refused is always said in words.
 ";
 
 /// Help on what the lines of a log may be.

@@ -70,8 +70,8 @@ casebook compare LOG FOLDER [--mounts] [--at PATH] [--skip PATH]..
 casebook compare LOG --tar FILE        [--at PATH] [--skip PATH]..
 casebook compare LOG --snapshot DOCUMENT
 
-Says whether a log explains what a folder holds: whether the directories and files
-that the log has at its end are those of the folder. Nothing is changed.
+Says whether a log or a case explains what a folder holds: whether the directories and
+files that the log has at its end are those of the folder. Nothing is changed.
 
     --mounts, --tar FILE    as in casebook help snapshot
     --snapshot DOCUMENT     what casebook snapshot wrote, in place of a folder

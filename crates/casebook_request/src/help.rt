@@ -14,13 +14,13 @@ casebook - what an intruder's commands led to, and what to do about it
 A log holds lines of shell, what each line read and wrote, and what it printed.
 `retro record` makes it of a script that somebody wrote: it plays the lines in
 retro's own shell. What people's shells do on a real machine `casebook observe`
-keeps in a spool, `casebook import` writes as a document, and `casebook log` makes a
-log of that.
+keeps in a spool, and `casebook import` writes as a document, a case. Each command
+takes a case where it takes a log (see casebook help import).
 
-casebook reads a log. It shows which lines there are, and what would be if some of
-them had never run: which files to restore, whom to tell what, and what leaked. It
-says which lines retro's shell didn't understand. It changes nothing but a folder that
-it is told to restore, and spools.
+casebook reads a log or a case. It shows which lines there are, and what would be if
+some of them had never run: which files to restore, whom to tell what, and what
+leaked. It says which lines retro's shell didn't understand. It changes nothing but a
+folder that it is told to restore, and spools.
 
     casebook lines LOG [FILTER..] [--format text|tsv|numbers]
         Which lines are in the log, who ran them, what they read and wrote.
@@ -30,7 +30,7 @@ it is told to restore, and spools.
         The same as a page for a browser: one HTML file, on standard output.
     casebook check DOCUMENT
         Whether a log is a recording, and if not, which line isn't as it notes; of
-        another document, whether it is a script, and why it is refused.
+        another document, whether it is a case or a script, and why it is refused.
     casebook snapshot FOLDER|--tar FILE [--at PATH] [--skip PATH]..
         What is in a folder, or in a stream that tar wrote, as a document.
     casebook script DOCUMENT --sessions FILE --lines FILE
@@ -45,13 +45,13 @@ it is told to restore, and spools.
     casebook import SPOOL
         What was kept, as a document: a case.
     casebook log CASE
-        A log that explains it, line by line.
+        A log that explains it, line by line, for retro.
     casebook help [lines|show|page|check|snapshot|script|compare|restore|observe|
                    import|log|lists|documents|refusals|profile]
         This text, or more on a command, on lists of lines, on the documents that
         casebook reads, on why it refuses them, or on what a line may be.
 
-LOG is the name of a file, or - for standard input.
+LOG is the name of a log or of a case, or - for standard input.
 
 From a log to an answer:
 
@@ -139,7 +139,8 @@ of them hold. LOG is the name of a file, or - for standard input.
     --touches PATH    the line did one or the other
     --text REGEX      REGEX is found in the line
     --shown REGEX     REGEX is found in what the line printed
-    --unknown         the line wasn't understood (see casebook help profile)
+    --unknown         the line wasn't understood (see casebook help profile); of a
+                      case: it stands as it was observed
 
     --about FILE      shows the names of users and the times of lines
 
@@ -150,7 +151,8 @@ alone. With --to a time of day without seconds lasts a minute, and a date a day.
 Times are in UTC. A line of which no time is known passes no TIME.
 
     --format text     one to five rows a line: number, session and line, with ?
-                      before a line that wasn't understood, and why; what it read;
+                      before a line that wasn't understood, and why, and with o
+                      before one that stands as it was observed; what it read;
                       what it wrote (+ put, > appended, - removed); how much it
                       printed, and the start of it. The default.
     --format tsv      one row a line, with tabs between the fields: number, time,
@@ -208,12 +210,15 @@ The screen has these parts:
 
     N lines of N sessions. N cancelled.
     That retro's shell does what the log notes. If it doesn't, all below is only
-    what its notes say.
+    what its notes say. Of a case: how many lines stand as they were observed.
 
     ? How many lines weren't understood, how many of them are cancelled, and their
     numbers by reason. What they did isn't in the answer, so below they leak
     nothing, tell nobody and cause nothing that is known. `casebook help profile`
     has the reasons. Or: Every line was understood.
+    Of a case: ? how many lines have to be run for real, and their numbers. What they
+    depend on would be another, so what they would do isn't known. Until then they
+    stand as they were observed. Or: No line has to be run for real.
 
     How many lines are cancelled; are run again, with another result or with the
     same; read or wrote what differs but are kept as recorded; or have nothing to
@@ -221,7 +226,7 @@ The screen has these parts:
 
     RESTORE  each path that would be different at the end:
              M changes, A comes back, D goes; lines that come (+) and go (-);
-             ? if a line wrote it that wasn't understood
+             ? if a line wrote it that wasn't understood, or has to be run for real
     TELL     session, path, how often, which lines: what these lines printed would
              have been different, since the path would have been
     LEAKED   cancelled lines that printed something, and how many bytes
@@ -268,9 +273,10 @@ casebook check DOCUMENT
 Says whether a log is as its lines run: whether running them one by one, from the
 files that it begins with, gives the notes and outputs that it has. If not, it says
 which line is the first that isn't as noted, with what is noted and what the line
-does. If the document is no log and no script, it says why.
+does. Of a case it says how many lines it has, and how many of them stand as they
+were observed. If the document is no log, no case and no script, it says why.
 
-Exit status: 0 a recording or a script, 4 another log, or neither log nor script.
+Exit status: 0 a recording, a case or a script, 4 another log, or none of these.
 
 If a log isn't as its lines run, what was recorded is only what its notes say.
 ";

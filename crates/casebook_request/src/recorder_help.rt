@@ -56,6 +56,23 @@ Bytes are in a case once, however often they are named. If some are missing that
 named, or were altered, nothing is written, and standard error has the first row that
 names them.
 
+Every other command takes a CASE in place of a LOG:
+
+    casebook lines case.json
+    casebook show case.json --cancel 3:all
+    casebook restore case.json --cancel 3:all --root /mnt/copy
+
+A line of a case has the text that was typed, its time and the login name of its
+user. Lines are numbered in the order in which they ended. A line that retro's shell
+knows, and that did just what it does there, is run again where that is needed. Any
+other one stands as it was observed: `lines` marks it with o. It does so as long as
+nothing that it read, listed or names would be another. Otherwise `show` says that it
+has to be run for real, and until then it stands as it was observed.
+
+What somebody did while no line was open is a line of session 0. The other sessions
+are numbered from 1 on, in the order in which they began. A link, a file that is too
+large or one that couldn't be read is a file with a text that says what it is.
+
 Exit status: 0 done, 1 SPOOL is damaged, or bytes are missing, 3 there is no SPOOL, it
 can't be read, or somebody else has it.
 ";
@@ -65,24 +82,21 @@ pub(crate) const LOG: &str = "\
 casebook log CASE > LOG
 
 Writes a log that explains a case: its lines lead from each state that was observed to
-the next one. retro and casebook's other commands read it.
+the next one. It is for retro; casebook's other commands read the case itself.
 
 A line has the text that was typed if retro's shell knows what it means, and does just
 what was seen. Any other one stands as one or several lines that do what was seen:
 
     cp /.casebook/62/1 /srv/prices; cd /srv
 
-Here 62 is the place of the line in the case, counted from 1, and /.casebook has what
-it wrote. Such a line does the same whatever happened before it. A repair takes that
-for all that it did, although it may have read what would be another: what it read
-isn't in the log.
-
-What somebody did while no line was open is a line of session 0. The other sessions are
-numbered from 1 on, in the order in which they began. A link, a file that is too large
-or one that couldn't be read is a file of the log with a text that says what it is.
+Here 62 is the number of the line in the case, and /.casebook has what it wrote. Such
+a line does the same whatever happened before it. `retro repair` takes that for all
+that it did, although it may have read what would be another: what it read isn't in
+the log. The texts are numbered from 1 on, so a line after one with several texts has
+another number than in the case.
 
     casebook log case.json > log.json
-    casebook lines log.json --session 2
+    retro check < log.json
 
 Exit status: 0 done, 1 CASE is no case, or what it says can't be: then standard error
 has the first line or row that is wrong; 3 CASE can't be read.

@@ -5,6 +5,7 @@ use Rattle.regex.specs.Bytes.{regex_pattern}
 use Rattle.retro_keep.specs.Recording.{RecordingValue}
 use Rattle.casebook_view.specs.Filters.{FiltersValue}
 use Rattle.casebook_view.specs.Rows.{RowValue, rows_of}
+use Rattle.casebook_view.specs.Sources.{SourceValue}
 use Rattle.casebook_view.specs.declared.line_test.LineTest.{LineTest}
 use Rattle.casebook_words.specs.declared.labels.Labels.{Labels}
 use Rattle.casebook_request.specs.Request.{LinesRequest}
@@ -56,16 +57,17 @@ filters_by tests patterns is_unknown = record {
 -- patterns are found, that aren't understood if only such lines are asked for, and that were typed
 -- between its bounds.
 pub record AreAskedRows (request : LinesRequest) (labels : Labels) (times : List (ℕ × ℤ)) (r : RecordingValue)
-    (patterns : Patterns) (rows : List RowValue) : Type 0 where
+    (source : SourceValue) (patterns : Patterns) (rows : List RowValue) : Type 0 where
   pub tests : List LineTest
   pub are_tests : map test_view tests ≡ tests_of request ++ user_tests labels r.lines request.user
   pub user : HasUser labels r.lines request.user
-  pub are_rows : rows ≡ typed request.bounds times (rows_of (filters_by tests patterns request.is_unknown) r)
+  pub are_rows : rows ≡ typed request.bounds times (rows_of source (filters_by tests patterns request.is_unknown) r)
 
 -- ---- screens and answers
 
 abbrev pub screen_view : Screen → ScreenValue
 screen_view screen = record {
+  source = screen.case.now.source;
   recording = screen.case.now.recording;
   repair = screen.case.now.repair;
   summary = screen.summary.now;

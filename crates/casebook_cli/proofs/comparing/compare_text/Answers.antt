@@ -5,13 +5,13 @@ use Rattle.casebook_cli.specs.inner.Views.{document_view}
 use Rattle.casebook_cli.proofs.Known.{both, from_first, from_second}
 use Rattle.casebook_cli.proofs.comparing.compare_text.Goals as goal
 
-pub returns-in_err-recording-clause-err : goal.returns-in_err-recording-clause-err
-returns-in_err-recording-clause-err g c =
-    let p = err_from_is_err_and c.from_residual-in_err-recording.result c.from_residual-in_err-recording.ensures.1 in
+pub returns-in_err-account-clause-err : goal.returns-in_err-account-clause-err
+returns-in_err-account-clause-err g c =
+    let p = err_from_is_err_and c.from_residual-in_err-account.result c.from_residual-in_err-account.ensures.1 in
     rw (p.1, p.2)
     (from_first (g.D.Documents.bytes_of c.args.documents.now) (g.D.Folders.holds c.args.documents.now) _ _
     c.in_ok-log.ensures.ok
-    (λ at folders is. StopsCompare.no_log (document_view c.in_ok-log.log) is c.in_err-recording.ensures.err))
+    (λ at folders is. StopsCompare.no_account (document_view c.in_ok-log.log) is c.in_err-account.ensures.err))
 
 pub returns-clause-err : goal.returns-clause-err
 returns-clause-err g c =
@@ -30,8 +30,8 @@ returns-in-Ok-clause-ok g c =
     (λ at folders is compared. record {
       document = document_view c.in_ok-log.log;
       is_document = is;
-      recording = c.in_ok-recording.recording;
-      is_recording = c.in_ok-recording.ensures.ok;
+      account = c.in_ok-account.account;
+      is_account = c.in_ok-account.ensures.ok;
       compared = c.in-Ok.answer;
       is_compared = compared;
       text = c.in_ok-shown-in-Ok.ensures.text;

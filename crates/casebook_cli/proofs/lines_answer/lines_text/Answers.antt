@@ -1,9 +1,9 @@
 use Rattle.std.proofs.Common.{ap, map, refl, ◌∙◌}
 use Rattle.std.proofs.lemmas.Result.{err_from_is_err_and}
-use Rattle.casebook_view.specs.Rows.{row_value, rows_of}
+use Rattle.casebook_view.specs.Rows.{row_value}
 use Rattle.casebook_cli.specs.Typed.{typed}
-use Rattle.casebook_cli.specs.Lines.{rows_text, widest_name}
-use Rattle.casebook_cli.specs.Stops.{no_memory, no_user}
+use Rattle.casebook_cli.specs.Lines.{account_rows, rows_text, widest_name}
+use Rattle.casebook_cli.specs.Stops.{no_labels, no_memory, no_user}
 use Rattle.casebook_cli.specs.inner.Views.{filters_by}
 use Rattle.casebook_cli.proofs.lines_answer.lines_text.Goals as goal
 
@@ -11,8 +11,13 @@ pub returns-in_err-found-clause-err : goal.returns-in_err-found-clause-err
 returns-in_err-found-clause-err c =
     let p = err_from_is_err_and c.from_residual-in_err-found.result c.from_residual-in_err-found.ensures.1 in
     rw (p.1, p.2)
-    (no_user c.in_ok-recording.recording c.in_ok-known.known.labels c.in_ok-recording.ensures.ok
+    (no_user c.in_ok-account.account c.in_ok-known.known.labels c.in_ok-account.ensures.ok
     c.in_ok-known.ensures.labels c.in_err-found.ensures.err)
+
+pub returns-in_err-known-clause-err : goal.returns-in_err-known-clause-err
+returns-in_err-known-clause-err c =
+    let p = err_from_is_err_and c.from_residual-in_err-known.result c.from_residual-in_err-known.ensures.1 in
+    rw (p.1, p.2) (no_labels c.in_ok-account.account c.in_ok-account.ensures.ok c.in_err-known.ensures.err)
 
 pub returns-in_err-width-clause-err : goal.returns-in_err-width-clause-err
 returns-in_err-width-clause-err c =
@@ -28,12 +33,13 @@ pub returns-clause-ok : goal.returns-clause-ok
 returns-clause-ok c =
     let request = c.args.request in
     let labels = c.in_ok-known.known.labels in
-    let lines = c.in_ok-recording.recording.lines in
+    let account = c.in_ok-account.account in
+    let lines = account.recording.lines in
     let filters = filters_by c.in_ok-found.ensures.ok.tests c.in_ok-patterns.patterns request.is_unknown in
     let found = c.in_ok-found.found.items in
     record {
-      recording = c.in_ok-recording.recording;
-      log = c.in_ok-recording.ensures.ok;
+      account = account;
+      is_account = c.in_ok-account.ensures.ok;
       labels = labels;
       are_labels = c.in_ok-known.ensures.labels;
       filters = filters;
@@ -50,6 +56,6 @@ returns-clause-ok c =
           (c.in_ok-width.ensures ∙ ap (widest_name labels) c.lines.ensures.value)
           ∙ ap (rows_text request.format labels (widest_name labels lines))
           (c.in_ok-found.ensures.ok.are_rows
-          ∙ ap (λ times. typed request.bounds times (rows_of filters c.in_ok-recording.recording))
+          ∙ ap (λ times. typed request.bounds times (account_rows account filters))
           c.in_ok-known.ensures.times);
     }

@@ -18,6 +18,6 @@ returns-clause-ok c =
     (λ text h. record {
       summary = summary;
       is_summary = c.in_ok-summary.ensures;
-      is_text = at_width c.args.shown r repair summary labels c.args.colours width (string_bytes text) wide h;
+      is_text = at_width c.args.shown c.args.case.now.source r repair summary labels c.args.colours width (string_bytes text) wide h;
     })
     c.shown.ensures.ok

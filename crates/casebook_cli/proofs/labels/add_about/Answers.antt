@@ -3,7 +3,7 @@ use Rattle.std.proofs.lemmas.Result.{err_from_is_err_and}
 use Rattle.casebook_about.specs.About.{about_view}
 use Rattle.casebook_about.specs.Rows.{time_view}
 use Rattle.casebook_cli.specs.Stops.{AreBadTimes, bad_time}
-use Rattle.casebook_cli.proofs.labels.known_in.Goals as goal
+use Rattle.casebook_cli.proofs.labels.add_about.Goals as goal
 
 pub returns-in_err-add_times-clause-err : goal.returns-in_err-add_times-clause-err
 returns-in_err-add_times-clause-err c =
