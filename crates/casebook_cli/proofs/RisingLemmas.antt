@@ -24,8 +24,8 @@ use Rattle.casebook_view.specs.Effects.{effect_value, effects_of}
 use Rattle.casebook_view.specs.Fates.{AreFates}
 use Rattle.casebook_view.specs.Reasons.{AreReasons, number_in as number_of}
 use Rattle.casebook_view.specs.Sources.{SourceValue}
-use Rattle.casebook_view.specs.Summaries.{leak_for, notice_for}
-use Rattle.casebook_view.specs.Unknown.{is_doubtful, is_understood, unknown_in}
+use Rattle.casebook_view.specs.Summaries.{leak_for, notice_for, notices_at}
+use Rattle.casebook_view.specs.Unknown.{is_doubtful, is_understood, numbers_to_run, unknown_in}
 use Rattle.casebook_view.specs.declared.fate.Fate.{Fate}
 use Rattle.casebook_view.specs.declared.summary.Summary.{Summary}
 use Rattle.casebook_cli.specs.Repairs.{LinesRise}
@@ -122,11 +122,13 @@ pub whole_summary : {E : Type 0} (source : SourceValue) (edits : List Edit) (r :
     → IfOk found (λ s. AreChangedPaths (last_state r.lines r.first).tree (repaired_state repair).tree s.restorations.items)
     → IfOk found (λ s. IsTrue (rises_from 0 (map number_of s.reasons.items))
     → s.notices.items ≡ map (notice_for r s.reasons.items) (filter (is_understood s.unknown.items) (tellings r repair)))
+    → IfOk found (λ s. IsTrue (rises_from 0 (map number_of s.reasons.items))
+    → s.looks.items ≡ notices_at r s.reasons.items (numbers_to_run s.unknown.items))
     → IfOk found (λ s. s.leaks.items ≡ map (leak_for r) (filter (is_understood s.unknown.items) (leaks r repair)))
     → IfOk found (λ s. IsTrue (rises_from 0 (map number_of s.reasons.items))
     → map effect_value s.effects.items ≡ effects_of r s.reasons.items s.fates.items)
     → IfOk found (IsSummary source edits r repair)
-whole_summary source edits r repair (Ok s) verdicts unknown doubtful fates reasons restorations notices leaked effects =
+whole_summary source edits r repair (Ok s) verdicts unknown doubtful fates reasons restorations notices looks leaked effects =
     let both : Rise s = rises edits r repair s verdicts fates reasons in
     record {
       fates = fates;
@@ -135,8 +137,9 @@ whole_summary source edits r repair (Ok s) verdicts unknown doubtful fates reaso
       unknown = unknown;
       doubtful = doubtful;
       notices = notices both.1;
+      looks = looks both.1;
       leaks = leaked;
       effects = effects both.1;
       rise = both;
     }
-whole_summary source edits r repair (Err e) verdicts unknown doubtful fates reasons restorations notices leaked effects = tt
+whole_summary source edits r repair (Err e) verdicts unknown doubtful fates reasons restorations notices looks leaked effects = tt

@@ -36,41 +36,47 @@ at_width shown source r repair summary labels colours width text is h =
 
 -- ---- a sheet of the code, as the parts of a screen
 
-module _ (s : ScreenValue) (parts : Parts) {r : RecordingValue} {restorations : List Restoration} {groups : List Group}
+module _ (s : ScreenValue) (parts : Parts) {r : RecordingValue} {restorations : List Restoration} {groups looks : List Group}
     {source : SourceValue} (is_source : source ≡ s.source) (is_recording : r ≡ s.recording) (are_restorations : restorations ≡ parts.restorations.items)
-    (are_groups : groups ≡ parts.groups.items) (are_parts : AreParts s parts) where
-  same_lines : summary_lines source r s.summary restorations groups parts.is_recording s.labels s.width
-      ≡ summary_lines s.source s.recording s.summary parts.restorations.items parts.groups.items parts.is_recording
-      s.labels s.width
+    (are_groups : groups ≡ parts.groups.items) (are_looks : looks ≡ parts.looks.items) (are_parts : AreParts s parts) where
+  same_lines : summary_lines source r s.summary restorations groups looks parts.is_recording s.labels s.width
+      ≡ summary_lines s.source s.recording s.summary parts.restorations.items parts.groups.items parts.looks.items
+      parts.is_recording s.labels s.width
   same_lines =
-      ap (λ (at : SourceValue). summary_lines at r s.summary restorations groups parts.is_recording s.labels s.width)
-      is_source
-      ∙ ap (λ (o : RecordingValue). summary_lines s.source o s.summary restorations groups parts.is_recording s.labels
-      s.width) is_recording
-      ∙ ap (λ (rs : List Restoration). summary_lines s.source s.recording s.summary rs groups parts.is_recording
-      s.labels s.width) are_restorations
-      ∙ ap (λ (gs : List Group). summary_lines s.source s.recording s.summary parts.restorations.items gs
+      ap (λ (at : SourceValue). summary_lines at r s.summary restorations groups looks parts.is_recording s.labels
+      s.width) is_source
+      ∙ ap (λ (o : RecordingValue). summary_lines s.source o s.summary restorations groups looks parts.is_recording
+      s.labels s.width) is_recording
+      ∙ ap (λ (rs : List Restoration). summary_lines s.source s.recording s.summary rs groups looks
+      parts.is_recording s.labels s.width) are_restorations
+      ∙ ap (λ (gs : List Group). summary_lines s.source s.recording s.summary parts.restorations.items gs looks
       parts.is_recording s.labels s.width) are_groups
+      ∙ ap (λ (ls : List Group). summary_lines s.source s.recording s.summary parts.restorations.items
+      parts.groups.items ls parts.is_recording s.labels s.width) are_looks
 
-  same_text : summary_text r s.summary restorations groups parts.is_recording source s.labels
-      ≡ summary_text s.recording s.summary parts.restorations.items parts.groups.items parts.is_recording s.source
-      s.labels
+  same_text : summary_text r s.summary restorations groups looks parts.is_recording source s.labels
+      ≡ summary_text s.recording s.summary parts.restorations.items parts.groups.items parts.looks.items
+      parts.is_recording s.source s.labels
   same_text =
-      ap (λ (at : SourceValue). summary_text r s.summary restorations groups parts.is_recording at s.labels) is_source
-      ∙ ap (λ (o : RecordingValue). summary_text o s.summary restorations groups parts.is_recording s.source s.labels)
-      is_recording
-      ∙ ap (λ (rs : List Restoration). summary_text s.recording s.summary rs groups parts.is_recording s.source s.labels)
-      are_restorations
-      ∙ ap (λ (gs : List Group). summary_text s.recording s.summary parts.restorations.items gs parts.is_recording
-      s.source s.labels) are_groups
+      ap (λ (at : SourceValue). summary_text r s.summary restorations groups looks parts.is_recording at s.labels)
+      is_source
+      ∙ ap (λ (o : RecordingValue). summary_text o s.summary restorations groups looks parts.is_recording s.source
+      s.labels) is_recording
+      ∙ ap (λ (rs : List Restoration). summary_text s.recording s.summary rs groups looks parts.is_recording s.source
+      s.labels) are_restorations
+      ∙ ap (λ (gs : List Group). summary_text s.recording s.summary parts.restorations.items gs looks
+      parts.is_recording s.source s.labels) are_groups
+      ∙ ap (λ (ls : List Group). summary_text s.recording s.summary parts.restorations.items parts.groups.items ls
+      parts.is_recording s.source s.labels) are_looks
 
   pub lines_of_sheet : (lines : List (List ℕ))
-      → lines ≡ summary_lines source r s.summary restorations groups parts.is_recording s.labels s.width
+      → lines ≡ summary_lines source r s.summary restorations groups looks parts.is_recording s.labels s.width
       → AreSummaryLines s lines
   lines_of_sheet lines h = record { parts = parts; are_parts = are_parts; are_lines = h ∙ same_lines }
 
   pub json_of_sheet : {A E : Type 0} (bytes : A → List ℕ) (result : Result A E)
-      → IfOk result (λ text. bytes text ≡ summary_text r s.summary restorations groups parts.is_recording source s.labels)
+      → IfOk result (λ text. bytes text
+      ≡ summary_text r s.summary restorations groups looks parts.is_recording source s.labels)
       → IfOk result (λ text. IsJson s (bytes text))
   json_of_sheet bytes (Ok text) h = record { parts = parts; are_parts = are_parts; is_text = h ∙ same_text }
   json_of_sheet bytes (Err e) h = tt

@@ -14,8 +14,8 @@ use Rattle.casebook_view.specs.Fates.{AreFates}
 use Rattle.casebook_view.specs.Groups.{group_value, grouped}
 use Rattle.casebook_view.specs.Reasons.{AreReasons, number_in}
 use Rattle.casebook_view.specs.Sources.{SourceValue}
-use Rattle.casebook_view.specs.Summaries.{leak_for, notice_for}
-use Rattle.casebook_view.specs.Unknown.{is_doubtful, is_understood, unknown_in}
+use Rattle.casebook_view.specs.Summaries.{leak_for, notice_for, notices_at}
+use Rattle.casebook_view.specs.Unknown.{is_doubtful, is_understood, numbers_to_run, unknown_in}
 use Rattle.casebook_view.specs.declared.group.Group.{Group}
 use Rattle.casebook_view.specs.declared.summary.Summary.{Summary}
 use Rattle.casebook_screen.specs.Detail.{detail_lines}
@@ -58,6 +58,7 @@ pub record IsSummary (source : SourceValue) (edits : List Edit) (r : RecordingVa
       ≡ filter (is_doubtful r repair.recording summary.unknown.items) (map path_in summary.restorations.items)
   pub notices : summary.notices.items ≡ map (notice_for r summary.reasons.items)
       (filter (is_understood summary.unknown.items) (tellings r repair))
+  pub looks : summary.looks.items ≡ notices_at r summary.reasons.items (numbers_to_run summary.unknown.items)
   pub leaks : summary.leaks.items ≡ map (leak_for r) (filter (is_understood summary.unknown.items) (leaks r repair))
   pub effects : map effect_value summary.effects.items ≡ effects_of r summary.reasons.items summary.fates.items
   pub rise : Rise summary
@@ -76,29 +77,30 @@ pub record ScreenValue : Type 0 where
 
 -- What a summary shows beside what the repair would do. It says that the log is as its lines run
 -- only if it is a recording of them. Of lines that were seen on a machine that isn't said.
-pub record IsSheet (s : ScreenValue) (restorations : List Restoration) (groups : List Group) (is_recording : Bool)
-    : Type 0 where
+pub record IsSheet (s : ScreenValue) (restorations : List Restoration) (groups looks : List Group)
+    (is_recording : Bool) : Type 0 where
   pub are_restorations : AreRestorations (last_state s.recording.lines s.recording.first).tree
       (repaired_state s.repair).tree s.summary.restorations.items restorations
   pub are_groups : map group_value groups ≡ grouped s.summary.notices.items
+  pub are_looks : map group_value looks ≡ grouped s.summary.looks.items
   pub checked : is_recording ≡ true → IsRecordingOf (recordings.script_in s.recording) s.recording
 
 abbrev pub AreParts : ScreenValue → Parts → Type 0
-AreParts s parts = IsSheet s parts.restorations.items parts.groups.items parts.is_recording
+AreParts s parts = IsSheet s parts.restorations.items parts.groups.items parts.looks.items parts.is_recording
 
 -- The lines show a summary.
 pub record AreSummaryLines (s : ScreenValue) (lines : List (List ℕ)) : Type 0 where
   pub parts : Parts
   pub are_parts : AreParts s parts
   pub are_lines : lines ≡ summary_lines s.source s.recording s.summary parts.restorations.items parts.groups.items
-      parts.is_recording s.labels s.width
+      parts.looks.items parts.is_recording s.labels s.width
 
 -- The text is the same for programs.
 pub record IsJson (s : ScreenValue) (text : List ℕ) : Type 0 where
   pub parts : Parts
   pub are_parts : AreParts s parts
   pub is_text : text ≡ summary_text s.recording s.summary parts.restorations.items parts.groups.items
-      parts.is_recording s.source s.labels
+      parts.looks.items parts.is_recording s.source s.labels
 
 -- ---- reasons and differences
 

@@ -56,6 +56,8 @@ struct Parts {
     restorations: Vec<Restoration>,
     /// Whom to tell about what.
     groups: Vec<Group>,
+    /// Who looked at what.
+    looks: Vec<Group>,
     /// Whether the log is as its lines run.
     is_recording: bool,
 }
@@ -69,6 +71,7 @@ impl Screen<'_, '_> {
         Ok(Parts {
             restorations: to_restore(alloc, self.case, summary.restorations.as_slice())?,
             groups: grouped(alloc, summary.notices.as_slice())?,
+            looks: grouped(alloc, summary.looks.as_slice())?,
             is_recording: is_recording(alloc, self.case)?,
         })
     }
@@ -83,6 +86,7 @@ impl Screen<'_, '_> {
             summary: self.summary,
             restorations: parts.restorations.as_slice(),
             groups: parts.groups.as_slice(),
+            looks: parts.looks.as_slice(),
             source: self.case.source(),
             is_recording: parts.is_recording,
         };
@@ -100,6 +104,7 @@ impl Screen<'_, '_> {
             summary: self.summary,
             restorations: parts.restorations.as_slice(),
             groups: parts.groups.as_slice(),
+            looks: parts.looks.as_slice(),
             source: self.case.source(),
             is_recording: parts.is_recording,
         };

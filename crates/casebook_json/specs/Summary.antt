@@ -21,18 +21,20 @@ use Rattle.casebook_json.specs.Tell.{group_data}
 use Rattle.casebook_json.specs.Unknown.{unknown_data}
 use Rattle.casebook_json.specs.Values.{path_data}
 
--- `{"causes":..,"counts":..,"doubtful":..,"leaked":..,"lines":..,"observed":..,"recording":..,
--- "restore":..,"show":1,"source":..,"tell":..,"unknown":..}`, with the keys in byte order, where
--- these are the lines
+-- `{"causes":..,"counts":..,"doubtful":..,"leaked":..,"lines":..,"looked":..,"observed":..,
+-- "recording":..,"restore":..,"show":1,"source":..,"tell":..,"unknown":..}`, with the keys in byte
+-- order, where these are the lines
 unfoldable pub summary_with :
-    Data → Summary → List Restoration → List Group → Bool → SourceValue → Labels → Data
-summary_with lines summary restorations groups is_recording source labels = object
+    Data → Summary → List Restoration → List Group → List Group → Bool → SourceValue → Labels → Data
+summary_with lines summary restorations groups looks is_recording source labels = object
     (member (codes "causes")
     (array_of (map (λ effect. effect_data (effect_value effect)) summary.effects.items))
     (member (codes "counts") (counts_data summary.fates.items)
     (member (codes "doubtful") (array_of (map path_data summary.doubtful.items))
     (member (codes "leaked") (array_of (map (leak_data labels) summary.leaks.items))
     (member (codes "lines") lines
+    (member (codes "looked")
+    (array_of (map (λ group. group_data labels (group_value group)) looks))
     (member (codes "observed") (observed_data source)
     (member (codes "recording") (boolean is_recording)
     (member (codes "restore") (array_of (map restoration_data restorations))
@@ -40,18 +42,18 @@ summary_with lines summary restorations groups is_recording source labels = obje
     (member (codes "source") (string (source_name source))
     (member (codes "tell")
     (array_of (map (λ group. group_data labels (group_value group)) groups))
-    (member (codes "unknown") (array_of (map unknown_data summary.unknown.items)) no_members))))))))))))
+    (member (codes "unknown") (array_of (map unknown_data summary.unknown.items)) no_members)))))))))))))
 
 abbrev pub lines_data : RecordingValue → Summary → Data
 lines_data r summary = array_of (map (line_data r summary.reasons.items) summary.fates.items)
 
 abbrev pub summary_data :
-    RecordingValue → Summary → List Restoration → List Group → Bool → SourceValue → Labels → Data
-summary_data r summary restorations groups is_recording source labels =
-    summary_with (lines_data r summary) summary restorations groups is_recording source labels
+    RecordingValue → Summary → List Restoration → List Group → List Group → Bool → SourceValue → Labels → Data
+summary_data r summary restorations groups looks is_recording source labels =
+    summary_with (lines_data r summary) summary restorations groups looks is_recording source labels
 
 -- the document: compact, with a newline at the end
 unfoldable pub summary_text :
-    RecordingValue → Summary → List Restoration → List Group → Bool → SourceValue → Labels → List ℕ
-summary_text r summary restorations groups is_recording source labels =
-    compact_text (summary_data r summary restorations groups is_recording source labels) ++ codes "\n"
+    RecordingValue → Summary → List Restoration → List Group → List Group → Bool → SourceValue → Labels → List ℕ
+summary_text r summary restorations groups looks is_recording source labels =
+    compact_text (summary_data r summary restorations groups looks is_recording source labels) ++ codes "\n"

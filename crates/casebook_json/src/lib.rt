@@ -9,8 +9,9 @@
 //! # What is proved
 //!
 //! - `summary_json` returns the compact text of the JSON value that `specs/Summary.antt` defines
-//!   for a summary, for what is to be restored, for the groups of lines to tell about, for whether
-//!   the log is as its lines run and for where the recording comes from, and a newline [`text`];
+//!   for a summary, for what is to be restored, for the groups of lines to tell about and of lines by
+//!   which somebody looked, for whether the log is as its lines run and for where the recording comes
+//!   from, and a newline [`text`];
 //!   and `serde_json` reads the text as this value [`read`]. Each value of a summary has a
 //!   definition of its own, so all of them are in the document. Both clauses are equations if the
 //!   reasons of the summary are in order of lines.

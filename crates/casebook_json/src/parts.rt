@@ -29,6 +29,7 @@ pub(crate) struct Parts {
     counts: Value,
     doubtful: Vec<Value>,
     leaked: Vec<Value>,
+    looked: Vec<Value>,
     observed: Vec<Value>,
     restore: Vec<Value>,
     source: &'static str,
@@ -40,7 +41,8 @@ impl Parts {
     /// Returns the parts of the document of a repair.
     pub(crate) fn of(alloc: Global, sheet: Sheet<'_>, labels: &Labels) -> Result<Parts, NoMem>
         ensures { IfOk result (AreParts sheet.entry.summary.now sheet.entry.restorations.now
-            sheet.entry.groups.now (source_view sheet.entry.source) labels.now) }
+            sheet.entry.groups.now sheet.entry.looks.now (source_view sheet.entry.source)
+            labels.now) }
     {
         let summary = sheet.summary;
         Ok(Parts {
@@ -48,6 +50,7 @@ impl Parts {
             counts: counts_value(alloc, summary.fates.as_slice())?,
             doubtful: path_values(alloc, summary.doubtful.as_slice())?,
             leaked: leak_values(alloc, labels, summary.leaks.as_slice())?,
+            looked: group_values(alloc, labels, sheet.looks)?,
             observed: observed_values(alloc, sheet.source)?,
             restore: restoration_values(alloc, sheet.restorations)?,
             source: source_name(sheet.source),
@@ -72,6 +75,7 @@ impl Parts {
         put(&mut map, alloc, "doubtful", Value::Array(self.doubtful))?;
         put(&mut map, alloc, "leaked", Value::Array(self.leaked))?;
         put(&mut map, alloc, "lines", Value::Array(lines))?;
+        put(&mut map, alloc, "looked", Value::Array(self.looked))?;
         put(&mut map, alloc, "observed", Value::Array(self.observed))?;
         put(&mut map, alloc, "recording", Value::Bool(is_recording))?;
         put(&mut map, alloc, "restore", Value::Array(self.restore))?;

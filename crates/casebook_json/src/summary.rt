@@ -26,7 +26,7 @@ fn summary_with(
 ) -> Result<Value, NoMem>
     ensures { IfOk result (λ v. view v ≡ summary_with (array_of (map view lines.items))
         sheet.entry.summary.now sheet.entry.restorations.now sheet.entry.groups.now
-        sheet.entry.is_recording (source_view sheet.entry.source) labels.now) }
+        sheet.entry.looks.now sheet.entry.is_recording (source_view sheet.entry.source) labels.now) }
 {
     let parts = Parts::of(alloc, sheet, labels)?;
     parts.document(alloc, lines, sheet.is_recording)
@@ -37,7 +37,7 @@ fn summary_value(alloc: Global, sheet: Sheet<'_>, labels: &Labels) -> Result<Val
     ensures { IsTrue (rises_from 0 (map number_in sheet.entry.summary.now.reasons.items))
         → IfOk result (λ v. view v ≡ summary_data sheet.entry.recording.now
         sheet.entry.summary.now sheet.entry.restorations.now sheet.entry.groups.now
-        sheet.entry.is_recording (source_view sheet.entry.source) labels.now) }
+        sheet.entry.looks.now sheet.entry.is_recording (source_view sheet.entry.source) labels.now) }
 {
     let reasons = sheet.summary.reasons.as_slice();
     let fates = sheet.summary.fates.as_slice();
@@ -52,11 +52,12 @@ pub fn summary_json(alloc: Global, sheet: Sheet<'_>, labels: &Labels) -> Result<
     ensures text { IsTrue (rises_from 0 (map number_in sheet.entry.summary.now.reasons.items))
         → IfOk result (λ text. string_bytes text ≡ summary_text sheet.entry.recording.now
         sheet.entry.summary.now sheet.entry.restorations.now sheet.entry.groups.now
-        sheet.entry.is_recording (source_view sheet.entry.source) labels.now) }
+        sheet.entry.looks.now sheet.entry.is_recording (source_view sheet.entry.source) labels.now) }
     ensures read { IsTrue (rises_from 0 (map number_in sheet.entry.summary.now.reasons.items))
         → IfOk result (λ text. read (string_bytes text) ≡ Some (summary_data
         sheet.entry.recording.now sheet.entry.summary.now sheet.entry.restorations.now
-        sheet.entry.groups.now sheet.entry.is_recording (source_view sheet.entry.source) labels.now)) }
+        sheet.entry.groups.now sheet.entry.looks.now sheet.entry.is_recording
+        (source_view sheet.entry.source) labels.now)) }
 {
     let value = summary_value(alloc, sheet, labels)?;
     let mut text = value.to_string(alloc)?;

@@ -43,13 +43,30 @@ fn first_of(group: &Group) -> u32 {
     group.lines.as_slice().first().copied().unwrap_or(0)
 }
 
-/// Appends what the row of a group has inside: its lines, and both outputs of the first one.
-fn push_inside(
+/// What is known of what lines printed.
+#[derive(Clone, Copy)]
+enum Screens {
+    /// What they printed, and what they would print.
+    Known,
+    /// Nothing: they were observed, and have to be run for real.
+    Unknown,
+}
+
+/// Appends how many lines a group has, and what it is about.
+fn push_head(html: &mut Html, alloc: Global, group: &Group) -> Result<(), NoMem> {
+    html.fixed(Tag::Subject)?;
+    html.number(alloc, group.lines.len() as u64)?;
+    html.fixed(Tag::Times)?;
+    push_subject(html, alloc, &group.subject)?;
+    html.fixed(Tag::RowDetail)
+}
+
+/// Appends the lines of a group, and the text of the first one.
+fn push_lines(
     html: &mut Html,
     alloc: Global,
     contents: Contents<'_, '_>,
     group: &Group,
-    merged: &MergedTexts<'_>,
 ) -> Result<(), NoMem> {
     html.fixed(Tag::Small)?;
     if group.lines.len() == 1 {
@@ -61,13 +78,11 @@ fn push_inside(
     html.fixed(Tag::ParagraphEnd)?;
     html.fixed(Tag::Command)?;
     push_command(html, alloc, contents, first_of(group))?;
-    html.fixed(Tag::PreEnd)?;
-    push_pair(html, alloc, merged)
+    html.fixed(Tag::PreEnd)
 }
 
-/// Appends the row of a group: how many lines it has, what it is about, and how the first one's
-/// output differs.
-fn push_group(
+/// Appends how the output of a group's first line differs, and inside of the row both outputs.
+fn push_outputs(
     html: &mut Html,
     alloc: Global,
     contents: Contents<'_, '_>,
@@ -75,14 +90,29 @@ fn push_group(
 ) -> Result<(), NoMem> {
     let (old, new) = outputs_of(contents, first_of(group));
     let merged = MergedTexts::of(alloc, old, new)?;
-    html.fixed(Tag::Subject)?;
-    html.number(alloc, group.lines.len() as u64)?;
-    html.fixed(Tag::Times)?;
-    push_subject(html, alloc, &group.subject)?;
-    html.fixed(Tag::RowDetail)?;
     push_preview(html, alloc, &merged)?;
     html.fixed(Tag::RowBody)?;
-    push_inside(html, alloc, contents, group, &merged)?;
+    push_lines(html, alloc, contents, group)?;
+    push_pair(html, alloc, &merged)
+}
+
+/// Appends the row of a group: how many lines it has, what it is about, and, if that is known, how
+/// the first one's output differs.
+fn push_group(
+    html: &mut Html,
+    alloc: Global,
+    contents: Contents<'_, '_>,
+    group: &Group,
+    screens: Screens,
+) -> Result<(), NoMem> {
+    push_head(html, alloc, group)?;
+    match screens {
+        Screens::Known => push_outputs(html, alloc, contents, group)?,
+        Screens::Unknown => {
+            html.fixed(Tag::RowBody)?;
+            push_lines(html, alloc, contents, group)?;
+        }
+    }
     html.fixed(Tag::DetailsEnd)
 }
 
@@ -99,6 +129,37 @@ fn push_session(
     html.fixed(Tag::PersonEnd)
 }
 
+/// Appends groups: by session, and by what the lines are about.
+fn push_groups(
+    html: &mut Html,
+    alloc: Global,
+    contents: Contents<'_, '_>,
+    groups: &[Group],
+    screens: Screens,
+) -> Result<(), NoMem> {
+    let mut last = None;
+    for group in groups {
+        if last != Some(group.session) {
+            push_session(html, alloc, contents, group.session)?;
+        }
+        last = Some(group.session);
+        push_group(html, alloc, contents, group, screens)?;
+    }
+    Ok(())
+}
+
+/// Appends who looked at what by lines that have to be run for real, or nothing if nobody did.
+fn push_looks(html: &mut Html, alloc: Global, contents: Contents<'_, '_>) -> Result<(), NoMem> {
+    let groups = grouped(alloc, contents.summary.looks.as_slice())?;
+    if groups.is_empty() {
+        return Ok(());
+    }
+    html.fixed(Tag::Paragraph)?;
+    html.words(alloc, "Who looked by observed lines, at what would be another:")?;
+    html.fixed(Tag::ParagraphEnd)?;
+    push_groups(html, alloc, contents, groups.as_slice(), Screens::Unknown)
+}
+
 /// Appends the section of whom to tell: by session, and by what the lines are about. No session and
 /// no line is left out.
 pub(crate) fn push_tell(
@@ -107,15 +168,9 @@ pub(crate) fn push_tell(
     contents: Contents<'_, '_>,
 ) -> Result<(), NoMem> {
     let groups = grouped(alloc, contents.summary.notices.as_slice())?;
-    let mut last = None;
     html.fixed(Tag::Tell)?;
-    for group in &groups {
-        if last != Some(group.session) {
-            push_session(html, alloc, contents, group.session)?;
-        }
-        last = Some(group.session);
-        push_group(html, alloc, contents, group)?;
-    }
+    push_groups(html, alloc, contents, groups.as_slice(), Screens::Known)?;
     push_none(html, alloc, groups.len())?;
+    push_looks(html, alloc, contents)?;
     html.fixed(Tag::SectionEnd)
 }

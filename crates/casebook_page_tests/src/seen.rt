@@ -15,7 +15,7 @@ const SCRIPT: &str =
 
 /// Parts of the page without line 1, if lines 2, 3 and 5 were observed. A sign is in the closed and
 /// in the open row of its line.
-const TWO: [(&str, usize); 11] = [
+const TWO: [(&str, usize); 12] = [
     (
         "5 lines of 2 sessions. Recorded on the machine. 3 lines stand as they were observed. <a class=q href=#unknown>? 2 lines have to be run for real.</a></p>",
         1,
@@ -42,6 +42,10 @@ const TWO: [(&str, usize); 11] = [
         " <i class=q title=\"written by a line that has to be run for real\">?</i>",
         1,
     ),
+    (
+        "<p class=io>none</p><p>Who looked by observed lines, at what would be another:</p><h3>1</h3><details class=f><summary><i>2&times;</i><code>/f</code><span></span></summary><p class=io>lines <a href=\"#l2\">2</a> <a href=\"#l5\">5</a></p><pre class=cmd>cat f</pre></details>\n</section>",
+        1,
+    ),
     ("understood", 0),
     ("Played", 0),
     ("isn&#39;t", 0),
@@ -63,7 +67,7 @@ const ONE: [(&str, usize); 5] = [
 ];
 
 /// The same, if line 3 was observed.
-const NONE: [(&str, usize); 6] = [
+const NONE: [(&str, usize); 7] = [
     (
         ". Recorded on the machine. 1 line stands as it was observed.</p>",
         1,
@@ -71,6 +75,7 @@ const NONE: [(&str, usize); 6] = [
     ("<p class=io>No line has to be run for real.</p>", 1),
     ("id=unknown", 0),
     ("class=q", 0),
+    ("Who looked", 0),
     ("<u title=\"as it was observed\">o</u> ", 2),
     ("title=\"written by", 0),
 ];

@@ -60,7 +60,7 @@ has: lines account :: 1 o Nov 28 20:51 mallory sed -i s/one/two/ /srv/p%(NL) => 
 writes: lines account --about spaced --text date --format numbers => 4%(NL)
 writes: check account => account: a case of 4 lines, 3 of them as they were observed%(NL)
 writes: check case => case: a case of 1 lines, 1 of them as they were observed%(NL)
-ends: check orphan => 4 orphan: not a case: what line 1 left can't be there%(NL)
+ends: check orphan => 4 orphan: not a case: what line 1 left can't be there: /srv/d%(NL)
 ends: check damaged => 4 damaged: not a case: row 1 of its lines is damaged%(NL)
 writes: show account --cancel 1 =>
 | 4 lines of 2 sessions, Nov 28 20:51 to Nov 28 20:54. 1 cancelled.
@@ -82,6 +82,9 @@ writes: show account --cancel 1 =>
 | TELL  1 session about 1 screen
 |   alice   /srv/p                               1x  lines 2
 |
+| LOOKED  1 session by 1 observed line, at what would be another
+|   alice   /srv/p                               1x  lines 3
+|
 | LEAKED  0 cancelled lines showed something
 |
 | CAUSES  what each edited line led to: lines with another result, run again alike, paths it wrote
@@ -89,6 +92,7 @@ writes: show account --cancel 1 =>
 has: show account --cancel 4 :: %(NL)No line has to be run for real.%(NL) => yes
 has: show account --cancel 1 --format json :: "observed":[1,3,4],"recording":false, => yes
 has: show account --cancel 1 --format json :: "unknown":[[3,"need"]] => yes
+has: show account --cancel 1 --format json :: "looked":[{"about":"path","lines":[3], => yes
 has: show account --cancel 3 :: D /srv/q => yes
 has: show account --replace [[1,"rm_/srv/p"]] :: D /srv/p => yes
 page: page account --cancel 1 :: Recorded on the machine. 3 lines stand as they were observed. => yes

@@ -61,8 +61,21 @@ notices_head sessions screens =
     codes "TELL  " ++ count_words (codes "session") sessions ++ codes " about "
     ++ count_words (codes "screen") screens
 
+abbrev pub group_lines : Labels → ℕ → List Group → List (List ℕ)
+group_lines labels width groups = map (λ group. group_text labels width (group_value group)) groups
+
 -- an empty line, how many sessions are told and about how many screens, and each group
 abbrev pub notice_lines : Labels → ℕ → ℕ → List Group → List (List ℕ)
 notice_lines labels width screens groups =
-    [] ∷ notices_head (sessions_after None groups) screens
-    ∷ map (λ group. group_text labels width (group_value group)) groups
+    [] ∷ notices_head (sessions_after None groups) screens ∷ group_lines labels width groups
+
+unfoldable pub looks_head : ℕ → ℕ → List ℕ
+looks_head sessions lines =
+    codes "LOOKED  " ++ count_words (codes "session") sessions ++ codes " by "
+    ++ count_words (codes "observed line") lines ++ codes ", at what would be another"
+
+-- if there are any, how many sessions looked by how many observed lines, and each group
+abbrev pub look_lines : Labels → ℕ → ℕ → List Group → List (List ℕ)
+look_lines labels width lines [] = []
+look_lines labels width lines (g ∷ groups) =
+    [] ∷ looks_head (sessions_after None (g ∷ groups)) lines ∷ group_lines labels width (g ∷ groups)

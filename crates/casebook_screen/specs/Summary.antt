@@ -18,7 +18,7 @@ use Rattle.casebook_screen.specs.Basis.{basis_text}
 use Rattle.casebook_screen.specs.Causes.{effect_lines}
 use Rattle.casebook_screen.specs.Counts.{count_lines, count_of}
 use Rattle.casebook_screen.specs.Leaks.{leak_lines}
-use Rattle.casebook_screen.specs.Notices.{notice_lines}
+use Rattle.casebook_screen.specs.Notices.{look_lines, notice_lines}
 use Rattle.casebook_screen.specs.Restorations.{restoration_lines}
 use Rattle.casebook_screen.specs.Unknown.{unknown_lines}
 use Rattle.casebook_view.specs.declared.group.Group.{Group}
@@ -58,14 +58,16 @@ abbrev pub head_lines : RecordingValue → Labels → List (ℕ × Fate) → Lis
 head_lines r labels fates basis = head_text r labels fates ∷ basis ∷ [] ∷ []
 
 -- the head, which lines aren't understood, how many lines have which fate, what is to be restored,
--- whom to tell, what cancelled lines showed, and what they led to
+-- whom to tell, who looked at what, what cancelled lines showed, and what they led to
 abbrev pub summary_lines :
-    SourceValue → RecordingValue → Summary → List Restoration → List Group → Bool → Labels → ℕ → List (List ℕ)
-summary_lines source r summary restorations groups is_recording labels width =
+    SourceValue → RecordingValue → Summary → List Restoration → List Group → List Group → Bool → Labels → ℕ
+    → List (List ℕ)
+summary_lines source r summary restorations groups looks is_recording labels width =
     head_lines r labels summary.fates.items (basis_text source is_recording)
     ++ unknown_lines source summary.unknown.items summary.fates.items
     ++ [] ∷ count_lines summary.fates.items
     ++ restoration_lines summary.doubtful.items restorations
     ++ notice_lines labels width (length summary.notices.items) groups
+    ++ look_lines labels width (length summary.looks.items) looks
     ++ leak_lines r labels width summary.leaks.items
     ++ effect_lines r summary.unknown.items (map effect_value summary.effects.items)

@@ -6,8 +6,8 @@
 //! understood, how many lines have which fate, what is to be restored (by [`to_restore`]), whom to
 //! tell about what, which cancelled lines showed something, and what each edited line led to. If a
 //! recorder saw the lines on a machine, it says which ones have to be run there for real in place
-//! of which ones aren't understood. Rows mark the lines that stand as they were observed with an
-//! `o`.
+//! of which ones aren't understood, and who looked at something by these. Rows mark the lines that
+//! stand as they were observed with an `o`.
 //!
 //! [`why_lines`] says why lines are run again, [`diff_lines`] shows what changes as unified diffs,
 //! and [`detail_lines`] shows one line in full.
@@ -28,7 +28,8 @@
 //!   directory or the other way, or how many lines a diff of the two files adds and removes [by
 //!   `IsExtent`].
 //! - `summary_lines` returns the lines that `specs/Summary.antt` defines for a summary, for what is
-//!   to be restored and for the groups of lines to tell about that it is given: an equation.
+//!   to be restored and for the groups of lines to tell about and of lines by which somebody looked
+//!   that it is given: an equation.
 //! - `why_lines` returns the lines that `specs/Why.antt` defines: two for each line that is run
 //!   again with another result, with the chain of causes, and with the query that fails and both
 //!   its answers, or that its text is replaced, or that it is run again with all others. It is an

@@ -1,9 +1,10 @@
 //! Whom to tell about what, as a terminal shows it.
-ghost use Rattle.std.specs.Prelude.{◌≡◌, ◌++◌, IfOk, None, OnOk, flat_map, map};
+ghost use Rattle.std.specs.Prelude.{◌≡◌, ◌++◌, IfOk, None, OnOk, flat_map};
 ghost use Rattle.casebook_view.specs.Groups.{group_value};
-ghost use Rattle.casebook_screen.specs.Notices.{first_numbers, group_text};
-ghost use Rattle.casebook_screen.specs.Notices.{is_session, notice_lines, notices_head};
-ghost use Rattle.casebook_screen.specs.Notices.{number_piece, sessions_after, subject_words};
+ghost use Rattle.casebook_screen.specs.Notices.{first_numbers, group_lines, group_text};
+ghost use Rattle.casebook_screen.specs.Notices.{is_session, look_lines, looks_head, notice_lines};
+ghost use Rattle.casebook_screen.specs.Notices.{notices_head, number_piece, sessions_after};
+ghost use Rattle.casebook_screen.specs.Notices.{subject_words};
 
 use crate::NoMem;
 use crate::layout::{indented, number_column, push_padded};
@@ -137,8 +138,7 @@ fn push_groups(
     groups: &[Group],
 ) -> Result<(), NoMem>
     ensures { OnOk result (lines.new.items ≡ lines.old.items
-        ++ map (λ group. group_text names.entry.labels.now names.entry.width (group_value group))
-        groups.now) }
+        ++ group_lines names.entry.labels.now names.entry.width groups.now) }
 {
     for group in groups {
         lines.push(group_line(alloc, names, group)?)?;
@@ -159,6 +159,41 @@ pub(crate) fn notice_lines(
     let mut lines = Vec::new(alloc);
     lines.push(SafeLine::new(alloc))?;
     lines.push(notices_head(alloc, count_sessions(groups), screens)?)?;
+    push_groups(alloc, &mut lines, names, groups)?;
+    Ok(lines)
+}
+
+/// Returns how many sessions looked by how many lines.
+#[tactic(auto, unfolding(crate::specs::Notices::looks_head))]
+fn looks_head(alloc: Global, sessions: usize, looks: usize) -> Result<SafeLine, NoMem>
+    ensures { IfOk result (λ line. line ≡ looks_head sessions looks) }
+{
+    let mut line = SafeLine::new(alloc);
+    line.push_ascii("LOOKED  ")?;
+    push_count(alloc, &mut line, sessions, "session")?;
+    line.push_ascii(" by ")?;
+    push_count(alloc, &mut line, looks, "observed line")?;
+    line.push_ascii(", at what would be another")?;
+    Ok(line)
+}
+
+/// Returns who looked at what by lines that have to be run for real: an empty line, how many sessions
+/// and lines, and each group; or nothing if nobody did.
+pub(crate) fn look_lines(
+    alloc: Global,
+    names: Names<'_>,
+    looks: usize,
+    groups: &[Group],
+) -> Result<Vec<SafeLine>, NoMem>
+    ensures { IfOk result (λ lines. lines.items
+        ≡ look_lines names.entry.labels.now names.entry.width looks groups.now) }
+{
+    let mut lines = Vec::new(alloc);
+    if groups.is_empty() {
+        return Ok(lines);
+    }
+    lines.push(SafeLine::new(alloc))?;
+    lines.push(looks_head(alloc, count_sessions(groups), looks)?)?;
     push_groups(alloc, &mut lines, names, groups)?;
     Ok(lines)
 }

@@ -9,7 +9,7 @@ use crate::effect_text::effect_lines;
 use crate::fate_counts::count_lines;
 use crate::leak_text::leak_lines;
 use crate::names::Names;
-use crate::notice_text::notice_lines;
+use crate::notice_text::{look_lines, notice_lines};
 use crate::restoration::Restoration;
 use crate::restoration_text::restoration_lines;
 use crate::summary_head::head_lines;
@@ -30,6 +30,8 @@ pub struct Sheet<'a> {
     pub restorations: &'a [Restoration],
     /// The summary's notices, by session and subject.
     pub groups: &'a [Group],
+    /// The summary's looks, by session and subject.
+    pub looks: &'a [Group],
     /// Where the recording's lines come from.
     pub source: Source<'a>,
     /// Whether the log is as its lines run. If not, the screen says so. Of lines that a recorder
@@ -39,8 +41,8 @@ pub struct Sheet<'a> {
 
 /// Returns a summary as the lines that a terminal shows: what the log holds and what it rests on,
 /// which lines aren't understood or have to be run for real, how many lines have which fate, what
-/// is to be restored, whom to tell about what, which cancelled lines showed something, and what
-/// each edited line led to.
+/// is to be restored, whom to tell about what, who looked at what by lines that have to be run for
+/// real, which cancelled lines showed something, and what each edited line led to.
 pub fn summary_lines(
     alloc: Global,
     sheet: Sheet<'_>,
@@ -49,8 +51,8 @@ pub fn summary_lines(
     ensures { IfOk result (λ lines. lines.items
         ≡ summary_lines (source_view sheet.entry.source)
         sheet.entry.recording.now sheet.entry.summary.now
-        sheet.entry.restorations.now sheet.entry.groups.now sheet.entry.is_recording
-        names.entry.labels.now names.entry.width) }
+        sheet.entry.restorations.now sheet.entry.groups.now sheet.entry.looks.now
+        sheet.entry.is_recording names.entry.labels.now names.entry.width) }
 {
     let recording = sheet.recording;
     let summary = sheet.summary;
@@ -64,6 +66,7 @@ pub fn summary_lines(
     lines.append(&mut count_lines(alloc, fates)?)?;
     lines.append(&mut restoration_lines(alloc, summary.doubtful.as_slice(), sheet.restorations)?)?;
     lines.append(&mut notice_lines(alloc, names, screens, sheet.groups)?)?;
+    lines.append(&mut look_lines(alloc, names, summary.looks.len(), sheet.looks)?)?;
     lines.append(&mut leak_lines(alloc, recording, names, summary.leaks.as_slice())?)?;
     lines.append(&mut effect_lines(alloc, recording, unknown, summary.effects.as_slice())?)?;
     Ok(lines)

@@ -30,6 +30,9 @@ given: {"script":1,"tree":[["/f","610a"]],"sessions":[[1,"/",0,[]],[2,"/",0,[]]]
 |
 | TELL  0 sessions about 0 screens
 |
+| LOOKED  1 session by 2 observed lines, at what would be another
+|   ann      /f                                   2x  lines 2 3
+|
 | LEAKED  0 cancelled lines showed something
 |
 | CAUSES  what each edited line led to: lines with another result, run again alike, paths it wrote
@@ -72,6 +75,9 @@ given: {"script":1,"tree":[["/f","610a"]],"sessions":[[1,"/",0,[]]],"lines":\
 |   M /f  +1 -1
 |
 | TELL  0 sessions about 0 screens
+|
+| LOOKED  1 session by 1 observed line, at what would be another
+|   1        /f                                   1x  lines 2
 |
 | LEAKED  0 cancelled lines showed something
 |

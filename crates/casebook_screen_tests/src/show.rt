@@ -54,11 +54,13 @@ impl<'a> Shown<'a, '_> {
     fn summary_text(self, alloc: Global, is_document: bool) -> Result<String, NoMem> {
         let restorations = to_restore(alloc, self.case, self.summary.restorations.as_slice())?;
         let groups = grouped(alloc, self.summary.notices.as_slice())?;
+        let looks = grouped(alloc, self.summary.looks.as_slice())?;
         let sheet = Sheet {
             recording: self.case.recording(),
             summary: self.summary,
             restorations: restorations.as_slice(),
             groups: groups.as_slice(),
+            looks: looks.as_slice(),
             source: self.case.source(),
             is_recording: self.is_recording,
         };

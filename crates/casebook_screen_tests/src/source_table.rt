@@ -21,6 +21,8 @@ given: {"script":1,"tree":[["/f","610a"]],"sessions":[[1,"/",0,[]],[2,"/",0,[]]]
 - document: /unknown => [[2,"need"],[3,"need"],[4,"command"]]
 - document: /doubtful => ["/g"]
 - document: /tell => []
+- document: /looked
+  => [{"about":"path","lines":[2,3],"path":"/f","session":1,"user":"ann","variable":null}]
 
 given: {"script":1,"tree":[["/f","610a"]],"sessions":[[1,"/",0,[]]],"lines":\
   [[1,1,"echo b > f"],[2,1,"ls"]]} :: 1 :: %(EMPTY) :: %(EMPTY) :: observed none
@@ -35,7 +37,8 @@ given: {"script":1,"tree":[["/f","610a"]],"sessions":[[1,"/",0,[]]],"lines":\
   "counts":{"alike":0,"cancelled":1,"changed":1,"kept":0,"untouched":0},"doubtful":[],"leaked":[],\
   "lines":[{"because_of":null,"fate":"cancelled","line":1,"note":null,"origin":null,"session":1,\
   "why":null},{"because_of":1,"fate":"changed","line":2,"note":1,"origin":1,"session":1,\
-  "why":"query"}],"observed":[2],"recording":false,\
+  "why":"query"}],"looked":[{"about":"path","lines":[2],"path":"/f","session":1,"user":null,\
+  "variable":null}],"observed":[2],"recording":false,\
   "restore":[{"added":1,"change":"modified","extent":"lines","path":"/f","removed":1}],"show":1,\
   "source":"machine","tell":[],"unknown":[[2,"need"]]}
 "##;

@@ -1,5 +1,5 @@
 -- What a summary names: lines that leaked, and lines to tell about.
-use Rattle.std.specs.Prelude.{ℕ, List, Option, Some, None, length}
+use Rattle.std.specs.Prelude.{ℕ, List, Option, Some, None, length, map}
 use Rattle.retro_tree.specs.declared.ask.Ask.{Ask}
 use Rattle.retro_tree.specs.declared.note.Note.{Note}
 use Rattle.retro_keep.specs.Recording.{RecordingValue, noted_at}
@@ -50,10 +50,18 @@ subject_by notes (Some reason) = subject_why notes reason.why
 abbrev pub line_subject : RecordingValue → List Reason → ℕ → Subject
 line_subject r reasons n = subject_by (notes_at n r) (reason_at n reasons)
 
+-- what a line with a number is told about
+abbrev pub notice_at : RecordingValue → List Reason → ℕ → Notice
+notice_at r reasons n = record {
+  number = n;
+  session = session_in (noted_at n r.lines);
+  subject = line_subject r reasons n;
+}
+
 -- what a compensation of a line that isn't cancelled says of it
 abbrev pub notice_for : RecordingValue → List Reason → CompensationValue → Notice
-notice_for r reasons c = record {
-  number = c.number;
-  session = session_in (noted_at c.number r.lines);
-  subject = line_subject r reasons c.number;
-}
+notice_for r reasons c = notice_at r reasons c.number
+
+-- what the lines with these numbers are told about
+abbrev pub notices_at : RecordingValue → List Reason → List ℕ → List Notice
+notices_at r reasons numbers = map (notice_at r reasons) numbers

@@ -91,6 +91,14 @@ obstacle_in source r repair n =
 abbrev pub unknown_line_in : SourceValue → RecordingValue → Repair → ℕ → Option UnknownLine
 unknown_line_in source r repair n = option_map (unknown_line n) (obstacle_in source r repair n)
 
+abbrev pub is_need : Obstacle → Bool
+is_need Need = true
+is_need _ = false
+
+-- the numbers of those of these lines that have to be run for real
+abbrev pub numbers_to_run : List UnknownLine → List ℕ
+numbers_to_run unknown = map unknown_number (filter (λ line. is_need line.obstacle) unknown)
+
 -- the lines of a recording from a source that aren't understood in a repair of it, in order
 abbrev pub unknown_in : SourceValue → RecordingValue → Repair → List UnknownLine
 unknown_in source r repair = filter_map (λ line. unknown_line_in source r repair line.0) r.lines

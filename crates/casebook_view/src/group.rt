@@ -1,8 +1,7 @@
 //! Groups of lines to tell about.
 use crate::subject::Subject;
 
-/// Lines of a session that print something else in the repaired run, and are told about the same
-/// subject.
+/// Lines of a session of whose screens somebody has to be told, all about the same subject.
 #[derive(Drop)]
 pub struct Group {
     /// The session that ran the lines.

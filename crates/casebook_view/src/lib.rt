@@ -17,7 +17,8 @@
 //! Lines of which Retro's shell knows nothing are named, with why they aren't understood. Their
 //! output is Retro's own, so it makes no notice and no leak. A path is doubtful if such a line
 //! wrote to it. Of lines that a recorder saw, an observed one counts among them only if a repair
-//! runs it again: what it would do isn't known until a shell on a machine runs it.
+//! runs it again: what it would do isn't known until a shell on a machine runs it. What such a line
+//! showed isn't known either, and whoever looked may have seen what is wrong ([`looks`]).
 //!
 //! No line is run: everything is read from recordings and repairs. For it the lines of both
 //! recordings are compared, and the history of the repaired one is made.
@@ -59,6 +60,7 @@
 //! - `leaks_of` returns what the compensations of cancelled lines say, and `notices` what all
 //!   others say, but for lines that aren't understood: an equation each. So by
 //!   `leaks_and_tellings_are_all` each compensation of a line that is understood is in one of them.
+//!   `looks` returns a notice for exactly each line that has to be run for real, in order.
 //! - `effects` returns the lines that are cancelled, and those that are run again since an edit
 //!   replaces their text, in order. Of each it counts the other lines that are run again and whose
 //!   chains of causes end there, and names the paths that it wrote.
@@ -113,7 +115,7 @@ pub use leak::{Leak, leaks_of};
 pub use line_row::LineRow;
 pub use line_rows::rows;
 pub use line_test::LineTest;
-pub use notice::{Notice, notices};
+pub use notice::{Notice, looks, notices};
 pub use other_answer::{OtherAnswer, answers_of};
 pub use path_test::PathTest;
 pub use path_write::{PathWrite, WriteKind};

@@ -2,13 +2,12 @@
 ghost use Rattle.std.specs.Prelude.{◌≡◌, IfOk, IsTrue, map};
 ghost use Rattle.std.specs.List.{filter};
 ghost use Rattle.retro_keep.specs.Script.{rises_from};
-ghost use Rattle.retro_redo.specs.Moments.{compensation_view};
 ghost use Rattle.casebook_cause.specs.Compensations.{tellings};
 ghost use Rattle.std.specs.Option.{option_copied};
 ghost use Rattle.casebook_view.specs.Reasons.{notes_at, number_in};
-ghost use Rattle.casebook_view.specs.Summaries.{line_subject, line_told, notice_for, number_of};
-ghost use Rattle.casebook_view.specs.Summaries.{subject_asked, subject_why};
-ghost use Rattle.casebook_view.specs.Unknown.{is_understood};
+ghost use Rattle.casebook_view.specs.Summaries.{line_subject, line_told, notice_at, notice_for};
+ghost use Rattle.casebook_view.specs.Summaries.{notices_at, number_of, subject_asked, subject_why};
+ghost use Rattle.casebook_view.specs.Unknown.{is_need, is_understood, numbers_to_run};
 
 use crate::NoMem;
 use crate::case::Case;
@@ -17,13 +16,12 @@ use crate::reason::{Reason, failing_ask, reason_of};
 use crate::subject::Subject;
 use crate::why::Why;
 use casebook_cause::tellings;
-use casebook_profile::UnknownLine;
-use retro_redo::Compensation;
+use casebook_profile::{Obstacle, UnknownLine};
 use retro_tree::Ask;
 use std::alloc::Global;
 
-/// A line that isn't cancelled and prints something else in the repaired run. Whoever saw what it
-/// printed has to be told.
+/// A line that isn't cancelled, and of whose screen somebody has to be told: it prints something else
+/// in the repaired run, or it was observed, and what it depends on would be another.
 #[derive(Drop)]
 pub struct Notice {
     /// The line's number.
@@ -72,19 +70,17 @@ fn subject_of(
     }
 }
 
-/// Returns the notice of a line that is compensated.
+/// Returns what a line is told about.
 fn notice_of(
     alloc: Global,
     case: &Case<'_>,
     reasons: &[Reason],
-    compensation: &Compensation<'_>,
+    number: u32,
 ) -> Result<Notice, NoMem>
-    ensures line { IfOk result (λ notice. notice.number ≡ compensation.entry.now.number) }
+    ensures line { IfOk result (λ notice. notice.number ≡ number) }
     ensures value { IsTrue (rises_from 0 (map number_in reasons.now)) → IfOk result (λ notice.
-        notice ≡ notice_for case.now.recording reasons.now
-        (compensation_view compensation.entry.now)) }
+        notice ≡ notice_at case.now.recording reasons.now number) }
 {
-    let number = compensation.number;
     Ok(Notice {
         number,
         session: case.session_of(number),
@@ -112,7 +108,36 @@ pub fn notices(
     let mut found = Vec::new(alloc);
     for compensation in &compensations {
         if obstacles.has_none(compensation.number) {
-            found.push(notice_of(alloc, case, reasons, compensation)?)?;
+            found.push(notice_of(alloc, case, reasons, compensation.number)?)?;
+        }
+    }
+    Ok(found)
+}
+
+/// Returns whether a line has to be run for real.
+fn is_need(obstacle: Obstacle) -> bool
+    ensures { result ≡ is_need obstacle }
+{
+    matches!(obstacle, Obstacle::Need)
+}
+
+/// Returns who looked at what by the lines that have to be run for real: a notice for each of them,
+/// in order. What they showed isn't known, and it may have been wrong.
+pub fn looks(
+    alloc: Global,
+    case: &Case<'_>,
+    reasons: &[Reason],
+    unknown: &[UnknownLine],
+) -> Result<Vec<Notice>, NoMem>
+    ensures lines { IfOk result (λ found.
+        map line_told found.items ≡ numbers_to_run unknown.now) }
+    ensures values { IsTrue (rises_from 0 (map number_in reasons.now)) → IfOk result (λ found.
+        found.items ≡ notices_at case.now.recording reasons.now (numbers_to_run unknown.now)) }
+{
+    let mut found = Vec::new(alloc);
+    for line in unknown {
+        if is_need(line.obstacle) {
+            found.push(notice_of(alloc, case, reasons, line.number)?)?;
         }
     }
     Ok(found)

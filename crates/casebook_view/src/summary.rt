@@ -9,9 +9,10 @@ ghost use Rattle.casebook_cause.specs.Compensations.{leaks, tellings};
 ghost use Rattle.casebook_view.specs.Effects.{effect_value, effects_of};
 ghost use Rattle.casebook_view.specs.Fates.{AreFates, fate_at};
 ghost use Rattle.casebook_view.specs.Reasons.{AreReasons, number_in};
-ghost use Rattle.casebook_view.specs.Summaries.{leak_for, line_told, notice_for};
+ghost use Rattle.casebook_view.specs.Summaries.{leak_for, line_told, notice_for, notices_at};
 ghost use Rattle.casebook_view.specs.Summaries.{number_of};
-ghost use Rattle.casebook_view.specs.Unknown.{is_doubtful, is_understood, unknown_in};
+ghost use Rattle.casebook_view.specs.Unknown.{is_doubtful, is_understood, numbers_to_run};
+ghost use Rattle.casebook_view.specs.Unknown.{unknown_in};
 
 use crate::NoMem;
 use crate::case::Case;
@@ -19,7 +20,7 @@ use crate::doubt::doubtful_paths;
 use crate::effect::{Effect, effects};
 use crate::fate::{Fate, fates};
 use crate::leak::{Leak, leaks_of};
-use crate::notice::{Notice, notices};
+use crate::notice::{Notice, looks, notices};
 use crate::reason::{Reason, reasons};
 use crate::restoration::restorations;
 use crate::unknown::unknown_in;
@@ -47,6 +48,8 @@ pub struct Summary {
     /// Whom to tell about what: a notice for each line that is understood, isn't cancelled and
     /// prints something else, in order.
     pub notices: Vec<Notice>,
+    /// Who looked at what by lines that have to be run for real: a notice for each, in order.
+    pub looks: Vec<Notice>,
     /// The cancelled lines that are understood and showed something, in order.
     pub leaks: Vec<Leak>,
     /// What each cancelled or replaced line led to, in order.
@@ -88,6 +91,12 @@ impl Summary {
             → summary.notices.items
             ≡ map (notice_for case.now.recording summary.reasons.items)
             (filter (is_understood summary.unknown.items) (tellings case.now.recording case.now.repair))) }
+        ensures lines_looking { IfOk result (λ summary.
+            map line_told summary.looks.items ≡ numbers_to_run summary.unknown.items) }
+        ensures looks { IfOk result (λ summary.
+            IsTrue (rises_from 0 (map number_in summary.reasons.items)) → summary.looks.items
+            ≡ notices_at case.now.recording summary.reasons.items
+            (numbers_to_run summary.unknown.items)) }
         ensures leaks { IfOk result (λ summary. summary.leaks.items
             ≡ map (leak_for case.now.recording)
             (filter (is_understood summary.unknown.items) (leaks case.now.recording case.now.repair))) }
@@ -104,6 +113,7 @@ impl Summary {
         Ok(Summary {
             doubtful: doubtful_paths(alloc, case, unknown.as_slice(), restorations.as_slice())?,
             notices: notices(alloc, case, reasons.as_slice(), unknown.as_slice())?,
+            looks: looks(alloc, case, reasons.as_slice(), unknown.as_slice())?,
             leaks: leaks_of(alloc, case, unknown.as_slice())?,
             unknown,
             fates,

@@ -1,6 +1,6 @@
 //! The parts of a summary as texts.
 use crate::words::{change_sign, fate_sign, obstacle_word, push_item, subject_text};
-use casebook_view::{Effect, Reason, Summary, Why, chain};
+use casebook_view::{Effect, Notice, Reason, Summary, Why, chain};
 use retro_rows::text;
 use retro_tree::NoMem;
 use std::alloc::Global;
@@ -45,10 +45,10 @@ fn unknown(alloc: Global, summary: &Summary) -> Result<String, NoMem> {
     Ok(out)
 }
 
-/// Returns whom to tell: line, session, and what it is about.
-fn notices(alloc: Global, summary: &Summary) -> Result<String, NoMem> {
+/// Returns whom to tell, or who looked: line, session, and what it is about.
+fn notices(alloc: Global, notices: &[Notice]) -> Result<String, NoMem> {
     let mut out = String::new(alloc);
-    for notice in &summary.notices {
+    for notice in notices {
         let about = subject_text(&notice.subject);
         let item = format!(in alloc; "{} {} {about}", notice.number, notice.session)?;
         push_item(&mut out, ", ", item.as_str())?;
@@ -140,7 +140,8 @@ pub fn part(alloc: Global, summary: &Summary, name: &str) -> Result<String, NoMe
         "restore" => restorations(alloc, summary),
         "doubtful" => doubtful(alloc, summary),
         "unknown" => unknown(alloc, summary),
-        "tell" => notices(alloc, summary),
+        "tell" => notices(alloc, summary.notices.as_slice()),
+        "looked" => notices(alloc, summary.looks.as_slice()),
         "leaked" => leaks(alloc, summary),
         "causes" => effects(alloc, summary),
         "reasons" => reasons(alloc, summary),

@@ -107,8 +107,8 @@ given: unknown :: 1=echo, 6=ls, 10=echo z > /srv/other; ls
 "##;
 
 /// Edits of lines of which a recorder observed some, and parts of the summary of their repair. The
-/// observed line 2 is run again, since `/f` would be another file; so it has to be run for real,
-/// nobody is told about it, and what it wrote is doubtful. Line 3 is run again too, but does what
+/// observed line 2 is run again, since `/f` would be another file; so it has to be run for real, its
+/// session looked at `/f`, and what it wrote is doubtful. Line 3 is run again too, but does what
 /// Retro's shell does. The observed lines 4 and 8 are kept and cancelled. Lines 5 to 7 run other
 /// texts, which are tested as ever. No recorded text is tested, as that of line 9. A line that an
 /// edit gives its own text is run again with it.
@@ -120,16 +120,19 @@ given: {"script":1,"tree":[["/f","610a"]],"sessions":[[1,"/",0,[]]],\
 - show: 2 4 5 6 8 :: unknown => 2 need, 6 command, 7 command
 - show: 2 4 5 6 8 :: fates => 1x 2c 3c 4u 5c 6c 7c 8x 9k
 - show: 2 4 5 6 8 :: tell => 3 1 /f, 5 1 text
+- show: 2 4 5 6 8 :: looked => 2 1 /f
 - show: 2 4 5 6 8 :: leaked => 8 1 2
 - show: 2 4 5 6 8 :: restore => M /f, M /g, A /h
 - show: 2 4 5 6 8 :: doubtful => /g, /h
 - show: none :: unknown => 6 command, 7 command
+- show: none :: looked => %(EMPTY)
 - show: unknown => 6 command, 7 command, 9 command
 
 given: {"script":1,"tree":[["/f","610a"]],"sessions":[[1,"/",0,[]]],\
   "lines":[[1,1,"cat f"],[2,1,"ls"],[3,1,"cat g"]]} :: 1=cat f, 2=ls
 - show: 1 3 :: unknown => 1 need
 - show: 1 2 3 :: unknown => 1 need, 2 need
+- show: 1 2 3 :: looked => 1 1 again, 2 1 again
 - show: unknown => 2 command
 "##;
 

@@ -28,21 +28,23 @@ document lines is_recording parts = object
     (member (codes "doubtful") (array_of (map view parts.doubtful.items))
     (member (codes "leaked") (array_of (map view parts.leaked.items))
     (member (codes "lines") lines
+    (member (codes "looked") (array_of (map view parts.looked.items))
     (member (codes "observed") (array_of (map view parts.observed.items))
     (member (codes "recording") (boolean is_recording)
     (member (codes "restore") (array_of (map view parts.restore.items))
     (member (codes "show") (number_data 1)
     (member (codes "source") (string parts.source.now)
     (member (codes "tell") (array_of (map view parts.tell.items))
-    (member (codes "unknown") (array_of (map view parts.unknown.items)) no_members))))))))))))
+    (member (codes "unknown") (array_of (map view parts.unknown.items)) no_members)))))))))))))
 
 -- These are the parts of the document of a repair.
-pub record AreParts (summary : Summary) (restorations : List Restoration) (groups : List Group) (source : SourceValue)
-    (labels : Labels) (parts : Parts) : Type 0 where
+pub record AreParts (summary : Summary) (restorations : List Restoration) (groups looks : List Group)
+    (source : SourceValue) (labels : Labels) (parts : Parts) : Type 0 where
   pub causes : map view parts.causes.items ≡ map (λ effect. effect_data (effect_value effect)) summary.effects.items
   pub counts : view parts.counts ≡ counts_data summary.fates.items
   pub doubtful : map view parts.doubtful.items ≡ map path_data summary.doubtful.items
   pub leaked : map view parts.leaked.items ≡ map (leak_data labels) summary.leaks.items
+  pub looked : map view parts.looked.items ≡ map (λ group. group_data labels (group_value group)) looks
   pub observed : map view parts.observed.items ≡ map number_data (observed_in source)
   pub restore : map view parts.restore.items ≡ map restoration_data restorations
   pub named : parts.source.now ≡ source_name source

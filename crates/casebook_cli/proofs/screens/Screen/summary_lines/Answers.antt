@@ -7,5 +7,5 @@ pub returns : goal.returns
 returns c =
     IfOk-weaker c.summary_lines.result _ _
     (λ lines h. lines_of_sheet (screen_view c.args.self) c.in_ok-parts.parts c.source.ensures c.recording.ensures
-    c.as_slice.ensures.value c.as_slice-2.ensures.value c.in_ok-parts.ensures lines.items h)
+    c.as_slice.ensures.value c.as_slice-2.ensures.value c.as_slice-3.ensures.value c.in_ok-parts.ensures lines.items h)
     c.summary_lines.ensures
