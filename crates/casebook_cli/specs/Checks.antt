@@ -16,8 +16,7 @@ use Rattle.casebook_account.specs.declared.account.Machine.{Machine}
 use Rattle.casebook_account.specs.declared.account_fault.AccountFault.{AccountFault}
 use Rattle.casebook_account.specs.declared.account_fault.AccountFault.TheVariants as accounts
 use Rattle.casebook_check.specs.Texts.{AreUnlikeLines}
-use Rattle.casebook_recording.specs.Refusals.{refusal_of, refusal_words}
-use Rattle.casebook_recording.specs.declared.refusal.CaseRefusal.{CaseRefusal}
+use Rattle.casebook_recording.specs.Refusals.{fault_words}
 use Rattle.retro_keep.specs.Unlike.{IsFirstUnlike}
 use Rattle.retro_keep.specs.declared.unlike.Unlike.{Unlike}
 use Rattle.casebook_place.specs.Place.{IsPlaceInLog, IsPlaceInScript}
@@ -88,25 +87,26 @@ SaysCase name machine is_no text =
     (is_no ≡ false)
     × (text ≡ case_text name (length machine.lines.items) (length (observed_numbers machine.lines.items)))
 
--- the answer says why a document that says that it is a case isn't one, or why its lines can't be
-abbrev pub SaysNoCaseOf : List ℕ → CaseRefusal → Bool → List ℕ → Type 0
-SaysNoCaseOf name refusal is_no text =
-    (is_no ≡ true) × (text ≡ text_of_lines ((about name (codes "not a case: ") ++ refusal_words refusal) ∷ []))
+-- The answer says why a document that says that it is a case isn't one, or which line left what can't
+-- be there.
+abbrev pub SaysNoCaseOf : List ℕ → List ℕ → Bool → List ℕ → Type 0
+SaysNoCaseOf name words is_no text =
+    (is_no ≡ true) × (text ≡ text_of_lines ((about name (codes "not a case: ") ++ words) ∷ []))
 
 -- the answer about an account: that a log is a recording or isn't, or that a case is one
 abbrev pub IsCheckedAs : List ℕ → Account → Option Machine → Bool → List ℕ → Type 0
 IsCheckedAs name account None is_no text = SaysOf is_no name account.recording text
 IsCheckedAs name account (Some machine) is_no text = SaysCase name machine is_no text
 
-abbrev pub SaysRefusal : List ℕ → Option CaseRefusal → Bool → List ℕ → Type 0
-SaysRefusal name None is_no text = ⊥
-SaysRefusal name (Some refusal) is_no text = SaysNoCaseOf name refusal is_no text
+abbrev pub SaysNoCase : List ℕ → Option (List ℕ) → Bool → List ℕ → Type 0
+SaysNoCase name None is_no text = ⊥
+SaysNoCase name (Some words) is_no text = SaysNoCaseOf name words is_no text
 
 -- the answer about a document without an account: where it isn't a log, or why it is no case
 abbrev pub IsRefusedAs : DocumentValue → AccountFault → Bool → List ℕ → Type 0
 IsRefusedAs document (accounts.Log refusal) is_no text =
     SaysWhere (IsPlaceInLog document.bytes refusal) document.name (codes "not a log: ") refusal is_no text
-IsRefusedAs document (accounts.Case fault) is_no text = SaysRefusal document.name (refusal_of fault) is_no text
+IsRefusedAs document (accounts.Case fault) is_no text = SaysNoCase document.name (fault_words fault) is_no text
 IsRefusedAs document fault is_no text = ⊥
 
 -- the answer about a document that was read as a log or as a case

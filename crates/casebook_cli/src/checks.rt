@@ -8,7 +8,8 @@ ghost use Rattle.retro_log.specs.Document.{script_in};
 ghost use Rattle.casebook_account.specs.Accounts.{IsNoAccount};
 ghost use Rattle.casebook_cli.specs.Checks.{AreUnlike, IsChecked, IsCheckedAccount, IsCheckedAs};
 ghost use Rattle.casebook_cli.specs.Checks.{IsCheckedScript, IsRefusedAs, IsUnlikeText, SaysCase};
-ghost use Rattle.casebook_cli.specs.Checks.{SaysNoCaseOf, SaysOf, SaysWhere, counted_text};
+ghost use Rattle.casebook_recording.specs.Refusals.{fault_words};
+ghost use Rattle.casebook_cli.specs.Checks.{SaysNoCase, SaysOf, SaysWhere, counted_text};
 ghost use Rattle.casebook_cli.specs.Checks.{is_for_script, refused_line};
 ghost use Rattle.casebook_place.specs.Place.{IsPlaceInLog, IsPlaceInScript};
 ghost use Rattle.casebook_cli.specs.Harmless.{IsHarmless};
@@ -22,7 +23,7 @@ use crate::plain::{plain_line, plain_lines};
 use casebook_account::{Account, AccountFault, Machine, read_account};
 use casebook_check::unlike_lines;
 use casebook_place::{Place, place_in_log, place_in_script, push_place};
-use casebook_recording::CaseRefusal;
+use casebook_recording::RecordingFault;
 use casebook_text::SafeLine;
 use casebook_words::Labels;
 use retro_keep::{Recording, Unlike, first_unlike};
@@ -161,14 +162,18 @@ fn checked_case(alloc: Global, name: &str, machine: &Machine) -> Result<Answer, 
     Ok(Answer::of(plain_line(alloc, line)?))
 }
 
-/// Returns why a document that says that it is a case isn't one, or why its lines can't be.
-fn refused_case(alloc: Global, name: &str, refusal: CaseRefusal) -> Result<Answer, NoMem>
+/// Returns why a document that says that it is a case isn't one, or which line left what can't be
+/// there.
+fn refused_case(alloc: Global, name: &str, fault: &RecordingFault) -> Result<Answer, NoMem>
     ensures checked { IfOk result (λ answer.
-        SaysNoCaseOf name.now refusal answer.is_no answer.text.items) }
+        SaysNoCase name.now (fault_words fault.now) answer.is_no answer.text.items) }
     ensures harmless { IfOk result (λ answer. IsHarmless answer.text.items) }
 {
+    let Some(words) = fault.line(alloc)? else {
+        return Err(NoMem);
+    };
     let mut line = about(alloc, name, "not a case: ")?;
-    line.push_line(&refusal.line(alloc)?)?;
+    line.push_line(&words)?;
     Ok(Answer {
         text: plain_line(alloc, line)?.into_bytes(),
         is_no: true,
@@ -201,10 +206,7 @@ fn refused_account(
     match fault {
         AccountFault::NoMem => Err(NoMem),
         AccountFault::Log(refusal) => refused_log(alloc, document, *refusal),
-        AccountFault::Case(fault) => match fault.refusal() {
-            Some(refusal) => refused_case(alloc, document.name, refusal),
-            None => Err(NoMem),
-        },
+        AccountFault::Case(fault) => refused_case(alloc, document.name, fault),
         AccountFault::NoLine(_) | AccountFault::Unshown => unreachable!(),
     }
 }

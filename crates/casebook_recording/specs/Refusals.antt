@@ -1,5 +1,11 @@
 -- Why a document has no log, in words.
-use Rattle.std.specs.Prelude.{ℕ, List, ◌++◌, Option, Some, None, codes, decimal}
+use Rattle.std.specs.Prelude.{ℕ, List, [], ◌++◌, Option, Some, None, codes, decimal, option_map}
+use Rattle.retro_tree.specs.declared.cell.Cell.{Cell}
+use Rattle.retro_tree.specs.declared.cell.Cell.TheVariants as cells
+use Rattle.casebook_text.specs.SafeLine.{word_bytes}
+use Rattle.casebook_words.specs.Words.{path_words}
+use Rattle.casebook_explain.specs.declared.tell_fault.LineFault.{LineFault}
+use Rattle.casebook_explain.specs.declared.tell_fault.LineFault.TheVariants as lines
 use Rattle.casebook_case.specs.declared.case_fault.CaseFault.{CaseFault}
 use Rattle.casebook_case.specs.declared.case_fault.CaseFault.TheVariants as cases
 use Rattle.casebook_recording.specs.declared.recording_fault.RecordingFault.{RecordingFault}
@@ -46,3 +52,29 @@ refusal_words refusals.LawlessState = codes "its first look isn't a lawful tree"
 refusal_words (refusals.Line place) =
     counted (codes "what line ") place (codes " left can't be there")
 refusal_words refusals.TooManyLines = codes "it has too many lines"
+
+-- ---- what a line left that can't be there
+
+unfoldable pub var_words : ℕ → List ℕ → List ℕ
+var_words session name = codes "the variable " ++ word_bytes name ++ codes " of session " ++ decimal session
+
+unfoldable pub cell_words : Cell → List ℕ
+cell_words (cells.At path) = path_words path
+cell_words (cells.Cwd session) = codes "the directory of session " ++ decimal session
+cell_words (cells.Var session name) = var_words session name
+cell_words (cells.Status session) = codes "the status of session " ++ decimal session
+
+-- what it left, if that is why it can't be explained
+abbrev pub what_words : LineFault → List ℕ
+what_words lines.UnknownSession = []
+what_words (lines.Unwritten cell) = codes ": " ++ cell_words cell
+what_words (lines.Unexplained cell) = codes ": " ++ cell_words cell
+
+abbrev pub where_words : RecordingFault → List ℕ
+where_words (faults.Line place fault) = what_words fault
+where_words _ = []
+
+-- Why there is no log, in a line, and of a line that can't be explained also what it left. None if
+-- memory ran out.
+abbrev pub fault_words : RecordingFault → Option (List ℕ)
+fault_words fault = option_map (λ refusal. refusal_words refusal ++ where_words fault) (refusal_of fault)

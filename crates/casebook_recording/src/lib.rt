@@ -18,7 +18,8 @@
 //! - [`case_log`] returns the log of the recording of such lines, with the notes of their runs alone,
 //!   for bytes that are a case (`IsLogOf` in `specs/Logs.antt`) [`ok`]. Otherwise its fault is that
 //!   of the bytes or of the lines [`err`].
-//! - [`CaseRefusal::line`] says a fault in words (`specs/Refusals.antt`).
+//! - [`CaseRefusal::line`] says a fault in words, and [`RecordingFault::line`] also what a line left
+//!   that can't be there, as a path (`specs/Refusals.antt`).
 #![tactic(auto)]
 
 mod logging;

@@ -1,13 +1,18 @@
 //! Why a document has no log, in words.
-ghost use Rattle.std.specs.Prelude.{◌≡◌, IfOk, IsTrue};
+ghost use Rattle.std.specs.Prelude.{◌≡◌, ◌++◌, IfOk, IsTrue, OnOk, decimal};
 ghost use Rattle.std.specs.List.{list_all};
 ghost use Rattle.casebook_text.specs.SafeText.{is_printable};
-ghost use Rattle.casebook_recording.specs.Refusals.{case_words, counted, refusal_of, refusal_words};
+ghost use Rattle.casebook_recording.specs.Refusals.{case_words, cell_words, counted, fault_words};
+ghost use Rattle.casebook_recording.specs.Refusals.{refusal_of, refusal_words, what_words};
+ghost use Rattle.casebook_recording.specs.Refusals.{var_words, where_words};
 
 use crate::NoMem;
 use crate::recording_fault::RecordingFault;
 use casebook_case::CaseFault;
+use casebook_explain::LineFault;
 use casebook_text::SafeLine;
+use casebook_words::push_path;
+use retro_tree::{Cell, VarName};
 use std::alloc::Global;
 
 /// Why a document has no log, but for memory. Places and rows are counted from 1.
@@ -124,5 +129,75 @@ impl CaseRefusal {
             ),
             CaseRefusal::TooManyLines => said(alloc, "it has too many lines"),
         }
+    }
+}
+
+/// Appends a constant text and the number of a session.
+fn push_session(alloc: Global, line: &mut SafeLine, words: &str, session: u32) -> Result<(), NoMem>
+    requires { IsTrue (list_all is_printable words.now) }
+    ensures { OnOk result (line.new ≡ line.old ++ (words.now ++ decimal session)) }
+{
+    line.push_ascii(words)?;
+    line.push_number(alloc, u64::from(session))
+}
+
+/// Appends a variable of a session.
+fn push_var(alloc: Global, line: &mut SafeLine, session: u32, name: &VarName) -> Result<(), NoMem>
+    ensures { OnOk result (line.new ≡ line.old ++ var_words session name.now) }
+{
+    line.push_ascii("the variable ")?;
+    line.push_word(alloc, name.as_str().as_bytes())?;
+    line.push_ascii(" of session ")?;
+    line.push_number(alloc, u64::from(session))
+}
+
+/// Appends what a line left.
+#[tactic(auto, unfolding(crate::specs::Refusals::cell_words))]
+fn push_cell(alloc: Global, line: &mut SafeLine, cell: &Cell) -> Result<(), NoMem>
+    ensures { OnOk result (line.new ≡ line.old ++ cell_words cell.now) }
+{
+    match cell {
+        Cell::At(path) => push_path(alloc, line, path),
+        Cell::Cwd(session) => push_session(alloc, line, "the directory of session ", *session),
+        Cell::Var(session, name) => push_var(alloc, line, *session, name),
+        Cell::Status(session) => push_session(alloc, line, "the status of session ", *session),
+    }
+}
+
+/// Appends what a line left, if that is why it can't be explained.
+fn push_what(alloc: Global, line: &mut SafeLine, fault: &LineFault) -> Result<(), NoMem>
+    ensures { OnOk result (line.new ≡ line.old ++ what_words fault.now) }
+{
+    match fault {
+        LineFault::UnknownSession => Ok(()),
+        LineFault::Unwritten(cell) | LineFault::Unexplained(cell) => {
+            line.push_ascii(": ")?;
+            push_cell(alloc, line, cell)
+        }
+    }
+}
+
+impl RecordingFault {
+    /// Appends what a line left, if that is the fault.
+    fn push_where(&self, alloc: Global, line: &mut SafeLine) -> Result<(), NoMem>
+        ensures { OnOk result (line.new ≡ line.old ++ where_words self.now) }
+    {
+        match self {
+            RecordingFault::Line(_, fault) => push_what(alloc, line, fault),
+            _ => Ok(()),
+        }
+    }
+
+    /// Returns why there is no recording, as a line, and of a line that can't be explained also what
+    /// it left that can't be there. Returns `None` if memory ran out.
+    pub fn line(&self, alloc: Global) -> Result<Option<SafeLine>, NoMem>
+        ensures { IfOk result (λ line. line ≡ fault_words self.now) }
+    {
+        let Some(refusal) = self.refusal() else {
+            return Ok(None);
+        };
+        let mut line = refusal.line(alloc)?;
+        self.push_where(alloc, &mut line)?;
+        Ok(Some(line))
     }
 }
