@@ -1,5 +1,5 @@
 -- Lines of accounts by their numbers, and edits of them as edits of texts.
-use Rattle.std.specs.Prelude.{◌≡◌, ⊤, ℕ, zero, suc, ◌-◌, List, [], ◌∷◌, ◌++◌, Option, Some, None, Result, Ok, Err, map}
+use Rattle.std.specs.Prelude.{◌≡◌, ⊤, ℕ, zero, suc, ◌-◌, ◌==◌, List, [], ◌∷◌, ◌++◌, Option, Some, None, Result, Ok, Err, map}
 use Rattle.std.specs.List.{filter, range_with_len, slice_get}
 use Rattle.casebook_text.specs.Item.{Line}
 use Rattle.retro_keep.specs.Recording.{RecordingValue}
@@ -38,6 +38,14 @@ known_lines account = lines_by account.recording account.machine
 -- the numbers of the lines that stand as they were observed
 abbrev pub observed_numbers : List MachineLine → List ℕ
 observed_numbers lines = map (λ line. line.number) (filter (λ line. line.is_observed) lines)
+
+-- the numbers of the lines while which others were open
+abbrev pub overlapping_numbers : List MachineLine → List ℕ
+overlapping_numbers lines = map (λ line. line.number) (filter (λ line. line.overlaps) lines)
+
+-- the numbers of the changes that no line made
+abbrev pub outside_numbers : List MachineLine → List ℕ
+outside_numbers lines = map (λ line. line.number) (filter (λ line. line.session == 0) lines)
 
 -- ---- edits
 

@@ -1,5 +1,5 @@
 -- The lines of the machine that a case says, each with the texts by which its recording has it.
-use Rattle.std.specs.Prelude.{ℕ, ◌+◌, ◌/◌, ◌≤◌, ◌⊎◌, ◌^◌, ℤ, pos, not, List, [], ◌∷◌, Option, Some, None, codes}
+use Rattle.std.specs.Prelude.{ℕ, ◌+◌, ◌/◌, ◌≤◌, ◌⊎◌, ◌^◌, ◌==◌, ℤ, pos, not, List, [], ◌∷◌, Option, Some, None, codes}
 use Rattle.std.specs.Prelude.{if◌then◌else◌, length}
 use Rattle.std.specs.List.{sum_by}
 use Rattle.std.specs.Str.{is_utf8}
@@ -36,6 +36,7 @@ machine_line number first told line = record {
   text = typed_text line.owner line.text;
   second = seconds_of line.shown.at;
   is_observed = not told.is_modelled;
+  overlaps = not (length line.overlapping == 0);
   first = first;
   end = first + texts_of told;
 }

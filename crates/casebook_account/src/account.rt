@@ -28,7 +28,8 @@ pub struct Account {
 impl Machine {
     ghost use Rattle.std.specs.Prelude.{◌≡◌, IfOk};
     ghost use Rattle.std.specs.Option.{option_copied};
-    ghost use Rattle.casebook_account.specs.Edits.{line_at, observed_numbers};
+    ghost use Rattle.casebook_account.specs.Edits.{line_at, observed_numbers, outside_numbers};
+    ghost use Rattle.casebook_account.specs.Edits.{overlapping_numbers};
 
     /// Returns the line with a number, or `None` if there is none.
     pub fn line(&self, number: u32) -> Option<&MachineLine>
@@ -48,6 +49,30 @@ impl Machine {
         self.lines
             .iter()
             .filter(|line| line.is_observed)
+            .map(|line| line.number)
+            .collect(alloc)
+    }
+
+    /// Returns the numbers of the lines while which others were open, in order.
+    pub fn overlapping(&self, alloc: Global) -> Result<Vec<u32>, NoMem>
+        ensures { IfOk result (λ numbers.
+            numbers.items ≡ overlapping_numbers self.now.lines.items) }
+    {
+        self.lines
+            .iter()
+            .filter(|line| line.overlaps)
+            .map(|line| line.number)
+            .collect(alloc)
+    }
+
+    /// Returns the numbers of the changes that no line made, in order.
+    pub fn outside(&self, alloc: Global) -> Result<Vec<u32>, NoMem>
+        ensures { IfOk result (λ numbers.
+            numbers.items ≡ outside_numbers self.now.lines.items) }
+    {
+        self.lines
+            .iter()
+            .filter(|line| line.session == 0)
             .map(|line| line.number)
             .collect(alloc)
     }

@@ -31,6 +31,8 @@ pub struct MachineLine {
     pub second: i64,
     /// Whether it stands as it was observed, and not as what Retro's shell does.
     pub is_observed: bool,
+    /// Whether other lines were open while it did what was seen. It isn't known which of them did it.
+    pub overlaps: bool,
     /// The number of its first text.
     pub first: u32,
     /// The number after that of its last text.
@@ -110,6 +112,7 @@ pub(crate) fn machine_lines(
             text: typed_text(alloc, &line.owner, line.text)?,
             second: seconds_of(line.shown.at),
             is_observed: !one.is_modelled,
+            overlaps: !line.overlapping.is_empty(),
             first,
             end,
         })?;

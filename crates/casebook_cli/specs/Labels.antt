@@ -6,13 +6,14 @@ use Rattle.casebook_about.specs.About.{AboutView, about_in}
 use Rattle.casebook_about.specs.Rows.{user_view}
 use Rattle.casebook_about.specs.Time.{IsTimeText}
 use Rattle.casebook_about.specs.declared.fault.AboutFault.{AboutFault}
-use Rattle.casebook_account.specs.Edits.{observed_numbers}
+use Rattle.casebook_account.specs.Edits.{observed_numbers, outside_numbers, overlapping_numbers}
 use Rattle.casebook_account.specs.declared.account.Machine.{Machine}
 use Rattle.casebook_account.specs.declared.machine_line.MachineLine.{MachineLine}
-use Rattle.casebook_view.specs.Sources.{SourceValue, Played, Seen}
+use Rattle.casebook_view.specs.Sources.{SeenValue, SourceValue, Played, Seen}
 use Rattle.casebook_words.specs.Labels.{named, no_labels, timed}
 use Rattle.casebook_words.specs.declared.labels.Labels.{Labels}
 use Rattle.casebook_cli.specs.Inputs.{DocumentValue}
+use Rattle.casebook_cli.specs.declared.accounts.SeenLines.{SeenLines}
 
 -- The document says this.
 pub record IsAbout (document : DocumentValue) (about : AboutView) : Type 0 where
@@ -58,15 +59,30 @@ abbrev pub AreOwnLabels : Option Machine → Labels → Type 0
 AreOwnLabels machine labels =
     AreTimesAdded (times_by machine) (with_users (users_by machine) no_labels) labels
 
--- the numbers of the lines of a machine that stand as they were observed
-abbrev pub observed_by : Option Machine → Option (List ℕ)
-observed_by None = None
-observed_by (Some machine) = Some (observed_numbers machine.lines.items)
+-- what a recorder says of the lines of a machine
+abbrev pub seen_of : Machine → SeenValue
+seen_of machine = record {
+  observed = observed_numbers machine.lines.items;
+  overlapping = overlapping_numbers machine.lines.items;
+  outside = outside_numbers machine.lines.items;
+}
+
+-- the same, if there is a machine
+abbrev pub seen_by : Option Machine → Option SeenValue
+seen_by None = None
+seen_by (Some machine) = Some (seen_of machine)
+
+abbrev pub lines_view : SeenLines → SeenValue
+lines_view seen = record {
+  observed = seen.observed.items;
+  overlapping = seen.overlapping.items;
+  outside = seen.outside.items;
+}
 
 -- where lines come from: those of a machine were seen, and others were played
-abbrev pub source_by : Option (List ℕ) → SourceValue
+abbrev pub source_by : Option SeenValue → SourceValue
 source_by None = Played
-source_by (Some numbers) = Seen numbers
+source_by (Some seen) = Seen seen
 
 -- ---- what an about document says
 

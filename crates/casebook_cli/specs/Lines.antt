@@ -23,7 +23,7 @@ use Rattle.casebook_request.specs.Request.{LinesRequest}
 use Rattle.casebook_request.specs.declared.format.Format.{Format}
 use Rattle.casebook_request.specs.declared.format.Format.TheVariants as formats
 use Rattle.casebook_cli.specs.Inputs.{InputsValue}
-use Rattle.casebook_cli.specs.Labels.{AreLabels, observed_by, source_by, times_in}
+use Rattle.casebook_cli.specs.Labels.{AreLabels, seen_by, source_by, times_in}
 use Rattle.casebook_cli.specs.Tests.{Test, of_sessions, test_view, tests_of}
 use Rattle.casebook_cli.specs.Typed.{typed}
 
@@ -120,7 +120,7 @@ rows_text formats.Numbers labels width rows = numbers_text rows
 
 -- the rows of an account's lines that pass filters
 abbrev pub account_rows : Account → FiltersValue → List RowValue
-account_rows account filters = rows_of (source_by (observed_by account.machine)) filters account.recording
+account_rows account filters = rows_of (source_by (seen_by account.machine)) filters account.recording
 
 -- The text shows exactly the lines of the log or of the case that pass the filters and were typed
 -- between the bounds, in order.

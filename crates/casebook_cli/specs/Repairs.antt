@@ -21,7 +21,7 @@ use Rattle.casebook_text.specs.Item.{Line}
 use Rattle.casebook_text.specs.Lists.{lines_of_list}
 use Rattle.casebook_request.specs.Request.{RepairRequest, RoundsValue}
 use Rattle.casebook_cli.specs.Inputs.{DocumentValue, InputsValue}
-use Rattle.casebook_cli.specs.Labels.{AreLabels, observed_by}
+use Rattle.casebook_cli.specs.Labels.{AreLabels, lines_view, seen_by}
 use Rattle.casebook_cli.specs.declared.repairs.AskedRepair.{AskedRepair}
 
 -- ---- lists of lines
@@ -93,4 +93,4 @@ pub record IsAsked (inputs : InputsValue) (request : RepairRequest) (asked : Ask
   pub are_edits : AreEdits list request.replacements (known_lines account) asked.edits.items
   pub is_repair : IsRepairedBy request.rounds account asked.edits.items asked.recording asked.repair
   pub labels : AreLabels account.machine inputs.about asked.labels
-  pub observed : option_map (λ numbers. numbers.items) asked.observed ≡ observed_by account.machine
+  pub seen : option_map lines_view asked.seen ≡ seen_by account.machine

@@ -30,7 +30,7 @@ use Rattle.casebook_request.specs.declared.shown.Extras.{Extras}
 use Rattle.casebook_request.specs.declared.shown.ShownPart.{ShownPart}
 use Rattle.casebook_request.specs.declared.shown.ShownPart.TheVariants as parts
 use Rattle.casebook_cli.specs.Inputs.{InputsValue}
-use Rattle.casebook_cli.specs.Labels.{source_by}
+use Rattle.casebook_cli.specs.Labels.{lines_view, source_by}
 use Rattle.casebook_cli.specs.Lines.{widest_name}
 use Rattle.casebook_cli.specs.Repairs.{IsAsked}
 use Rattle.casebook_cli.specs.declared.repairs.AskedRepair.{AskedRepair}
@@ -153,7 +153,7 @@ pub record IsShownOf (source : SourceValue) (edits : List Edit) (r : RecordingVa
 
 -- where the lines of a repair come from that is asked for
 abbrev pub asked_source : AskedRepair → SourceValue
-asked_source asked = source_by (option_map (λ numbers. numbers.items) asked.observed)
+asked_source asked = source_by (option_map lines_view asked.seen)
 
 -- The text shows the repair of the log or of the case that is asked for.
 pub record IsShown (colours : Bool) (inputs : InputsValue) (request : ShowRequest) (text : List ℕ) : Type 0 where

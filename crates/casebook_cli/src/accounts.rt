@@ -2,7 +2,7 @@
 ghost use Rattle.std.specs.Prelude.{◌≡◌, IfErr, IfOk, option_map};
 ghost use Rattle.casebook_account.specs.Accounts.{IsAccountOf, IsShownAccount};
 ghost use Rattle.casebook_view.specs.Sources.{source_view};
-ghost use Rattle.casebook_cli.specs.Labels.{observed_by, source_by};
+ghost use Rattle.casebook_cli.specs.Labels.{lines_view, seen_by, seen_of, source_by};
 ghost use Rattle.casebook_cli.specs.Stops.{NamesAccount, StopsAccount};
 ghost use Rattle.casebook_cli.specs.inner.Views.{document_view};
 
@@ -11,7 +11,7 @@ use crate::cases::case_stop;
 use crate::document::Document;
 use crate::stop::Stop;
 use casebook_account::{Account, AccountFault, Machine, read_account, read_shown};
-use casebook_view::Source;
+use casebook_view::{Seen, Source};
 use std::alloc::Global;
 
 /// The number of the refusal of an edit that no line has.
@@ -52,27 +52,48 @@ pub(crate) fn shown_account<'a>(alloc: Global, log: &Document<'a>) -> Result<Acc
     }
 }
 
-/// Returns the numbers of the lines of a machine that stand as they were observed, if there is one.
-pub(crate) fn observed_by(
-    alloc: Global,
-    machine: &Option<Machine>,
-) -> Result<Option<Vec<u32>>, NoMem>
-    ensures { IfOk result (λ observed.
-        option_map (λ numbers. numbers.items) observed ≡ observed_by machine.now) }
+/// What a recorder says of the lines of a machine, by their numbers, in order.
+#[derive(Drop)]
+pub(crate) struct SeenLines {
+    /// Those that stand as they were observed.
+    observed: Vec<u32>,
+    /// Those while which others were open.
+    overlapping: Vec<u32>,
+    /// The changes that no recorded line made.
+    outside: Vec<u32>,
+}
+
+/// Returns what a recorder says of the lines of a machine.
+fn seen_of(alloc: Global, machine: &Machine) -> Result<SeenLines, NoMem>
+    ensures { IfOk result (λ seen. lines_view seen ≡ seen_of machine.now) }
+{
+    Ok(SeenLines {
+        observed: machine.observed(alloc)?,
+        overlapping: machine.overlapping(alloc)?,
+        outside: machine.outside(alloc)?,
+    })
+}
+
+/// Returns what a recorder says of the lines of a machine, if there is one.
+pub(crate) fn seen_by(alloc: Global, machine: &Option<Machine>) -> Result<Option<SeenLines>, NoMem>
+    ensures { IfOk result (λ seen. option_map lines_view seen ≡ seen_by machine.now) }
 {
     match machine {
-        Some(machine) => Ok(Some(machine.observed(alloc)?)),
+        Some(machine) => Ok(Some(seen_of(alloc, machine)?)),
         None => Ok(None),
     }
 }
 
-/// Returns where lines come from, by the numbers of those that stand as they were observed, if they
-/// were seen on a machine.
-pub(crate) fn source_by(observed: &Option<Vec<u32>>) -> Source<'_>
-    ensures { source_view result ≡ source_by (option_map (λ numbers. numbers.items) observed.entry.now) }
+/// Returns where lines come from, by what a recorder says of them, if one saw them on a machine.
+pub(crate) fn source_by(seen: &Option<SeenLines>) -> Source<'_>
+    ensures { source_view result ≡ source_by (option_map lines_view seen.entry.now) }
 {
-    match observed {
-        Some(numbers) => Source::Seen(numbers.as_slice()),
+    match seen {
+        Some(seen) => Source::Seen(Seen {
+            observed: seen.observed.as_slice(),
+            overlapping: seen.overlapping.as_slice(),
+            outside: seen.outside.as_slice(),
+        }),
         None => Source::Played,
     }
 }

@@ -5,7 +5,7 @@ ghost use Rattle.casebook_about.specs.Rows.{time_view};
 ghost use Rattle.casebook_view.specs.Rows.{row_value};
 ghost use Rattle.casebook_request.specs.Views.{lines_view};
 ghost use Rattle.casebook_cli.specs.Harmless.{IsHarmless};
-ghost use Rattle.casebook_cli.specs.Labels.{observed_by, source_by};
+ghost use Rattle.casebook_cli.specs.Labels.{seen_by, source_by};
 ghost use Rattle.casebook_cli.specs.Lines.{AreLines, HasUser, is_named};
 ghost use Rattle.casebook_cli.specs.Lines.{sessions_named, user_tests, with_number};
 ghost use Rattle.casebook_cli.specs.Tests.{of_sessions, test_view};
@@ -13,7 +13,7 @@ ghost use Rattle.casebook_cli.specs.Stops.{StopsLines, StopsUser};
 ghost use Rattle.casebook_cli.specs.inner.Views.{AreAskedRows, inputs_view};
 
 use crate::NoMem;
-use crate::accounts::{observed_by, shown_account, source_by};
+use crate::accounts::{seen_by, shown_account, source_by};
 use crate::inputs::Inputs;
 use crate::knowledge::Knowledge;
 use crate::labels::known_of;
@@ -112,7 +112,7 @@ fn asked_rows<'r, 'a>(
 ) -> Result<Vec<LineRow<'r>>, Stop<'a>>
     ensures ok { IfOk result (λ rows. AreAskedRows (lines_view request.entry) known.now.labels
         (map time_view known.now.times.items) account.entry.now.recording
-        (source_by (observed_by account.entry.now.machine)) patterns.now
+        (source_by (seen_by account.entry.now.machine)) patterns.now
         (map row_value rows.items)) }
     ensures err { IfErr result (StopsUser known.now.labels account.entry.now.recording.lines
         (option_map (λ s. s.now) request.entry.user)) }
@@ -127,8 +127,8 @@ fn asked_rows<'r, 'a>(
         request.user,
     )?;
     let mut filters = patterns.filters(alloc, tests, request.is_unknown)?;
-    let observed = observed_by(alloc, &account.machine)?;
-    let found = rows(alloc, recording, source_by(&observed), &mut filters)?;
+    let seen = seen_by(alloc, &account.machine)?;
+    let found = rows(alloc, recording, source_by(&seen), &mut filters)?;
     Ok(typed_rows(alloc, found, known.times.as_slice(), request.bounds)?)
 }
 

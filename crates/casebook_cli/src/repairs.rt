@@ -11,7 +11,7 @@ ghost use Rattle.casebook_cli.specs.Stops.{StopsNumbers, StopsRepair, StopsRepai
 ghost use Rattle.casebook_cli.specs.inner.Views.{document_view, inputs_view};
 
 use crate::NoMem;
-use crate::accounts::{account_of, account_stop, observed_by, source_by};
+use crate::accounts::{SeenLines, account_of, account_stop, seen_by, source_by};
 use crate::document::Document;
 use crate::inputs::Inputs;
 use crate::labels::labels_of;
@@ -40,8 +40,8 @@ pub(crate) struct AskedRepair {
     pub(crate) edits: Vec<Edit>,
     /// The names and times.
     pub(crate) labels: Labels,
-    /// Of a case the numbers of the lines that stand as they were observed.
-    pub(crate) observed: Option<Vec<u32>>,
+    /// Of a case what the recorder says of its lines.
+    pub(crate) seen: Option<SeenLines>,
 }
 
 impl AskedRepair {
@@ -52,7 +52,7 @@ impl AskedRepair {
         ensures edits { IfOk result (λ case. case.edits ≡ self.now.edits.items) }
         ensures source { IfOk result (λ case. case.source ≡ asked_source self.now) }
     {
-        let source = source_by(&self.observed);
+        let source = source_by(&self.seen);
         Case::of(
             alloc,
             &self.recording,
@@ -233,7 +233,7 @@ fn repaired<'a, R: Threads + Sync + AllocGlobal, P: Progress>(
     progress.begin(Step::Repairing(count));
     let repair = repair_by(rt, &account.recording, texts.as_slice(), &request.rounds)?;
     progress.begin(Step::Showing(count));
-    let observed = observed_by(alloc, &account.machine)?;
+    let seen = seen_by(alloc, &account.machine)?;
     let shown = shown_repair(alloc, &account, &inputs.log, repair)?;
     let recording = own_recording(alloc, account, &inputs.log)?;
     Ok(AskedRepair {
@@ -241,7 +241,7 @@ fn repaired<'a, R: Threads + Sync + AllocGlobal, P: Progress>(
         repair: shown,
         edits,
         labels,
-        observed,
+        seen,
     })
 }
 

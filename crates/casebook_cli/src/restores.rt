@@ -72,7 +72,7 @@ fn repair_of<'a, R: Threads + Sync + AllocGlobal, D: Documents + Progress>(
 /// Tells how many lines of a case have to be run for real, if there are some: what they wrote is
 /// restored as it was observed.
 fn tell_to_run<P: Progress>(alloc: Global, progress: &P, asked: &AskedRepair) -> Result<(), NoMem> {
-    if asked.observed.is_none() {
+    if asked.seen.is_none() {
         return Ok(());
     }
     let count = unknown_in(alloc, &asked.case(alloc)?)?.len();

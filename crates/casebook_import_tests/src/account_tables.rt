@@ -12,6 +12,8 @@ given: dir /srv, file /srv/a 1 1 one
   1 0 seen 1-2 at 0 [# changes outside of the recorded sessions] 1=bob
 - account: start B /srv - -, begin A 1 /srv x, end A 1 0 /srv x, begin B 1 /srv y, end B 1 1 /srv y
   => 1 2 seen 1-2 at 0 [x] 2 1 seen 2-3 at 0 [y] 1=bob
+- account: begin A 1 /srv x, begin B 1 /srv y, file /srv/a 5 5 two, end A 1 0 /srv x, end B 1 0 /srv y
+  => 1 1 seen, overlaps 1-2 at 0 [x] 2 2 seen 2-3 at 0 [y]
 - shown: begin A 1 /srv x, file /srv/a 5 5 two, end A 1 0 /srv x => 1 1 [x] /srv/a then / /srv/ /srv/a
 - shown: start A /srv - set_+o_posix, begin A 1 /srv cat_a, end A 1 0 /srv cat_a =>
   1 1 [cat a] then / /srv/ /srv/a

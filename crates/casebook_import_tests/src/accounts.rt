@@ -17,8 +17,8 @@ fn account_of(alloc: Global, first: &str, history: &str) -> Result<Account, Fail
     }
 }
 
-/// Returns of each line its number, its session, whether it stands as it was observed, the numbers of
-/// its texts and its text, and then the users.
+/// Returns of each line its number, its session, whether it stands as it was observed, whether it
+/// overlaps others, the numbers of its texts and its text, and then the users.
 pub fn account(alloc: Global, first: &str, history: &str) -> Result<String, Fail> {
     let account = account_of(alloc, first, history)?;
     let Some(machine) = &account.machine else {
@@ -26,7 +26,12 @@ pub fn account(alloc: Global, first: &str, history: &str) -> Result<String, Fail
     };
     let mut out = String::new(alloc);
     for line in &machine.lines {
-        let kind = if line.is_observed { "seen" } else { "modelled" };
+        let kind = match (line.is_observed, line.overlaps) {
+            (true, false) => "seen",
+            (false, false) => "modelled",
+            (true, true) => "seen, overlaps",
+            (false, true) => "modelled, overlaps",
+        };
         let (number, session, text) = (line.number, line.session, line.text.as_str());
         let (first, end, second) = (line.first, line.end, line.second);
         out.push_str(format!(in alloc;

@@ -1,10 +1,10 @@
 -- The document nests few arrays and objects, so its text can be read back.
 use Rattle.std.proofs.Common.{◌≡◌, ℕ, ◌≤◌, List, [], ◌∷◌, Bool, Option, Some, None, arith}
 use Rattle.std.proofs.Common.{map, refl}
-use Rattle.serde_json.specs.Data.{Data, depth, items_depth}
+use Rattle.serde_json.specs.Data.{Data, Members, boolean, depth, items_depth, member, members_depth, no_members, object, string}
 use Rattle.serde_json.specs.Read.{max_depth}
 use Rattle.serde_json.specs.View.{items_of}
-use Rattle.retro_json.specs.Values.{number_data}
+use Rattle.retro_json.specs.Values.{array_of, number_data}
 use Rattle.retro_keep.specs.Recording.{RecordingValue}
 use Rattle.casebook_profile.specs.declared.unknown_line.UnknownLine.{UnknownLine}
 use Rattle.casebook_view.specs.Effects.{EffectValue, effect_value}
@@ -27,7 +27,7 @@ use Rattle.casebook_json.specs.Counts.{counts_data}
 use Rattle.casebook_json.specs.Leaked.{leak_data}
 use Rattle.casebook_json.specs.Lines.{line_data, line_with_reason, origin_in, why_or_null}
 use Rattle.casebook_json.specs.Restore.{added_in, removed_in, restoration_data}
-use Rattle.casebook_json.specs.Source.{observed_in}
+use Rattle.casebook_json.specs.Source.{observed_in, outside_in, overlapping_in, source_name}
 use Rattle.casebook_json.specs.Summary.{summary_data, summary_with}
 use Rattle.casebook_json.specs.Tell.{group_data, subject_path, subject_variable}
 use Rattle.casebook_json.specs.Unknown.{unknown_data}
@@ -118,24 +118,85 @@ counts_low : (fates : List (ℕ × Fate)) → depth (counts_data fates) ≤ 1
 unfolding counts_data
 counts_low fates = omega arith
 
-pub summary_low : (r : RecordingValue) (summary : Summary) (restorations : List Restoration)
-    (groups : List Group) (is_recording : Bool) (source : SourceValue) (labels : Labels)
-    → depth (summary_data r summary restorations groups is_recording source labels) ≤ max_depth
+-- ---- the members of the document
+
+record AreLow (ms : Members) : Type 0 where
+  low : members_depth ms ≤ 3
+
+record IsLow (d : Data) : Type 0 where
+  low : depth d ≤ max_depth
+
+low_member : (key : List ℕ) (d : Data) (ms : Members) → depth d ≤ 3 → AreLow ms → AreLow (member key d ms)
+low_member key d ms one rest = let low = rest.low in record { low = omega (arith, one, low) }
+
+low_object : (ms : Members) → AreLow ms → IsLow (object ms)
+low_object ms all = let low = all.low in record { low = omega (arith, low) }
+
+low_array : {X : Type 0} (f : X → Data) → ((x : X) → depth (f x) ≤ 2) → (xs : List X)
+    → depth (array_of (map f xs)) ≤ 3
+low_array f one xs = let low = items_low f 2 one xs in omega (arith, low)
+
+low_groups : (labels : Labels) (groups : List Group)
+    → depth (array_of (map (λ group. group_data labels (group_value group)) groups)) ≤ 3
+low_groups labels groups =
+    low_array (λ (g : Group). group_data labels (group_value g)) (λ g. group_low labels (group_value g)) groups
+
+low_numbers : (numbers : List ℕ) → depth (array_of (map number_data numbers)) ≤ 3
+low_numbers numbers = low_array number_data (λ n. omega arith) numbers
+
+low_flag : (b : Bool) → depth (boolean b) ≤ 3
+low_flag b = omega arith
+
+low_number : (n : ℕ) → depth (number_data n) ≤ 3
+low_number n = omega arith
+
+low_text : (text : List ℕ) → depth (string text) ≤ 3
+low_text text = omega arith
+
+low_counts : (fates : List (ℕ × Fate)) → depth (counts_data fates) ≤ 3
+low_counts fates = let low = counts_low fates in omega (arith, low)
+
+leak_lower : (labels : Labels) (leak : Leak) → depth (leak_data labels leak) ≤ 2
+leak_lower labels leak = let low = leak_low labels leak in omega (arith, low)
+
+line_lower : (r : RecordingValue) (reasons : List Reason) (line : ℕ × Fate) → depth (line_data r reasons line) ≤ 2
+line_lower r reasons line = let low = line_low r reasons line in omega (arith, low)
+
+restoration_lower : (r : Restoration) → depth (restoration_data r) ≤ 2
+restoration_lower r = let low = restoration_low r in omega (arith, low)
+
+unknown_lower : (line : UnknownLine) → depth (unknown_data line) ≤ 2
+unknown_lower line = let low = unknown_low line in omega (arith, low)
+
+low_none : AreLow no_members
+low_none = record { low = omega arith }
+
+is_low : (r : RecordingValue) (summary : Summary) (restorations : List Restoration) (groups looks : List Group)
+    (is_recording : Bool) (source : SourceValue) (labels : Labels)
+    → IsLow (summary_data r summary restorations groups looks is_recording source labels)
 unfolding summary_with
-summary_low r summary restorations groups is_recording source labels =
-    let a =
-    items_low (λ (e : Effect). effect_data (effect_value e)) 2 (λ e. effect_low (effect_value e))
-    summary.effects.items in
-    let b = counts_low summary.fates.items in
-    let c = items_low (leak_data labels) 1 (leak_low labels) summary.leaks.items in
-    let d =
-    items_low (line_data r summary.reasons.items) 1 (line_low r summary.reasons.items)
-    summary.fates.items in
-    let e = items_low restoration_data 1 restoration_low restorations in
-    let f =
-    items_low (λ (g : Group). group_data labels (group_value g)) 2
-    (λ g. group_low labels (group_value g)) groups in
-    let g = items_low path_data 0 (λ p. omega arith) summary.doubtful.items in
-    let h = items_low unknown_data 1 unknown_low summary.unknown.items in
-    let i = items_low number_data 0 (λ n. omega arith) (observed_in source) in
-    omega (arith, a, b, c, d, e, f, g, h, i)
+is_low r summary restorations groups looks is_recording source labels =
+    low_object _
+    (low_member _ _ _
+    (low_array (λ (e : Effect). effect_data (effect_value e)) (λ e. effect_low (effect_value e)) summary.effects.items)
+    (low_member _ _ _ (low_counts summary.fates.items)
+    (low_member _ _ _ (low_array path_data (λ p. omega arith) summary.doubtful.items)
+    (low_member _ _ _ (low_array (leak_data labels) (leak_lower labels) summary.leaks.items)
+    (low_member _ _ _
+    (low_array (line_data r summary.reasons.items) (line_lower r summary.reasons.items) summary.fates.items)
+    (low_member _ _ _ (low_groups labels looks)
+    (low_member _ _ _ (low_numbers (observed_in source))
+    (low_member _ _ _ (low_numbers (outside_in source))
+    (low_member _ _ _ (low_numbers (overlapping_in source))
+    (low_member _ _ _ (low_flag is_recording)
+    (low_member _ _ _ (low_array restoration_data restoration_lower restorations)
+    (low_member _ _ _ (low_number 1)
+    (low_member _ _ _ (low_text (source_name source))
+    (low_member _ _ _ (low_groups labels groups)
+    (low_member _ _ _ (low_array unknown_data unknown_lower summary.unknown.items) low_none)))))))))))))))
+
+pub summary_low : (r : RecordingValue) (summary : Summary) (restorations : List Restoration)
+    (groups looks : List Group) (is_recording : Bool) (source : SourceValue) (labels : Labels)
+    → depth (summary_data r summary restorations groups looks is_recording source labels) ≤ max_depth
+summary_low r summary restorations groups looks is_recording source labels =
+    (is_low r summary restorations groups looks is_recording source labels).low

@@ -25,7 +25,7 @@ use Rattle.casebook_json.specs.Counts.{counts_data}
 use Rattle.casebook_json.specs.Leaked.{leak_data}
 use Rattle.casebook_json.specs.Lines.{line_data, line_with_reason, origin_in, why_or_null}
 use Rattle.casebook_json.specs.Restore.{added_in, removed_in, restoration_data}
-use Rattle.casebook_json.specs.Source.{observed_in}
+use Rattle.casebook_json.specs.Source.{observed_in, outside_in, overlapping_in}
 use Rattle.casebook_json.specs.Summary.{summary_data, summary_with}
 use Rattle.casebook_json.specs.Tell.{group_data, subject_path, subject_variable}
 use Rattle.casebook_json.specs.Unknown.{unknown_data}
@@ -106,10 +106,10 @@ unknown_float : (line : UnknownLine) → has_float (unknown_data line) ≡ false
 unknown_float line = refl
 
 pub summary_float : (r : RecordingValue) (summary : Summary) (restorations : List Restoration)
-    (groups : List Group) (is_recording : Bool) (source : SourceValue) (labels : Labels)
-    → has_float (summary_data r summary restorations groups is_recording source labels) ≡ false
+    (groups looks : List Group) (is_recording : Bool) (source : SourceValue) (labels : Labels)
+    → has_float (summary_data r summary restorations groups looks is_recording source labels) ≡ false
 unfolding summary_with
-summary_float r summary restorations groups is_recording source labels = rw (
+summary_float r summary restorations groups looks is_recording source labels = rw (
   array_float (λ (e : Effect). effect_data (effect_value e)) (λ e. effect_float (effect_value e))
       summary.effects.items,
   counts_float summary.fates.items,
@@ -117,7 +117,11 @@ summary_float r summary restorations groups is_recording source labels = rw (
   array_float (leak_data labels) (leak_float labels) summary.leaks.items,
   array_float (line_data r summary.reasons.items) (line_float r summary.reasons.items)
       summary.fates.items,
+  array_float (λ (g : Group). group_data labels (group_value g))
+      (λ g. group_float labels (group_value g)) looks,
   array_float number_data (λ n. refl) (observed_in source),
+  array_float number_data (λ n. refl) (outside_in source),
+  array_float number_data (λ n. refl) (overlapping_in source),
   array_float restoration_data restoration_float restorations,
   array_float (λ (g : Group). group_data labels (group_value g))
       (λ g. group_float labels (group_value g)) groups,

@@ -6,13 +6,23 @@ use Rattle.casebook_view.specs.Sources.{SourceValue, Played, Seen}
 
 abbrev pub source_name : SourceValue → List ℕ
 source_name Played = codes "played"
-source_name (Seen numbers) = codes "machine"
+source_name (Seen seen) = codes "machine"
 
 -- the numbers of the observed lines: of lines that were played, none was observed
 abbrev pub observed_in : SourceValue → List ℕ
 observed_in Played = []
-observed_in (Seen numbers) = numbers
+observed_in (Seen seen) = seen.observed
+
+-- those of the lines while which others were open
+abbrev pub overlapping_in : SourceValue → List ℕ
+overlapping_in Played = []
+overlapping_in (Seen seen) = seen.overlapping
+
+-- those of the changes that no line made
+abbrev pub outside_in : SourceValue → List ℕ
+outside_in Played = []
+outside_in (Seen seen) = seen.outside
 
 -- `[n,..]`
-abbrev pub observed_data : SourceValue → Data
-observed_data source = array_of (map number_data (observed_in source))
+abbrev pub numbers_data : List ℕ → Data
+numbers_data numbers = array_of (map number_data numbers)

@@ -16,14 +16,14 @@ use Rattle.casebook_json.specs.Counts.{counts_data}
 use Rattle.casebook_json.specs.Leaked.{leak_data}
 use Rattle.casebook_json.specs.Lines.{line_data}
 use Rattle.casebook_json.specs.Restore.{restoration_data}
-use Rattle.casebook_json.specs.Source.{observed_data, source_name}
+use Rattle.casebook_json.specs.Source.{numbers_data, observed_in, outside_in, overlapping_in, source_name}
 use Rattle.casebook_json.specs.Tell.{group_data}
 use Rattle.casebook_json.specs.Unknown.{unknown_data}
 use Rattle.casebook_json.specs.Values.{path_data}
 
 -- `{"causes":..,"counts":..,"doubtful":..,"leaked":..,"lines":..,"looked":..,"observed":..,
--- "recording":..,"restore":..,"show":1,"source":..,"tell":..,"unknown":..}`, with the keys in byte
--- order, where these are the lines
+-- "outside":..,"overlapping":..,"recording":..,"restore":..,"show":1,"source":..,"tell":..,
+-- "unknown":..}`, with the keys in byte order, where these are the lines
 unfoldable pub summary_with :
     Data → Summary → List Restoration → List Group → List Group → Bool → SourceValue → Labels → Data
 summary_with lines summary restorations groups looks is_recording source labels = object
@@ -35,14 +35,16 @@ summary_with lines summary restorations groups looks is_recording source labels 
     (member (codes "lines") lines
     (member (codes "looked")
     (array_of (map (λ group. group_data labels (group_value group)) looks))
-    (member (codes "observed") (observed_data source)
+    (member (codes "observed") (numbers_data (observed_in source))
+    (member (codes "outside") (numbers_data (outside_in source))
+    (member (codes "overlapping") (numbers_data (overlapping_in source))
     (member (codes "recording") (boolean is_recording)
     (member (codes "restore") (array_of (map restoration_data restorations))
     (member (codes "show") (number_data 1)
     (member (codes "source") (string (source_name source))
     (member (codes "tell")
     (array_of (map (λ group. group_data labels (group_value group)) groups))
-    (member (codes "unknown") (array_of (map unknown_data summary.unknown.items)) no_members)))))))))))))
+    (member (codes "unknown") (array_of (map unknown_data summary.unknown.items)) no_members)))))))))))))))
 
 abbrev pub lines_data : RecordingValue → Summary → Data
 lines_data r summary = array_of (map (line_data r summary.reasons.items) summary.fates.items)

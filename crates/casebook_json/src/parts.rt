@@ -11,7 +11,7 @@ use crate::effect_value::effect_values;
 use crate::group_value::group_values;
 use crate::leak_value::leak_values;
 use crate::restoration_value::restoration_values;
-use crate::source_value::{observed_values, source_name};
+use crate::source_value::{observed_values, outside_values, overlapping_values, source_name};
 use crate::unknown_value::unknown_values;
 use crate::value::path_values;
 use casebook_screen::Sheet;
@@ -31,6 +31,8 @@ pub(crate) struct Parts {
     leaked: Vec<Value>,
     looked: Vec<Value>,
     observed: Vec<Value>,
+    outside: Vec<Value>,
+    overlapping: Vec<Value>,
     restore: Vec<Value>,
     source: &'static str,
     tell: Vec<Value>,
@@ -52,6 +54,8 @@ impl Parts {
             leaked: leak_values(alloc, labels, summary.leaks.as_slice())?,
             looked: group_values(alloc, labels, sheet.looks)?,
             observed: observed_values(alloc, sheet.source)?,
+            outside: outside_values(alloc, sheet.source)?,
+            overlapping: overlapping_values(alloc, sheet.source)?,
             restore: restoration_values(alloc, sheet.restorations)?,
             source: source_name(sheet.source),
             tell: group_values(alloc, labels, sheet.groups)?,
@@ -77,6 +81,13 @@ impl Parts {
         put(&mut map, alloc, "lines", Value::Array(lines))?;
         put(&mut map, alloc, "looked", Value::Array(self.looked))?;
         put(&mut map, alloc, "observed", Value::Array(self.observed))?;
+        put(&mut map, alloc, "outside", Value::Array(self.outside))?;
+        put(
+            &mut map,
+            alloc,
+            "overlapping",
+            Value::Array(self.overlapping),
+        )?;
         put(&mut map, alloc, "recording", Value::Bool(is_recording))?;
         put(&mut map, alloc, "restore", Value::Array(self.restore))?;
         put(&mut map, alloc, "show", Value::from(VERSION))?;

@@ -3,7 +3,7 @@ ghost use Rattle.std.specs.Prelude.{◌≡◌, IfOk, map};
 ghost use Rattle.serde_json.specs.View.{view};
 ghost use Rattle.retro_json.specs.Values.{number_data};
 ghost use Rattle.casebook_view.specs.Sources.{source_view};
-ghost use Rattle.casebook_json.specs.Source.{observed_in, source_name};
+ghost use Rattle.casebook_json.specs.Source.{observed_in, outside_in, overlapping_in, source_name};
 
 use crate::NoMem;
 use crate::value::number_values;
@@ -29,6 +29,28 @@ pub(crate) fn observed_values(alloc: Global, source: Source<'_>) -> Result<Vec<V
 {
     match source {
         Source::Played => Ok(Vec::new(alloc)),
-        Source::Seen(numbers) => number_values(alloc, numbers),
+        Source::Seen(seen) => number_values(alloc, seen.observed),
+    }
+}
+
+/// Returns the JSON values of the numbers of the lines while which others were open, in order.
+pub(crate) fn overlapping_values(alloc: Global, source: Source<'_>) -> Result<Vec<Value>, NoMem>
+    ensures { IfOk result (λ vs.
+        map view vs.items ≡ map number_data (overlapping_in (source_view source.entry))) }
+{
+    match source {
+        Source::Played => Ok(Vec::new(alloc)),
+        Source::Seen(seen) => number_values(alloc, seen.overlapping),
+    }
+}
+
+/// Returns the JSON values of the numbers of the changes that no line made, in order.
+pub(crate) fn outside_values(alloc: Global, source: Source<'_>) -> Result<Vec<Value>, NoMem>
+    ensures { IfOk result (λ vs.
+        map view vs.items ≡ map number_data (outside_in (source_view source.entry))) }
+{
+    match source {
+        Source::Played => Ok(Vec::new(alloc)),
+        Source::Seen(seen) => number_values(alloc, seen.outside),
     }
 }

@@ -1,12 +1,17 @@
 //! The head of a page: its title and style, its first sentences, and the boxes that hide lines.
+ghost use Rattle.std.specs.Prelude.{IsTrue};
+ghost use Rattle.std.specs.List.{list_all};
+ghost use Rattle.casebook_text.specs.SafeText.{is_printable};
+
 use crate::NoMem;
 use crate::contents::Contents;
 use crate::html::Html;
 use crate::number_tag::NumberTag;
+use crate::shown::push_links;
 use crate::tag::Tag;
 use crate::unknown::push_unknown_link;
 use casebook_text::SafeLine;
-use casebook_view::{Fate, Source};
+use casebook_view::{Fate, Seen, Source};
 use std::alloc::Global;
 use std::collections::BTreeSet;
 
@@ -69,10 +74,39 @@ fn push_observed(html: &mut Html, alloc: Global, count: usize) -> Result<(), NoM
     }
 }
 
+/// Appends which lines some words are about, if there are some.
+fn push_numbered(html: &mut Html, alloc: Global, words: &str, numbers: &[u32]) -> Result<(), NoMem>
+    requires { IsTrue (list_all is_printable words.now) }
+{
+    if numbers.is_empty() {
+        return Ok(());
+    }
+    html.words(alloc, words)?;
+    push_links(html, alloc, numbers)?;
+    html.words(alloc, ".")
+}
+
+/// Appends what a recorder says of its lines.
+fn push_seen(html: &mut Html, alloc: Global, seen: Seen<'_>) -> Result<(), NoMem> {
+    push_observed(html, alloc, seen.observed.len())?;
+    push_numbered(
+        html,
+        alloc,
+        " Not told apart, since they overlap: lines",
+        seen.overlapping,
+    )?;
+    push_numbered(
+        html,
+        alloc,
+        " Changes outside of the recorded sessions: lines",
+        seen.outside,
+    )
+}
+
 /// Appends how the log came about: from a machine, by playing its lines, or otherwise.
 fn push_basis(html: &mut Html, alloc: Global, contents: Contents<'_, '_>) -> Result<(), NoMem> {
     match contents.case.source() {
-        Source::Seen(numbers) => push_observed(html, alloc, numbers.len()),
+        Source::Seen(seen) => push_seen(html, alloc, seen),
         Source::Played if contents.is_recording => html.words(
             alloc,
             ". Played in Retro's shell. Whether the machine did the same isn't known.",

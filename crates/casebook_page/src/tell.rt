@@ -155,7 +155,10 @@ fn push_looks(html: &mut Html, alloc: Global, contents: Contents<'_, '_>) -> Res
         return Ok(());
     }
     html.fixed(Tag::Paragraph)?;
-    html.words(alloc, "Who looked by observed lines, at what would be another:")?;
+    html.words(
+        alloc,
+        "Who looked by observed lines, at what would be another:",
+    )?;
     html.fixed(Tag::ParagraphEnd)?;
     push_groups(html, alloc, contents, groups.as_slice(), Screens::Unknown)
 }

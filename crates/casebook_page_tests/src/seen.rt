@@ -1,7 +1,7 @@
 //! Pages of logs whose lines a recorder saw on a machine.
 use crate::given::{Given, page_by, page_of};
 use crate::reading::hold_counts;
-use casebook_view::Source;
+use casebook_view::{Seen, Source};
 use retro_keep::Edit;
 use retro_tree::Text;
 use std::alloc::Global;
@@ -124,6 +124,21 @@ const OTHER: [(&str, usize); 3] = [
     ("observed", 0),
 ];
 
+/// The same, if lines overlap and one is nobody's.
+const DOUBTED: [(&str, usize); 1] = [(
+    ". 1 line stands as it was observed. Not told apart, since they overlap: lines <a href=\"#l2\">2</a> <a href=\"#l4\">4</a>. Changes outside of the recorded sessions: lines <a href=\"#l3\">3</a>.</p>",
+    1,
+)];
+
+/// Returns that a recorder saw the lines, of which these stand as they were observed.
+fn seen(observed: &[u32]) -> Source<'_> {
+    Source::Seen(Seen {
+        observed,
+        overlapping: &[],
+        outside: &[],
+    })
+}
+
 /// Returns the script without line 1.
 fn given(source: Source<'_>, is_recording: bool) -> Given<'_> {
     Given {
@@ -141,7 +156,7 @@ fn given(source: Source<'_>, is_recording: bool) -> Given<'_> {
 /// as its lines run makes no difference.
 fn hold(alloc: Global, observed: &[u32], wanted: &[(&str, usize)]) -> Result<(), Fail> {
     for is_recording in [true, false] {
-        let page = page_of(alloc, given(Source::Seen(observed), is_recording))?;
+        let page = page_of(alloc, given(seen(observed), is_recording))?;
         hold_counts(alloc, page.as_str(), wanted)?;
     }
     Ok(())
@@ -167,9 +182,21 @@ fn observed_lines_are_replaced(rt: HostRuntime) -> Result<(), Fail> {
     let alloc = rt.alloc();
     let mut edits = Vec::new(alloc);
     edits.push(Edit::Replace(3, Text::of(String::from_str(alloc, "ls")?)))?;
-    let given = given(Source::Seen(&[2, 3]), true);
+    let given = given(seen(&[2, 3]), true);
     let page = page_by(alloc, given, edits.as_slice())?;
     hold_counts(alloc, page.as_str(), &REPLACED)
+}
+
+#[test]
+fn doubts_are_said(rt: HostRuntime) -> Result<(), Fail> {
+    let alloc = rt.alloc();
+    let source = Source::Seen(Seen {
+        observed: &[3],
+        overlapping: &[2, 4],
+        outside: &[3],
+    });
+    let page = page_of(alloc, given(source, true))?;
+    hold_counts(alloc, page.as_str(), &DOUBTED)
 }
 
 #[test]

@@ -90,7 +90,7 @@ writes: show account --cancel 1 =>
 | CAUSES  what each edited line led to: lines with another result, run again alike, paths it wrote
 |       1    1    1  sed -i s/one/two/ /srv/p                                      /srv/p
 has: show account --cancel 4 :: %(NL)No line has to be run for real.%(NL) => yes
-has: show account --cancel 1 --format json :: "observed":[1,3,4],"recording":false, => yes
+has: show account --cancel 1 --format json :: "observed":[1,3,4],"outside":[],"overlapping":[],"recording":false, => yes
 has: show account --cancel 1 --format json :: "unknown":[[3,"need"]] => yes
 has: show account --cancel 1 --format json :: "looked":[{"about":"path","lines":[3], => yes
 has: show account --cancel 3 :: D /srv/q => yes

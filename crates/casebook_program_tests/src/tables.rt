@@ -132,7 +132,7 @@ writes: show log --cancel 1 --format json =>
   "cancelled":1,"changed":1,"kept":0,"untouched":0},"doubtful":[],"leaked":[],\
   "lines":[{"because_of":null,"fate":"cancelled","line":1,"note":null,"origin":null,\
   "session":2,"why":null},{"because_of":1,"fate":"changed","line":2,"note":0,"origin":1,\
-  "session":1,"why":"query"}],"looked":[],"observed":[],"recording":true,"restore":[{"added":0,\
+  "session":1,"why":"query"}],"looked":[],"observed":[],"outside":[],"overlapping":[],"recording":true,"restore":[{"added":0,\
   "change":"removed","extent":"lines","path":"/f","removed":1}],"show":1,"source":"played",\
   "tell":[{"about":"path","lines":[2],"path":"/f","session":1,"user":null,"variable":null}],\
   "unknown":[]}%(NL)

@@ -14,7 +14,7 @@ use Rattle.casebook_view.specs.declared.summary.Summary.{Summary}
 use Rattle.casebook_words.specs.Labels.{time_words}
 use Rattle.casebook_words.specs.Words.{count_words}
 use Rattle.casebook_words.specs.declared.labels.Labels.{Labels}
-use Rattle.casebook_screen.specs.Basis.{basis_text}
+use Rattle.casebook_screen.specs.Basis.{basis_lines}
 use Rattle.casebook_screen.specs.Causes.{effect_lines}
 use Rattle.casebook_screen.specs.Counts.{count_lines, count_of}
 use Rattle.casebook_screen.specs.Leaks.{leak_lines}
@@ -54,8 +54,8 @@ head_text r labels fates =
     ++ codes ". " ++ decimal (count_of fates Cancelled) ++ codes " cancelled."
 
 -- what the log holds, what it rests on, and an empty line
-abbrev pub head_lines : RecordingValue → Labels → List (ℕ × Fate) → List ℕ → List (List ℕ)
-head_lines r labels fates basis = head_text r labels fates ∷ basis ∷ [] ∷ []
+abbrev pub head_lines : RecordingValue → Labels → List (ℕ × Fate) → List (List ℕ) → List (List ℕ)
+head_lines r labels fates basis = head_text r labels fates ∷ basis ++ [] ∷ []
 
 -- the head, which lines aren't understood, how many lines have which fate, what is to be restored,
 -- whom to tell, who looked at what, what cancelled lines showed, and what they led to
@@ -63,7 +63,7 @@ abbrev pub summary_lines :
     SourceValue → RecordingValue → Summary → List Restoration → List Group → List Group → Bool → Labels → ℕ
     → List (List ℕ)
 summary_lines source r summary restorations groups looks is_recording labels width =
-    head_lines r labels summary.fates.items (basis_text source is_recording)
+    head_lines r labels summary.fates.items (basis_lines source is_recording)
     ++ unknown_lines source summary.unknown.items summary.fates.items
     ++ [] ∷ count_lines summary.fates.items
     ++ restoration_lines summary.doubtful.items restorations

@@ -158,4 +158,4 @@ seen_lines (line ∷ unknown) = lines_to_run (line ∷ unknown)
 
 abbrev pub unknown_lines : SourceValue → List UnknownLine → List (ℕ × Fate) → List (List ℕ)
 unknown_lines Played unknown fates = played_lines unknown fates
-unknown_lines (Seen observed) unknown fates = seen_lines unknown
+unknown_lines (Seen seen) unknown fates = seen_lines unknown

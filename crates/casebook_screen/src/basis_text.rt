@@ -1,11 +1,14 @@
 //! What a log rests on, as a terminal shows it.
 ghost use Rattle.std.specs.Prelude.{◌≡◌, ◌++◌, IfOk, OnOk};
-ghost use Rattle.casebook_view.specs.Sources.{source_view};
-ghost use Rattle.casebook_screen.specs.Basis.{basis_text, observed_words, played_text, seen_text};
+ghost use Rattle.casebook_view.specs.Sources.{seen_view, source_view};
+ghost use Rattle.casebook_screen.specs.Basis.{basis_lines, observed_words, outside_lines};
+ghost use Rattle.casebook_screen.specs.Basis.{outside_text, overlapping_lines, overlapping_text};
+ghost use Rattle.casebook_screen.specs.Basis.{played_text, seen_lines, seen_text};
 
 use crate::NoMem;
+use crate::notice_text::push_first_numbers;
 use casebook_text::SafeLine;
-use casebook_view::Source;
+use casebook_view::{Seen, Source};
 use std::alloc::Global;
 
 /// Returns what a log of lines rests on that were played.
@@ -49,16 +52,73 @@ fn seen_line(alloc: Global, count: usize) -> Result<SafeLine, NoMem>
     Ok(line)
 }
 
-/// Returns what a log rests on.
-pub(crate) fn basis_line(
+/// Returns that while some lines were open others were too.
+#[tactic(auto, unfolding(crate::specs::Basis::overlapping_text))]
+fn overlapping_line(alloc: Global, numbers: &[u32]) -> Result<SafeLine, NoMem>
+    ensures { IfOk result (λ line. line ≡ overlapping_text numbers.now) }
+{
+    let mut line = SafeLine::new(alloc);
+    line.push_ascii("Not told apart, since they overlap: lines")?;
+    push_first_numbers(alloc, &mut line, numbers)?;
+    Ok(line)
+}
+
+/// Appends which lines overlap, if some do.
+fn push_overlapping(alloc: Global, lines: &mut Vec<SafeLine>, numbers: &[u32]) -> Result<(), NoMem>
+    ensures { OnOk result (lines.new.items
+        ≡ lines.old.items ++ overlapping_lines numbers.now) }
+{
+    if numbers.is_empty() {
+        return Ok(());
+    }
+    lines.push(overlapping_line(alloc, numbers)?)?;
+    Ok(())
+}
+
+/// Returns that no recorded line made some changes.
+#[tactic(auto, unfolding(crate::specs::Basis::outside_text))]
+fn outside_line(alloc: Global, numbers: &[u32]) -> Result<SafeLine, NoMem>
+    ensures { IfOk result (λ line. line ≡ outside_text numbers.now) }
+{
+    let mut line = SafeLine::new(alloc);
+    line.push_ascii("Changes outside of the recorded sessions: lines")?;
+    push_first_numbers(alloc, &mut line, numbers)?;
+    Ok(line)
+}
+
+/// Appends which changes no recorded line made, if there are some.
+fn push_outside(alloc: Global, lines: &mut Vec<SafeLine>, numbers: &[u32]) -> Result<(), NoMem>
+    ensures { OnOk result (lines.new.items ≡ lines.old.items ++ outside_lines numbers.now) }
+{
+    if numbers.is_empty() {
+        return Ok(());
+    }
+    lines.push(outside_line(alloc, numbers)?)?;
+    Ok(())
+}
+
+/// Appends what a log of lines rests on that a recorder saw.
+fn push_seen(alloc: Global, lines: &mut Vec<SafeLine>, seen: Seen<'_>) -> Result<(), NoMem>
+    ensures { OnOk result (lines.new.items ≡ lines.old.items
+        ++ seen_lines (seen_view seen.entry)) }
+{
+    lines.push(seen_line(alloc, seen.observed.len())?)?;
+    push_overlapping(alloc, lines, seen.overlapping)?;
+    push_outside(alloc, lines, seen.outside)
+}
+
+/// Appends what a log rests on.
+pub(crate) fn push_basis(
     alloc: Global,
+    lines: &mut Vec<SafeLine>,
     source: Source<'_>,
     is_recording: bool,
-) -> Result<SafeLine, NoMem>
-    ensures { IfOk result (λ line. line ≡ basis_text (source_view source.entry) is_recording) }
+) -> Result<(), NoMem>
+    ensures { OnOk result (lines.new.items
+        ≡ lines.old.items ++ basis_lines (source_view source.entry) is_recording) }
 {
     match source {
-        Source::Played => played_line(alloc, is_recording),
-        Source::Seen(observed) => seen_line(alloc, observed.len()),
+        Source::Played => Ok(lines.push(played_line(alloc, is_recording)?)?),
+        Source::Seen(seen) => push_seen(alloc, lines, seen),
     }
 }

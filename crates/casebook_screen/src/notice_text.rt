@@ -59,7 +59,11 @@ pub(crate) fn push_numbers(alloc: Global, line: &mut SafeLine, numbers: &[u32]) 
 
 /// Appends the first numbers, and an ellipsis if there are more.
 #[tactic(auto, unfolding(crate::specs::Notices::first_numbers))]
-fn push_first_numbers(alloc: Global, line: &mut SafeLine, numbers: &[u32]) -> Result<(), NoMem>
+pub(crate) fn push_first_numbers(
+    alloc: Global,
+    line: &mut SafeLine,
+    numbers: &[u32],
+) -> Result<(), NoMem>
     ensures { OnOk result (line.new ≡ line.old ++ first_numbers numbers.now) }
 {
     if numbers.len() <= NUMBERS_SHOWN {

@@ -1,11 +1,15 @@
 //! What a log holds, as a terminal shows it.
 ghost use Rattle.std.specs.Prelude.{◌≡◌, ◌++◌, [], IfOk, OnOk, length};
 ghost use Rattle.std.specs.Option.{option_copied};
+ghost use Rattle.casebook_view.specs.Sources.{source_view};
+ghost use Rattle.casebook_screen.specs.Basis.{basis_lines};
 ghost use Rattle.casebook_screen.specs.Summary.{head_lines, head_text, period_words};
 ghost use Rattle.casebook_screen.specs.Summary.{sessions_in, span_words, times_words};
 
 use crate::NoMem;
+use crate::basis_text::push_basis;
 use crate::fate_counts::count_of;
+use crate::summary_text::Sheet;
 use casebook_text::SafeLine;
 use casebook_view::Fate;
 use casebook_words::{Labels, push_count};
@@ -108,17 +112,17 @@ fn head_line(
 /// Returns what the log holds, what it rests on, and an empty line.
 pub(crate) fn head_lines(
     alloc: Global,
-    recording: &Recording,
+    sheet: Sheet<'_>,
     labels: &Labels,
-    fates: &[(u32, Fate)],
-    basis: SafeLine,
 ) -> Result<Vec<SafeLine>, NoMem>
-    ensures { IfOk result (λ lines.
-        lines.items ≡ head_lines recording.now labels.now fates.now basis) }
+    ensures { IfOk result (λ lines. lines.items ≡ head_lines sheet.entry.recording.now labels.now
+        sheet.entry.summary.now.fates.items
+        (basis_lines (source_view sheet.entry.source) sheet.entry.is_recording)) }
 {
+    let fates = sheet.summary.fates.as_slice();
     let mut lines = Vec::new(alloc);
-    lines.push(head_line(alloc, recording, labels, fates)?)?;
-    lines.push(basis)?;
+    lines.push(head_line(alloc, sheet.recording, labels, fates)?)?;
+    push_basis(alloc, &mut lines, sheet.source, sheet.is_recording)?;
     lines.push(SafeLine::new(alloc))?;
     Ok(lines)
 }

@@ -4,7 +4,6 @@ ghost use Rattle.casebook_view.specs.Sources.{source_view};
 ghost use Rattle.casebook_screen.specs.Summary.{summary_lines};
 
 use crate::NoMem;
-use crate::basis_text::basis_line;
 use crate::effect_text::effect_lines;
 use crate::fate_counts::count_lines;
 use crate::leak_text::leak_lines;
@@ -59,8 +58,7 @@ pub fn summary_lines(
     let unknown = summary.unknown.as_slice();
     let fates = summary.fates.as_slice();
     let screens = summary.notices.len();
-    let basis = basis_line(alloc, sheet.source, sheet.is_recording)?;
-    let mut lines = head_lines(alloc, recording, names.labels, fates, basis)?;
+    let mut lines = head_lines(alloc, sheet, names.labels)?;
     lines.append(&mut unknown_lines(alloc, sheet.source, unknown, fates)?)?;
     lines.push(SafeLine::new(alloc))?;
     lines.append(&mut count_lines(alloc, fates)?)?;

@@ -1,6 +1,6 @@
 //! What rows are given: recordings, edits, repairs and labels.
 use crate::logs::named;
-use casebook_view::Source;
+use casebook_view::{Seen, Source};
 use casebook_words::Labels;
 use retro_keep::{Edit, Recording, Script, keep_alone};
 use retro_log::{read_log, read_script};
@@ -62,21 +62,46 @@ pub fn repair_of(alloc: Global, recording: &Recording, edits: &[Edit]) -> Result
     }
 }
 
-/// Returns the numbers of the observed lines if a field says that a recorder saw the lines of a
-/// log, or `None` if it says something else. `observed 2 4` says that it observed two lines, and
-/// `observed none` that it observed none.
-pub fn observed_of(alloc: Global, field: &str) -> Result<Option<Vec<u32>>, Fail> {
-    match field.split_once(' ') {
-        Some(("observed", "none")) => Ok(Some(Vec::new(alloc))),
-        Some(("observed", list)) => Ok(Some(numbers(alloc, list)?)),
-        _ => Ok(None),
+/// What a recorder says of lines: which were observed, which overlap, and which are changes outside
+/// of the recorded sessions.
+#[derive(Drop)]
+pub struct SeenLines {
+    observed: Vec<u32>,
+    overlapping: Vec<u32>,
+    outside: Vec<u32>,
+}
+
+/// Returns the numbers of a list, or no numbers for `none`.
+fn numbers_or_none(alloc: Global, list: Option<&str>) -> Result<Vec<u32>, Fail> {
+    match list {
+        None | Some("none") => Ok(Vec::new(alloc)),
+        Some(list) => numbers(alloc, list),
     }
 }
 
-/// Returns where lines come from of which these were observed, or that they were played.
-pub fn source_of(observed: &Option<Vec<u32>>) -> Source<'_> {
-    match observed {
-        Some(numbers) => Source::Seen(numbers.as_slice()),
+/// Returns what a recorder says if a field says that one saw the lines of a log, or `None` if it says
+/// something else. `observed 2 4` says that it observed two lines, `observed none` that it observed
+/// none, and `observed 2 / 3 4 / 5` also that lines 3 and 4 overlap and that line 5 is nobody's.
+pub fn seen_of(alloc: Global, field: &str) -> Result<Option<SeenLines>, Fail> {
+    let Some(("observed", lists)) = field.split_once(' ') else {
+        return Ok(None);
+    };
+    let mut lists = lists.split(" / ");
+    Ok(Some(SeenLines {
+        observed: numbers_or_none(alloc, lists.next())?,
+        overlapping: numbers_or_none(alloc, lists.next())?,
+        outside: numbers_or_none(alloc, lists.next())?,
+    }))
+}
+
+/// Returns where lines come from of which a recorder says this, or that they were played.
+pub fn source_of(seen: &Option<SeenLines>) -> Source<'_> {
+    match seen {
+        Some(seen) => Source::Seen(Seen {
+            observed: seen.observed.as_slice(),
+            overlapping: seen.overlapping.as_slice(),
+            outside: seen.outside.as_slice(),
+        }),
         None => Source::Played,
     }
 }

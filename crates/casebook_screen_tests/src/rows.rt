@@ -1,6 +1,6 @@
 //! The call that each row names, and the tests that make these calls.
 use crate::case_tables::{AGAIN, EDGES, FEW, KINDS, QUOTED};
-use crate::given::{edits_of, labels_of, observed_of, recording_of, repair_of, source_of};
+use crate::given::{edits_of, labels_of, recording_of, repair_of, seen_of, source_of};
 use crate::line_tables::{FORGED, LINES};
 use crate::lines::lines;
 use crate::market_table::MARKET;
@@ -67,8 +67,8 @@ fn of_repair(
     repair: &Repair,
     asked: Asked<'_>,
 ) -> Result<String, Fail> {
-    let observed = observed_of(alloc, asked.kind)?;
-    let case = Case::of(alloc, recording, repair, edits, source_of(&observed))?;
+    let seen = seen_of(alloc, asked.kind)?;
+    let case = Case::of(alloc, recording, repair, edits, source_of(&seen))?;
     of_case(alloc, &case, asked)
 }
 
@@ -91,8 +91,8 @@ fn listed(
     let between = (from.parse()?, to.parse()?);
     let labels = labels_of(alloc, names, times)?;
     let recording = recording_of(alloc, log)?;
-    let observed = observed_of(alloc, kind)?;
-    let source = source_of(&observed);
+    let seen = seen_of(alloc, kind)?;
+    let source = source_of(&seen);
     Ok(lines(alloc, (&recording, source), &labels, call, between)?)
 }
 

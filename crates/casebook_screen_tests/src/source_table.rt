@@ -18,6 +18,8 @@ given: {"script":1,"tree":[["/f","610a"]],"sessions":[[1,"/",0,[]],[2,"/",0,[]]]
   [6,1,"ls"]]} :: 1, 4=ls :: 1=ann, 2=eve :: %(EMPTY) :: observed 2 3 5 6
 - document: /source => "machine"
 - document: /observed => [2,3,5,6]
+- document: /outside => []
+- document: /overlapping => []
 - document: /unknown => [[2,"need"],[3,"need"],[4,"command"]]
 - document: /doubtful => ["/g"]
 - document: /tell => []
@@ -31,6 +33,36 @@ given: {"script":1,"tree":[["/f","610a"]],"sessions":[[1,"/",0,[]]],"lines":\
 - document: /unknown => []
 
 given: {"script":1,"tree":[["/f","610a"]],"sessions":[[1,"/",0,[]]],"lines":\
+  [[1,1,"echo b > f"],[2,1,"cat f"]]} :: 1 :: %(EMPTY) :: %(EMPTY) :: observed none / 1 2 / 2
+- document: /observed => []
+- document: /overlapping => [1,2]
+- document: /outside => [2]
+- show: summary =>
+| 2 lines of 1 session. 1 cancelled.
+| Recorded on the machine. Each line did what Retro's shell does.
+| Not told apart, since they overlap: lines 1 2
+| Changes outside of the recorded sessions: lines 2
+|
+| No line has to be run for real.
+|
+|       1 cancelled
+|       1 run again, another result
+|       0 run again, the same result
+|       0 met, kept as recorded
+|       0 untouched
+|
+| RESTORE  1 change, 0 come back, 0 go
+|   M /f  +1 -1
+|
+| TELL  1 session about 1 screen
+|   1        /f                                   1x  lines 2
+|
+| LEAKED  0 cancelled lines showed something
+|
+| CAUSES  what each edited line led to: lines with another result, run again alike, paths it wrote
+|       1    1    0  echo b > f                                                    /f
+
+given: {"script":1,"tree":[["/f","610a"]],"sessions":[[1,"/",0,[]]],"lines":\
   [[1,1,"echo b > f"],[2,1,"cat f"]]} :: 1 :: %(EMPTY) :: %(EMPTY) :: observed 2
 - document: %(EMPTY)
   => {"causes":[{"alike":0,"changed":1,"line":1,"paths":["/f"]}],\
@@ -38,7 +70,7 @@ given: {"script":1,"tree":[["/f","610a"]],"sessions":[[1,"/",0,[]]],"lines":\
   "lines":[{"because_of":null,"fate":"cancelled","line":1,"note":null,"origin":null,"session":1,\
   "why":null},{"because_of":1,"fate":"changed","line":2,"note":1,"origin":1,"session":1,\
   "why":"query"}],"looked":[{"about":"path","lines":[2],"path":"/f","session":1,"user":null,\
-  "variable":null}],"observed":[2],"recording":false,\
+  "variable":null}],"observed":[2],"outside":[],"overlapping":[],"recording":false,\
   "restore":[{"added":1,"change":"modified","extent":"lines","path":"/f","removed":1}],"show":1,\
   "source":"machine","tell":[],"unknown":[[2,"need"]]}
 "##;

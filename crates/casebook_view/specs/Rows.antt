@@ -66,7 +66,7 @@ observed_lines numbers = map (λ n. unknown_line n Observed) numbers
 -- were observed, if a recorder saw them.
 abbrev pub unknown_of : SourceValue → RecordingValue → List UnknownLine
 unknown_of Played r = unknown_lines_of r
-unknown_of (Seen numbers) r = observed_lines numbers
+unknown_of (Seen seen) r = observed_lines seen.observed
 
 -- the rows of the lines of a recording from a source that pass filters
 abbrev pub rows_of : SourceValue → FiltersValue → RecordingValue → List RowValue

@@ -76,7 +76,7 @@ lines_to_run observed r repair = map (λ n. unknown_line n Need) (filter (is_to_
 -- text isn't; lines that a recorder saw are those that it observed and that have to be run.
 abbrev pub recorded_unknown : SourceValue → RecordingValue → Repair → List UnknownLine
 recorded_unknown Played r repair = unknown_lines_of r
-recorded_unknown (Seen observed) r repair = lines_to_run observed r repair
+recorded_unknown (Seen seen) r repair = lines_to_run seen.observed r repair
 
 abbrev pub first_obstacle : Option Obstacle → Option Obstacle → Option Obstacle
 first_obstacle None other = other

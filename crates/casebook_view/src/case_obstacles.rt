@@ -28,7 +28,7 @@ fn recorded_unknown(alloc: Global, case: &Case<'_>) -> Result<Vec<UnknownLine>, 
 {
     match case.source() {
         Source::Played => unknown_lines(alloc, case.recording()),
-        Source::Seen(observed) => lines_to_run(alloc, case, observed),
+        Source::Seen(seen) => lines_to_run(alloc, case, seen.observed),
     }
 }
 

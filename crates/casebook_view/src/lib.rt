@@ -4,9 +4,9 @@
 //! wrote, and with why it isn't understood if it isn't.
 //!
 //! A [`Source`] says where the lines come from. They were played in Retro's shell, or a recorder
-//! saw them on a machine. Of the latter some stand as they were observed, whatever Retro's shell
-//! does with their texts; each other one did there what it does in Retro's shell. No recorded text
-//! is tested of such lines.
+//! saw them on a machine ([`Seen`]). Of the latter some stand as they were observed, whatever
+//! Retro's shell does with their texts; each other one did there what it does in Retro's shell. No
+//! recorded text is tested of such lines.
 //!
 //! A [`Case`] is a recording with its repair, and a [`Summary`] says what the repair would do: the
 //! [`Fate`] of each line, the paths to restore, the [`Notice`]s to people, the [`Leak`]s, the
@@ -121,7 +121,7 @@ pub use path_test::PathTest;
 pub use path_write::{PathWrite, WriteKind};
 pub use reason::{Reason, chain, reasons};
 pub use restoration::restorations;
-pub use source::Source;
+pub use source::{Seen, Source};
 pub use subject::Subject;
 pub use summary::Summary;
 pub use unknown::unknown_in;

@@ -34,6 +34,6 @@ pub(crate) fn unknown_of(
 {
     match source {
         Source::Played => unknown_lines(alloc, recording),
-        Source::Seen(numbers) => observed_lines(alloc, numbers),
+        Source::Seen(seen) => observed_lines(alloc, seen.observed),
     }
 }

@@ -1,4 +1,5 @@
 //! What rows are given: recordings, edits and repairs.
+use casebook_view::{Seen, Source};
 use retro_keep::{Edit, Recording, Script, keep_alone};
 use retro_log::{read_log, read_script};
 use retro_redo::{Repair, repair_alone};
@@ -65,4 +66,13 @@ pub fn repair_of(alloc: Global, recording: &Recording, edits: &[Edit]) -> Result
         Ok(repair) => Ok(repair),
         Err(_) => fail("the edits are refused"),
     }
+}
+
+/// Returns that a recorder saw the lines, of which these stand as they were observed.
+pub fn seen_source(observed: &[u32]) -> Source<'_> {
+    Source::Seen(Seen {
+        observed,
+        overlapping: &[],
+        outside: &[],
+    })
 }

@@ -1,6 +1,6 @@
 //! Rows of lines as texts.
 use crate::filters::{Patterns, tests_of, value_of};
-use crate::given::observed_of;
+use crate::given::{observed_of, seen_source};
 use crate::words::{obstacle_word, push_item, write_sign};
 use casebook_text::list_of_numbers;
 use casebook_view::{Filters, LineRow, Source, rows};
@@ -109,7 +109,7 @@ pub fn listed(
         None => listed_from(alloc, recording, Source::Played, call, fields),
         Some(list) => {
             let observed = observed_of(alloc, list)?;
-            let source = Source::Seen(observed.as_slice());
+            let source = seen_source(observed.as_slice());
             listed_from(alloc, recording, source, call, fields)
         }
     }

@@ -1,7 +1,7 @@
 //! The call that each row names, and the test that makes these calls.
 use crate::answers::answers;
 use crate::causes::{compensated, met};
-use crate::given::{edits_of, observed_of, recording_of, repair_of};
+use crate::given::{edits_of, observed_of, recording_of, repair_of, seen_source};
 use crate::listed::listed;
 use crate::parts::part;
 use crate::tables::{INCIDENTS, LISTED, SEEN, SHOWN, TREES};
@@ -88,7 +88,7 @@ fn seen(
     let edits = edits_of(alloc, list)?;
     let repair = repair_of(alloc, recording, edits.as_slice())?;
     let observed = observed_of(alloc, observed)?;
-    let source = Source::Seen(observed.as_slice());
+    let source = seen_source(observed.as_slice());
     let case = Case::of(alloc, recording, &repair, edits.as_slice(), source)?;
     of_case(alloc, &case, call, of)
 }

@@ -132,7 +132,7 @@ given: {"script":1,"tree":[["/f","610a"]],"sessions":[[1,"/",0,[]]],\
   "lines":[[1,1,"cat f"],[2,1,"ls"],[3,1,"cat g"]]} :: 1=cat f, 2=ls
 - show: 1 3 :: unknown => 1 need
 - show: 1 2 3 :: unknown => 1 need, 2 need
-- show: 1 2 3 :: looked => 1 1 again, 2 1 again
+- show: 1 2 3 :: looked => 1 1 text, 2 1 text
 - show: unknown => 2 command
 "##;
 

@@ -14,7 +14,7 @@ use Rattle.casebook_json.specs.Causes.{effect_data}
 use Rattle.casebook_json.specs.Counts.{counts_data}
 use Rattle.casebook_json.specs.Leaked.{leak_data}
 use Rattle.casebook_json.specs.Restore.{restoration_data}
-use Rattle.casebook_json.specs.Source.{observed_in, source_name}
+use Rattle.casebook_json.specs.Source.{observed_in, outside_in, overlapping_in, source_name}
 use Rattle.casebook_json.specs.Tell.{group_data}
 use Rattle.casebook_json.specs.Unknown.{unknown_data}
 use Rattle.casebook_json.specs.Values.{path_data}
@@ -30,12 +30,14 @@ document lines is_recording parts = object
     (member (codes "lines") lines
     (member (codes "looked") (array_of (map view parts.looked.items))
     (member (codes "observed") (array_of (map view parts.observed.items))
+    (member (codes "outside") (array_of (map view parts.outside.items))
+    (member (codes "overlapping") (array_of (map view parts.overlapping.items))
     (member (codes "recording") (boolean is_recording)
     (member (codes "restore") (array_of (map view parts.restore.items))
     (member (codes "show") (number_data 1)
     (member (codes "source") (string parts.source.now)
     (member (codes "tell") (array_of (map view parts.tell.items))
-    (member (codes "unknown") (array_of (map view parts.unknown.items)) no_members)))))))))))))
+    (member (codes "unknown") (array_of (map view parts.unknown.items)) no_members)))))))))))))))
 
 -- These are the parts of the document of a repair.
 pub record AreParts (summary : Summary) (restorations : List Restoration) (groups looks : List Group)
@@ -46,6 +48,8 @@ pub record AreParts (summary : Summary) (restorations : List Restoration) (group
   pub leaked : map view parts.leaked.items ≡ map (leak_data labels) summary.leaks.items
   pub looked : map view parts.looked.items ≡ map (λ group. group_data labels (group_value group)) looks
   pub observed : map view parts.observed.items ≡ map number_data (observed_in source)
+  pub outside : map view parts.outside.items ≡ map number_data (outside_in source)
+  pub overlapping : map view parts.overlapping.items ≡ map number_data (overlapping_in source)
   pub restore : map view parts.restore.items ≡ map restoration_data restorations
   pub named : parts.source.now ≡ source_name source
   pub tell : map view parts.tell.items ≡ map (λ group. group_data labels (group_value group)) groups

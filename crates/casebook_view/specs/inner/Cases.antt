@@ -8,7 +8,7 @@ use Rattle.retro_keep.specs.declared.edit.Edit.{Edit}
 use Rattle.retro_redo.specs.declared.repair.Repair.{Repair}
 use Rattle.retro_redo.specs.contracts.repair.Repair as repair_type
 use Rattle.casebook_cause.specs.Cause.{TwoRecordings}
-use Rattle.casebook_view.specs.Sources.{SourceValue, Played, Seen}
+use Rattle.casebook_view.specs.Sources.{SeenValue, SourceValue, Played, Seen}
 
 -- a recording, a repair of it, the edits of that repair, and where the lines come from
 pub record CaseValue : Type 0 where
@@ -20,21 +20,31 @@ pub record CaseValue : Type 0 where
 abbrev pub coded_repair : Coded Repair
 coded_repair = (repair_type.the_row).coded
 
--- a source is stored as the numbers of the observed lines, if a recorder saw the lines
-abbrev pub numbers_seen : SourceValue → Option (List ℕ)
-numbers_seen Played = None
-numbers_seen (Seen numbers) = Some numbers
+abbrev pub coded_numbers : Coded (List ℕ)
+coded_numbers = coded_list coded_ℕ
 
-abbrev pub source_seen : Option (List ℕ) → SourceValue
+-- what a recorder says is stored as pairs of lists
+abbrev pub coded_seen : Coded SeenValue
+coded_seen =
+    code_by (List ℕ × (List ℕ × List ℕ)) (coded× coded_numbers (coded× coded_numbers coded_numbers))
+    (λ s. (s.observed, (s.overlapping, s.outside)))
+    (λ p. record { observed = p.0; overlapping = p.1.0; outside = p.1.1 }) (λ _. refl)
+
+-- a source is stored as what a recorder says, if one saw the lines
+abbrev pub seen_in : SourceValue → Option SeenValue
+seen_in Played = None
+seen_in (Seen seen) = Some seen
+
+abbrev pub source_seen : Option SeenValue → SourceValue
 source_seen None = Played
-source_seen (Some numbers) = Seen numbers
+source_seen (Some seen) = Seen seen
 
-pub seen_again : (source : SourceValue) → source_seen (numbers_seen source) ≡ source
+pub seen_again : (source : SourceValue) → source_seen (seen_in source) ≡ source
 seen_again Played = refl
-seen_again (Seen numbers) = refl
+seen_again (Seen seen) = refl
 
 abbrev pub coded_source : Coded SourceValue
-coded_source = code_by (Option (List ℕ)) (coded_option (coded_list coded_ℕ)) numbers_seen source_seen seen_again
+coded_source = code_by (Option SeenValue) (coded_option coded_seen) seen_in source_seen seen_again
 
 -- a recording with its repair, the edits and the source is stored as pairs of them
 abbrev pub coded_case : Coded CaseValue

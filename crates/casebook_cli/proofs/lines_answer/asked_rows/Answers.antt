@@ -3,7 +3,7 @@ use Rattle.casebook_about.specs.Rows.{time_view}
 use Rattle.casebook_view.specs.Filters.{FiltersValue, filters_of}
 use Rattle.casebook_view.specs.Rows.{row_value, rows_of}
 use Rattle.casebook_view.specs.Sources.{SourceValue}
-use Rattle.casebook_cli.specs.Labels.{observed_by, source_by}
+use Rattle.casebook_cli.specs.Labels.{seen_by, source_by}
 use Rattle.casebook_cli.specs.Typed.{typed}
 use Rattle.casebook_cli.specs.Lines.{HasUser, user_tests}
 use Rattle.casebook_cli.specs.Tests.{test_view}
@@ -31,7 +31,7 @@ returns-clause-ok c =
           ∙ ap (typed request.bounds (map time_view known.times.items))
           (c.in_ok-found.ensures
           ∙ ap (λ (at : SourceValue). rows_of at (filters_of c.in_ok-filters.filters) c.args.account.now.recording)
-          (c.source_by.ensures ∙ ap source_by c.in_ok-observed.ensures)
-          ∙ ap (λ (f : FiltersValue). rows_of (source_by (observed_by c.args.account.now.machine)) f
+          (c.source_by.ensures ∙ ap source_by c.in_ok-seen.ensures)
+          ∙ ap (λ (f : FiltersValue). rows_of (source_by (seen_by c.args.account.now.machine)) f
           c.args.account.now.recording) c.in_ok-filters.ensures);
     }

@@ -93,7 +93,7 @@ returns-clause-ok g c =
         };
       };
       labels = c.in_ok-labels.ensures.ok;
-      observed = c.in_ok-observed.ensures;
+      seen = c.in_ok-seen.ensures;
     }
 
 pub returns-clause-rise : goal.returns-clause-rise

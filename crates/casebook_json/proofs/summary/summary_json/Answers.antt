@@ -19,7 +19,7 @@ returns-clause-text c rising =
     let none : has_float (view c.in_ok-value.value) ≡ false =
     ap has_float written
     ∙ summary_float sheet.recording.now sheet.summary.now sheet.restorations.now sheet.groups.now
-    sheet.is_recording (source_view sheet.source) c.args.labels.now in
+    sheet.looks.now sheet.is_recording (source_view sheet.source) c.args.labels.now in
     c.in_ok-push.ensures.bytes
     ∙ ap (λ text. text ++ codes "\n") (c.in_ok-text.ensures.text none ∙ ap compact_text written)
 
@@ -31,7 +31,7 @@ returns-clause-read c rising =
     let low : depth (view c.in_ok-value.value) ≤ max_depth =
     subst (λ d. depth d ≤ max_depth) (sym written)
     (summary_low sheet.recording.now sheet.summary.now sheet.restorations.now sheet.groups.now
-    sheet.is_recording (source_view sheet.source) c.args.labels.now) in
+    sheet.looks.now sheet.is_recording (source_view sheet.source) c.args.labels.now) in
     let texts = c.in_ok-text.ensures in
     ap read c.in_ok-push.ensures.bytes
     ∙ newline_reads _ texts.order.0 texts.compact texts.order.1
