@@ -3,3 +3,4 @@ mod Fronts
 mod Printed
 pub mod Rising
 mod Telling
+mod Untouched

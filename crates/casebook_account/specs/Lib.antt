@@ -4,3 +4,4 @@ pub mod Accounts
 pub mod Edits
 pub mod Ours
 pub mod Shown
+pub mod Untouched

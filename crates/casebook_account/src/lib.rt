@@ -28,10 +28,13 @@
 //!   [`Account::shown_lines`] returns rise if those that it is given do.
 //! - [`Account::shown`] returns the recording that `specs/Shown.antt` defines [`ok`]. It fails only
 //!   if that has no such recording's form [`err`], which isn't known to be possible.
+//! - What no line touches can be left out of the first state: it changes no note and no output
+//!   ([`what_no_line_touches_changes_nothing`]).
 #![tactic(auto)]
 
 mod account;
 mod account_fault;
+mod laws;
 mod machine_line;
 mod ours;
 mod reading;
@@ -41,6 +44,7 @@ mod text_edits;
 
 pub use account::{Account, Machine};
 pub use account_fault::AccountFault;
+pub use laws::what_no_line_touches_changes_nothing;
 pub use machine_line::MachineLine;
 pub use reading::{read_account, read_shown};
 
