@@ -86,7 +86,11 @@ fn page_of_case(alloc: Global, case: &Case<'_>, given: Given<'_>) -> Result<Stri
 }
 
 /// Returns the page of a script with some lines edited, whatever the given cancelled lines are.
-pub(crate) fn page_by(alloc: Global, given: Given<'_>, edits: &[Edit]) -> Result<String, Fail> {
+pub(crate) fn page_by<'g>(
+    alloc: Global,
+    given: Given<'g>,
+    edits: &'g [Edit],
+) -> Result<String, Fail> {
     let recording = recording_of(alloc, given.script)?;
     let repair = repair_of(alloc, &recording, edits)?;
     let case = Case::of(alloc, &recording, &repair, edits, given.source)?;

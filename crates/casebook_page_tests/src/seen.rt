@@ -162,6 +162,11 @@ fn hold(alloc: Global, observed: &[u32], wanted: &[(&str, usize)]) -> Result<(),
     Ok(())
 }
 
+/// Returns the page of the script with edits, if these lines were observed.
+fn edited<'g>(alloc: Global, observed: &'g [u32], edits: &'g [Edit]) -> Result<String, Fail> {
+    page_by(alloc, given(seen(observed), true), edits)
+}
+
 #[test]
 fn lines_have_to_be_run(rt: HostRuntime) -> Result<(), Fail> {
     let alloc = rt.alloc();
@@ -182,8 +187,7 @@ fn observed_lines_are_replaced(rt: HostRuntime) -> Result<(), Fail> {
     let alloc = rt.alloc();
     let mut edits = Vec::new(alloc);
     edits.push(Edit::Replace(3, Text::of(String::from_str(alloc, "ls")?)))?;
-    let given = given(seen(&[2, 3]), true);
-    let page = page_by(alloc, given, edits.as_slice())?;
+    let page = edited(alloc, &[2, 3], edits.as_slice())?;
     hold_counts(alloc, page.as_str(), &REPLACED)
 }
 

@@ -101,7 +101,7 @@ ends: restore account --cancel 1 --root empty --at /srv =>
 | differs /srv/p: 1 line, 4 bytes / no such file
 | Paths are shown as recorded / as repaired, and where the folder differs as recorded / as in the folder.
 
-ends: compare account empty =>
+ends: compare account folder --skip /d --skip /f =>
 | 4 as recorded 1, not as recorded 4, skipped 0
 | /srv: a directory / no such file; no line wrote to it
 | /srv/p: 1 line, 4 bytes / no such file; last written by 1

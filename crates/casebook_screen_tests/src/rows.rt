@@ -60,11 +60,11 @@ fn of_case(alloc: Global, case: &Case<'_>, asked: Asked<'_>) -> Result<String, F
 }
 
 /// Returns what the repair of a recording by edits answers.
-fn of_repair(
+fn of_repair<'r>(
     alloc: Global,
-    recording: &Recording,
-    edits: &[Edit],
-    repair: &Repair,
+    recording: &'r Recording,
+    edits: &'r [Edit],
+    repair: &'r Repair,
     asked: Asked<'_>,
 ) -> Result<String, Fail> {
     let seen = seen_of(alloc, asked.kind)?;

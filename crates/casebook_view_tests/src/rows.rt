@@ -45,11 +45,11 @@ fn of_case(alloc: Global, case: &Case<'_>, call: &str, of: &str) -> Result<Strin
 }
 
 /// Returns the result of a call on a repair, as text.
-fn of_repair(
+fn of_repair<'r>(
     alloc: Global,
-    recording: &Recording,
-    repair: &Repair,
-    edits: &[Edit],
+    recording: &'r Recording,
+    repair: &'r Repair,
+    edits: &'r [Edit],
     call: &str,
     of: &str,
 ) -> Result<String, Fail> {
