@@ -1,6 +1,6 @@
 -- The words of a text, for finding the paths that it names. They are more than the words that a
 -- shell reads, and know nothing of its grammar.
-use Rattle.std.specs.Prelude.{ℕ, ◌==◌, Bool, List, ◌∷◌, ◌++◌, codes}
+use Rattle.std.specs.Prelude.{ℕ, ◌==◌, ◌-◌, Bool, List, ◌∷◌, ◌++◌, codes, drop, length, take}
 use Rattle.std.specs.List.{list_any, slice_split}
 use Rattle.retro_path.specs.Ascii.{newline}
 
@@ -20,7 +20,15 @@ is_separator b = list_any (λ c. c == b) separators
 abbrev pub is_quote : ℕ → Bool
 is_quote b = list_any (λ c. c == b) (codes "'\"")
 
--- The parts between separators, and the parts between quotes, taken as they are: so a name in
--- quotes is a word, whatever bytes it has. Some words are empty.
+-- parts without the first and the last one
+abbrev pub inner_parts : List (List ℕ) → List (List ℕ)
+inner_parts parts = take (length parts - 2) (drop 1 parts)
+
+-- the parts between two quotes, taken as they are: so a name in quotes is a word, whatever bytes it
+-- has; and so is what stands between two names in quotes
+abbrev pub quoted_words : List ℕ → List (List ℕ)
+quoted_words text = inner_parts (slice_split is_quote text)
+
+-- The parts between separators, and the parts between two quotes. Some words are empty.
 unfoldable pub words_of : List ℕ → List (List ℕ)
-words_of text = slice_split is_separator text ++ slice_split is_quote text
+words_of text = slice_split is_separator text ++ quoted_words text

@@ -7,7 +7,7 @@ given: /tmp/ /srv/ /srv/a=old /srv/t=/tmp/x @/srv ?0
 - told: =echo_-n_new_>_a ?0 /srv/a=new => modelled: [echo -n new > a] needs \
   /.casebook/shell/1;
 - told: =echo_-n_new_>_a ?0 /srv/a=newer => observed: [cp /.casebook/1/1 /srv/a] needs /srv/a \
-  /srv/echo /srv/-n /srv/new /srv/echo -n new > a directory /.casebook/shell/1;
+  /srv/echo /srv/-n /srv/new directory /.casebook/shell/1;
 - told: x ?0 /srv/a=older => observed: [cat /.casebook/1/1 >> /srv/a] needs /srv/x directory \
   /.casebook/shell/1;
 - told: x ?0 /srv/a=ol => observed: [cp /.casebook/1/1 /srv/a] needs /srv/a /srv/x directory \
@@ -16,7 +16,7 @@ given: /tmp/ /srv/ /srv/a=old /srv/t=/tmp/x @/srv ?0
   /.casebook/shell/1;
 - told: x ?3 </srv/t */srv => observed: [false] needs /srv/t /srv/ /srv/x /tmp/x directory \
   /.casebook/shell/1;
-- told: $v ?0 => observed: [true] needs /srv/v /srv/$v $v directory /.casebook/shell/1;
+- told: $v ?0 => observed: [true] needs /srv/v $v directory /.casebook/shell/1;
 
 - told: x ?0 /srv/b=q :: =cat_b_>_c ?0 /srv/c=q => observed: [cp /.casebook/1/1 /srv/b] needs \
   /srv/x directory /.casebook/shell/1;modelled: [cat b > c] needs /.casebook/shell/1;
@@ -25,7 +25,7 @@ given: /tmp/ /srv/ /srv/a=old /srv/t=/tmp/x @/srv ?0
   /.casebook/shell/1;
 - told: x ?3 :: =echo_$?_>_b ?0 /srv/b=3%(NL) => observed: [false] needs /srv/x directory \
   /.casebook/shell/1;observed: [cp /.casebook/2/1 /srv/b] needs /srv/echo /srv/? /srv /srv/b \
-  /srv/echo $? > b /srv/ status directory /.casebook/shell/1;
+  /srv/ status directory /.casebook/shell/1;
 
 - recorded: =echo_-n_1_>_b ?0 /srv/b=1 :: x ?0 w*5000 :: =true ?0 => \
   1 [echo -n 1 > b] /.casebook/shell/1;2 [w='%(n*4086)'] /srv/x;3 [w=$w'%(n*914)'] $w;\
