@@ -84,25 +84,34 @@ begun_line records r extent span seen overlapping = record {
   overlapping = overlapping;
 }
 
+-- whether nothing was changed
+abbrev pub is_unchanged : SeenValue → Bool
+is_unchanged seen = length seen.changes == 0
+
+abbrev pub only_changes : SeenValue → SeenValue
+only_changes seen = record { changes = seen.changes; read = []; listed = [] }
+
 abbrev pub nobodys_line : Record → SeenValue → LineValue
 nobodys_line r seen = record {
   owner = owners.Nobody;
   extent = extents.Part;
   shown = r;
   text = None;
-  seen = seen;
+  seen = only_changes seen;
   overlapping = [];
 }
 
--- What is seen while no line closes is of the active line that began first, or nobody's.
-abbrev pub part_of : List Record → Record → List Span → SeenValue → LineValue
-part_of records r [] seen = nobodys_line r seen
-part_of records r (span ∷ rest) seen =
-    begun_line records r extents.Part span seen (overlapping_in (span ∷ rest) seen)
+-- What is changed while no line is active is nobody's. What is only read then is of no line, since
+-- nobody can say what rests on it.
+abbrev pub nobodys_in : Record → SeenValue → List LineValue
+nobodys_in r seen = if is_unchanged seen then [] else nobodys_line r seen ∷ []
 
+-- What is seen while no line closes is of the active line that began first, or nobody's.
 abbrev pub parts_in : List Record → Record → List Span → SeenValue → List LineValue
-parts_in records r active seen =
-    if is_nothing seen then [] else part_of records r active seen ∷ []
+parts_in records r [] seen = nobodys_in r seen
+parts_in records r (span ∷ rest) seen =
+    if is_nothing seen then []
+    else begun_line records r extents.Part span seen (overlapping_in (span ∷ rest) seen) ∷ []
 
 -- If one line is cut off and another one ends, what is seen is of the first one if no other line is
 -- active, and else of the second one.
@@ -162,3 +171,19 @@ seen_from_place first os at (o ∷ rest) =
 -- what observations show, one after the other
 abbrev pub seen_after : Sights → List Observed → List SeenValue
 seen_after first os = seen_from_place first os 0 os
+
+-- what counts of what is seen while these lines are active: if there is none, changes alone
+abbrev pub counted : List Span → SeenValue → SeenValue
+counted [] seen = only_changes seen
+counted (span ∷ rest) seen = seen
+
+-- what counts of these observations, of which the first one is that at `at`
+abbrev pub counted_from_place : Sights → List Observed → ℕ → List Observed → List SeenValue
+counted_from_place first os at [] = []
+counted_from_place first os at (o ∷ rest) =
+    counted (active_in os at) (seen_by (sights_before first os at) o.noted)
+    ∷ counted_from_place first os (at + 1) rest
+
+-- what counts of observations, one after the other
+abbrev pub counted_after : Sights → List Observed → List SeenValue
+counted_after first os = counted_from_place first os 0 os

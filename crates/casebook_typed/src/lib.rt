@@ -11,8 +11,9 @@
 //! - A line waits from the observation after one at which a session started from its own, until it
 //!   closes. A line that is open and doesn't wait is *active*.
 //! - What is seen at an observation is of the line that closes there, or else a part of the active
-//!   line that began first, or nobody's (`specs/Lines.antt`). If one line is cut off and another
-//!   one ends, it is of the first one if no other line is active, and else of the second one.
+//!   line that began first (`specs/Lines.antt`). While no line is active, what is changed is
+//!   nobody's, and what is only read is of no line. If one line is cut off and another one ends, it
+//!   is of the first one if no other line is active, and else of the second one.
 //! - It is what was changed, read and listed between the sights before the observation and those of
 //!   its look, by the tests of `casebook_watch` (`specs/Looks.antt`). What the recorder read itself
 //!   comes after the look, and is nobody's.
@@ -35,8 +36,9 @@
 //!   [`contradiction`].
 //! - What an observation shows is found by the paths that its notes name alone. That it is what
 //!   whole sights show is part of the proof of `lines`.
-//! - Each change, each reading and each listing that observations show is of exactly one line, in
-//!   the order of the observations, and lines have no others (`what_is_seen_is_of_one_line`).
+//! - Each change that observations show, and each reading and each listing while a line is active,
+//!   is of exactly one line, in the order of the observations, and lines have no others
+//!   (`what_is_seen_is_of_one_line`).
 //! - [`observations`] splits the items of the file `lines` at its records.
 #![tactic(auto)]
 

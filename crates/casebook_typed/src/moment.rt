@@ -1,9 +1,9 @@
 //! The lines of one observation.
 ghost use Rattle.std.specs.Prelude.{◌≡◌, ◌++◌, IfOk, OnOk, Some, map, option_map};
 ghost use Rattle.std.specs.List.{find};
-ghost use Rattle.casebook_typed.specs.Lines.{begun_line, closes, is_nothing, lines_at, lines_by};
-ghost use Rattle.casebook_typed.specs.Lines.{name_of, nothing_seen, overlapping_in, part_of};
-ghost use Rattle.casebook_typed.specs.Lines.{parts_in, text_at, text_of, whole_line};
+ghost use Rattle.casebook_typed.specs.Lines.{begun_line, closes, is_nothing, is_unchanged};
+ghost use Rattle.casebook_typed.specs.Lines.{lines_at, lines_by, name_of, nobodys_in, nothing_seen};
+ghost use Rattle.casebook_typed.specs.Lines.{overlapping_in, parts_in, text_at, text_of, whole_line};
 ghost use Rattle.casebook_typed.specs.Seeing.{said};
 ghost use Rattle.casebook_typed.specs.Values.{line_value, seen_value};
 
@@ -34,6 +34,14 @@ fn is_nothing(seen: &Seen<'_>) -> bool
     ensures { result ≡ is_nothing (seen_value seen.now) }
 {
     seen.changes.is_empty() && seen.read.is_empty() && seen.listed.is_empty()
+}
+
+/// Returns whether nothing was changed.
+#[tactic(auto, using(crate::proofs::Lines::unchanged_in))]
+fn is_unchanged(seen: &Seen<'_>) -> bool
+    ensures { result ≡ is_unchanged (seen_value seen.now) }
+{
+    seen.changes.is_empty()
 }
 
 /// Returns that nothing was seen. Takes no memory.
@@ -170,22 +178,55 @@ impl<'o, 'a> Moment<'o, 'a> {
         }
     }
 
-    /// Returns the line of what was seen while no line closed.
-    fn part(&self, alloc: Global, seen: Seen<'a>) -> Result<TypedLine<'a>, NoMem>
-        ensures { IfOk result (λ line. line_value line
-            ≡ part_of (map said self.now.observations.now) self.now.record.now self.now.active.now (seen_value seen.entry)) }
+    /// Appends the line of what was changed while no line was active, if something was.
+    fn push_nobodys(
+        &self,
+        alloc: Global,
+        lines: &mut Vec<TypedLine<'a>>,
+        seen: Seen<'a>,
+    ) -> Result<(), NoMem>
+        ensures { OnOk result (map line_value lines.new.items ≡ map line_value lines.old.items
+            ++ nobodys_in self.now.record.now (seen_value seen.entry)) }
     {
-        let overlapping = self.overlapping(alloc, &seen)?;
+        if is_unchanged(&seen) {
+            return Ok(());
+        }
+        lines.push(TypedLine {
+            owner: Owner::Nobody,
+            extent: Extent::Part,
+            shown: self.record,
+            text: None,
+            seen: Seen {
+                changes: seen.changes,
+                read: Vec::new(alloc),
+                listed: Vec::new(alloc),
+            },
+            overlapping: Vec::new(alloc),
+        })?;
+        Ok(())
+    }
+
+    /// Appends the line of what was seen while no line closed, if something was.
+    fn push_part(
+        &self,
+        alloc: Global,
+        lines: &mut Vec<TypedLine<'a>>,
+        seen: Seen<'a>,
+    ) -> Result<(), NoMem>
+        ensures { OnOk result (map line_value lines.new.items ≡ map line_value lines.old.items
+            ++ parts_in (map said self.now.observations.now) self.now.record.now
+            self.now.active.now (seen_value seen.entry)) }
+    {
         match self.active {
-            [span, ..] => Ok(self.begun(Extent::Part, span, seen, overlapping)),
-            [] => Ok(TypedLine {
-                owner: Owner::Nobody,
-                extent: Extent::Part,
-                shown: self.record,
-                text: None,
-                seen,
-                overlapping: Vec::new(alloc),
-            }),
+            [] => self.push_nobodys(alloc, lines, seen),
+            [span, ..] => {
+                if is_nothing(&seen) {
+                    return Ok(());
+                }
+                let overlapping = self.overlapping(alloc, &seen)?;
+                lines.push(self.begun(Extent::Part, span, seen, overlapping))?;
+                Ok(())
+            }
         }
     }
 
@@ -239,12 +280,7 @@ impl<'o, 'a> Moment<'o, 'a> {
                 lines.push(self.whole(&ended, seen, overlapping))?;
                 Ok(())
             }
-            (None, None) => {
-                if !is_nothing(&seen) {
-                    lines.push(self.part(alloc, seen)?)?;
-                }
-                Ok(())
-            }
+            (None, None) => self.push_part(alloc, lines, seen),
         }
     }
 }

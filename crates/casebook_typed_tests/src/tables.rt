@@ -22,6 +22,9 @@ lines: none :: begin A 1 a, file /f 5 5, end A 1 a, begin B 1 b, file /g 6 6, en
 lines: none :: begin A 1 a, file /f 5 5, end A 1 a, file /g 6 6, begin A 2 b, end A 2 b
   => 1.1 whole [a] /f; nobody part /g; 1.2 whole [b]
 lines: none :: file /g 6 6, start A - => nobody part /g
+lines: file /f 1 1, dir /d 1 :: file /f 1 9, dir /d 9, start A - => nothing
+lines: file /f 1 1, dir /d 1, file /g 1 1 :: file /f 1 9, dir /d 9, file /g 3 9, start A -
+  => nobody part /g
 
 lines: none :: begin A 1 a, begin B 1 b, file /f 5 5, end B 1 b, end A 1 a
   => 2.1 whole [b] /f or 1.1 or 2.1; 1.1 whole [a]
