@@ -54,7 +54,7 @@ are_any [] [] = false
 are_any [] (u ∷ unread) = true
 are_any (c ∷ changed) unread = true
 
--- whether a path isn't as recorded, or was skipped though it is recorded
+-- whether a path isn't as recorded, or was skipped though a snapshot should have it
 abbrev pub has_differences : Comparison → Bool
 has_differences c = are_any c.different.items c.unread.items
 

@@ -5,7 +5,7 @@
 //!
 //! A snapshot tells nothing of what it skipped, nor of what isn't below the path at which the
 //! folder is put. So these paths aren't compared, but those that are recorded and were skipped are
-//! named.
+//! named, unless what is recorded stands for a link, a device or a file that isn't kept.
 //!
 //! If allocation fails, calls return `NoMem`.
 //!

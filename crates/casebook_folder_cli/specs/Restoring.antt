@@ -1,11 +1,10 @@
 -- Answers to requests for restores.
-use Rattle.std.specs.Prelude.{◌≡◌, ℕ, Bool, true, false, not, ◌&&◌, List, None, Ok, codes, is_some, map}
+use Rattle.std.specs.Prelude.{◌≡◌, ℕ, Bool, true, false, not, ◌&&◌, List, [], None, Ok, codes, is_some, map}
 use Rattle.std.specs.BTreeMap.{BTreeMap, get_by}
-use Rattle.std.specs.List.{list_all}
 use Rattle.retro_path.specs.Order.{path_cmp}
 use Rattle.retro_path.specs.Path.{PathValue}
 use Rattle.retro_tree.specs.Tree.{Tree}
-use Rattle.casebook_folder.specs.Plans.{AreSeenRows, can_be_restored}
+use Rattle.casebook_folder.specs.Plans.{AreSeenRows}
 use Rattle.casebook_folder.specs.Remaining.{undo}
 use Rattle.casebook_folder.specs.declared.attributes.Attributes.{Attributes}
 use Rattle.casebook_folder.specs.declared.given.GivenAttributes.{GivenAttributes}
@@ -13,6 +12,7 @@ use Rattle.casebook_folder_cli.specs.Folders.{AllFolders}
 use Rattle.casebook_folder_cli.specs.RestoreWords.{RestoreValue, UndoValue}
 use Rattle.casebook_folder_cli.specs.declared.folders.Owner.{Owner}
 use Rattle.casebook_folder_cli.specs.declared.restoring.RestoreAnswer.{RestoreAnswer}
+use Rattle.casebook_restore.specs.Plans.{can_be_carried_out}
 use Rattle.casebook_restore.specs.Restores.{IsRestorePlan}
 use Rattle.casebook_restore.specs.Restores as restores
 use Rattle.casebook_restore.specs.RowPlans.{planned_in}
@@ -46,7 +46,8 @@ task_of request recorded repaired given = record {
 }
 
 -- The answer is the plan that brings the folder, as it was when it was opened, from a recorded to a
--- repaired tree, in lines. It is no if the folder is neither ready for a path nor done with it.
+-- repaired tree, in lines. It is no if what was at a path isn't kept, or if the folder is neither
+-- ready for it nor done with it.
 pub record IsRestoreAnswer (folders : AllFolders) (request : RestoreValue) (recorded repaired : Tree)
     (answer : RestoreAnswer) : Type 0 where
   pub owner : Owner
@@ -56,8 +57,8 @@ pub record IsRestoreAnswer (folders : AllFolders) (request : RestoreValue) (reco
   pub is_plan : IsRestorePlan (task_of request recorded repaired given) plan
   pub seen : AreSeenRows (folders.opened request.root request.at) plan.rows.items
   pub lines : answer.lines.items ≡ plan_lines plan
-  pub is_no : answer.is_no ≡ not (list_all can_be_restored plan.rows.items)
-  pub remark : answer.remark ≡ said_of (list_all can_be_restored plan.rows.items && is_some request.undo)
+  pub is_no : answer.is_no ≡ not (can_be_carried_out plan)
+  pub remark : answer.remark ≡ said_of (can_be_carried_out plan && is_some request.undo)
 
 -- The answer says how the folder, as it was when it was opened, is to each row that takes back one
 -- of the undo file. It is no if it is neither ready for a row nor done with it.
@@ -67,8 +68,9 @@ pub record IsUndoAnswer (folders : AllFolders) (request : UndoValue) (bytes : Li
   pub is_file : undo_in bytes ≡ Ok file
   pub plan : RestorePlan
   pub rows : plan.rows.items ≡ map (planned_in (folders.opened request.root file.at)) (undo file.rows)
+  pub unkept : plan.unkept.items ≡ []
   pub outside : plan.outside ≡ 0
   pub left_out : plan.left_out ≡ 0
   pub lines : answer.lines.items ≡ plan_lines plan
-  pub is_no : answer.is_no ≡ not (list_all can_be_restored plan.rows.items)
-  pub remark : answer.remark ≡ said_of (list_all can_be_restored plan.rows.items && request.apply)
+  pub is_no : answer.is_no ≡ not (can_be_carried_out plan)
+  pub remark : answer.remark ≡ said_of (can_be_carried_out plan && request.apply)

@@ -1,12 +1,12 @@
 //! Answers to requests for restores.
 ghost use Rattle.std.specs.Prelude.{◌≡◌, ◌&&◌, IfErr, IfOk, IfSome, false, is_none, is_some, true};
-ghost use Rattle.std.specs.List.{list_all};
-ghost use Rattle.casebook_folder.specs.Plans.{AreSeenRows, can_be_restored};
+ghost use Rattle.casebook_folder.specs.Plans.{AreSeenRows};
 ghost use Rattle.casebook_folder.specs.Steps.{after_steps};
 ghost use Rattle.casebook_folder_cli.specs.Faults.{fault_of_look, fault_of_steps, is_unfinished};
 ghost use Rattle.casebook_folder_cli.specs.Restoring.{IsGiven, IsRestoreAnswer, said_of};
 ghost use Rattle.casebook_folder_cli.specs.Views.{restore_view};
 ghost use Rattle.casebook_restore.specs.Carrying.{IsRepaired};
+ghost use Rattle.casebook_restore.specs.Plans.{can_be_carried_out};
 ghost use Rattle.casebook_restore.specs.Restores.{IsRestorePlan, RestoreValue};
 ghost use Rattle.casebook_restore.specs.Views.{task_view};
 
@@ -27,7 +27,7 @@ use std::collections::BTreeMap;
 pub struct RestoreAnswer {
     /// The plan: how many paths are in which state, and each path.
     pub lines: Vec<SafeLine>,
-    /// Whether a path is neither ready nor done, so that nothing is changed.
+    /// Whether a path is neither ready nor done, or can't be restored, so that nothing is changed.
     pub is_no: bool,
     /// Whether the folder was restored, or nothing was changed.
     pub remark: SafeLine,
@@ -130,8 +130,8 @@ fn carry_if_asked<D: Folders>(
     }
 }
 
-/// Carries out a plan, if the folder is ready for each path or done with it, and if that is asked
-/// for, and returns whether it is.
+/// Carries out a plan, if what was at each path is kept and the folder is ready for it or done with
+/// it, and if that is asked for, and returns whether it is.
 fn carry_if_ready<D: Folders>(
     alloc: Global,
     folders: &D,
@@ -140,7 +140,7 @@ fn carry_if_ready<D: Folders>(
     plan: &RestorePlan,
 ) -> Result<bool, RestoreFault>
     ensures { IfOk result (λ is_done. is_done
-        ≡ (list_all can_be_restored plan.now.rows.items && is_some request.now.undo)) }
+        ≡ (can_be_carried_out plan.now && is_some request.now.undo)) }
 {
     if !plan.can_be_carried_out() {
         return Ok(false);
@@ -165,7 +165,7 @@ fn plan_of<F: Folder>(
 }
 
 /// Plans a restore of a folder from a recorded to a repaired tree, and carries it out if that is
-/// asked for and the folder is ready for each path or done with it.
+/// asked for, what was at each path is kept, and the folder is ready for it or done with it.
 pub fn restore_answer<'a, D: Folders>(
     alloc: Global,
     folders: &D,

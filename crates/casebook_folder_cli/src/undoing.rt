@@ -1,12 +1,11 @@
 //! Answers to requests that take restores back.
-ghost use Rattle.std.specs.Prelude.{◌≡◌, ◌&&◌, ℕ, List, Ok, IfOk, IfSome, Some, false, map, true};
-ghost use Rattle.std.specs.List.{list_all};
+ghost use Rattle.std.specs.Prelude.{◌≡◌, ◌&&◌, [], ℕ, List, Ok, IfOk, IfSome, Some, false, map, true};
 ghost use Rattle.casebook_folder.specs.Moments.{IsRestored};
 ghost use Rattle.casebook_folder.specs.Parts.{HaveNoParts};
-ghost use Rattle.casebook_folder.specs.Plans.{can_be_restored};
 ghost use Rattle.casebook_folder.specs.Steps.{after_steps};
 ghost use Rattle.casebook_folder_cli.specs.Restoring.{IsUndoAnswer};
 ghost use Rattle.casebook_folder_cli.specs.Views.{undo_view};
+ghost use Rattle.casebook_restore.specs.Plans.{can_be_carried_out};
 ghost use Rattle.casebook_restore.specs.RowPlans.{planned_in};
 ghost use Rattle.casebook_undo.specs.Reading.{undo_in};
 ghost use Rattle.casebook_undo.specs.Reads.{file_view};
@@ -48,7 +47,7 @@ fn apply_if<D: Folders>(
     is_asked: bool,
 ) -> Result<bool, RestoreFault>
     ensures done { IfOk result (λ is_done. is_done
-        ≡ (list_all can_be_restored plan.now.rows.items && is_asked)) }
+        ≡ (can_be_carried_out plan.now && is_asked)) }
     // What is only planned changes nothing.
     ensures planned { is_asked ≡ false → D.Opened.made folder.new ≡ D.Opened.made folder.old }
     // After success the folder holds what the rows put at their paths, and is as it was elsewhere.
@@ -74,6 +73,7 @@ fn apply_if<D: Folders>(
 fn plan_of<F: Folder>(alloc: Global, folder: &F, rows: &Rows) -> Result<RestorePlan, RestoreFault>
     ensures rows { IfSome (F.first folder.now) (λ first. IfOk result (λ plan. plan.rows.items
         ≡ map (planned_in (after_steps (F.made folder.now) first)) rows.now.items.items)) }
+    ensures unkept { IfOk result (λ plan. plan.unkept.items ≡ []) }
     ensures outside { IfOk result (λ plan. plan.outside ≡ 0) }
     ensures left_out { IfOk result (λ plan. plan.left_out ≡ 0) }
 {

@@ -1,10 +1,7 @@
 -- What stands in a state for bytes that a spool doesn't have, or that a state can't hold.
-use Rattle.std.specs.Prelude.{ℕ, List, ◌++◌, codes}
+use Rattle.std.specs.Prelude.{ℕ, List, ◌++◌}
+use Rattle.casebook_opaque.specs.Opaque.{opaque_mark}
 use Rattle.casebook_rows.specs.Rows.{row_text}
-
--- the text with which all that stands for something else begins
-unfoldable pub opaque_mark : List ℕ
-opaque_mark = codes "not kept by casebook: "
 
 -- the mark, what it is, and fields that tell it from others
 unfoldable pub opaque : List ℕ → List (List ℕ) → List ℕ

@@ -1,7 +1,7 @@
 -- Which texts can mean to Retro's shell what they mean to the machine's, by their form.
-use Rattle.std.specs.Prelude.{ℕ, ◌&&◌, Bool, false, not, List, ◌++◌, map, nat_eq}
+use Rattle.std.specs.Prelude.{ℕ, ◌&&◌, Bool, false, not, List, ◌++◌, map}
 use Rattle.std.specs.Prelude.{Option, Some, None, is_none, if◌then◌else◌}
-use Rattle.std.specs.List.{list_any, starts_with}
+use Rattle.std.specs.List.{list_any}
 use Rattle.std.specs.Str.{is_utf8}
 use Rattle.retro_path.specs.Path.{PathValue, prefixes_of}
 use Rattle.retro_tree.specs.Node.{bytes_in}
@@ -18,17 +18,17 @@ use Rattle.casebook_typed.specs.Lines.{LineValue}
 use Rattle.casebook_typed.specs.Looks.{SeenValue}
 use Rattle.casebook_explain.specs.Places.{shell_path}
 use Rattle.casebook_import.specs.Effects.{ending, session_number}
-use Rattle.casebook_import.specs.Opaque.{opaque_mark}
+use Rattle.casebook_opaque.specs.Opaque.{is_opaque}
 
 -- ---- what stands for something else
 
-abbrev pub is_opaque : Option (List ℕ) → Bool
-is_opaque None = false
-is_opaque (Some bytes) = starts_with nat_eq bytes opaque_mark
+abbrev pub has_opaque : Option (List ℕ) → Bool
+has_opaque None = false
+has_opaque (Some bytes) = is_opaque bytes
 
 -- whether a path, or one above it, holds a text that stands for something else
 abbrev pub is_in_opaque : State → PathValue → Bool
-is_in_opaque s p = list_any (λ q. is_opaque (bytes_in (node_in q s.tree))) (prefixes_of p)
+is_in_opaque s p = list_any (λ q. has_opaque (bytes_in (node_in q s.tree))) (prefixes_of p)
 
 -- whether one of some paths does
 abbrev pub touch_opaque : State → List PathValue → Bool

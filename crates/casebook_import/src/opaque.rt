@@ -4,27 +4,21 @@ ghost use Rattle.hex.specs.Hex.{encode_lower};
 ghost use Rattle.sha2.specs.Sha256.{sha256};
 ghost use Rattle.casebook_rows.specs.Written.{escaped};
 ghost use Rattle.casebook_import.specs.Nodes.{version};
-ghost use Rattle.casebook_import.specs.Opaque.{opaque, opaque_mark};
+ghost use Rattle.casebook_import.specs.Opaque.{opaque};
+ghost use Rattle.casebook_opaque.specs.Opaque.{opaque_mark};
 
 use crate::NoMem;
+use casebook_opaque::opaque_mark;
 use casebook_rows::{push_digest, push_number, push_signed, push_text};
 use casebook_watch::Sight;
 use sha2::{Digest as _, Sha256};
 use std::alloc::Global;
 
-/// Returns the text with which all that stands for something else begins.
-#[tactic(auto, unfolding(crate::specs::Opaque::opaque_mark))]
-pub(crate) fn mark() -> &'static str
-    ensures { result.now ≡ opaque_mark }
-{
-    "not kept by casebook: "
-}
-
 /// Returns the beginning of a text that stands for something, by what that is.
 fn marked(alloc: Global, what: &str) -> Result<String, NoMem>
     ensures { IfOk result (λ text. string_bytes text ≡ opaque_mark ++ what.now) }
 {
-    let mut text = String::from_str(alloc, mark())?;
+    let mut text = String::from_str(alloc, opaque_mark())?;
     text.push_str(what)?;
     Ok(text)
 }

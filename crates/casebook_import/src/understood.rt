@@ -6,15 +6,15 @@ ghost use Rattle.retro_tree.specs.Node.{bytes_in};
 ghost use Rattle.retro_tree.specs.Tree.{node_in};
 ghost use Rattle.casebook_typed.specs.Values.{change_value, line_value, seen_value};
 ghost use Rattle.casebook_import.specs.Effects.{session_number};
-ghost use Rattle.casebook_import.specs.Understood.{is_in_opaque, is_left, is_opaque};
+ghost use Rattle.casebook_import.specs.Understood.{has_opaque, is_in_opaque, is_left};
 ghost use Rattle.casebook_import.specs.Understood.{is_understood, named, text_if, touch_opaque};
 ghost use Rattle.casebook_import.specs.Understood.{touched, understood_text};
 
 use crate::NoMem;
 use crate::effects::{ending, var_in};
-use crate::opaque::mark;
 use casebook_explain::shell_path;
 use casebook_needs::paths_of;
+use casebook_opaque::is_opaque;
 use casebook_profile::obstacle_in;
 use casebook_shell::ShellRules;
 use casebook_typed::{PathChange, Seen, TypedLine};
@@ -23,21 +23,21 @@ use std::alloc::Global;
 use std::str::from_utf8;
 
 /// Returns whether what a file holds stands for something else.
-fn is_opaque(bytes: Option<&Bytes>) -> bool
-    ensures { result ≡ is_opaque (option_copied bytes.entry) }
+fn has_opaque(bytes: Option<&Bytes>) -> bool
+    ensures { result ≡ has_opaque (option_copied bytes.entry) }
 {
     match bytes {
-        Some(bytes) => bytes.as_slice().starts_with(mark().as_bytes()),
+        Some(bytes) => is_opaque(bytes.as_slice()),
         None => false,
     }
 }
 
 /// Returns whether one of some paths holds a text that stands for something else.
 fn are_opaque(state: &State, paths: &[Path]) -> bool
-    ensures { result ≡ list_any (λ q. is_opaque (bytes_in (node_in q state.now.tree))) paths.now }
+    ensures { result ≡ list_any (λ q. has_opaque (bytes_in (node_in q state.now.tree))) paths.now }
 {
     for path in paths {
-        if is_opaque(state.file(path)) {
+        if has_opaque(state.file(path)) {
             return true;
         }
     }

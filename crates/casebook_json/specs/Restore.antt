@@ -6,7 +6,7 @@ use Rattle.casebook_changes.specs.declared.changed_path.PathChange.TheVariants.{
 use Rattle.casebook_changes.specs.declared.changed_path.PathChange.TheVariants.{Removed, Modified}
 use Rattle.casebook_screen.specs.declared.restoration.Extent.{Extent}
 use Rattle.casebook_screen.specs.declared.restoration.Extent.TheVariants.{Directory}
-use Rattle.casebook_screen.specs.declared.restoration.Extent.TheVariants.{EmptyFile, Lines}
+use Rattle.casebook_screen.specs.declared.restoration.Extent.TheVariants.{EmptyFile, Lines, NotKept}
 use Rattle.casebook_screen.specs.declared.restoration.Extent.TheVariants.{ToDirectory, ToFile}
 use Rattle.casebook_screen.specs.declared.restoration.Restoration.{Restoration}
 use Rattle.casebook_json.specs.Values.{number_or_null, path_data}
@@ -21,6 +21,7 @@ extent_name Directory = codes "directory"
 extent_name EmptyFile = codes "empty_file"
 extent_name ToDirectory = codes "to_directory"
 extent_name ToFile = codes "to_file"
+extent_name NotKept = codes "not_kept"
 extent_name (Lines counts) = codes "lines"
 
 -- how many lines an extent adds and removes, if it is lines

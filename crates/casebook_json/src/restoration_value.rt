@@ -31,6 +31,7 @@ fn extent_name(extent: Extent) -> &'static str
         Extent::EmptyFile => "empty_file",
         Extent::ToDirectory => "to_directory",
         Extent::ToFile => "to_file",
+        Extent::NotKept => "not_kept",
         Extent::Lines(_) => "lines",
     }
 }

@@ -75,7 +75,8 @@ fn push_known(
     }
 }
 
-/// Appends how many bytes a cancelled line showed, unless it showed none.
+/// Appends how many bytes a cancelled line showed, unless it showed none. What an observed line
+/// showed isn't recorded.
 fn push_leak(
     html: &mut Html,
     alloc: Global,
@@ -89,6 +90,9 @@ fn push_leak(
             html.words(alloc, " seen")?;
             return html.fixed(Tag::LeakEnd);
         }
+    }
+    if contents.is_cancelled(number) && contents.is_observed(number) {
+        html.words(alloc, " what it showed isn't recorded")?;
     }
     Ok(())
 }

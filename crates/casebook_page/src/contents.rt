@@ -1,5 +1,5 @@
 //! What a page shows.
-use casebook_view::{Case, LineRow, Obstacle, Summary};
+use casebook_view::{Case, Fate, LineRow, Obstacle, Summary};
 use casebook_words::Labels;
 
 /// What a page shows.
@@ -47,8 +47,13 @@ impl<'a> Contents<'a, '_> {
         }
     }
 
+    /// Returns whether a line is cancelled.
+    pub(crate) fn is_cancelled(&self, number: u32) -> bool {
+        self.summary.fate_of(number) == Some(Fate::Cancelled)
+    }
+
     /// Returns whether a line was observed on a machine.
-    fn is_observed(&self, number: u32) -> bool {
+    pub(crate) fn is_observed(&self, number: u32) -> bool {
         match self.line(number) {
             Some(line) => line.obstacle == Some(Obstacle::Observed),
             None => false,

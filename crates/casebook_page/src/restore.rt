@@ -7,6 +7,7 @@ use crate::pair::{push_diff, push_preview};
 use crate::shown::{push_link, push_none, push_shown_path};
 use crate::tag::Tag;
 use casebook_changes::{ChangedPath, PathChange};
+use casebook_opaque::is_opaque;
 use casebook_view::Source;
 use retro_tree::{Ask, Entry, Path, Tree};
 use std::alloc::Global;
@@ -43,6 +44,14 @@ fn file_at<'a>(tree: &'a Tree, path: &Path) -> &'a [u8] {
     }
 }
 
+/// Returns whether there is a file that stands for what isn't kept.
+fn is_unkept(entry: Option<&Entry>) -> bool {
+    match entry {
+        Some(Entry::File(bytes)) => is_opaque(bytes.as_slice()),
+        _ => false,
+    }
+}
+
 /// Appends what comes, goes or becomes another kind at a path, unless lines say it.
 fn push_kind(
     html: &mut Html,
@@ -50,6 +59,9 @@ fn push_kind(
     before: Option<&Entry>,
     after: Option<&Entry>,
 ) -> Result<(), NoMem> {
+    if is_unkept(before) || is_unkept(after) {
+        return html.words(alloc, "not kept, restore by hand ");
+    }
     match (before, after) {
         (Some(Entry::Dir), None) | (None, Some(Entry::Dir)) => html.words(alloc, "directory"),
         (Some(Entry::Dir), Some(Entry::File(_))) => html.words(alloc, "becomes a file "),

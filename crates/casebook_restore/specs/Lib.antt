@@ -1,5 +1,6 @@
 pub mod Carrying
 pub mod Choices
+pub mod Plans
 pub mod Restores
 pub mod RowPlans
 pub mod Views

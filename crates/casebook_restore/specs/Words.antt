@@ -1,6 +1,6 @@
 -- Plans of restores in words.
-use Rattle.std.specs.Prelude.{ℕ, Bool, true, false, List, [], ◌∷◌, ◌++◌, codes, count_by, decimal, map}
-use Rattle.std.specs.Prelude.{◌/◌, ◌%◌}
+use Rattle.std.specs.Prelude.{ℕ, Bool, true, false, List, [], ◌∷◌, ◌++◌, codes, count_by, decimal, length, map}
+use Rattle.std.specs.Prelude.{◌+◌, ◌/◌, ◌%◌}
 use Rattle.retro_tree.specs.declared.answer.Answer.TheVariants.{Bytes}
 use Rattle.casebook_folder.specs.Plans.{is_ready_row}
 use Rattle.casebook_folder.specs.States.{is_done}
@@ -13,9 +13,10 @@ use Rattle.casebook_folder.specs.declared.planned_row.PlannedRow.{PlannedRow}
 use Rattle.casebook_folder.specs.declared.state.State.{State}
 use Rattle.casebook_folder.specs.declared.state.State.TheVariants.{Ready, Done, Differs, Blocked}
 use Rattle.casebook_words.specs.Difference.{difference_words}
-use Rattle.casebook_words.specs.Words.{path_words}
+use Rattle.casebook_words.specs.Words.{answer_words, path_words}
 use Rattle.casebook_restore.specs.RowPlans.{node_found}
 use Rattle.casebook_restore.specs.declared.task.RestorePlan.{RestorePlan}
+use Rattle.casebook_restore.specs.declared.task.UnkeptPath.{UnkeptPath}
 
 -- ---- modes and owners
 
@@ -112,13 +113,17 @@ is_blocked (Blocked o) = true
 abbrev pub is_blocked_row : PlannedRow → Bool
 is_blocked_row r = is_blocked r.state
 
+-- how many paths have something in their way, or had what isn't kept
+unfoldable pub count_blocked : RestorePlan → ℕ
+count_blocked plan = count_by is_blocked_row plan.rows.items + length plan.unkept.items
+
 -- how many paths are in each state, how many are outside of the folder, and how many aren't chosen
 unfoldable pub head_line : RestorePlan → List ℕ
 head_line plan =
     codes "ready " ++ decimal (count_by is_ready_row plan.rows.items)
     ++ codes ", done " ++ decimal (count_by is_done_row plan.rows.items)
     ++ codes ", differs " ++ decimal (count_by is_differing_row plan.rows.items)
-    ++ codes ", blocked " ++ decimal (count_by is_blocked_row plan.rows.items)
+    ++ codes ", blocked " ++ decimal (count_blocked plan)
     ++ codes ", outside the folder " ++ decimal plan.outside
     ++ codes ", not chosen " ++ decimal plan.left_out
 
@@ -126,6 +131,12 @@ abbrev pub end_line : List ℕ
 end_line =
     codes "Paths are shown as recorded / as repaired, and where the folder differs as recorded / as in the folder."
 
--- a plan in lines: the counts, each path, and how to read them
+-- a path that can't be restored, and what was there
+unfoldable pub unkept_line : UnkeptPath → List ℕ
+unkept_line u = codes "blocked " ++ path_words u.path ++ codes ": " ++ answer_words (Bytes u.node)
+
+-- a plan in lines: the counts, each path, each that can't be restored, and how to read them
 unfoldable pub plan_lines : RestorePlan → List (List ℕ)
-plan_lines plan = head_line plan ∷ map row_line plan.rows.items ++ end_line ∷ []
+plan_lines plan =
+    head_line plan
+    ∷ map row_line plan.rows.items ++ map unkept_line plan.unkept.items ++ end_line ∷ []

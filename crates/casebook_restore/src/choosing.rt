@@ -4,11 +4,14 @@ ghost use Rattle.std.specs.List.{filter, list_any};
 ghost use Rattle.retro_tree.specs.Node.{is_dir};
 ghost use Rattle.retro_tree.specs.Tree.{node_in};
 ghost use Rattle.casebook_changes.specs.ChangedPaths.{path_in};
-ghost use Rattle.casebook_restore.specs.Choices.{chooses, is_chosen, is_inside, is_left_out};
-ghost use Rattle.casebook_restore.specs.Choices.{is_outside, is_wanted};
+ghost use Rattle.casebook_restore.specs.Choices.{chooses, is_asked, is_chosen, is_inside};
+ghost use Rattle.casebook_restore.specs.Choices.{is_left_out, is_missed, is_outside, is_unkept};
+ghost use Rattle.casebook_restore.specs.Choices.{is_wanted, unkept_at};
 
 use crate::NoMem;
+use crate::task::UnkeptPath;
 use casebook_changes::ChangedPath;
+use casebook_opaque::is_opaque;
 use retro_path::Path;
 use retro_tree::{Entry, Tree};
 use std::alloc::Global;
@@ -30,6 +33,17 @@ fn has_dir(tree: &Tree, path: &Path) -> bool
     ensures { result ≡ is_dir (node_in path.now tree.now) }
 {
     matches!(tree.get(path), Some(Entry::Dir))
+}
+
+/// Returns whether a tree has at a path what stands for something that isn't kept.
+#[tactic(auto, unfolding(retro_tree::specs::Tree::node_in))]
+fn is_unkept(tree: &Tree, path: &Path) -> bool
+    ensures { result ≡ is_unkept tree.now path.now }
+{
+    match tree.get(path) {
+        Some(Entry::File(bytes)) => is_opaque(bytes.as_slice()),
+        _ => false,
+    }
 }
 
 impl Choice<'_> {
@@ -69,12 +83,28 @@ impl Choice<'_> {
         }
     }
 
+    /// Returns whether a path is to be restored.
+    fn is_asked(&self, path: &Path) -> bool
+        ensures { result
+            ≡ is_asked self.now.repaired.now self.now.at.now self.now.only.now path.now }
+    {
+        self.is_inside(path) && self.is_chosen(path)
+    }
+
     /// Returns whether a path is restored.
     fn is_wanted(&self, path: &Path) -> bool
         ensures { result
             ≡ is_wanted self.now.repaired.now self.now.at.now self.now.only.now path.now }
     {
-        self.is_inside(path) && self.is_chosen(path)
+        self.is_asked(path) && !is_unkept(self.repaired, path)
+    }
+
+    /// Returns whether a path is to be restored, and can't be.
+    fn is_missed(&self, path: &ChangedPath) -> bool
+        ensures { result ≡ is_missed self.now.repaired.now self.now.at.now self.now.only.now
+            path.now }
+    {
+        self.is_asked(&path.path) && is_unkept(self.repaired, &path.path)
     }
 
     /// Returns how many of some changed paths aren't below the folder's.
@@ -96,6 +126,28 @@ impl Choice<'_> {
             .iter()
             .filter(|one| self.is_inside(&one.path) && !self.is_chosen(&one.path))
             .count()
+    }
+
+    /// Returns those of some changed paths that are to be restored and can't be, with what is
+    /// repaired there.
+    pub(crate) fn unkept(
+        &self,
+        alloc: Global,
+        changed: &[ChangedPath],
+    ) -> Result<Vec<UnkeptPath>, NoMem>
+        ensures { IfOk result (λ found. found.items ≡ map (unkept_at self.now.repaired.now)
+            (filter (is_missed self.now.repaired.now self.now.at.now self.now.only.now)
+            changed.now)) }
+    {
+        let mut found = Vec::new(alloc);
+        for one in changed {
+            if self.is_missed(one) {
+                let path = one.path.copy()?;
+                let node = self.repaired.node(&one.path)?;
+                found.push(UnkeptPath { path, node })?;
+            }
+        }
+        Ok(found)
     }
 
     /// Returns those of some changed paths that are restored.

@@ -11,9 +11,11 @@
 //! # What is proved
 //!
 //! - A plan has a row for exactly those paths in which the two trees differ, which are below the
-//!   folder's and chosen, each once and in order of paths [`paths` of `IsRestorePlan`]. Each row is
-//!   the change of its path by what the folder holds there [`planned`, and `seen`]. The paths
-//!   outside of the folder are counted, and so are those that aren't chosen.
+//!   folder's and chosen, and at which the repaired tree has what is kept, each once and in order of
+//!   paths [`paths` of `IsRestorePlan`]. Each row is the change of its path by what the folder holds
+//!   there [`planned`, and `seen`]. The paths at which the repaired tree has a text that stands for
+//!   something else are named [`unkept`], so that text is never written. The paths outside of the
+//!   folder are counted, and so are those that aren't chosen.
 //! - The words of a plan are an equation (`specs/Words.antt`): the counts, a line for each row, and
 //!   how to read them. All lines are harmless on a terminal, as they are `SafeLine`s.
 #![tactic(auto)]
@@ -33,7 +35,7 @@ pub use carrying::{carry_out, rows_of};
 pub use placed::PlacedFolder;
 pub use planning::plan_restore;
 pub use row_plans::plan_rows;
-pub use task::{RestorePlan, RestoreTask};
+pub use task::{RestorePlan, RestoreTask, UnkeptPath};
 pub use words::plan_lines;
 
 /// Allocation failed.

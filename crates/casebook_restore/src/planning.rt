@@ -33,10 +33,12 @@ pub fn plan_restore<F: Folder>(
     let changed = changed_paths(alloc, trees.recorded, trees.repaired)?;
     let outside = choice.count_outside(changed.as_slice());
     let left_out = choice.count_left_out(changed.as_slice());
+    let unkept = choice.unkept(alloc, changed.as_slice())?;
     let paths = choice.wanted(alloc, changed)?;
     let rows = plan(alloc, folder, trees, paths.as_slice())?;
     Ok(RestorePlan {
         rows,
+        unkept,
         outside,
         left_out,
     })

@@ -106,6 +106,7 @@ pub fn plan_rows<F: Folder>(
 ) -> Result<RestorePlan, FolderError>
     ensures rows { IfSome (F.first folder.now) (λ first. IfOk result (λ plan. plan.rows.items
         ≡ map (planned_in (after_steps (F.made folder.now) first)) rows.now.items.items)) }
+    ensures unkept { IfOk result (λ plan. plan.unkept.items ≡ []) }
     ensures outside { IfOk result (λ plan. plan.outside ≡ 0) }
     ensures left_out { IfOk result (λ plan. plan.left_out ≡ 0) }
 {
@@ -115,6 +116,7 @@ pub fn plan_rows<F: Folder>(
     }
     Ok(RestorePlan {
         rows: planned,
+        unkept: Vec::new(alloc),
         outside: 0,
         left_out: 0,
     })

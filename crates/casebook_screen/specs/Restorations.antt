@@ -1,11 +1,12 @@
 -- What is to be restored, as a summary shows it.
 use Rattle.std.specs.Prelude.{◌≡◌, ℕ, Bool, List, [], ◌∷◌, ◌++◌, chars, codes, count_by, decimal, length, map, max}
-use Rattle.std.specs.Prelude.{Option, Some, None, true, false}
+use Rattle.std.specs.Prelude.{Option, Some, None, true, false, ◌||◌, if◌then◌else◌}
 use Rattle.std.specs.FinMap as map_of
 use Rattle.std.specs.List.{list_any}
 use Rattle.casebook_changes.specs.declared.changed_path.ChangedPath.{ChangedPath}
 use Rattle.casebook_changes.specs.declared.changed_path.PathChange.{PathChange}
 use Rattle.casebook_changes.specs.declared.changed_path.PathChange.TheVariants.{Added, Removed, Modified}
+use Rattle.casebook_opaque.specs.Opaque.{is_opaque}
 use Rattle.casebook_text.specs.Diff.{in_new, in_old, marked}
 use Rattle.casebook_text.specs.Hunks.{Marked, count_in}
 use Rattle.casebook_words.specs.FileLines.{is_added, is_removed, lines_at}
@@ -17,7 +18,8 @@ use Rattle.retro_tree.specs.declared.entry.Entry.{Entry}
 use Rattle.retro_tree.specs.declared.entry.Entry.TheVariants as entries
 use Rattle.casebook_screen.specs.Layout.{left_aligned}
 use Rattle.casebook_screen.specs.declared.restoration.Extent.{Extent}
-use Rattle.casebook_screen.specs.declared.restoration.Extent.TheVariants.{Directory, EmptyFile, Lines, ToDirectory, ToFile}
+use Rattle.casebook_screen.specs.declared.restoration.Extent.TheVariants.{Directory, EmptyFile, Lines, NotKept}
+use Rattle.casebook_screen.specs.declared.restoration.Extent.TheVariants.{ToDirectory, ToFile}
 use Rattle.casebook_screen.specs.declared.restoration.LineCounts.{LineCounts}
 use Rattle.casebook_screen.specs.declared.restoration.Restoration.{Restoration}
 
@@ -35,16 +37,27 @@ abbrev pub lone_file : List ℕ → Option Extent
 lone_file [] = Some EmptyFile
 lone_file (b ∷ bytes) = None
 
+abbrev pub kept_kind : Option Entry → Option Entry → Option Extent
+kept_kind None None = None
+kept_kind (Some entries.Dir) None = Some Directory
+kept_kind None (Some entries.Dir) = Some Directory
+kept_kind (Some (entries.File bytes)) None = lone_file bytes
+kept_kind None (Some (entries.File bytes)) = lone_file bytes
+kept_kind (Some entries.Dir) (Some entries.Dir) = None
+kept_kind (Some entries.Dir) (Some (entries.File bytes)) = Some ToFile
+kept_kind (Some (entries.File bytes)) (Some entries.Dir) = Some ToDirectory
+kept_kind (Some (entries.File old)) (Some (entries.File new)) = None
+
+-- whether there is a file that stands for what isn't kept
+abbrev pub is_unkept : Option Entry → Bool
+is_unkept None = false
+is_unkept (Some entries.Dir) = false
+is_unkept (Some (entries.File bytes)) = is_opaque bytes
+
+-- what isn't kept is said to be that, whatever it becomes
 abbrev pub kind_of : Option Entry → Option Entry → Option Extent
-kind_of None None = None
-kind_of (Some entries.Dir) None = Some Directory
-kind_of None (Some entries.Dir) = Some Directory
-kind_of (Some (entries.File bytes)) None = lone_file bytes
-kind_of None (Some (entries.File bytes)) = lone_file bytes
-kind_of (Some entries.Dir) (Some entries.Dir) = None
-kind_of (Some entries.Dir) (Some (entries.File bytes)) = Some ToFile
-kind_of (Some (entries.File bytes)) (Some entries.Dir) = Some ToDirectory
-kind_of (Some (entries.File old)) (Some (entries.File new)) = None
+kind_of before after =
+    if is_unkept before || is_unkept after then Some NotKept else kept_kind before after
 
 -- an extent that is lines, with the counts of a diff
 pub record IsLines (old new : List (List ℕ)) (extent : Extent) : Type 0 where
@@ -82,6 +95,7 @@ extent_words Directory = codes "directory"
 extent_words EmptyFile = codes "empty file"
 extent_words ToDirectory = codes "becomes a directory"
 extent_words ToFile = codes "becomes a file"
+extent_words NotKept = codes "not kept, restore by hand"
 extent_words (Lines counts) =
     codes "+" ++ decimal counts.added ++ codes " -" ++ decimal counts.removed
 

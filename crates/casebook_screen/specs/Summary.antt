@@ -17,7 +17,7 @@ use Rattle.casebook_words.specs.declared.labels.Labels.{Labels}
 use Rattle.casebook_screen.specs.Basis.{basis_lines}
 use Rattle.casebook_screen.specs.Causes.{effect_lines}
 use Rattle.casebook_screen.specs.Counts.{count_lines, count_of}
-use Rattle.casebook_screen.specs.Leaks.{leak_lines}
+use Rattle.casebook_screen.specs.Leaks.{leak_lines, unshown_in}
 use Rattle.casebook_screen.specs.Notices.{look_lines, notice_lines}
 use Rattle.casebook_screen.specs.Restorations.{restoration_lines}
 use Rattle.casebook_screen.specs.Unknown.{unknown_lines}
@@ -69,5 +69,5 @@ summary_lines source r summary restorations groups looks is_recording labels wid
     ++ restoration_lines summary.doubtful.items restorations
     ++ notice_lines labels width (length summary.notices.items) groups
     ++ look_lines labels width (length summary.looks.items) looks
-    ++ leak_lines r labels width summary.leaks.items
+    ++ leak_lines r labels width summary.leaks.items (unshown_in source summary.fates.items)
     ++ effect_lines r summary.unknown.items (map effect_value summary.effects.items)

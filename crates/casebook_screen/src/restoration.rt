@@ -5,10 +5,12 @@ ghost use Rattle.casebook_words.specs.FileLines.{lines_at};
 ghost use Rattle.retro_keep.specs.Recording.{last_state};
 ghost use Rattle.retro_redo.specs.Repair.{repaired_state};
 ghost use Rattle.casebook_screen.specs.Restorations.{AreCounts, AreRestorations, IsExtent};
-ghost use Rattle.casebook_screen.specs.Restorations.{IsRestoration, kind_of, lone_file};
+ghost use Rattle.casebook_screen.specs.Restorations.{IsRestoration, is_unkept, kept_kind};
+ghost use Rattle.casebook_screen.specs.Restorations.{kind_of, lone_file};
 
 use crate::NoMem;
 use casebook_changes::{ChangedPath, PathChange};
+use casebook_opaque::is_opaque;
 use casebook_view::Case;
 use casebook_words::{FileLines, count_added, count_removed};
 use retro_tree::{Bytes, Entry, Path, Tree};
@@ -34,6 +36,8 @@ pub enum Extent {
     ToDirectory,
     /// A directory becomes a file.
     ToFile,
+    /// A link, a device or a file comes, goes or changes that isn't kept. A text stands for it.
+    NotKept,
     /// Lines come or go. A missing file has no lines.
     Lines(LineCounts),
 }
@@ -72,9 +76,20 @@ fn lone_file(bytes: &Bytes) -> Option<Extent>
     }
 }
 
-/// Returns what comes, goes or changes at a path, or `None` if that is lines of a file.
-fn kind_of(before: Option<&Entry>, after: Option<&Entry>) -> Option<Extent>
-    ensures { result ≡ kind_of (option_copied before.entry) (option_copied after.entry) }
+/// Returns whether there is a file that stands for what isn't kept.
+fn is_unkept(entry: Option<&Entry>) -> bool
+    ensures { result ≡ is_unkept (option_copied entry.entry) }
+{
+    match entry {
+        Some(Entry::File(bytes)) => is_opaque(bytes.as_slice()),
+        _ => false,
+    }
+}
+
+/// Returns what comes, goes or changes at a path at which all is kept, or `None` if that is lines of
+/// a file.
+fn kept_kind(before: Option<&Entry>, after: Option<&Entry>) -> Option<Extent>
+    ensures { result ≡ kept_kind (option_copied before.entry) (option_copied after.entry) }
 {
     match (before, after) {
         (Some(Entry::Dir), None) => Some(Extent::Directory),
@@ -85,6 +100,16 @@ fn kind_of(before: Option<&Entry>, after: Option<&Entry>) -> Option<Extent>
         (Some(Entry::File(_)), Some(Entry::Dir)) => Some(Extent::ToDirectory),
         _ => None,
     }
+}
+
+/// Returns what comes, goes or changes at a path, or `None` if that is lines of a file.
+fn kind_of(before: Option<&Entry>, after: Option<&Entry>) -> Option<Extent>
+    ensures { result ≡ kind_of (option_copied before.entry) (option_copied after.entry) }
+{
+    if is_unkept(before) || is_unkept(after) {
+        return Some(Extent::NotKept);
+    }
+    kept_kind(before, after)
 }
 
 /// Returns how much is to be restored of a path.

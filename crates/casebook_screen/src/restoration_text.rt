@@ -26,6 +26,7 @@ fn push_extent(alloc: Global, line: &mut SafeLine, extent: Extent) -> Result<(),
         Extent::EmptyFile => line.push_ascii("empty file"),
         Extent::ToDirectory => line.push_ascii("becomes a directory"),
         Extent::ToFile => line.push_ascii("becomes a file"),
+        Extent::NotKept => line.push_ascii("not kept, restore by hand"),
         Extent::Lines(counts) => {
             line.push_ascii("+")?;
             line.push_number(alloc, counts.added as u64)?;

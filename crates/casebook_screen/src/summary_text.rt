@@ -6,7 +6,7 @@ ghost use Rattle.casebook_screen.specs.Summary.{summary_lines};
 use crate::NoMem;
 use crate::effect_text::effect_lines;
 use crate::fate_counts::count_lines;
-use crate::leak_text::leak_lines;
+use crate::leak_text::{leak_lines, unshown_in};
 use crate::names::Names;
 use crate::notice_text::{look_lines, notice_lines};
 use crate::restoration::Restoration;
@@ -41,7 +41,7 @@ pub struct Sheet<'a> {
 /// Returns a summary as the lines that a terminal shows: what the log holds and what it rests on,
 /// which lines aren't understood or have to be run for real, how many lines have which fate, what
 /// is to be restored, whom to tell about what, who looked at what by lines that have to be run for
-/// real, which cancelled lines showed something, and what each edited line led to.
+/// real, which cancelled lines showed something or may have, and what each edited line led to.
 pub fn summary_lines(
     alloc: Global,
     sheet: Sheet<'_>,
@@ -65,7 +65,9 @@ pub fn summary_lines(
     lines.append(&mut restoration_lines(alloc, summary.doubtful.as_slice(), sheet.restorations)?)?;
     lines.append(&mut notice_lines(alloc, names, screens, sheet.groups)?)?;
     lines.append(&mut look_lines(alloc, names, summary.looks.len(), sheet.looks)?)?;
-    lines.append(&mut leak_lines(alloc, recording, names, summary.leaks.as_slice())?)?;
+    let unshown = unshown_in(alloc, sheet.source, fates)?;
+    let leaks = summary.leaks.as_slice();
+    lines.append(&mut leak_lines(alloc, recording, names, leaks, unshown.as_slice())?)?;
     lines.append(&mut effect_lines(alloc, recording, unknown, summary.effects.as_slice())?)?;
     Ok(lines)
 }

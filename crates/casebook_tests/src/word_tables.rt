@@ -13,6 +13,14 @@ difference: bytes /f :: a%(NL) :: a => read /f last newline: there / missing
 difference: bytes /f :: a%(NL)b :: a%(NL)b%(NL) => read /f last newline: missing / there
 difference: bytes /f :: missing :: a%(NL)b => read /f: no such file / 2 lines, 3 bytes
 difference: bytes /f :: dir :: %(EMPTY) => read /f: a directory / 0 lines, 0 bytes
+difference: bytes /f :: not kept by casebook: a link%(TAB)/x :: a%(NL)
+  => read /f: not kept: a link / 1 line, 2 bytes
+difference: bytes /f :: not kept by casebook: a link%(TAB)/x :: not kept by casebook: %(ESC)
+  => read /f: not kept: a link / not kept: ⟨U+001B⟩
+difference: bytes /f :: missing :: not kept by casebook: neither a file nor a directory%(TAB)0%(TAB)7
+  => read /f: no such file / not kept: neither a file nor a directory
+difference: bytes /f :: not kept by casebook :: not kept by casebooks
+  => read /f line 1: not kept by casebook / not kept by casebooks
 difference: names /d :: a b c :: a c => listed /d, name b: there / missing
 difference: names /d :: a c :: a b c => listed /d, name b: missing / there
 difference: names /d :: a c :: b c => listed /d, name a: there / missing

@@ -1,9 +1,11 @@
 -- How two answers to a query differ, in words: of two texts the first line that differs, or which
--- of them a newline ends, of two listings the first name that one lacks, and else both answers.
+-- of them a newline ends, of two listings the first name that one lacks, and else both answers. What
+-- stands for something else is no text.
 use Rattle.std.specs.Prelude.{◌≡◌, ◌≢◌, ℕ, ◌==◌, ◌+◌, ◌-◌, ◌≤◌, Bool, true, false, not, ◌||◌, List, ◌++◌}
 use Rattle.std.specs.Prelude.{Option, Some, None, is_some, length, option_and_then, codes, decimal, take}
 use Rattle.std.specs.Prelude.{if◌then◌else◌}
 use Rattle.std.specs.List.{common_prefix_len, find, list_any, slice_get}
+use Rattle.casebook_opaque.specs.Opaque.{is_opaque}
 use Rattle.casebook_text.specs.SafeLine.{word_bytes}
 use Rattle.retro_tree.specs.Order.{text_eq}
 use Rattle.retro_tree.specs.declared.answer.Answer.{Answer}
@@ -103,9 +105,13 @@ newline_words is_old = codes " last newline" ++ side_words is_old
 
 -- ---- answers
 
--- the bytes of a file, if that is the answer
+-- the bytes of a file, unless they stand for something else
+abbrev pub kept : List ℕ → Option (List ℕ)
+kept bytes = if is_opaque bytes then None else Some bytes
+
+-- the bytes of a file, if that is the answer and they don't stand for something else
 abbrev pub file_in : Answer → Option (List ℕ)
-file_in (answers.Bytes (nodes.File bytes)) = Some bytes
+file_in (answers.Bytes (nodes.File bytes)) = kept bytes
 file_in _ = None
 
 -- the names of a directory, if that is the answer

@@ -1,6 +1,7 @@
 -- Paths, queries and answers in words.
 use Rattle.std.specs.Prelude.{ℕ, ◌==◌, List, [], ◌++◌, codes, decimal, length, if◌then◌else◌}
 use Rattle.std.specs.Prelude.{Some, None}
+use Rattle.casebook_opaque.specs.Opaque.{is_opaque, stands_for}
 use Rattle.casebook_text.specs.SafeLine.{word_bytes}
 use Rattle.retro_tree.specs.Path.{PathValue, is_root, slashed}
 use Rattle.retro_tree.specs.Node.{is_present}
@@ -48,13 +49,25 @@ permit_words permits.NotDir = codes "no, it would be below a file"
 permit_words permits.IsDir = codes "no, it is a directory"
 permit_words permits.TooLarge = codes "no, it would be too large"
 
--- of a file, how many lines and bytes it has
+-- how many bytes are shown of what a file stands for
+abbrev pub opaque_limit : ℕ
+opaque_limit = 40
+
+-- what a file stands for
+unfoldable pub opaque_words : List ℕ → List ℕ
+opaque_words bytes = codes "not kept: " ++ cut_words opaque_limit (stands_for bytes)
+
+-- how many lines and bytes a file has
+unfoldable pub size_words : List ℕ → List ℕ
+size_words bytes =
+    count_words (codes "line") (length (lines_of bytes)) ++ codes ", "
+    ++ count_words (codes "byte") (length bytes)
+
+-- of a file how large it is, or what it stands for
 unfoldable pub node_words : Node → List ℕ
 node_words nodes.Missing = codes "no such file"
 node_words nodes.Dir = codes "a directory"
-node_words (nodes.File bytes) =
-    count_words (codes "line") (length (lines_of bytes)) ++ codes ", "
-    ++ count_words (codes "byte") (length bytes)
+node_words (nodes.File bytes) = if is_opaque bytes then opaque_words bytes else size_words bytes
 
 unfoldable pub user_words : User → List ℕ
 user_words user =

@@ -3,18 +3,22 @@ ghost use Rattle.std.specs.Prelude.{◌≡◌, ◌++◌, IsTrue, OnOk};
 ghost use Rattle.std.specs.List.{list_all};
 ghost use Rattle.casebook_text.specs.SafeText.{is_printable};
 ghost use Rattle.casebook_words.specs.Words.{answer_words, count_words, kind_words, node_words};
-ghost use Rattle.casebook_words.specs.Words.{permit_words, user_words};
+ghost use Rattle.casebook_words.specs.Words.{opaque_words, permit_words, size_words, user_words};
 
 use crate::NoMem;
 use crate::cut::push_cut;
 use crate::first_line::count_lines;
 use crate::path_words::push_path;
+use casebook_opaque::{is_opaque, stands_for};
 use casebook_text::SafeLine;
 use retro_tree::{Answer, Kind, Node, Permit, User};
 use std::alloc::Global;
 
 /// How many bytes of a value are shown.
 pub(crate) const VALUE_LIMIT: usize = 29;
+
+/// How many bytes are shown of what a file stands for.
+const OPAQUE_LIMIT: usize = 40;
 
 /// Appends how many there are of something: `1 line`, `2 lines`. The noun is printable ASCII.
 #[tactic(auto, unfolding(crate::specs::Words::count_words))]
@@ -57,6 +61,25 @@ fn push_permit(line: &mut SafeLine, permit: Permit) -> Result<(), NoMem>
     }
 }
 
+/// Appends what a file stands for.
+#[tactic(auto, unfolding(crate::specs::Words::opaque_words))]
+fn push_opaque(alloc: Global, line: &mut SafeLine, bytes: &[u8]) -> Result<(), NoMem>
+    ensures { OnOk result (line.new ≡ line.old ++ opaque_words bytes.now) }
+{
+    line.push_ascii("not kept: ")?;
+    push_cut(alloc, line, stands_for(bytes), OPAQUE_LIMIT)
+}
+
+/// Appends how many lines and bytes a file has.
+#[tactic(auto, unfolding(crate::specs::Words::size_words))]
+fn push_size(alloc: Global, line: &mut SafeLine, bytes: &[u8]) -> Result<(), NoMem>
+    ensures { OnOk result (line.new ≡ line.old ++ size_words bytes.now) }
+{
+    push_count(alloc, line, count_lines(bytes), "line")?;
+    line.push_ascii(", ")?;
+    push_count(alloc, line, bytes.len(), "byte")
+}
+
 /// Appends a node in words.
 #[tactic(auto, unfolding(crate::specs::Words::node_words))]
 pub(crate) fn push_node(alloc: Global, line: &mut SafeLine, node: &Node) -> Result<(), NoMem>
@@ -66,9 +89,12 @@ pub(crate) fn push_node(alloc: Global, line: &mut SafeLine, node: &Node) -> Resu
         Node::Missing => line.push_ascii("no such file"),
         Node::Dir => line.push_ascii("a directory"),
         Node::File(bytes) => {
-            push_count(alloc, line, count_lines(bytes.as_slice()), "line")?;
-            line.push_ascii(", ")?;
-            push_count(alloc, line, bytes.len(), "byte")
+            let bytes = bytes.as_slice();
+            if is_opaque(bytes) {
+                push_opaque(alloc, line, bytes)
+            } else {
+                push_size(alloc, line, bytes)
+            }
         }
     }
 }

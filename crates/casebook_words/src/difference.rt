@@ -2,7 +2,7 @@
 ghost use Rattle.std.specs.Prelude.{◌≡◌, ◌++◌, OnOk, ◌||◌, is_some, option_map};
 ghost use Rattle.casebook_words.specs.Lines.{texts_in};
 ghost use Rattle.casebook_words.specs.Difference.{both_words, difference_words, file_in};
-ghost use Rattle.casebook_words.specs.Difference.{first_difference, has_last_newline};
+ghost use Rattle.casebook_words.specs.Difference.{first_difference, has_last_newline, kept};
 ghost use Rattle.casebook_words.specs.Difference.{line_difference};
 ghost use Rattle.casebook_words.specs.Difference.{line_difference_words, line_words, listing_in};
 ghost use Rattle.casebook_words.specs.Difference.{name_difference, name_difference_words};
@@ -16,8 +16,9 @@ use crate::common_front::after_common;
 use crate::cut::push_cut;
 use crate::first_line::text_at_front;
 use crate::first_name::{OtherName, first_other_name};
+use casebook_opaque::is_opaque;
 use casebook_text::SafeLine;
-use retro_tree::{Answer, Name, Node};
+use retro_tree::{Answer, Bytes, Name, Node};
 use std::alloc::Global;
 
 /// The first line in which two texts differ.
@@ -57,12 +58,22 @@ fn first_difference<'a>(old: &'a [u8], new: &'a [u8]) -> Option<LineDifference<'
     })
 }
 
-/// Returns the bytes of a file, if that is the answer.
+/// Returns the bytes of a file, unless they stand for something else.
+fn kept(bytes: &Bytes) -> Option<&[u8]>
+    ensures { option_map (λ bytes. bytes.now) result ≡ kept bytes.now }
+{
+    if is_opaque(bytes.as_slice()) {
+        return None;
+    }
+    Some(bytes.as_slice())
+}
+
+/// Returns the bytes of a file, if that is the answer and they don't stand for something else.
 fn file_in(answer: &Answer) -> Option<&[u8]>
     ensures { option_map (λ bytes. bytes.now) result ≡ file_in answer.now }
 {
     match answer {
-        Answer::Bytes(Node::File(bytes)) => Some(bytes.as_slice()),
+        Answer::Bytes(Node::File(bytes)) => kept(bytes),
         _ => None,
     }
 }

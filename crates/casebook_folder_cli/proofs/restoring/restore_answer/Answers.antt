@@ -1,6 +1,6 @@
 use Rattle.std.proofs.Common.{◌∙◌, ◌&&◌, ap, not, subst, sym}
-use Rattle.std.specs.List.{list_all}
-use Rattle.casebook_folder.specs.Plans.{AreSeenRows, can_be_restored}
+use Rattle.casebook_folder.specs.Plans.{AreSeenRows}
+use Rattle.casebook_restore.specs.Plans.{can_be_carried_out}
 use Rattle.casebook_restore.specs.Restores.{IsRestorePlan}
 use Rattle.casebook_folder_cli.specs.Restoring.{said_of}
 use Rattle.casebook_folder_cli.proofs.Known.{one, opened, some_mapped}
@@ -30,5 +30,5 @@ returns g c =
       is_no = ap not c.can_be_carried_out.ensures;
       remark = c.in_ok-remark_of.ensures
           ∙ ap said_of (c.in_ok-is_done.ensures
-          ∙ ap (λ b. list_all can_be_restored plan.rows.items && b) (sym (some_mapped (λ s. s.now) request.undo)));
+          ∙ ap (λ b. can_be_carried_out plan && b) (sym (some_mapped (λ s. s.now) request.undo)));
     })

@@ -23,6 +23,7 @@ returns g c =
           is_file = is.1.1;
           plan = plan;
           rows = rows ∙ ap (map (planned_in (at.opened root file.at))) c.in_ok-rows.ensures;
+          unkept = c.in_ok-plan.ensures.unkept;
           outside = c.in_ok-plan.ensures.outside;
           left_out = c.in_ok-plan.ensures.left_out;
           lines = c.in_ok-lines.ensures;
