@@ -1,10 +1,16 @@
 -- Cancelled lines that showed something, as a summary shows them.
-use Rattle.std.specs.Prelude.{ℕ, List, [], ◌∷◌, ◌++◌, codes, length, map}
+use Rattle.std.specs.Prelude.{ℕ, ◌==◌, ◌&&◌, Bool, List, [], ◌∷◌, ◌++◌, codes, length, map}
+use Rattle.std.specs.List.{filter, list_any}
 use Rattle.retro_keep.specs.Recording.{RecordingValue}
+use Rattle.casebook_view.specs.Fates.{fate_eq}
+use Rattle.casebook_view.specs.Sources.{SourceValue, Played, Seen}
+use Rattle.casebook_view.specs.declared.fate.Fate.{Fate}
+use Rattle.casebook_view.specs.declared.fate.Fate.TheVariants.{Cancelled}
 use Rattle.casebook_view.specs.declared.leak.Leak.{Leak}
 use Rattle.casebook_words.specs.Words.{count_words}
 use Rattle.casebook_words.specs.declared.labels.Labels.{Labels}
 use Rattle.casebook_screen.specs.LineTexts.{line_head, text_limit, text_of_line}
+use Rattle.casebook_screen.specs.Notices.{first_numbers}
 
 -- the line, and how many bytes it showed
 unfoldable pub leak_text : RecordingValue → Labels → ℕ → Leak → List ℕ
@@ -15,7 +21,27 @@ leak_text r labels width leak =
 unfoldable pub leaks_head : ℕ → List ℕ
 leaks_head n = codes "LEAKED  " ++ count_words (codes "cancelled line") n ++ codes " showed something"
 
--- an empty line, how many there are, and each of them
-abbrev pub leak_lines : RecordingValue → Labels → ℕ → List Leak → List (List ℕ)
-leak_lines r labels width leaks =
-    [] ∷ leaks_head (length leaks) ∷ map (leak_text r labels width) leaks
+-- the cancelled lines that stand as they were observed, by what becomes of all lines
+abbrev pub is_unshown : List ℕ → ℕ × Fate → Bool
+is_unshown observed line = fate_eq line.1 Cancelled && list_any (λ n. n == line.0) observed
+
+abbrev pub unshown_among : List ℕ → List (ℕ × Fate) → List ℕ
+unshown_among observed fates = map (λ line. line.0) (filter (is_unshown observed) fates)
+
+abbrev pub unshown_in : SourceValue → List (ℕ × Fate) → List ℕ
+unshown_in Played fates = []
+unshown_in (Seen seen) fates = unshown_among seen.observed fates
+
+-- what these lines showed isn't known
+unfoldable pub unshown_text : List ℕ → List ℕ
+unshown_text numbers =
+    codes "  ? what other cancelled lines showed isn't recorded: lines" ++ first_numbers numbers
+
+abbrev pub unshown_lines : List ℕ → List (List ℕ)
+unshown_lines [] = []
+unshown_lines (n ∷ numbers) = unshown_text (n ∷ numbers) ∷ []
+
+-- an empty line, how many there are, each of them, and of which lines it isn't known
+abbrev pub leak_lines : RecordingValue → Labels → ℕ → List Leak → List ℕ → List (List ℕ)
+leak_lines r labels width leaks unshown =
+    [] ∷ leaks_head (length leaks) ∷ map (leak_text r labels width) leaks ++ unshown_lines unshown

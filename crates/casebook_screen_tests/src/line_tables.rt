@@ -60,7 +60,6 @@ given: unknown :: 1=ann, 2=eve :: %(EMPTY)
 |         read  /srv/list
 |         shown 2 bytes: a
 |     4 o ann     cat *
-|         read  /home/ann/*
 |         shown 34 bytes: cat: *: No such file or directory
 
 - screen: 2 :: 2 :: observed 3 4 =>

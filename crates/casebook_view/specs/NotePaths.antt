@@ -9,6 +9,7 @@ use Rattle.retro_tree.specs.declared.ask.Ask.{Ask}
 use Rattle.retro_tree.specs.declared.ask.Ask.TheVariants.{Kind, Bytes, Names, CanWrite, User, VarOf, CwdOf, StatusOf}
 use Rattle.retro_tree.specs.declared.change.Change.{Change}
 use Rattle.retro_tree.specs.declared.change.Change.TheVariants.{Put, Grow, SetVar, SetCwd, SetStatus}
+use Rattle.retro_tree.specs.declared.kind.Kind.TheVariants as missing
 use Rattle.retro_tree.specs.declared.node.Node.{Node}
 use Rattle.retro_tree.specs.declared.node.Node.TheVariants.{Missing, Dir, File}
 use Rattle.retro_tree.specs.declared.note.Note.{Note}
@@ -53,6 +54,22 @@ is_about_users (Made c) = false
 -- the path about which a note asks, or None if it asks about none
 abbrev pub asked_path : Note → Option PathValue
 asked_path note = if is_about_users note then Some passwd else named_path note
+
+-- whether a note found nothing
+abbrev pub is_nothing : Answer → Bool
+is_nothing (answers.Kind missing.Missing) = true
+is_nothing (answers.Bytes Missing) = true
+is_nothing (answers.Names None) = true
+is_nothing _ = false
+
+abbrev pub found_nothing : Note → Bool
+found_nothing (Asked q a) = is_nothing a
+found_nothing (Made c) = false
+
+-- The path that a note shows to have been read. Of an observed line notes say at which paths it may
+-- have looked, so that counts only where something was.
+abbrev pub read_path : Bool → Note → Option PathValue
+read_path is_observed note = if is_observed && found_nothing note then None else asked_path note
 
 -- ---- changes
 

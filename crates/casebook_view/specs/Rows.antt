@@ -1,5 +1,5 @@
 -- Rows of a recording.
-use Rattle.std.specs.Prelude.{ℕ, List, Option, map}
+use Rattle.std.specs.Prelude.{ℕ, Bool, true, false, List, Option, Some, map}
 use Rattle.std.specs.List.{filter, filter_map}
 use Rattle.retro_tree.specs.Order.{path_eq}
 use Rattle.retro_tree.specs.Path.{PathValue}
@@ -11,7 +11,7 @@ use Rattle.casebook_profile.specs.UnknownLines.{unknown_lines_of}
 use Rattle.casebook_profile.specs.declared.unknown_line.UnknownLine.{UnknownLine}
 use Rattle.casebook_view.specs.Filters.{FiltersValue, passes}
 use Rattle.casebook_view.specs.FirstOfEach.{first_of_each}
-use Rattle.casebook_view.specs.NotePaths.{asked_path, write_eq, write_in}
+use Rattle.casebook_view.specs.NotePaths.{read_path, write_eq, write_in}
 use Rattle.casebook_view.specs.Sources.{SourceValue, Played, Seen}
 use Rattle.casebook_view.specs.Unknown.{obstacle_at, unknown_line}
 use Rattle.casebook_view.specs.declared.line_row.LineRow.{LineRow}
@@ -38,13 +38,17 @@ row_value row = record {
   output = row.output.now;
 }
 
+abbrev pub is_observed : Option Obstacle → Bool
+is_observed (Some Observed) = true
+is_observed _ = false
+
 -- the row of a line with an obstacle
 abbrev pub row_with : Option Obstacle → ℕ × Noted → RowValue
 row_with obstacle line = record {
   number = line.0;
   session = line.1.sid;
   text = line.1.text;
-  read = first_of_each path_eq (filter_map asked_path line.1.notes);
+  read = first_of_each path_eq (filter_map (read_path (is_observed obstacle)) line.1.notes);
   wrote = first_of_each write_eq (filter_map write_in line.1.notes);
   obstacle = obstacle;
   output = line.1.output;

@@ -12,7 +12,9 @@ pub struct LineRow<'a> {
     pub session: u32,
     /// The line.
     pub text: &'a Text,
-    /// The paths about which the line asked, each once, in the order in which they first occur.
+    /// The paths about which the line asked, each once, in the order in which they first occur. Of
+    /// an observed line those that it read, or may have looked at since its text names them, if
+    /// something was there.
     pub read: Vec<Path>,
     /// What the line wrote, each kind of write to a path once, in the order in which they first
     /// occur.

@@ -31,7 +31,7 @@ fn row_of(
         number: line.0,
         session: noted.sid,
         text: &noted.text,
-        read: read_paths(alloc, notes)?,
+        read: read_paths(alloc, notes, obstacle == Some(Obstacle::Observed))?,
         wrote: writes_of(alloc, notes)?,
         obstacle,
         output: &noted.output,

@@ -3,12 +3,13 @@ ghost use Rattle.std.specs.Prelude.{◌≡◌, IfOk, OnOk, option_map};
 ghost use Rattle.std.specs.List.{filter_map, list_any};
 ghost use Rattle.std.specs.Option.{option_copied};
 ghost use Rattle.retro_tree.specs.Order.{path_eq};
-ghost use Rattle.casebook_view.specs.NotePaths.{asked_path, is_about_users, named_path};
-ghost use Rattle.casebook_view.specs.NotePaths.{path_written, write_eq, write_in, write_of};
+ghost use Rattle.casebook_view.specs.NotePaths.{asked_path, found_nothing, is_about_users};
+ghost use Rattle.casebook_view.specs.NotePaths.{named_path, path_written, read_path, write_eq};
+ghost use Rattle.casebook_view.specs.NotePaths.{write_in, write_of};
 ghost use Rattle.casebook_view.specs.FirstOfEach.{first_of_each, with_found, with_item};
 
 use crate::path_write::{PathWrite, WriteKind};
-use retro_tree::{Answer, Ask, Change, NoMem, Node, Note, Path, Permit};
+use retro_tree::{Answer, Ask, Change, Kind, NoMem, Node, Note, Path, Permit};
 use std::alloc::Global;
 
 /// Returns the path about which a note asks, or `None` if it asks about none. Whether a file can be
@@ -45,6 +46,29 @@ fn asked_path(alloc: Global, note: &Note) -> Result<Option<Path>, NoMem>
     }
 }
 
+/// Returns whether a note found nothing.
+fn found_nothing(note: &Note) -> bool
+    ensures { result ≡ found_nothing note.now }
+{
+    matches!(
+        note,
+        Note::Asked(
+            _,
+            Answer::Kind(Kind::Missing) | Answer::Bytes(Node::Missing) | Answer::Names(None)
+        )
+    )
+}
+
+/// Returns a copy of the path that a note shows to have been read, or `None` if it shows none.
+fn read_path(alloc: Global, note: &Note, is_observed: bool) -> Result<Option<Path>, NoMem>
+    ensures { IfOk result (λ found. found ≡ read_path is_observed note.now) }
+{
+    if is_observed && found_nothing(note) {
+        return Ok(None);
+    }
+    asked_path(alloc, note)
+}
+
 /// Returns the path to which a note writes, and how, or `None` if it writes to none.
 pub(crate) fn written_path(note: &Note) -> Option<(WriteKind, &Path)>
     ensures { option_map (λ w. write_of w.0 w.1.now) result ≡ write_in note.now }
@@ -67,12 +91,18 @@ fn add_path(paths: &mut Vec<Path>, path: Path) -> Result<(), NoMem>
     Ok(())
 }
 
-/// Appends the path about which a note asks, if it asks about one, unless it is among the paths.
-fn add_asked(alloc: Global, paths: &mut Vec<Path>, note: &Note) -> Result<(), NoMem>
+/// Appends the path that a note shows to have been read, if it shows one, unless it is among the
+/// paths.
+fn add_read(
+    alloc: Global,
+    paths: &mut Vec<Path>,
+    note: &Note,
+    is_observed: bool,
+) -> Result<(), NoMem>
     ensures { OnOk result
-        (paths.new.items ≡ with_found path_eq paths.old.items (asked_path note.now)) }
+        (paths.new.items ≡ with_found path_eq paths.old.items (read_path is_observed note.now)) }
 {
-    match asked_path(alloc, note)? {
+    match read_path(alloc, note, is_observed)? {
         Some(path) => add_path(paths, path),
         None => Ok(()),
     }
@@ -128,15 +158,20 @@ fn add_written(paths: &mut Vec<Path>, note: &Note) -> Result<(), NoMem>
     }
 }
 
-/// Returns the paths about which notes ask, each once, in the order in which they first occur.
-/// Takes time in proportion to the number of notes times the number of paths.
-pub(crate) fn read_paths(alloc: Global, notes: &[Note]) -> Result<Vec<Path>, NoMem>
+/// Returns the paths that notes show to have been read, each once, in the order in which they first
+/// occur. The notes of an observed line say where it may have looked, so they show only paths at
+/// which something was. Takes time in proportion to the number of notes times the number of paths.
+pub(crate) fn read_paths(
+    alloc: Global,
+    notes: &[Note],
+    is_observed: bool,
+) -> Result<Vec<Path>, NoMem>
     ensures { IfOk result (λ paths.
-        paths.items ≡ first_of_each path_eq (filter_map asked_path notes.now)) }
+        paths.items ≡ first_of_each path_eq (filter_map (read_path is_observed) notes.now)) }
 {
     let mut paths = Vec::new(alloc);
     for note in notes {
-        add_asked(alloc, &mut paths, note)?;
+        add_read(alloc, &mut paths, note, is_observed)?;
     }
     Ok(paths)
 }

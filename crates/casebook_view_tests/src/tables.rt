@@ -32,6 +32,10 @@ given: market
 | 19 2 44 /home/bob/none
 | 20 1 37 /etc/motd /home/alice/notes
 
+- rows: from 19 :: observed 19 =>
+| 19 2 44
+| 20 1 37 /etc/motd /home/alice/notes
+
 - lines: session 3 => 3,6,9,13,18
 - lines: session 3 :: from 6 :: to 13 => 6,9,13
 - lines: reads /srv/prices => 4,11,16
