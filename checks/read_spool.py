@@ -11,7 +11,7 @@ VALUE_LIMIT = 65_536                            # bytes of a variable in a state
 DIRECTORY = "d"                                 # what stands for a directory in a tree
 
 
-Observation = collections.namedtuple("Observation", "record shows tree")
+Observation = collections.namedtuple("Observation", "record changes reads tree")
 
 
 def decoded(field):
@@ -104,7 +104,8 @@ class Spool:
         return self.held[digest]
 
     def take(self, notes):
-        """Makes notes of the paths, and returns whether they show anything that was done."""
+        """Makes notes of the paths, and returns whether they show that something was changed, and
+        that something was read."""
         before, named = dict(self.nodes), set()
         for word, *fields in notes:
             path = decoded(fields[0]).decode()
@@ -112,9 +113,10 @@ class Spool:
                 self.nodes[path] = Node(word, [int(fields[1], 8), *map(int, fields[2:])], None)
             elif word == "gone":
                 del self.nodes[path]
-        shows = not before.keys() <= self.nodes.keys() or any(
-            path not in before or is_changed(before[path], node) or is_read(before[path], node)
+        changes = not before.keys() <= self.nodes.keys() or any(
+            path not in before or is_changed(before[path], node)
             for path, node in self.nodes.items())
+        reads = any(is_read(before.get(path), node) for path, node in self.nodes.items())
         for word, *fields in notes:
             path = decoded(fields[0]).decode()
             if word in ("bytes", "target", "unkept"):
@@ -135,7 +137,7 @@ class Spool:
         for word, *fields in notes:
             if word == "looked":
                 self.nodes[decoded(fields[0]).decode()].sight[5:7] = map(int, fields[1:3])
-        return shows
+        return changes, reads
 
     def more(self):
         """The records that are new since the last call."""
@@ -145,8 +147,8 @@ class Spool:
             if row[0] != "record":
                 notes.append(row)
                 continue
-            shows, record = self.take(notes), [decoded(field) for field in row[1:]]
-            self.observations.append(Observation(record, shows, tree_of(self.nodes)))
+            (changes, reads), record = self.take(notes), [decoded(field) for field in row[1:]]
+            self.observations.append(Observation(record, changes, reads, tree_of(self.nodes)))
             notes = []
         if notes:
             raise Differs("rows of the spool belong to no record")
@@ -202,7 +204,7 @@ def seen_lines(spool):
     starts = [(at, places.get(record[5])) for at, record in enumerate(records)
               if record[0] == b"start"]
     spans, lines, before = spans_of(records, places), [], spool.first
-    for at, (record, shows, after) in enumerate(spool.observations):
+    for at, (record, changes, reads, after) in enumerate(spool.observations):
         active = [span for span in spans if is_active(span, at, starts)]
         closing = [span for span in active if span.until == at]
         cut = next((span for span in closing if not span.ended), None)
@@ -212,10 +214,10 @@ def seen_lines(spool):
             lines.append(Seen(at, cut.session, text_of(records[cut.shown]), False, tree))
         if ended:
             lines.append(Seen(at, ended.session, text_of(record), True, after))
-        if not cut and not ended and shows and active:
+        if not cut and not ended and active and (changes or reads):
             first = active[0]
             lines.append(Seen(at, first.session, text_of(records[first.shown]), False, after))
-        elif not cut and not ended and shows:
+        elif not cut and not ended and not active and changes:
             lines.append(Seen(at, 0, b"", False, after))
         before = after
     return lines

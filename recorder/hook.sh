@@ -1,9 +1,10 @@
 # shellcheck shell=bash
 # shellcheck disable=SC2128,SC2178  # of __retro_number and __retro_begun the first element is meant
 # Hands a record of each line that an interactive bash runs to a command, and waits for it.
-# `docs/FORMATS.md` has the record. Source this file from /etc/profile.d and at the end of
-# /etc/bash.bashrc, in bash 5.1 or later. It is a witness of honest people and no guard: whoever
-# wants to can leave it (`docs/UNTRUSTED.md`).
+# `docs/FORMATS.md` has the record. Source this file at the end of /etc/bash.bashrc, in bash 5.1 or
+# later. Debian's /etc/profile reads that in login shells, too; elsewhere source this file also from
+# /etc/profile.d. It is a witness of honest people and no guard: whoever wants to can leave it
+# (`docs/UNTRUSTED.md`).
 #
 # How it works: bash expands PS0 after it has read a line and before it runs it, and runs
 # PROMPT_COMMAND before the next prompt. PS0 is expanded in the shell itself, so `${name:=..}` and
@@ -175,7 +176,7 @@ __retro_start() { # THE FIELDS OF THE STATE..
     __retro_alone
     __retro_terminal=$(/usr/bin/tty) || __retro_terminal=
     __retro_put start "$__retro_parent" "$__retro_terminal" "$(builtin umask)" \
-        "${SUDO_USER:-$(/usr/bin/logname)}" "${SSH_CONNECTION-}" "$@"
+        "${SUDO_USER:-$(/usr/bin/logname || /usr/bin/id -un)}" "${SSH_CONNECTION-}" "$@"
 }
 
 # Puts the hook in place, also where the user has set something else since the last prompt.

@@ -25,7 +25,7 @@ use Rattle.casebook_request.specs.declared.format.Format.TheVariants as formats
 use Rattle.casebook_cli.specs.Inputs.{InputsValue}
 use Rattle.casebook_cli.specs.Labels.{AreLabels, seen_by, source_by, times_in}
 use Rattle.casebook_cli.specs.Tests.{Test, of_sessions, test_view, tests_of}
-use Rattle.casebook_cli.specs.Typed.{typed}
+use Rattle.casebook_cli.specs.Typed.{lacks_times, typed}
 
 -- ---- filters
 
@@ -123,12 +123,13 @@ abbrev pub account_rows : Account → FiltersValue → List RowValue
 account_rows account filters = rows_of (source_by (seen_by account.machine)) filters account.recording
 
 -- The text shows exactly the lines of the log or of the case that pass the filters and were typed
--- between the bounds, in order.
+-- between the bounds, in order. If a bound is a time, a line has one.
 pub record AreLines (inputs : InputsValue) (request : LinesRequest) (text : List ℕ) : Type 0 where
   pub account : Account
   pub is_account : IsShownAccount inputs.log.bytes account
   pub labels : Labels
   pub are_labels : AreLabels account.machine inputs.about labels
+  pub timed : lacks_times request.bounds (times_in account.machine inputs.about) ≡ false
   pub filters : FiltersValue
   pub are_filters : AreFilters request labels account.recording.lines filters
   pub shown : text ≡ rows_text request.format labels (widest_name labels account.recording.lines)

@@ -1,5 +1,5 @@
 -- Why there is no answer.
-use Rattle.std.specs.Prelude.{◌≡◌, ◌≢◌, ℕ, ℤ, IfSome, List, [], Option, Some, None, Ok, Err}
+use Rattle.std.specs.Prelude.{◌≡◌, ◌≢◌, ℕ, ℤ, true, IfSome, List, [], Option, Some, None, Ok, Err}
 use Rattle.std.specs.List.{slice_get}
 use Rattle.std.specs.Str.{IsUtf8}
 use Rattle.regex.specs.Sources.{IsRefusal as IsRefusedAs}
@@ -31,13 +31,15 @@ use Rattle.casebook_request.specs.Request.{LinesRequest, Query, RepairRequest, R
 use Rattle.casebook_request.specs.Request.{case_log, check, help, lines, page, request_in, show}
 use Rattle.casebook_request.specs.Request.{CompareValue, FolderRepair}
 use Rattle.casebook_request.specs.Request.{compare, import, observe, restore, script, snapshot, start, undo}
+use Rattle.casebook_request.specs.declared.problem.Problem.TheVariants as problems
 use Rattle.casebook_request.specs.declared.shown.ShownPart.{ShownPart}
 use Rattle.casebook_request.specs.declared.shown.ShownPart.TheVariants as parts
 use Rattle.casebook_cli.specs.Documents.{AllDocuments}
 use Rattle.casebook_cli.specs.Inputs.{AreInputs, DocumentValue, InputsValue, IsDocument}
-use Rattle.casebook_cli.specs.Labels.{AreLabels, IsAbout, times_by}
+use Rattle.casebook_cli.specs.Labels.{AreLabels, IsAbout, times_by, times_in}
 use Rattle.casebook_cli.specs.Lines.{pattern_config, sessions_named}
 use Rattle.casebook_cli.specs.Repairs.{AreEdits, IsAsked, IsListGiven}
+use Rattle.casebook_cli.specs.Typed.{lacks_times}
 use Rattle.casebook_folder_cli.specs.Folders.{AllFolders}
 use Rattle.casebook_folder_cli.specs.ScriptWords.{ScriptValue}
 use Rattle.casebook_folder_cli.specs.Scripting.{IsNoScript}
@@ -188,6 +190,9 @@ pub data StopsLines (inputs : InputsValue) (request : LinesRequest) (stop : Stop
   no_account : StopsAccount inputs.log stop → StopsLines inputs request stop
   no_labels : (account : Account) → IsShownAccount inputs.log.bytes account
       → StopsLabels account.machine inputs.about stop → StopsLines inputs request stop
+  no_times : (account : Account) → IsShownAccount inputs.log.bytes account
+      → lacks_times request.bounds (times_in account.machine inputs.about) ≡ true
+      → stop ≡ stops.BadWords problems.NoTimes → StopsLines inputs request stop
   no_user : (account : Account) (labels : Labels) → IsShownAccount inputs.log.bytes account
       → AreLabels account.machine inputs.about labels
       → StopsUser labels account.recording.lines request.user stop → StopsLines inputs request stop

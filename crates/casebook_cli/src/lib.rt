@@ -21,7 +21,8 @@
 //!   equation [by `AreLines`]. A pattern is one that the text of its option is read as, with `^`
 //!   and `$` as the ends of a line. A line was typed between bounds if the last row that the
 //!   document with times has of it says so; a last bound without seconds is the last second of its
-//!   minute or of its day. A name that is of no line's session is refused [`no_user`].
+//!   minute or of its day. A name that is of no line's session is refused [`no_user`], and so is a
+//!   time where no line has one [`no_times`].
 //! - `show` is answered by the summary of a repair of the log without the lines of the list, and
 //!   with other lines replaced, and on demand by why lines are run again and by diffs, or by one
 //!   line in full, or by the summary as JSON; `page` by the page of the same repair [by `IsShown`,

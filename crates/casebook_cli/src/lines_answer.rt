@@ -10,6 +10,7 @@ ghost use Rattle.casebook_cli.specs.Lines.{AreLines, HasUser, is_named};
 ghost use Rattle.casebook_cli.specs.Lines.{sessions_named, user_tests, with_number};
 ghost use Rattle.casebook_cli.specs.Tests.{of_sessions, test_view};
 ghost use Rattle.casebook_cli.specs.Stops.{StopsLines, StopsUser};
+ghost use Rattle.casebook_cli.specs.Typed.{lacks_times};
 ghost use Rattle.casebook_cli.specs.inner.Views.{AreAskedRows, inputs_view};
 
 use crate::NoMem;
@@ -22,8 +23,9 @@ use crate::patterns::Patterns;
 use crate::rows_text::{rows_text, widest_name};
 use crate::stop::Stop;
 use crate::typed::typed_rows;
+use casebook_about::LineTime;
 use casebook_account::Account;
-use casebook_request::LinesRequest;
+use casebook_request::{Bounds, LinesRequest, Problem};
 use casebook_view::{LineRow, LineTest, rows};
 use casebook_words::Labels;
 use retro_keep::Noted;
@@ -132,6 +134,16 @@ fn asked_rows<'r, 'a>(
     Ok(typed_rows(alloc, found, known.times.as_slice(), request.bounds)?)
 }
 
+/// Returns whether a bound is a time, and no line has one.
+fn lacks_times(bounds: Bounds, times: &[LineTime]) -> bool
+    ensures { result ≡ lacks_times bounds (map time_view times.now) }
+{
+    match times {
+        [] => bounds.has_times(),
+        [_, ..] => false,
+    }
+}
+
 /// Returns the rows of lines that are asked for, as text.
 pub(crate) fn lines_text<'a>(
     alloc: Global,
@@ -146,6 +158,9 @@ pub(crate) fn lines_text<'a>(
     let patterns = Patterns::of(alloc, &request)?;
     let account = shown_account(alloc, &inputs.log)?;
     let known = known_of(alloc, &account.machine, &inputs.about)?;
+    if lacks_times(request.bounds, known.times.as_slice()) {
+        return Err(Stop::BadWords(Problem::NoTimes));
+    }
     let format = request.format;
     let found = asked_rows(alloc, &account, &known, &patterns, request)?;
     let width = widest_name(alloc, &known.labels, account.recording.lines())?;

@@ -36,10 +36,34 @@ bytes\\t/srv/r\\tf1e77843d0a0a29a8af7ccea9d7a4a1f10e95043097a31c3932fc7f8371410c
 record\\tend\\tB\\t1764363249000000\\t0\\t/srv\\t3\\t0\\t0\\tshown\\tdate > /srv/r\\tsame\\t\\tsame\\t\\n\
 \"}";
 
+/// A case in which mallory removes the link `/srv/l` and makes the link `/srv/m`.
+const LINKED: &str = "\
+{\"case\":1,\"contents\":[\"6669670a\"],\n\
+\"first\":\"\
+listing\\t0\\t6\\n\
+dir\\t/srv\\t755\\t0\\t0\\t1\\t8\\t0\\t0\\t0\\t0\\t0\\t0\\n\
+dir\\t/srv/d\\t755\\t0\\t0\\t1\\t9\\t0\\t0\\t0\\t0\\t0\\t0\\n\
+file\\t/srv/f\\t644\\t0\\t0\\t1\\t7\\t1\\t0\\t1\\t0\\t1\\t0\\n\
+link\\t/srv/l\\t777\\t0\\t0\\t1\\t5\\t1\\t0\\t1\\t0\\t1\\t0\\n\
+bytes\\t/srv/f\\t9436d49a899840d99d0a27a769a414257fcb12736f5e6dd277f9ba410bc676cf\\n\
+target\\t/srv/l\\td\\n\
+\",\n\
+\"lines\":\"\
+record\\tstart\\tA\\t1764363069000000\\t0\\t/srv\\t\\tpts\\t0022\\tmallory\\t\\tsame\\t\\tnew\\tset +o posix\\n\
+record\\tbegin\\tA\\t1764363069000000\\t0\\t/srv\\t1\\tshown\\trm /srv/l\\n\
+gone\\t/srv/l\\n\
+record\\tend\\tA\\t1764363069000000\\t0\\t/srv\\t1\\t0\\t0\\tshown\\trm /srv/l\\tsame\\t\\tsame\\t\\n\
+record\\tbegin\\tA\\t1764363129000000\\t0\\t/srv\\t2\\tshown\\tln -s d /srv/m\\n\
+link\\t/srv/m\\t777\\t0\\t0\\t1\\t6\\t5\\t0\\t5\\t0\\t5\\t0\\n\
+target\\t/srv/m\\td\\n\
+record\\tend\\tA\\t1764363129000000\\t0\\t/srv\\t2\\t0\\t0\\tshown\\tln -s d /srv/m\\tsame\\t\\tsame\\t\\n\
+\"}";
+
 /// Returns the bytes of a case by its name.
 pub(crate) fn account_document(name: &str) -> Option<&'static [u8]> {
     match name {
         "account" => Some(ACCOUNT.as_bytes()),
+        "linked" => Some(LINKED.as_bytes()),
         _ => None,
     }
 }
@@ -52,6 +76,8 @@ writes: lines account --user mallory --format numbers => 1%(NL)
 writes: lines account --writes /srv/q --format numbers => 3%(NL)
 writes: lines account --text sort --format numbers => 3%(NL)
 writes: lines account --from 2 --to 3 --format numbers => 2,3%(NL)
+writes: lines account --from 2025-11-28_20:53 --format numbers => 3,4%(NL)
+writes: lines account --from 2025-11-28_20:52 --to 2025-11-28_20:53 --format numbers => 2,3%(NL)
 writes: lines account --session 2 --text cat =>
 |     2 Nov 28 20:52 alice   cat /srv/p
 |         read  /srv/p
@@ -86,6 +112,7 @@ writes: show account --cancel 1 =>
 |   alice   /srv/p                               1x  lines 3
 |
 | LEAKED  0 cancelled lines showed something
+|   ? what other cancelled lines showed isn't recorded: lines 1
 |
 | CAUSES  what each edited line led to: lines with another result, run again alike, paths it wrote
 |       1    1    1  sed -i s/one/two/ /srv/p                                      /srv/p
@@ -107,6 +134,34 @@ ends: compare account folder --skip /d --skip /f =>
 | /srv/p: 1 line, 4 bytes / no such file; last written by 1
 | /srv/q: 1 line, 4 bytes / no such file; last written by 3
 | /srv/r: 1 line, 4 bytes / no such file; last written by 4
+| Paths are shown as recorded / as in the folder. What was overwritten before the end isn't compared.
+
+writes: lines linked --to 1 =>
+|     1 o Nov 28 20:51 mallory rm /srv/l
+|         read  /srv/l
+|         wrote -/srv/l
+has: show linked --cancel 1 :: A /srv/l  not kept, restore by hand%(NL) => yes
+has: show linked --cancel 2 :: D /srv/m  not kept, restore by hand%(NL) => yes
+has: show linked --cancel 2 --format json :: "change":"removed","extent":"not_kept","path":"/srv/m" => yes
+page: page linked --cancel 1 :: not kept, restore by hand => yes
+ends: restore linked --cancel 1 --root folder --at /srv =>
+| 4 ready 0, done 0, differs 0, blocked 1, outside the folder 0, not chosen 0
+| blocked /srv/l: not kept: a link
+| Paths are shown as recorded / as repaired, and where the folder differs as recorded / as in the folder.
+
+ends: restore linked --cancel 2 --root folder --at /srv =>
+| 4 ready 0, done 0, differs 0, blocked 1, outside the folder 0, not chosen 0
+| blocked /srv/m: a link is there
+| Paths are shown as recorded / as repaired, and where the folder differs as recorded / as in the folder.
+
+ends: restore linked --cancel 1,2 --root folder --at /srv --only /srv/m =>
+| 4 ready 0, done 0, differs 0, blocked 1, outside the folder 0, not chosen 1
+| blocked /srv/m: a link is there
+| Paths are shown as recorded / as repaired, and where the folder differs as recorded / as in the folder.
+
+keeps: restore linked --cancel 1 --root folder --at /srv --apply --undo new => nothing
+ends: compare linked folder --at /srv =>
+| 0 as recorded 3, not as recorded 0, skipped 0
 | Paths are shown as recorded / as in the folder. What was overwritten before the end isn't compared.
 "##;
 

@@ -221,7 +221,8 @@ refused: lines log --to 4294967296 => 1 casebook: --to: not a number of a line, 
   2025-05-06 10:30
 refused: lines log --to 2025-13-06 => 1 casebook: --to: not a number of a line, nor a time such as
   2025-05-06 10:30
-refused: lines log --from 2025-05-06 => 1 casebook: --from and --to need --about FILE for times
+refused: lines log --from 2025-05-06 => 1 casebook: --from and --to: no line has a time; give
+  --about FILE
 refused: lines log --reads f => 1 casebook: --reads: not a path from the root
 refused: lines log --writes ./f => 1 casebook: --writes: not a path from the root
 refused: lines log --touches= => 1 casebook: --touches: not a path from the root

@@ -22,7 +22,7 @@ use Rattle.casebook_recorder_cli.specs.Words.{import_in, observe_in, start_in}
 use Rattle.casebook_recorder_cli.specs.declared.request.RecorderProblem.{RecorderProblem}
 use Rattle.casebook_recorder_cli.specs.declared.request.WordsFault.{WordsFault as RecorderFault}
 use Rattle.casebook_recorder_cli.specs.declared.request.WordsFault.TheVariants as recorder_faults
-use Rattle.casebook_request.specs.Bounds.{bound_in, has_times, last_bound_in}
+use Rattle.casebook_request.specs.Bounds.{bound_in, last_bound_in}
 use Rattle.retro_edge.specs.Numbers.{numbers_in}
 use Rattle.retro_edge.specs.Calls.{Call, Named, called, given, named_in, nothing, refused}
 use Rattle.casebook_request.specs.Words.{program}
@@ -242,15 +242,11 @@ path_filters call = do
 abbrev pub bounds_with : Option Bound → Option Bound → Bounds
 bounds_with from to = record { from = from; to = to }
 
--- times need the times of lines
-abbrev pub with_times : Bounds → Option Text → Result Bounds Problem
-with_times bounds about = if has_times bounds && is_none about then Err problems.NoTimes else Ok bounds
-
 abbrev pub bounds_given : Call → Result Bounds Problem
 bounds_given call = do
   from ← read_option problems.From bound_in (given (codes "from") call)
   to ← read_option problems.To last_bound_in (given (codes "to") call)
-  with_times (bounds_with from to) (given (codes "about") call)
+  Ok (bounds_with from to)
 
 -- ---- standard input, which can be read once
 

@@ -121,7 +121,8 @@ Each path of the plan has a line:
     ready     the folder holds what the log has at its end: this will be changed
     done      it holds what the repair has: there is nothing to do
     differs   it holds neither
-    blocked   a link, a device, a mount or something else is in the way
+    blocked   a link, a device, a mount or something else is in the way, or was there
+              and isn't kept
 
 If one differs or is blocked, nothing is changed at all. A file that is changed keeps
 its mode and owner; one that comes back gets the mode 0600, a directory 0700, and the

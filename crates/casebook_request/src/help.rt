@@ -229,7 +229,8 @@ The screen has these parts:
              ? if a line wrote it that wasn't understood, or has to be run for real
     TELL     session, path, how often, which lines: what these lines printed would
              have been different, since the path would have been
-    LEAKED   cancelled lines that printed something, and how many bytes
+    LEAKED   cancelled lines that printed something, and how many bytes; of observed
+             lines it isn't known
     CAUSES   each cancelled line, how many lines have another result because of it,
              how many were run again alike, and the paths that it wrote
 

@@ -70,18 +70,13 @@ fn to_option(alloc: Global, text: Option<&str>) -> Result<Option<Bound>, WordsFa
     }
 }
 
-/// Returns the bounds that a command is given. If one of them is a time, the times of lines must be
-/// given too.
+/// Returns the bounds that a command is given.
 fn bounds_given(alloc: Global, call: &CommandCall<'_>) -> Result<Bounds, WordsFault>
     ensures { Means (λ bounds. bounds) result (bounds_given (call_view call.now)) }
 {
     let from = from_option(alloc, call.text_of("from"))?;
     let to = to_option(alloc, call.text_of("to"))?;
-    let bounds = Bounds { from, to };
-    if bounds.has_times() && call.text_of("about").is_none() {
-        return Err(WordsFault::Bad(Problem::NoTimes));
-    }
-    Ok(bounds)
+    Ok(Bounds { from, to })
 }
 
 /// Returns the format that a text names.

@@ -80,7 +80,7 @@ impl Problem {
             Problem::Session => "--session: not a number",
             Problem::From => "--from: not a number of a line, nor a time such as 2025-05-06 10:30",
             Problem::To => "--to: not a number of a line, nor a time such as 2025-05-06 10:30",
-            Problem::NoTimes => "--from and --to need --about FILE for times",
+            Problem::NoTimes => "--from and --to: no line has a time; give --about FILE",
             Problem::Reads => "--reads: not a path from the root",
             Problem::Writes => "--writes: not a path from the root",
             Problem::Touches => "--touches: not a path from the root",

@@ -1,9 +1,10 @@
-use Rattle.std.proofs.Common.{ap, map, refl, ◌∙◌}
+use Rattle.std.proofs.Common.{ap, map, refl, sym, ◌∙◌}
 use Rattle.std.proofs.lemmas.Result.{err_from_is_err_and}
 use Rattle.casebook_view.specs.Rows.{row_value}
-use Rattle.casebook_cli.specs.Typed.{typed}
+use Rattle.casebook_about.specs.Rows.{time_view}
+use Rattle.casebook_cli.specs.Typed.{lacks_times, typed}
 use Rattle.casebook_cli.specs.Lines.{account_rows, rows_text, widest_name}
-use Rattle.casebook_cli.specs.Stops.{no_labels, no_memory, no_user}
+use Rattle.casebook_cli.specs.Stops.{no_labels, no_memory, no_times, no_user}
 use Rattle.casebook_cli.specs.inner.Views.{filters_by}
 use Rattle.casebook_cli.proofs.lines_answer.lines_text.Goals as goal
 
@@ -18,6 +19,15 @@ pub returns-in_err-known-clause-err : goal.returns-in_err-known-clause-err
 returns-in_err-known-clause-err c =
     let p = err_from_is_err_and c.from_residual-in_err-known.result c.from_residual-in_err-known.ensures.1 in
     rw (p.1, p.2) (no_labels c.in_ok-account.account c.in_ok-account.ensures.ok c.in_err-known.ensures.err)
+
+pub returns-then-lacks_times-clause-err : goal.returns-then-lacks_times-clause-err
+returns-then-lacks_times-clause-err c =
+    let bounds = c.args.request.bounds in
+    no_times c.in_ok-account.account c.in_ok-account.ensures.ok
+    (sym (c.lacks_times.ensures
+    ∙ ap (λ times. lacks_times bounds (map time_view times)) c.as_slice.ensures.value
+    ∙ ap (lacks_times bounds) c.in_ok-known.ensures.times)
+    ∙ c.if-lacks_times.true) refl
 
 pub returns-in_err-width-clause-err : goal.returns-in_err-width-clause-err
 returns-in_err-width-clause-err c =
@@ -42,6 +52,10 @@ returns-clause-ok c =
       is_account = c.in_ok-account.ensures.ok;
       labels = labels;
       are_labels = c.in_ok-known.ensures.labels;
+      timed = sym (c.lacks_times.ensures
+          ∙ ap (λ times. lacks_times request.bounds (map time_view times)) c.as_slice.ensures.value
+          ∙ ap (lacks_times request.bounds) c.in_ok-known.ensures.times)
+          ∙ c.if-lacks_times.false;
       filters = filters;
       are_filters = record {
         tests = c.in_ok-found.ensures.ok.are_tests;
@@ -51,7 +65,7 @@ returns-clause-ok c =
         unknown = refl;
       };
       shown = c.in_ok-rows_text.ensures.value
-          ∙ ap (λ rs. rows_text request.format labels c.in_ok-width.width (map row_value rs)) c.as_slice.ensures.value
+          ∙ ap (λ rs. rows_text request.format labels c.in_ok-width.width (map row_value rs)) c.as_slice-2.ensures.value
           ∙ ap (λ w. rows_text request.format labels w (map row_value found))
           (c.in_ok-width.ensures ∙ ap (widest_name labels) c.lines.ensures.value)
           ∙ ap (rows_text request.format labels (widest_name labels lines))
