@@ -4,7 +4,10 @@
 ghost use Rattle.std.specs.Prelude.{None};
 
 use casebook_cli::{Documents, Exit, Output, Problem, Progress, ReadFault, Step, Stop, run_with};
-use casebook_disk::{Disk, DiskListing, DiskSource, DiskSpool, DiskWatched, write_new_file};
+use casebook_disk::{
+    Disk, DiskListing, DiskSource, DiskSpool, DiskWatched, unseen_rows, watched_folders,
+    write_new_file,
+};
 use casebook_folder::FolderError;
 use casebook_folder_cli::{Folders, Mounts, Owner};
 use casebook_recorder_cli::{OpenError, OpenSpool, SENT_LIMIT, Spools};
@@ -256,6 +259,9 @@ impl<'a> Spools for Files<'a> {
             Ok(folders) => folders,
             Err(error) => return Err(open_fault_of(error)),
         };
+        if let Err(error) = spool.note_unseen(folders.as_slice()) {
+            return Err(open_fault_of(error));
+        }
         match DiskWatched::open(self.rt, folders) {
             Ok(watched) => Ok(OpenSpool { spool, watched }),
             Err(error) => Err(watched_fault_of(error)),
@@ -265,6 +271,20 @@ impl<'a> Spools for Files<'a> {
     fn spool_source(&self, _alloc: Global, name: &str) -> Result<Self::Source, OpenError> {
         match DiskSource::open(self.rt, name) {
             Ok(source) => Ok(source),
+            Err(error) => Err(open_fault_of(error)),
+        }
+    }
+
+    fn folders_of(&self, _alloc: Global, name: &str) -> Result<Vec<Path>, OpenError> {
+        match watched_folders(self.rt, name) {
+            Ok(folders) => Ok(folders),
+            Err(error) => Err(open_fault_of(error)),
+        }
+    }
+
+    fn unseen_of(&self, _alloc: Global, name: &str) -> Result<Vec<u8>, OpenError> {
+        match unseen_rows(self.rt, name) {
+            Ok(rows) => Ok(rows),
             Err(error) => Err(open_fault_of(error)),
         }
     }
@@ -280,8 +300,12 @@ impl<'a> Spools for Files<'a> {
             Ok(watched) => watched,
             Err(error) => return Err(watched_fault_of(error)),
         };
-        match DiskSpool::create(self.rt, name, folders) {
-            Ok(spool) => Ok(OpenSpool { spool, watched }),
+        let spool = match DiskSpool::create(self.rt, name, folders) {
+            Ok(spool) => spool,
+            Err(error) => return Err(open_fault_of(error)),
+        };
+        match spool.note_unseen(folders) {
+            Ok(()) => Ok(OpenSpool { spool, watched }),
             Err(error) => Err(open_fault_of(error)),
         }
     }

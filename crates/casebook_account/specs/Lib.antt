@@ -1,4 +1,5 @@
 pub mod Machine
+pub mod Lacks
 pub mod Faults
 pub mod Accounts
 pub mod Edits

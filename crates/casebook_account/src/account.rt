@@ -3,6 +3,7 @@ use crate::NoMem;
 use crate::machine_line::MachineLine;
 use casebook_about::SessionUser;
 use retro_keep::Recording;
+use retro_tree::Text;
 use std::alloc::Global;
 
 /// What a recorder saw of a machine, beside the recording that explains it.
@@ -12,6 +13,10 @@ pub struct Machine {
     pub lines: Vec<MachineLine>,
     /// The users of sessions by their login names, where these are known.
     pub users: Vec<SessionUser>,
+    /// The sessions of which some lines have no record, in order.
+    pub incomplete: Vec<u32>,
+    /// The watched folders in which it wasn't always seen what lines only read.
+    pub unseen: Vec<Text>,
 }
 
 /// What a document says that is read as a log: a recording, and if the document is a case, what its

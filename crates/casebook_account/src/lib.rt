@@ -14,7 +14,8 @@
 //!
 //! If allocation fails, calls return `NoMem`, alone or as a variant of their error.
 //!
-//! Start reading at `account.rt`, then `machine_line.rt`, `text_edits.rt` and `shown.rt`.
+//! Start reading at `account.rt`, then `machine_line.rt`, `lacks.rt`, `text_edits.rt` and
+//! `shown.rt`.
 //!
 //! # What is proved
 //!
@@ -34,6 +35,7 @@
 
 mod account;
 mod account_fault;
+mod lacks;
 mod laws;
 mod machine_line;
 mod ours;

@@ -11,6 +11,7 @@ ghost use Rattle.casebook_recording.specs.declared.recording_fault.RecordingFaul
 use crate::NoMem;
 use crate::account::{Account, Machine};
 use crate::account_fault::AccountFault;
+use crate::lacks::{incomplete_of, unseen_in};
 use crate::machine_line::{machine_lines, printed};
 use casebook_about::SessionUser;
 use casebook_case::{Case, CaseFault, read_case};
@@ -65,11 +66,18 @@ fn case_account(alloc: Global, case: &Case) -> Result<Account, RecordingFault>
 {
     let ToldCase { typed, told } = told_case(alloc, case)?;
     let users = users_of(alloc, typed.sessions.as_slice())?;
+    let incomplete = incomplete_of(alloc, typed.sessions.as_slice())?;
+    let unseen = unseen_in(alloc, case.unseen.as_slice())?;
     let lines = machine_lines(alloc, told.lines(), typed.lines)?;
     let recording = told.into_recording(alloc, Noting::WithNeeds)?;
     Ok(Account {
         recording,
-        machine: Some(Machine { lines, users }),
+        machine: Some(Machine {
+            lines,
+            users,
+            incomplete,
+            unseen,
+        }),
     })
 }
 

@@ -1,5 +1,4 @@
 pub mod ContentByContent
 pub mod Shapes
 pub mod Made
-pub mod Same
 pub mod Trip

@@ -3,46 +3,48 @@ use Rattle.std.proofs.Common.{◌≡◌, ◌∙◌, ℕ, All, List, [], ◌∷�
 use Rattle.std.proofs.lemmas.List.Elements.{All-push}
 use Rattle.std.specs.Prelude.{IfSome, IsOk, ok_or}
 use Rattle.casebook_observe.specs.Files.{SpoolFiles}
-use Rattle.casebook_spool.specs.Held.{Held}
 use Rattle.casebook_spool.specs.Lines.{lines_of}
 use Rattle.casebook_spool.specs.Listings.{listing_of}
 use Rattle.casebook_spool.specs.Said.{LinesValue, ListingValue}
-use Rattle.casebook_case.specs.Cases.{case_of, case_with, held_by, lines_or}
+use Rattle.casebook_case.specs.Cases.{all_held, case_of, held_by, lines_or}
 use Rattle.casebook_case.specs.Documents.{case_text}
 use Rattle.casebook_case.specs.Reading.{case_in}
 use Rattle.casebook_case.specs.Written.{IsCaseOf, IsKept}
-use Rattle.casebook_case.specs.declared.case.Case.{Case}
 use Rattle.casebook_case.specs.declared.case_fault.CaseFault.TheVariants as faults
 
 -- what is made of the parts of a spool, which are read
-pub record IsMade (contents : List (List ℕ)) (first lines text : List ℕ) : Type 0 where
+pub record IsMade (contents : List (List ℕ)) (first lines unseen text : List ℕ) : Type 0 where
   pub look : ListingValue
   pub observed : LinesValue
-  pub case : Case
   pub looks : ok_or (listing_of first) faults.BadFirst ≡ Ok look
   pub observes : lines_or (lines_of lines) ≡ Ok observed
-  pub made : Ok case ≡ case_with (held_by contents) look observed
-  pub written : text ≡ case_text contents first lines
-  pub again : case_in text ≡ case_of contents first lines
+  pub held : all_held (held_by contents) look observed ≡ Ok tt
+  pub written : text ≡ case_text contents first lines unseen
+  pub again : case_in text ≡ case_of contents first lines unseen
 
-whole : (contents : List (List ℕ)) (first lines text : List ℕ) → IsMade contents first lines text
-    → IsOk (case_of contents first lines)
+whole : (contents : List (List ℕ)) (first lines unseen text : List ℕ)
+    → IsMade contents first lines unseen text → IsOk (case_of contents first lines unseen)
 unfolding case_of
-whole contents first lines text made =
-    rw (made.looks, made.observes) (subst IsOk made.made refl)
+whole contents first lines unseen text made = rw (made.looks, made.observes, made.held) refl
 
-pub case_of_spool : (files : Option SpoolFiles) (contents : List (List ℕ)) (first lines text : List ℕ)
+pub case_of_spool : (files : Option SpoolFiles) (contents : List (List ℕ))
+    (first lines unseen text : List ℕ)
     → IfSome files (λ f. first ≡ f.first) → IfSome files (λ f. lines ≡ f.lines)
-    → IfSome files (λ f. All (IsKept f) contents) → IsMade contents first lines text
-    → IfSome files (λ f. IsCaseOf f text)
-case_of_spool None contents first lines text a b kept made = tt
-case_of_spool (Some f) contents first lines text a b kept made = record {
+    → IfSome files (λ f. All (IsKept f) contents) → IsMade contents first lines unseen text
+    → IfSome files (λ f. IsCaseOf f unseen text)
+case_of_spool None contents first lines unseen text a b kept made = tt
+case_of_spool (Some f) contents first lines unseen text a b kept made = record {
   contents = contents;
   kept = kept;
-  written = made.written ∙ ap (λ x. case_text contents x lines) a ∙ ap (case_text contents f.first) b;
-  whole = subst (λ x. IsOk (case_of contents f.first x)) b
-      (subst (λ x. IsOk (case_of contents x lines)) a (whole contents first lines text made));
-  again = made.again ∙ ap (λ x. case_of contents x lines) a ∙ ap (case_of contents f.first) b;
+  written =
+      made.written ∙ ap (λ x. case_text contents x lines unseen) a
+      ∙ ap (λ x. case_text contents f.first x unseen) b;
+  whole = subst (λ x. IsOk (case_of contents f.first x unseen)) b
+      (subst (λ x. IsOk (case_of contents x lines unseen)) a
+      (whole contents first lines unseen text made));
+  again =
+      made.again ∙ ap (λ x. case_of contents x lines unseen) a
+      ∙ ap (λ x. case_of contents f.first x unseen) b;
 }
 
 -- ---- bytes that are kept

@@ -15,10 +15,10 @@ contents_float : (contents : List (List ℕ)) → has_float (contents_data conte
 unfolding contents_data
 contents_float contents = array_float hex_data hex_float contents
 
-pub case_float : (contents : List (List ℕ)) (first lines : List ℕ)
-    → has_float (case_data contents first lines) ≡ false
+pub case_float : (contents : List (List ℕ)) (first lines unseen : List ℕ)
+    → has_float (case_data contents first lines unseen) ≡ false
 unfolding case_data
-case_float contents first lines = rw (contents_float contents) refl
+case_float contents first lines unseen = rw (contents_float contents) refl
 
 items_low : (contents : List (List ℕ)) → items_depth (items_of (map hex_data contents)) ≤ 0
 items_low [] = omega arith
@@ -28,7 +28,7 @@ contents_low : (contents : List (List ℕ)) → depth (contents_data contents) �
 unfolding contents_data
 contents_low contents = let items = items_low contents in omega (arith, items)
 
-pub case_low : (contents : List (List ℕ)) (first lines : List ℕ)
-    → depth (case_data contents first lines) ≤ max_depth
+pub case_low : (contents : List (List ℕ)) (first lines unseen : List ℕ)
+    → depth (case_data contents first lines unseen) ≤ max_depth
 unfolding case_data
-case_low contents first lines = let low = contents_low contents in omega (arith, low)
+case_low contents first lines unseen = let low = contents_low contents in omega (arith, low)

@@ -1,5 +1,5 @@
--- What a case says, by its parts: the bytes of files, and the texts of the files `first` and `lines`
--- of a spool.
+-- What a case says, by its parts: the bytes of files, the texts of the files `first` and `lines` of a
+-- spool, and the rows of the folders in which it wasn't always seen what lines only read.
 use Rattle.std.specs.Prelude.{ℕ, ◌+◌, Bool, false, List, fold, position}
 use Rattle.std.specs.Prelude.{Option, Some, None, Result, Ok, Err, is_none, ok_or, ⊤}
 use Rattle.std.specs.FinMap as finmap
@@ -68,17 +68,22 @@ abbrev pub lines_or : Result LinesValue ℕ → Result LinesValue CaseFault
 lines_or (Ok lines) = Ok lines
 lines_or (Err row) = Err (faults.BadLine row)
 
--- a case whose bytes are all there that its notes name
-abbrev pub case_with : Held → ListingValue → LinesValue → Result Case CaseFault
-case_with held first lines = do
+-- whether all bytes are there that notes name, or the first row whose bytes are missing
+abbrev pub all_held : Held → ListingValue → LinesValue → Result ⊤ CaseFault
+all_held held first lines = do
   looked ← unless_at missing_first (position (lacks held) first.said)
-  observed ← unless_at missing_line (position (item_lacks held) lines.said)
-  Ok (record { first = first; lines = lines; contents = held })
+  unless_at missing_line (position (item_lacks held) lines.said)
+
+-- a case whose bytes are all there that its notes name
+abbrev pub case_with : Held → ListingValue → LinesValue → List ℕ → Result Case CaseFault
+case_with held first lines unseen = do
+  whole ← all_held held first lines
+  Ok (record { first = first; lines = lines; contents = held; unseen = unseen })
 
 -- What the parts of a case say, or the first fault: that of the first look, that of the
 -- observations, and then bytes that are missing in the one and in the other.
-unfoldable pub case_of : List (List ℕ) → List ℕ → List ℕ → Result Case CaseFault
-case_of contents first lines = do
+unfoldable pub case_of : List (List ℕ) → List ℕ → List ℕ → List ℕ → Result Case CaseFault
+case_of contents first lines unseen = do
   look ← ok_or (listing_of first) faults.BadFirst
   observations ← lines_or (lines_of lines)
-  case_with (held_by contents) look observations
+  case_with (held_by contents) look observations unseen

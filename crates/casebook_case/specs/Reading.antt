@@ -11,11 +11,12 @@ use Rattle.casebook_case.specs.declared.case.Case.{Case}
 use Rattle.casebook_case.specs.declared.case_fault.CaseFault.{CaseFault}
 use Rattle.casebook_case.specs.declared.case_fault.CaseFault.TheVariants.{BadContent, NotACase, NotJson}
 
--- the parts of a case: the bytes of files, and two texts
+-- the parts of a case: the bytes of files, and three texts
 pub record PartsView : Type 0 where
   pub contents : List (List ℕ)
   pub first : List ℕ
   pub lines : List ℕ
+  pub unseen : List ℕ
 
 -- ---- the bytes of files
 
@@ -52,9 +53,10 @@ abbrev pub parts_at : Data → Result PartsView CaseFault
 parts_at d = do
   first ← text_at (codes "first") d
   lines ← text_at (codes "lines") d
+  unseen ← text_at (codes "unseen") d
   items ← ok_or (option_and_then items_in (get (codes "contents") d)) NotACase
   contents ← contents_from 1 items
-  Ok (record { contents = contents; first = first; lines = lines })
+  Ok (record { contents = contents; first = first; lines = lines; unseen = unseen })
 
 unfoldable pub parts_of : Data → Result PartsView CaseFault
 parts_of d = if is_case d then parts_at d else Err NotACase
@@ -63,7 +65,7 @@ parts_of d = if is_case d then parts_at d else Err NotACase
 unfoldable pub case_at : Data → Result Case CaseFault
 case_at d = do
   parts ← parts_of d
-  case_of parts.contents parts.first parts.lines
+  case_of parts.contents parts.first parts.lines parts.unseen
 
 -- the case that bytes are, or the first fault
 unfoldable pub case_in : List ℕ → Result Case CaseFault

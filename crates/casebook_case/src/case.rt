@@ -1,5 +1,6 @@
 //! Cases.
 use casebook_spool::{Contents, Lines, Listing};
+use retro_path::Bytes;
 
 /// What a recorder saw of a machine.
 #[derive(Drop)]
@@ -10,4 +11,6 @@ pub struct Case {
     pub lines: Lines,
     /// The bytes of files that they name.
     pub contents: Contents,
+    /// The watched folders in which it wasn't always seen what lines only read: rows of paths.
+    pub unseen: Bytes,
 }

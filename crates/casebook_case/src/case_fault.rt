@@ -24,8 +24,8 @@ pub enum CaseFault {
     /// The bytes aren't UTF-8, or not exactly one JSON value.
     #[error("not a JSON value")]
     NotJson,
-    /// The value isn't an object with `"case": 1`, texts `"first"` and `"lines"`, and a list
-    /// `"contents"`.
+    /// The value isn't an object with `"case": 1`, texts `"first"`, `"lines"` and `"unseen"`, and a
+    /// list `"contents"`.
     #[error("not a case")]
     NotACase,
     /// What is at this place of the contents isn't bytes.

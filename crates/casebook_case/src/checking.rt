@@ -1,6 +1,6 @@
 //! Makes cases of their parts.
 ghost use Rattle.std.specs.Prelude.{◌≡◌, IfOk, ok_or, position};
-ghost use Rattle.casebook_case.specs.Cases.{case_of, case_with, held_by, item_lacks, lacks};
+ghost use Rattle.casebook_case.specs.Cases.{all_held, case_of, case_with, held_by, item_lacks, lacks};
 ghost use Rattle.casebook_case.specs.Cases.{lines_or, missing_first, missing_line, unless_at};
 ghost use Rattle.casebook_case.specs.Reads.{Reads};
 ghost use Rattle.casebook_spool.specs.Lines.{lines_of};
@@ -68,7 +68,8 @@ fn first_item_lacking(held: &Contents, items: &[Item]) -> Option<usize>
 
 /// Checks that all bytes are held that notes of a first look name.
 fn check_first(held: &Contents, first: &Listing) -> Result<(), CaseFault>
-    ensures { result ≡ unless_at missing_first (position (lacks held.now) first.now.said) }
+    ensures { Reads (λ done. done) result
+        (unless_at missing_first (position (lacks held.now) first.now.said)) }
 {
     match first_lacking(held, first.notes()) {
         Some(place) => Err(CaseFault::MissingFirst(place + 2)),
@@ -78,7 +79,8 @@ fn check_first(held: &Contents, first: &Listing) -> Result<(), CaseFault>
 
 /// Checks that all bytes are held that notes of observations name.
 fn check_lines(held: &Contents, lines: &Lines) -> Result<(), CaseFault>
-    ensures { result ≡ unless_at missing_line (position (item_lacks held.now) lines.now.said) }
+    ensures { Reads (λ done. done) result
+        (unless_at missing_line (position (item_lacks held.now) lines.now.said)) }
 {
     match first_item_lacking(held, lines.items()) {
         Some(place) => Err(CaseFault::MissingLine(place + 1)),
@@ -86,16 +88,30 @@ fn check_lines(held: &Contents, lines: &Lines) -> Result<(), CaseFault>
     }
 }
 
-/// Returns the case of a first look, of observations, and of bytes.
-pub(crate) fn case_with(contents: Contents, first: Listing, lines: Lines) -> Result<Case, CaseFault>
-    ensures { result ≡ case_with contents first lines }
+/// Checks that all bytes are held that the notes of a first look and of observations name.
+pub(crate) fn check_all(held: &Contents, first: &Listing, lines: &Lines) -> Result<(), CaseFault>
+    ensures { Reads (λ done. done) result (all_held held.now first.now lines.now) }
 {
-    check_first(&contents, &first)?;
-    check_lines(&contents, &lines)?;
+    check_first(held, first)?;
+    check_lines(held, lines)
+}
+
+/// Returns the case of a first look, of observations and of bytes.
+fn case_with(
+    alloc: Global,
+    contents: Contents,
+    first: Listing,
+    lines: Lines,
+    unseen: &[u8],
+) -> Result<Case, CaseFault>
+    ensures { Reads (λ found. found) result (case_with contents first lines unseen.now) }
+{
+    check_all(&contents, &first, &lines)?;
     Ok(Case {
         first,
         lines,
         contents,
+        unseen: Bytes::of(Vec::from_slice(alloc, unseen)?),
     })
 }
 
@@ -124,11 +140,13 @@ pub(crate) fn case_of(
     contents: Vec<Bytes>,
     first: &[u8],
     lines: &[u8],
+    unseen: &[u8],
 ) -> Result<Case, CaseFault>
-    ensures { Reads (λ found. found) result (case_of contents.items first.now lines.now) }
+    ensures { Reads (λ found. found) result
+        (case_of contents.items first.now lines.now unseen.now) }
 {
     let first = first_of(alloc, first)?;
     let lines = lines_of(alloc, lines)?;
     let held = held_by(alloc, contents)?;
-    case_with(held, first, lines)
+    case_with(alloc, held, first, lines, unseen)
 }

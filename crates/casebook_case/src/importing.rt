@@ -7,7 +7,7 @@ ghost use Rattle.casebook_case.specs.Written.{IsCaseOf, IsKept};
 
 use crate::NoMem;
 use crate::case_fault::CaseFault;
-use crate::checking::{case_with, first_of, held_by, lines_of};
+use crate::checking::{check_all, first_of, held_by, lines_of};
 use crate::source::SpoolSource;
 use crate::values::case_value;
 use casebook_spool::{Content, Digest, Item, Lines, Listing, Note};
@@ -75,29 +75,36 @@ fn document_text(
     contents: &[Bytes],
     first: &[u8],
     lines: &[u8],
+    unseen: &[u8],
 ) -> Result<Vec<u8>, CaseFault>
     ensures written { IfOk result (λ text.
-        text.items ≡ case_text contents.now first.now lines.now) }
+        text.items ≡ case_text contents.now first.now lines.now unseen.now) }
     ensures again { IfOk result (λ text.
-        case_in text.items ≡ case_of contents.now first.now lines.now) }
+        case_in text.items ≡ case_of contents.now first.now lines.now unseen.now) }
 {
     let first = text_of(first)?;
     let lines = text_of(lines)?;
-    let value = case_value(alloc, contents, first, lines)?;
+    let unseen = text_of(unseen)?;
+    let value = case_value(alloc, contents, first, lines, unseen)?;
     let mut text = value.to_vec(alloc)?;
     text.push(b'\n')?;
     Ok(text)
 }
 
-/// Returns the document of the case of a spool.
+/// Returns the document of the case of a spool. `unseen` are the rows of the watched folders in
+/// which it wasn't always seen what lines only read.
 ///
 /// # Errors
 ///
-/// `Unread` if the spool can't be read, `NotText` if a file of it isn't UTF-8, `BadFirst`, or
-/// `BadLine`, `MissingFirst` and `MissingLine` with the number of the first such row.
-pub fn spool_case<S: SpoolSource>(alloc: Global, source: &S) -> Result<Vec<u8>, CaseFault>
+/// `Unread` if the spool can't be read, `NotText` if a file of it or `unseen` isn't UTF-8,
+/// `BadFirst`, or `BadLine`, `MissingFirst` and `MissingLine` with the number of the first such row.
+pub fn spool_case<S: SpoolSource>(
+    alloc: Global,
+    source: &S,
+    unseen: &[u8],
+) -> Result<Vec<u8>, CaseFault>
     ensures { IfSome (S.holds source.now) (λ files. IfOk result (λ text.
-        IsCaseOf files text.items)) }
+        IsCaseOf files unseen.now text.items)) }
 {
     let first_text = source.first(alloc)?;
     let lines_text = source.lines(alloc)?;
@@ -110,7 +117,9 @@ pub fn spool_case<S: SpoolSource>(alloc: Global, source: &S) -> Result<Vec<u8>, 
         contents.as_slice(),
         first_text.as_slice(),
         lines_text.as_slice(),
+        unseen,
     )?;
-    case_with(held_by(alloc, contents)?, first, lines)?;
+    let held = held_by(alloc, contents)?;
+    check_all(&held, &first, &lines)?;
     Ok(text)
 }

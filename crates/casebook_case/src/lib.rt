@@ -1,7 +1,8 @@
 //! The document of a case: what a recorder saw of a machine, in one file.
 //!
 //! A case is one JSON object (RFC 8259), on one line:
-//! `{"case":1,"contents":["6869",..],"first":"..","lines":".."}`. Its keys are in byte order. `first`
+//! `{"case":1,"contents":["6869",..],"first":"..","lines":"..","unseen":".."}`. Its keys are in byte
+//! order. `first`
 //! and `lines` are the files of a spool with these names (`casebook_spool`), as they are: the first
 //! look at the watched folders, and the observations since. `contents` are the bytes of files that
 //! their notes name, each once, as hexadecimal digits.

@@ -28,6 +28,8 @@ struct Parts<'a> {
     first: &'a str,
     /// The text of the observations.
     lines: &'a str,
+    /// The rows of the folders in which it wasn't always seen what lines only read.
+    unseen: &'a str,
 }
 
 /// Returns the items of a list.
@@ -110,12 +112,14 @@ fn parts_of(alloc: Global, value: &Value) -> Result<Parts<'_>, CaseFault>
     }
     let first = text_at("first", value)?;
     let lines = text_at("lines", value)?;
+    let unseen = text_at("unseen", value)?;
     let items = list_in(value)?;
     let contents = contents_in(alloc, items)?;
     Ok(Parts {
         contents,
         first,
         lines,
+        unseen,
     })
 }
 
@@ -144,6 +148,7 @@ fn case_at(alloc: Global, value: &Value) -> Result<Case, CaseFault>
         parts.contents,
         parts.first.as_bytes(),
         parts.lines.as_bytes(),
+        parts.unseen.as_bytes(),
     )
 }
 

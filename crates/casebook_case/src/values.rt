@@ -34,10 +34,14 @@ pub(crate) fn case_value(
     contents: &[Bytes],
     first: &str,
     lines: &str,
+    unseen: &str,
 ) -> Result<Value, NoMem>
-    ensures value { IfOk result (λ v. view v ≡ case_data contents.now first.now lines.now) }
+    ensures value { IfOk result (λ v.
+        view v ≡ case_data contents.now first.now lines.now unseen.now) }
     ensures typed { OnOk result (list_all are_bytes contents.now ≡ true) }
 {
     let contents = contents_value(alloc, contents)?;
-    json!(in alloc; {"case": 1, "contents": contents, "first": first, "lines": lines})
+    json!(in alloc; {
+        "case": 1, "contents": contents, "first": first, "lines": lines, "unseen": unseen
+    })
 }

@@ -6,6 +6,17 @@ pub one : {A : Type 0} (o : Option A) (P Q : A → Type 0) → IfSome o P → ((
 one None P Q h f = tt
 one (Some x) P Q h f = f x h
 
+-- a fact of each value
+pub known : {A : Type 0} (o : Option A) (Q : A → Type 0) → ((x : A) → Q x) → IfSome o Q
+known None Q f = tt
+known (Some x) Q f = f x
+
+-- from two facts to another
+pub two : {A : Type 0} (o : Option A) (P Q R : A → Type 0) → IfSome o P → IfSome o Q
+    → ((x : A) → P x → Q x → R x) → IfSome o R
+two None P Q R h k f = tt
+two (Some x) P Q R h k f = f x h k
+
 -- a fact of the first of two values, which may both be known
 pub of_first : {A B : Type 0} (o : Option A) (p : Option B) (P : A → Type 0) → IfSome o P
     → IfSome o (λ x. IfSome p (λ y. P x))

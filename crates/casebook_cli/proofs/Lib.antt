@@ -6,3 +6,4 @@ pub mod Known
 pub mod RisingLemmas
 pub mod RowLemmas
 pub mod ScreenLemmas
+pub mod StatusStops

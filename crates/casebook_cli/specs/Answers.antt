@@ -15,24 +15,27 @@ use Rattle.casebook_folder_cli.specs.declared.comparing.CompareAnswer.{CompareAn
 use Rattle.casebook_folder_cli.specs.declared.restoring.RestoreAnswer.{RestoreAnswer}
 use Rattle.casebook_recorder_cli.specs.Spools.{AllSpools}
 use Rattle.casebook_recorder_cli.specs.Taking.{TakesRecord}
-use Rattle.casebook_recorder_cli.specs.Words.{ImportValue, ObserveValue}
+use Rattle.casebook_recorder_cli.specs.Words.{ImportValue, ObserveValue, StatusValue}
 use Rattle.casebook_recording.specs.Logs.{IsLogOf}
+use Rattle.casebook_status.specs.Status.{IsStatusIn}
+use Rattle.casebook_status.specs.declared.status.Status.{Status}
 use Rattle.casebook_text.specs.SafeLine.{text_of_lines}
 use Rattle.retro_keep.specs.Recording.{last_state}
 use Rattle.retro_redo.specs.Repair.{repaired_state}
 use Rattle.casebook_request.specs.Sources.{repair_sources, sources_of}
 use Rattle.casebook_request.specs.Request.{Query, Request, ask, case_log, check, help, help_text, lines, page, show}
 use Rattle.casebook_request.specs.Request.{CompareValue, FolderRepair, RepairRequest, compare, restore, script}
-use Rattle.casebook_request.specs.Request.{import, snapshot, observe, start, undo}
+use Rattle.casebook_request.specs.Request.{import, snapshot, observe, start, status, undo}
 use Rattle.casebook_cli.specs.Checks.{IsChecked}
 use Rattle.casebook_cli.specs.Documents.{AllDocuments}
 use Rattle.casebook_cli.specs.Harmless.{IsHarmless, is_plain}
-use Rattle.casebook_cli.specs.Inputs.{AreInputs, DocumentValue, InputsValue, IsDocument}
+use Rattle.casebook_cli.specs.Inputs.{AreInputs, DocumentValue, InputsValue, IsDocument, IsDocumentIf}
 use Rattle.casebook_cli.specs.Lines.{AreLines}
 use Rattle.casebook_cli.specs.Pages.{IsPage}
 use Rattle.casebook_cli.specs.Repairs.{IsAsked}
 use Rattle.casebook_cli.specs.Screens.{IsShown}
 use Rattle.casebook_cli.specs.Scripts.{IsScriptOf}
+use Rattle.casebook_cli.specs.Status.{TablesValue, host_of, mounts_name}
 use Rattle.casebook_cli.specs.declared.repairs.AskedRepair.{AskedRepair}
 
 -- an answer: its text, and whether it says that what was asked about isn't in order
@@ -120,10 +123,28 @@ pub record AnswersObserve (spools : Option AllSpools) (request : ObserveValue) (
   pub takes : IfSome spools (λ all. TakesRecord all request.spool left)
   pub nothing : answer ≡ saying []
 
--- the answer to a request for a case: the document of the case of what the spool holds
+-- the answer to a request for a case: the document of the case of what the spool holds, and of where it
+-- wasn't always seen what lines only read
 abbrev pub AnswersImport : Option AllSpools → ImportValue → AnswerValue → Type 0
 AnswersImport spools request answer =
-    Says (λ text. IfSome spools (λ all. IsCaseOf (all.held request.spool) text)) answer
+    Says (λ text. IfSome spools (λ all. IsCaseOf (all.held request.spool) (all.unseen request.spool) text)) answer
+
+-- The answer to `status`: the rows of the status of the spool's case, with the folders that it
+-- watches, what the machine says is mounted where, and the list of logins that is named. It says no if
+-- something is missing, and is harmless on a terminal.
+pub record AnswersStatus (at : AllDocuments) (spools : Option AllSpools) (request : StatusValue) (answer : AnswerValue)
+    : Type 0 where
+  pub case : List ℕ
+  pub is_case : IfSome spools (λ all. IsCaseOf (all.held request.spool) (all.unseen request.spool) case)
+  pub tables : TablesValue
+  pub folders : IfSome spools (λ all. tables.folders ≡ all.watched request.spool)
+  pub mounts : tables.mounts ≡ at mounts_name
+  pub who : IsDocumentIf at request.who tables.who
+  pub status : Status
+  pub is_status : IsStatusIn case (host_of tables) status
+  pub text : answer.text ≡ text_of_lines status.rows.items
+  pub is_no : answer.is_no ≡ status.lacks
+  pub harmless : IsHarmless answer.text
 
 abbrev pub Answers : Bool → AllDocuments → AllFolders → Option AllSpools → Request → AnswerValue → Type 0
 Answers colours at folders spools (help topic) answer = answer ≡ saying (help_text topic)
@@ -136,3 +157,4 @@ Answers colours at folders spools (script request) answer = Says (IsScriptOf at 
 Answers colours at folders spools (start request) answer = answer ≡ saying []
 Answers colours at folders spools (observe request) answer = AnswersObserve spools request answer
 Answers colours at folders spools (import request) answer = AnswersImport spools request answer
+Answers colours at folders spools (status request) answer = AnswersStatus at spools request answer

@@ -65,6 +65,8 @@ seen_of machine = record {
   observed = observed_numbers machine.lines.items;
   overlapping = overlapping_numbers machine.lines.items;
   outside = outside_numbers machine.lines.items;
+  incomplete = machine.incomplete.items;
+  unseen = machine.unseen.items;
 }
 
 -- the same, if there is a machine
@@ -77,6 +79,8 @@ lines_view seen = record {
   observed = seen.observed.items;
   overlapping = seen.overlapping.items;
   outside = seen.outside.items;
+  incomplete = seen.incomplete.items;
+  unseen = seen.unseen.items;
 }
 
 -- where lines come from: those of a machine were seen, and others were played

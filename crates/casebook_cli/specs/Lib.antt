@@ -13,6 +13,7 @@ pub mod Program
 pub mod Repairs
 pub mod Screens
 pub mod Scripts
+pub mod Status
 pub mod Stops
 pub mod Tests
 pub mod Typed

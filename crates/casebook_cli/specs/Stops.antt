@@ -23,6 +23,8 @@ use Rattle.casebook_account.specs.declared.account.Account.{Account}
 use Rattle.casebook_account.specs.declared.account.Machine.{Machine}
 use Rattle.casebook_account.specs.declared.account_fault.AccountFault.{AccountFault}
 use Rattle.casebook_account.specs.declared.account_fault.AccountFault.TheVariants as accounts
+use Rattle.casebook_case.specs.Written.{IsCaseOf}
+use Rattle.casebook_status.specs.Status.{HasNoStatus}
 use Rattle.casebook_text.specs.Item.{Line}
 use Rattle.casebook_text.specs.Lists.{lines_of_list}
 use Rattle.casebook_words.specs.declared.labels.Labels.{Labels}
@@ -30,7 +32,7 @@ use Rattle.casebook_request.specs.Sources.{SourcesValue, repair_sources, sources
 use Rattle.casebook_request.specs.Request.{LinesRequest, Query, RepairRequest, Request, RoundsValue, ShowRequest, ask}
 use Rattle.casebook_request.specs.Request.{case_log, check, help, lines, page, request_in, show}
 use Rattle.casebook_request.specs.Request.{CompareValue, FolderRepair}
-use Rattle.casebook_request.specs.Request.{compare, import, observe, restore, script, snapshot, start, undo}
+use Rattle.casebook_request.specs.Request.{compare, import, observe, restore, script, snapshot, start, status, undo}
 use Rattle.casebook_request.specs.declared.problem.Problem.TheVariants as problems
 use Rattle.casebook_request.specs.declared.shown.ShownPart.{ShownPart}
 use Rattle.casebook_request.specs.declared.shown.ShownPart.TheVariants as parts
@@ -54,7 +56,7 @@ use Rattle.casebook_folder_cli.specs.declared.source_fault.SourceFault.{SourceFa
 use Rattle.casebook_folder_cli.specs.declared.source_fault.SourceFault.TheVariants as source_faults
 use Rattle.casebook_recorder_cli.specs.Spools.{AllSpools}
 use Rattle.casebook_recorder_cli.specs.Taking.{IsNotTaken as IsRecordNotTaken}
-use Rattle.casebook_recorder_cli.specs.Words.{ImportValue, ObserveValue, StartValue}
+use Rattle.casebook_recorder_cli.specs.Words.{ImportValue, ObserveValue, StartValue, StatusValue}
 use Rattle.casebook_recorder_cli.specs.declared.fault.RecorderFault.{RecorderFault}
 use Rattle.casebook_recorder_cli.specs.declared.fault.RecorderFault.TheVariants as recorder_faults
 use Rattle.casebook_recording.specs.Logs.{IsNoLog}
@@ -424,6 +426,21 @@ pub record StopsImport (request : ImportValue) (stop : Stop) : Type 0 where
   pub fault : RecorderFault
   pub names : NamesSpool request.spool fault stop
 
+-- a text is no case with a status, and the spool with a name is named, with the reason
+pub record StopsTold (name text : List ℕ) (stop : Stop) : Type 0 where
+  pub fault : RecordingFault
+  pub is_fault : HasNoStatus text fault
+  pub names : NamesCase name (refusal_of fault) stop
+
+-- It isn't said what a spool has: it can't be read, the list of logins can't be read, or the spool's
+-- case can't be told.
+pub data StopsStatus (at : AllDocuments) (spools : Option AllSpools) (request : StatusValue) (stop : Stop) : Type 0 where
+  no_spool : (fault : RecorderFault) → NamesSpool request.spool fault stop → StopsStatus at spools request stop
+  no_list : IsUnreadIf at request.who stop → StopsStatus at spools request stop
+  no_memory : stop ≡ stops.OutOfMemory → StopsStatus at spools request stop
+  untold : (case : List ℕ) → IfSome spools (λ all. IsCaseOf (all.held request.spool) (all.unseen request.spool) case)
+      → StopsTold request.spool case stop → StopsStatus at spools request stop
+
 -- ---- the program
 
 abbrev pub Stops : AllDocuments → AllFolders → Option AllSpools → Request → Stop → Type 0
@@ -438,6 +455,7 @@ Stops at folders spools (script request) stop = StopsScript at request stop
 Stops at folders spools (start request) stop = StopsStart request stop
 Stops at folders spools (observe request) stop = StopsObserve spools request stop
 Stops at folders spools (import request) stop = StopsImport request stop
+Stops at folders spools (status request) stop = StopsStatus at spools request stop
 
 -- words make no request
 abbrev pub IsBadWords : List (List ℕ) → Stop → Type 0

@@ -12,6 +12,7 @@ use crate::document::Document;
 use crate::stop::Stop;
 use casebook_account::{Account, AccountFault, Machine, read_account, read_shown};
 use casebook_view::{Seen, Source};
+use retro_tree::Text;
 use std::alloc::Global;
 
 /// The number of the refusal of an edit that no line has.
@@ -52,7 +53,8 @@ pub(crate) fn shown_account<'a>(alloc: Global, log: &Document<'a>) -> Result<Acc
     }
 }
 
-/// What a recorder says of the lines of a machine, by their numbers, in order.
+/// What a recorder says of the lines of a machine, by their numbers, in order, and what it doesn't
+/// know.
 #[derive(Drop)]
 pub(crate) struct SeenLines {
     /// Those that stand as they were observed.
@@ -61,6 +63,10 @@ pub(crate) struct SeenLines {
     overlapping: Vec<u32>,
     /// The changes that no recorded line made.
     outside: Vec<u32>,
+    /// The sessions of which some lines have no record.
+    incomplete: Vec<u32>,
+    /// The folders in which it wasn't always seen what lines only read.
+    unseen: Vec<Text>,
 }
 
 /// Returns what a recorder says of the lines of a machine.
@@ -71,6 +77,8 @@ fn seen_of(alloc: Global, machine: &Machine) -> Result<SeenLines, NoMem>
         observed: machine.observed(alloc)?,
         overlapping: machine.overlapping(alloc)?,
         outside: machine.outside(alloc)?,
+        incomplete: machine.incomplete.clone()?,
+        unseen: machine.unseen.clone()?,
     })
 }
 
@@ -93,6 +101,8 @@ pub(crate) fn source_by(seen: &Option<SeenLines>) -> Source<'_>
             observed: seen.observed.as_slice(),
             overlapping: seen.overlapping.as_slice(),
             outside: seen.outside.as_slice(),
+            incomplete: seen.incomplete.as_slice(),
+            unseen: seen.unseen.as_slice(),
         }),
         None => Source::Played,
     }

@@ -27,6 +27,7 @@ use crate::restores::{restore_text, undo_text};
 use crate::screens::shown_text;
 use crate::scripts::script_text;
 use crate::snapshots::snapshot_text;
+use crate::status::status_text;
 use crate::stop::Stop;
 use casebook_folder_cli::Folders;
 use casebook_recorder_cli::Spools;
@@ -142,5 +143,6 @@ pub(crate) fn answer<
         Request::Start(request) => start_text(rt.alloc(), documents, request),
         Request::Observe(request) => observe_text(rt.alloc(), documents, request),
         Request::Import(request) => import_text(rt.alloc(), documents, request),
+        Request::Status(request) => status_text(rt.alloc(), documents, request),
     }
 }

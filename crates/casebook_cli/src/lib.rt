@@ -94,6 +94,7 @@ mod screens;
 mod scripts;
 mod searched;
 mod snapshots;
+mod status;
 mod stop;
 mod style;
 mod typed;

@@ -31,7 +31,7 @@ pub(crate) fn read_document<'a, D: Documents>(
 }
 
 /// Reads a document, if one is named.
-fn read_if_named<'a, D: Documents>(
+pub(crate) fn read_if_named<'a, D: Documents>(
     alloc: Global,
     documents: &D,
     name: Option<&'a str>,

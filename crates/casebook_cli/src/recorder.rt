@@ -14,7 +14,7 @@ use casebook_recorder_cli::{
 use std::alloc::Global;
 
 /// Returns why there is no spool with a name, why it didn't take a record, or why it has no case.
-fn recorder_stop(name: &str, fault: RecorderFault) -> Stop<'_>
+pub(crate) fn recorder_stop(name: &str, fault: RecorderFault) -> Stop<'_>
     ensures { NamesSpool name.entry.now fault result }
 {
     match fault {

@@ -11,6 +11,7 @@ use crate::spool_files::{
     read_or_empty, read_whole, write_anew, write_from,
 };
 use crate::temporary::temporary;
+use crate::unseen::{UNSEEN, rows_at, rows_with};
 use casebook_observe::{Spool, SpoolError};
 use casebook_spool::Digest;
 use retro_path::{NoMem, Path};
@@ -42,6 +43,40 @@ fn fill(rt: &HostRuntime, alloc: Global, root: &File, watch: &[u8]) -> io::Resul
     write_new_file(rt, alloc, name_in(alloc, root, LINES)?.as_str(), &[])?;
     make_dir(rt, name_in(alloc, root, CONTENTS)?.as_str())?;
     write_new_file(rt, alloc, name_in(alloc, root, WATCH)?.as_str(), watch)
+}
+
+/// Returns the folders that the file with a name lists.
+fn folders_at(rt: &HostRuntime, alloc: Global, name: &str) -> io::Result<Vec<Path>> {
+    let text = read_whole(rt, alloc, name)?;
+    match folders_in(alloc, text.as_slice())? {
+        Some(folders) => Ok(folders),
+        None => Err(io::Error::from(ErrorKind::InvalidData)),
+    }
+}
+
+/// Returns the folders that the spool with a name watches. They stay the same as long as there is
+/// the spool, so nobody waits.
+///
+/// # Errors
+///
+/// `NotFound` if there is no spool, `InvalidData` if a row of its list isn't a path, and what the
+/// system refuses.
+pub fn watched_folders(rt: &HostRuntime, name: &str) -> io::Result<Vec<Path>> {
+    let alloc = rt.alloc();
+    let root = opened(rt, alloc, name)?;
+    folders_at(rt, alloc, name_in(alloc, &root, WATCH)?.as_str())
+}
+
+/// Returns the rows of the folders that the spool with a name watches, and in which it wasn't always
+/// seen what lines only read.
+///
+/// # Errors
+///
+/// `NotFound` if there is no spool, and what the system refuses.
+pub fn unseen_rows(rt: &HostRuntime, name: &str) -> io::Result<Vec<u8>> {
+    let alloc = rt.alloc();
+    let root = opened(rt, alloc, name)?;
+    rows_at(rt, alloc, &root)
 }
 
 impl<'a> DiskSpool<'a> {
@@ -102,10 +137,19 @@ impl<'a> DiskSpool<'a> {
     ///
     /// `InvalidData` if a row of the file isn't a path, and what the system refuses.
     pub fn folders(&self, alloc: Global) -> io::Result<Vec<Path>> {
-        let text = read_whole(self.rt, alloc, self.at(WATCH)?.as_str())?;
-        match folders_in(alloc, text.as_slice())? {
-            Some(folders) => Ok(folders),
-            None => Err(io::Error::from(ErrorKind::InvalidData)),
+        folders_at(self.rt, alloc, self.at(WATCH)?.as_str())
+    }
+
+    /// Notes in which of the folders it isn't seen now what lines only read.
+    ///
+    /// # Errors
+    ///
+    /// What the system refuses. Then what was noted before still is.
+    pub fn note_unseen(&self, folders: &[Path]) -> io::Result<()> {
+        let rows = rows_at(self.rt, self.alloc, &self.root)?;
+        match rows_with(self.rt, self.alloc, rows.as_slice(), folders)? {
+            Some(rows) => self.put_beside(UNSEEN, rows.as_slice()),
+            None => Ok(()),
         }
     }
 
@@ -115,10 +159,7 @@ impl<'a> DiskSpool<'a> {
         if look_at(self.rt, first.as_str())?.is_some() {
             return Err(io::Error::from(ErrorKind::AlreadyExists));
         }
-        let beside = self.beside(FIRST)?;
-        write_anew(self.rt, beside.as_str(), text)?;
-        fs::rename(self.rt, beside.as_str(), first.as_str())?;
-        self.root.sync_all()
+        self.put_beside(FIRST, text)
     }
 
     /// Syncs a directory.
@@ -144,11 +185,11 @@ impl<'a> DiskSpool<'a> {
         self.sync_dir(shelf.dir.as_str())
     }
 
-    /// Writes the file `listing` beside, and then in its place.
-    fn put_listing(&self, text: &[u8]) -> io::Result<()> {
-        let beside = self.beside(LISTING)?;
+    /// Writes a file beside, and then in its place.
+    fn put_beside(&self, name: &str, text: &[u8]) -> io::Result<()> {
+        let beside = self.beside(name)?;
         write_anew(self.rt, beside.as_str(), text)?;
-        fs::rename(self.rt, beside.as_str(), self.at(LISTING)?.as_str())?;
+        fs::rename(self.rt, beside.as_str(), self.at(name)?.as_str())?;
         self.root.sync_all()
     }
 
@@ -202,6 +243,6 @@ impl Spool for DiskSpool<'_> {
     }
 
     fn set_listing(&mut self, text: &[u8]) -> Result<(), SpoolError> {
-        spool_result(self.put_listing(text))
+        spool_result(self.put_beside(LISTING, text))
     }
 }

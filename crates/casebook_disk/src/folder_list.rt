@@ -4,14 +4,19 @@ use casebook_rows::{path_of, push_path, rows_of};
 use retro_path::Path;
 use std::alloc::Global;
 
+/// Returns the row of a folder, without a newline.
+pub(crate) fn folder_row(alloc: Global, folder: &Path) -> Result<String, NoMem> {
+    let mut field = String::new(alloc);
+    push_path(&mut field, folder)?;
+    // A field begins with a tab.
+    String::from_str(alloc, field.as_str().trim_start_matches('\t'))
+}
+
 /// Returns the text of a list of folders.
 pub(crate) fn folders_text(alloc: Global, folders: &[Path]) -> Result<String, NoMem> {
     let mut text = String::new(alloc);
     for folder in folders {
-        let mut row = String::new(alloc);
-        push_path(&mut row, folder)?;
-        // A field begins with a tab.
-        text.push_str(row.as_str().trim_start_matches('\t'))?;
+        text.push_str(folder_row(alloc, folder)?.as_str())?;
         text.push('\n')?;
     }
     Ok(text)

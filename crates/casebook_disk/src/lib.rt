@@ -50,10 +50,12 @@
 //!
 //! # Spools
 //!
-//! A spool has the files `watch`, `first`, `lines`, `listing`, `lock` and `contents/ab/REST`, where
-//! `ab` and `REST` are the digits of a SHA-256 digest. It is a directory into which only its owner
+//! A spool has the files `watch`, `unseen`, `first`, `lines`, `listing`, `lock` and
+//! `contents/ab/REST`, where `ab` and `REST` are the digits of a SHA-256 digest. It is a directory into which only its owner
 //! can look. The file `lock` is locked as long as a `DiskSpool` is open. `watch` has a row for each
-//! folder, as `casebook_rows` writes paths; that of the root is empty. New files are written under
+//! folder, as `casebook_rows` writes paths; that of the root is empty. `unseen` has such a row for
+//! each of them in which it wasn't always seen what lines only read, by how they were mounted; that
+//! of the root is a slash. It is missing if there is none. New files are written under
 //! temporary names and then renamed, but for `lines`, to which texts are appended. All of them are
 //! synced. What can't be written as a whole, as on a full disk, is removed again.
 //!
@@ -107,13 +109,14 @@ mod sighting;
 mod spool_files;
 mod target;
 mod temporary;
+mod unseen;
 mod walk;
 mod watched_node;
 
 pub use disk::Disk;
 pub use disk_listing::DiskListing;
 pub use disk_source::DiskSource;
-pub use disk_spool::DiskSpool;
+pub use disk_spool::{DiskSpool, unseen_rows, watched_folders};
 pub use disk_watched::DiskWatched;
 pub use new_file::write_new_file;
 

@@ -18,7 +18,8 @@ fn account_of(alloc: Global, first: &str, history: &str) -> Result<Account, Fail
 }
 
 /// Returns of each line its number, its session, whether it stands as it was observed, whether it
-/// overlaps others, the numbers of its texts and its text, and then the users.
+/// overlaps others, the numbers of its texts and its text, and then the users, the sessions of which
+/// lines have no record, and the folders in which it wasn't always seen what lines only read.
 pub fn account(alloc: Global, first: &str, history: &str) -> Result<String, Fail> {
     let account = account_of(alloc, first, history)?;
     let Some(machine) = &account.machine else {
@@ -41,6 +42,13 @@ pub fn account(alloc: Global, first: &str, history: &str) -> Result<String, Fail
     for user in &machine.users {
         let (session, name) = (user.session, user.user.as_str());
         out.push_str(format!(in alloc; "{session}={name} ")?.as_str())?;
+    }
+    for number in &machine.incomplete {
+        out.push_str(format!(in alloc; "{number}.. ")?.as_str())?;
+    }
+    for folder in &machine.unseen {
+        out.push_str(folder.as_str())?;
+        out.push(' ')?;
     }
     Ok(String::from_str(alloc, out.as_str().trim_end())?)
 }

@@ -8,48 +8,50 @@ case: dir /srv, file /srv/a 1 1 hi :: begin A 1 /srv x, file /srv/b 5 5 hi, end 
   1c5176b10a6d83961dd3c1ac88b59b2dc327aa4\n","lines":"record\tbegin\tA\t5\t0\t/srv\t1\tshown\tx\n\
   file\t/srv/b\t644\t0\t0\t1\t7\t5\t0\t5\t0\t5\t0\nbytes\t/srv/b\t8f434346648f6b96df89dda901c5176\
   b10a6d83961dd3c1ac88b59b2dc327aa4\nrecord\tend\tA\t5\t0\t/srv\t1\t0\t0\tshown\tx\tsame\t\tsame\
-  \t\n"}
+  \t\n","unseen":""}
 case: dir /srv, file /srv/a 1 1 ab, file /srv/b 1 1 hi :: none
   => {"case":1,"contents":["6869","6162"],"first":"listing\t0\t5\ndir\t/srv\t755\t0\t0\t1\t8\t0\t0\
   \t0\t0\t0\t0\nfile\t/srv/a\t644\t0\t0\t1\t7\t1\t0\t1\t0\t1\t0\nbytes\t/srv/a\tfb8e20fc2e4c3f248\
   c60c39bd652f3c1347298bb977b8b4d5903b85055620603\nfile\t/srv/b\t644\t0\t0\t1\t7\t1\t0\t1\t0\t1\t\
-  0\nbytes\t/srv/b\t8f434346648f6b96df89dda901c5176b10a6d83961dd3c1ac88b59b2dc327aa4\n","lines":""}
+  0\nbytes\t/srv/b\t8f434346648f6b96df89dda901c5176b10a6d83961dd3c1ac88b59b2dc327aa4\n","lines":"","unseen":""}
 case: dir /srv, lost /srv/a hi :: none => row 4 of the first look: its bytes are missing
 case: dir /srv :: lost /srv/a hi, start A /srv - - =>
   row 2 of the observations: its bytes are missing
 case: dir /srv :: lost /srv/a hi => \
   {"case":1,"contents":[],"first":"listing\t0\t1\ndir\t/srv\t755\t0\t0\t1\t8\t0\t0\t0\t0\t0\t0\n",\
   "lines":"file\t/srv/a\t644\t0\t0\t1\t7\t1\t0\t1\t0\t1\t0\nbytes\t/srv/a\t8f434346648f6b96df89dd\
-  a901c5176b10a6d83961dd3c1ac88b59b2dc327aa4\n"}
+  a901c5176b10a6d83961dd3c1ac88b59b2dc327aa4\n","unseen":""}
 "#;
 
 /// Documents that are cases, or aren't.
 pub const READINGS: &str = r#"
-read: {"case":1,"contents":[],"first":"listing\t0\t0\n","lines":""} => a case
-read: {"lines":"","first":"listing\t0\t0\n","contents":["AB"],"case":1,"more":null} => a case
-read: {"case":1,"contents":[],"first":"listing\t0\t0\n","lines":"dir\t/srv\n"} =>
+read: {"case":1,"contents":[],"first":"listing\t0\t0\n","lines":"","unseen":""} => a case
+read: {"lines":"","first":"listing\t0\t0\n","contents":["AB"],"case":1,"unseen":"/srv\n","more":null} => a case
+read: {"case":1,"contents":[],"first":"listing\t0\t0\n","lines":"dir\t/srv\n","unseen":""} =>
   row 1 of the observations is damaged
-read: {"case":1,"contents":[],"first":"listing\t0\t0\n","lines":"gone\t/a\ngone\t/b\nx\n"} =>
+read: {"case":1,"contents":[],"first":"listing\t0\t0\n","lines":"gone\t/a\ngone\t/b\nx\n","unseen":""} =>
   row 3 of the observations is damaged
-read: {"case":1,"contents":[],"first":"listing\t0\t0\n","lines":"gone\t/a\nx"} => a case
-read: {"case":1,"contents":[],"first":"listing\t0\t1\n","lines":""} =>
+read: {"case":1,"contents":[],"first":"listing\t0\t0\n","lines":"gone\t/a\nx","unseen":""} => a case
+read: {"case":1,"contents":[],"first":"listing\t0\t1\n","lines":"","unseen":""} =>
   the first look can't be read
-read: {"case":1,"contents":[],"first":"","lines":""} => the first look can't be read
-read: {"case":1,"contents":["00","0"],"first":"","lines":""} =>
+read: {"case":1,"contents":[],"first":"","lines":"","unseen":""} => the first look can't be read
+read: {"case":1,"contents":["00","0"],"first":"","lines":"","unseen":""} =>
   content 2: not hexadecimal digits
-read: {"case":1,"contents":[7],"first":"","lines":""} => content 1: not hexadecimal digits
-read: {"case":2,"contents":[],"first":"listing\t0\t0\n","lines":""} => not a case
-read: {"contents":[],"first":"listing\t0\t0\n","lines":""} => not a case
-read: {"case":1,"contents":{},"first":"listing\t0\t0\n","lines":""} => not a case
-read: {"case":1,"contents":[],"first":["listing\t0\t0"],"lines":""} => not a case
-read: {"case":1,"contents":[],"first":"listing\t0\t0\n"} => not a case
+read: {"case":1,"contents":[7],"first":"","lines":"","unseen":""} => content 1: not hexadecimal digits
+read: {"case":2,"contents":[],"first":"listing\t0\t0\n","lines":"","unseen":""} => not a case
+read: {"contents":[],"first":"listing\t0\t0\n","lines":"","unseen":""} => not a case
+read: {"case":1,"contents":{},"first":"listing\t0\t0\n","lines":"","unseen":""} => not a case
+read: {"case":1,"contents":[],"first":["listing\t0\t0"],"lines":"","unseen":""} => not a case
+read: {"case":1,"contents":[],"first":"listing\t0\t0\n","unseen":""} => not a case
+read: {"case":1,"contents":[],"first":"listing\t0\t0\n","lines":""} => not a case
+read: {"case":1,"contents":[],"first":"listing\t0\t0\n","lines":"","unseen":[]} => not a case
 read: {"case":1,"contents":[],"first":"listing\t0\t0\n","lines":"" => not a JSON value
 read: {"case":1,"contents":["6869"],"first":"listing\t0\t2\nfile\t/a\t644\t0\t0\t2\t7\t1\t0\t1\t0\
   \t1\t0\nbytes\t/a\t8f434346648f6b96df89dda901c5176b10a6d83961dd3c1ac88b59b2dc327aa4\n","lines"\
-  :""} => a case
+  :"","unseen":""} => a case
 read: {"case":1,"contents":["6868"],"first":"listing\t0\t2\nfile\t/a\t644\t0\t0\t2\t7\t1\t0\t1\t0\
   \t1\t0\nbytes\t/a\t8f434346648f6b96df89dda901c5176b10a6d83961dd3c1ac88b59b2dc327aa4\n","lines"\
-  :""} => row 3 of the first look: its bytes are missing
+  :"","unseen":""} => row 3 of the first look: its bytes are missing
 "#;
 
 /// The logs of cases.

@@ -66,7 +66,7 @@ fn spool(alloc: Global, first: &str, history: &str) -> Result<Kept, Fail> {
 /// Returns the document of a spool's case, without its newline, or why there is none.
 pub fn case(alloc: Global, first: &str, history: &str) -> Result<String, Fail> {
     let spool = spool(alloc, first, history)?;
-    match spool_case(alloc, &spool) {
+    match spool_case(alloc, &spool, &[]) {
         Ok(text) => {
             let Ok(text) = String::from_utf8(text) else {
                 return fail("a case is text");
@@ -124,10 +124,10 @@ pub fn logged(alloc: Global, document: &[u8]) -> Result<String, Fail> {
     })
 }
 
-/// Returns the document of a spool's case.
+/// Returns the document of a spool's case. In `/srv` it wasn't always seen what lines only read.
 pub fn document(alloc: Global, first: &str, history: &str) -> Result<Vec<u8>, Fail> {
     let spool = spool(alloc, first, history)?;
-    match spool_case(alloc, &spool) {
+    match spool_case(alloc, &spool, b"/srv\n") {
         Ok(text) => Ok(text),
         Err(_) => fail("no case"),
     }

@@ -27,7 +27,7 @@ use Rattle.casebook_json.specs.Counts.{counts_data}
 use Rattle.casebook_json.specs.Leaked.{leak_data}
 use Rattle.casebook_json.specs.Lines.{line_data, line_with_reason, origin_in, why_or_null}
 use Rattle.casebook_json.specs.Restore.{added_in, removed_in, restoration_data}
-use Rattle.casebook_json.specs.Source.{observed_in, outside_in, overlapping_in, source_name}
+use Rattle.casebook_json.specs.Source.{incomplete_in, observed_in, outside_in, overlapping_in, source_name, unseen_in}
 use Rattle.casebook_json.specs.Summary.{summary_data, summary_with}
 use Rattle.casebook_json.specs.Tell.{group_data, subject_path, subject_variable}
 use Rattle.casebook_json.specs.Unknown.{unknown_data}
@@ -181,6 +181,7 @@ is_low r summary restorations groups looks is_recording source labels =
     (low_array (λ (e : Effect). effect_data (effect_value e)) (λ e. effect_low (effect_value e)) summary.effects.items)
     (low_member _ _ _ (low_counts summary.fates.items)
     (low_member _ _ _ (low_array path_data (λ p. omega arith) summary.doubtful.items)
+    (low_member _ _ _ (low_numbers (incomplete_in source))
     (low_member _ _ _ (low_array (leak_data labels) (leak_lower labels) summary.leaks.items)
     (low_member _ _ _
     (low_array (line_data r summary.reasons.items) (line_lower r summary.reasons.items) summary.fates.items)
@@ -193,7 +194,8 @@ is_low r summary restorations groups looks is_recording source labels =
     (low_member _ _ _ (low_number 1)
     (low_member _ _ _ (low_text (source_name source))
     (low_member _ _ _ (low_groups labels groups)
-    (low_member _ _ _ (low_array unknown_data unknown_lower summary.unknown.items) low_none)))))))))))))))
+    (low_member _ _ _ (low_array unknown_data unknown_lower summary.unknown.items)
+    (low_member _ _ _ (low_array string (λ t. omega arith) (unseen_in source)) low_none)))))))))))))))))
 
 pub summary_low : (r : RecordingValue) (summary : Summary) (restorations : List Restoration)
     (groups looks : List Group) (is_recording : Bool) (source : SourceValue) (labels : Labels)

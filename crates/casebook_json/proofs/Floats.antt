@@ -1,5 +1,6 @@
 -- The document has no float, so its text is determined.
 use Rattle.std.proofs.Common.{◌≡◌, ℕ, List, Bool, false, Option, Some, None, refl}
+use Rattle.serde_json.specs.Data.{string}
 use Rattle.serde_json.specs.Written.{has_float}
 use Rattle.retro_json.proofs.Floats.{array_float}
 use Rattle.retro_json.specs.Values.{number_data}
@@ -25,7 +26,7 @@ use Rattle.casebook_json.specs.Counts.{counts_data}
 use Rattle.casebook_json.specs.Leaked.{leak_data}
 use Rattle.casebook_json.specs.Lines.{line_data, line_with_reason, origin_in, why_or_null}
 use Rattle.casebook_json.specs.Restore.{added_in, removed_in, restoration_data}
-use Rattle.casebook_json.specs.Source.{observed_in, outside_in, overlapping_in}
+use Rattle.casebook_json.specs.Source.{incomplete_in, observed_in, outside_in, overlapping_in, unseen_in}
 use Rattle.casebook_json.specs.Summary.{summary_data, summary_with}
 use Rattle.casebook_json.specs.Tell.{group_data, subject_path, subject_variable}
 use Rattle.casebook_json.specs.Unknown.{unknown_data}
@@ -114,6 +115,7 @@ summary_float r summary restorations groups looks is_recording source labels = r
       summary.effects.items,
   counts_float summary.fates.items,
   array_float path_data (λ p. refl) summary.doubtful.items,
+  array_float number_data (λ n. refl) (incomplete_in source),
   array_float (leak_data labels) (leak_float labels) summary.leaks.items,
   array_float (line_data r summary.reasons.items) (line_float r summary.reasons.items)
       summary.fates.items,
@@ -126,4 +128,5 @@ summary_float r summary restorations groups looks is_recording source labels = r
   array_float (λ (g : Group). group_data labels (group_value g))
       (λ g. group_float labels (group_value g)) groups,
   array_float unknown_data unknown_float summary.unknown.items,
+  array_float string (λ t. refl) (unseen_in source),
 ) refl

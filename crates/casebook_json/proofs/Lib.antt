@@ -1,3 +1,4 @@
 mod Floats
 mod Depths
 mod Shown
+mod SameDocument

@@ -16,14 +16,14 @@ use Rattle.casebook_json.specs.Counts.{counts_data}
 use Rattle.casebook_json.specs.Leaked.{leak_data}
 use Rattle.casebook_json.specs.Lines.{line_data}
 use Rattle.casebook_json.specs.Restore.{restoration_data}
-use Rattle.casebook_json.specs.Source.{numbers_data, observed_in, outside_in, overlapping_in, source_name}
+use Rattle.casebook_json.specs.Source.{incomplete_in, numbers_data, observed_in, outside_in, overlapping_in, source_name, texts_data, unseen_in}
 use Rattle.casebook_json.specs.Tell.{group_data}
 use Rattle.casebook_json.specs.Unknown.{unknown_data}
 use Rattle.casebook_json.specs.Values.{path_data}
 
--- `{"causes":..,"counts":..,"doubtful":..,"leaked":..,"lines":..,"looked":..,"observed":..,
--- "outside":..,"overlapping":..,"recording":..,"restore":..,"show":1,"source":..,"tell":..,
--- "unknown":..}`, with the keys in byte order, where these are the lines
+-- `{"causes":..,"counts":..,"doubtful":..,"incomplete":..,"leaked":..,"lines":..,"looked":..,
+-- "observed":..,"outside":..,"overlapping":..,"recording":..,"restore":..,"show":1,"source":..,
+-- "tell":..,"unknown":..,"unseen":..}`, with the keys in byte order, where these are the lines
 unfoldable pub summary_with :
     Data → Summary → List Restoration → List Group → List Group → Bool → SourceValue → Labels → Data
 summary_with lines summary restorations groups looks is_recording source labels = object
@@ -31,6 +31,7 @@ summary_with lines summary restorations groups looks is_recording source labels 
     (array_of (map (λ effect. effect_data (effect_value effect)) summary.effects.items))
     (member (codes "counts") (counts_data summary.fates.items)
     (member (codes "doubtful") (array_of (map path_data summary.doubtful.items))
+    (member (codes "incomplete") (numbers_data (incomplete_in source))
     (member (codes "leaked") (array_of (map (leak_data labels) summary.leaks.items))
     (member (codes "lines") lines
     (member (codes "looked")
@@ -44,7 +45,8 @@ summary_with lines summary restorations groups looks is_recording source labels 
     (member (codes "source") (string (source_name source))
     (member (codes "tell")
     (array_of (map (λ group. group_data labels (group_value group)) groups))
-    (member (codes "unknown") (array_of (map unknown_data summary.unknown.items)) no_members)))))))))))))))
+    (member (codes "unknown") (array_of (map unknown_data summary.unknown.items))
+    (member (codes "unseen") (texts_data (unseen_in source)) no_members)))))))))))))))))
 
 abbrev pub lines_data : RecordingValue → Summary → Data
 lines_data r summary = array_of (map (line_data r summary.reasons.items) summary.fates.items)

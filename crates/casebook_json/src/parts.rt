@@ -11,7 +11,10 @@ use crate::effect_value::effect_values;
 use crate::group_value::group_values;
 use crate::leak_value::leak_values;
 use crate::restoration_value::restoration_values;
-use crate::source_value::{observed_values, outside_values, overlapping_values, source_name};
+use crate::source_value::{
+    incomplete_values, observed_values, outside_values, overlapping_values, source_name,
+    unseen_values,
+};
 use crate::unknown_value::unknown_values;
 use crate::value::path_values;
 use casebook_screen::Sheet;
@@ -28,6 +31,7 @@ pub(crate) struct Parts {
     causes: Vec<Value>,
     counts: Value,
     doubtful: Vec<Value>,
+    incomplete: Vec<Value>,
     leaked: Vec<Value>,
     looked: Vec<Value>,
     observed: Vec<Value>,
@@ -37,6 +41,7 @@ pub(crate) struct Parts {
     source: &'static str,
     tell: Vec<Value>,
     unknown: Vec<Value>,
+    unseen: Vec<Value>,
 }
 
 impl Parts {
@@ -51,6 +56,7 @@ impl Parts {
             causes: effect_values(alloc, summary.effects.as_slice())?,
             counts: counts_value(alloc, summary.fates.as_slice())?,
             doubtful: path_values(alloc, summary.doubtful.as_slice())?,
+            incomplete: incomplete_values(alloc, sheet.source)?,
             leaked: leak_values(alloc, labels, summary.leaks.as_slice())?,
             looked: group_values(alloc, labels, sheet.looks)?,
             observed: observed_values(alloc, sheet.source)?,
@@ -60,6 +66,7 @@ impl Parts {
             source: source_name(sheet.source),
             tell: group_values(alloc, labels, sheet.groups)?,
             unknown: unknown_values(alloc, summary.unknown.as_slice())?,
+            unseen: unseen_values(alloc, sheet.source)?,
         })
     }
 
@@ -77,6 +84,7 @@ impl Parts {
         put(&mut map, alloc, "causes", Value::Array(self.causes))?;
         put(&mut map, alloc, "counts", self.counts)?;
         put(&mut map, alloc, "doubtful", Value::Array(self.doubtful))?;
+        put(&mut map, alloc, "incomplete", Value::Array(self.incomplete))?;
         put(&mut map, alloc, "leaked", Value::Array(self.leaked))?;
         put(&mut map, alloc, "lines", Value::Array(lines))?;
         put(&mut map, alloc, "looked", Value::Array(self.looked))?;
@@ -99,6 +107,7 @@ impl Parts {
         )?;
         put(&mut map, alloc, "tell", Value::Array(self.tell))?;
         put(&mut map, alloc, "unknown", Value::Array(self.unknown))?;
+        put(&mut map, alloc, "unseen", Value::Array(self.unseen))?;
         Ok(Value::Object(map))
     }
 }

@@ -3,10 +3,12 @@ ghost use Rattle.std.specs.Prelude.{◌≡◌, IfOk, map};
 ghost use Rattle.serde_json.specs.View.{view};
 ghost use Rattle.retro_json.specs.Values.{number_data};
 ghost use Rattle.casebook_view.specs.Sources.{source_view};
-ghost use Rattle.casebook_json.specs.Source.{observed_in, outside_in, overlapping_in, source_name};
+ghost use Rattle.serde_json.specs.Data.{string};
+ghost use Rattle.casebook_json.specs.Source.{incomplete_in, observed_in, outside_in};
+ghost use Rattle.casebook_json.specs.Source.{overlapping_in, source_name, unseen_in};
 
 use crate::NoMem;
-use crate::value::number_values;
+use crate::value::{number_values, text_values};
 use casebook_view::Source;
 use serde_json::Value;
 use std::alloc::Global;
@@ -52,5 +54,28 @@ pub(crate) fn outside_values(alloc: Global, source: Source<'_>) -> Result<Vec<Va
     match source {
         Source::Played => Ok(Vec::new(alloc)),
         Source::Seen(seen) => number_values(alloc, seen.outside),
+    }
+}
+
+/// Returns the JSON values of the numbers of the sessions of which some lines have no record, in
+/// order.
+pub(crate) fn incomplete_values(alloc: Global, source: Source<'_>) -> Result<Vec<Value>, NoMem>
+    ensures { IfOk result (λ vs.
+        map view vs.items ≡ map number_data (incomplete_in (source_view source.entry))) }
+{
+    match source {
+        Source::Played => Ok(Vec::new(alloc)),
+        Source::Seen(seen) => number_values(alloc, seen.incomplete),
+    }
+}
+
+/// Returns the JSON values of the folders in which it wasn't always seen what lines only read.
+pub(crate) fn unseen_values(alloc: Global, source: Source<'_>) -> Result<Vec<Value>, NoMem>
+    ensures { IfOk result (λ vs.
+        map view vs.items ≡ map string (unseen_in (source_view source.entry))) }
+{
+    match source {
+        Source::Played => Ok(Vec::new(alloc)),
+        Source::Seen(seen) => text_values(alloc, seen.unseen),
     }
 }

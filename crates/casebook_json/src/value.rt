@@ -1,12 +1,13 @@
-//! JSON values of paths, users and numbers.
+//! JSON values of paths, texts, users and numbers.
 ghost use Rattle.std.specs.Prelude.{◌≡◌, IfOk, map};
+ghost use Rattle.serde_json.specs.Data.{string};
 ghost use Rattle.serde_json.specs.View.{view};
 ghost use Rattle.retro_json.specs.Values.{number_data};
 ghost use Rattle.casebook_json.specs.Values.{number_or_null, path_data, user_data};
 
 use crate::NoMem;
 use casebook_words::Labels;
-use retro_tree::Path;
+use retro_tree::{Path, Text};
 use serde_json::Value;
 use std::alloc::Global;
 
@@ -27,6 +28,17 @@ pub(crate) fn path_values(alloc: Global, paths: &[Path]) -> Result<Vec<Value>, N
     let mut values = Vec::new(alloc);
     for path in paths {
         values.push(path_value(alloc, path)?)?;
+    }
+    Ok(values)
+}
+
+/// Returns the JSON values of texts, in order.
+pub(crate) fn text_values(alloc: Global, texts: &[Text]) -> Result<Vec<Value>, NoMem>
+    ensures { IfOk result (λ vs. map view vs.items ≡ map string texts.now) }
+{
+    let mut values = Vec::with_capacity(alloc, texts.len())?;
+    for text in texts {
+        values.push(Value::try_from_str(alloc, text.as_str())?)?;
     }
     Ok(values)
 }

@@ -12,6 +12,7 @@ use crate::tag::Tag;
 use crate::unknown::push_unknown_link;
 use casebook_text::SafeLine;
 use casebook_view::{Fate, Seen, Source};
+use retro_tree::Text;
 use std::alloc::Global;
 use std::collections::BTreeSet;
 
@@ -86,6 +87,34 @@ fn push_numbered(html: &mut Html, alloc: Global, words: &str, numbers: &[u32]) -
     html.words(alloc, ".")
 }
 
+/// Appends of which sessions some lines have no record, if there are some.
+fn push_incomplete(html: &mut Html, alloc: Global, numbers: &[u32]) -> Result<(), NoMem> {
+    if numbers.is_empty() {
+        return Ok(());
+    }
+    html.words(alloc, " Lines without a record: sessions")?;
+    for number in numbers {
+        html.words(alloc, " ")?;
+        html.number(alloc, u64::from(*number))?;
+    }
+    html.words(alloc, ".")
+}
+
+/// Appends in which folders it wasn't always seen what lines only read, if there are some.
+fn push_unseen(html: &mut Html, alloc: Global, folders: &[Text]) -> Result<(), NoMem> {
+    if folders.is_empty() {
+        return Ok(());
+    }
+    let mut line = SafeLine::new(alloc);
+    line.push_ascii(" What lines only read wasn't always seen in")?;
+    for folder in folders {
+        line.push_ascii(" ")?;
+        line.push_word(alloc, folder.as_str().as_bytes())?;
+    }
+    line.push_ascii(".")?;
+    html.shown(alloc, &line)
+}
+
 /// Appends what a recorder says of its lines.
 fn push_seen(html: &mut Html, alloc: Global, seen: Seen<'_>) -> Result<(), NoMem> {
     push_observed(html, alloc, seen.observed.len())?;
@@ -100,7 +129,9 @@ fn push_seen(html: &mut Html, alloc: Global, seen: Seen<'_>) -> Result<(), NoMem
         alloc,
         " Changes outside of the recorded sessions: lines",
         seen.outside,
-    )
+    )?;
+    push_incomplete(html, alloc, seen.incomplete)?;
+    push_unseen(html, alloc, seen.unseen)
 }
 
 /// Appends how the log came about: from a machine, by playing its lines, or otherwise.

@@ -124,9 +124,9 @@ const OTHER: [(&str, usize); 3] = [
     ("observed", 0),
 ];
 
-/// The same, if lines overlap and one is nobody's.
+/// The same, if lines overlap, one is nobody's, and something isn't known.
 const DOUBTED: [(&str, usize); 1] = [(
-    ". 1 line stands as it was observed. Not told apart, since they overlap: lines <a href=\"#l2\">2</a> <a href=\"#l4\">4</a>. Changes outside of the recorded sessions: lines <a href=\"#l3\">3</a>.</p>",
+    ". 1 line stands as it was observed. Not told apart, since they overlap: lines <a href=\"#l2\">2</a> <a href=\"#l4\">4</a>. Changes outside of the recorded sessions: lines <a href=\"#l3\">3</a>. Lines without a record: sessions 1 2. What lines only read wasn&#39;t always seen in /srv /&lt;b&gt;.</p>",
     1,
 )];
 
@@ -136,6 +136,8 @@ fn seen(observed: &[u32]) -> Source<'_> {
         observed,
         overlapping: &[],
         outside: &[],
+        incomplete: &[],
+        unseen: &[],
     })
 }
 
@@ -194,10 +196,16 @@ fn observed_lines_are_replaced(rt: HostRuntime) -> Result<(), Fail> {
 #[test]
 fn doubts_are_said(rt: HostRuntime) -> Result<(), Fail> {
     let alloc = rt.alloc();
+    let mut unseen = Vec::new(alloc);
+    for folder in ["/srv", "/<b>"] {
+        unseen.push(Text::of(String::from_str(alloc, folder)?))?;
+    }
     let source = Source::Seen(Seen {
         observed: &[3],
         overlapping: &[2, 4],
         outside: &[3],
+        incomplete: &[1, 2],
+        unseen: unseen.as_slice(),
     });
     let page = page_of(alloc, given(source, true))?;
     hold_counts(alloc, page.as_str(), &DOUBTED)

@@ -3,6 +3,8 @@
 //! The digests are those that `sha256sum` prints, of `one`, `two` and `Fri` with a newline each. Times
 //! are as `date -u -d @1764363069` prints them.
 
+use crate::status::machine_document;
+
 /// A case of two people: mallory changes the file `/srv/p`, alice prints it, sorts it into `/srv/q`,
 /// and writes the date to `/srv/r`.
 const ACCOUNT: &str = "\
@@ -34,7 +36,7 @@ record\\tbegin\\tB\\t1764363249000000\\t0\\t/srv\\t3\\tshown\\tdate > /srv/r\\n\
 file\\t/srv/r\\t644\\t0\\t0\\t1\\t7\\t8\\t0\\t8\\t0\\t8\\t0\\n\
 bytes\\t/srv/r\\tf1e77843d0a0a29a8af7ccea9d7a4a1f10e95043097a31c3932fc7f8371410c7\\n\
 record\\tend\\tB\\t1764363249000000\\t0\\t/srv\\t3\\t0\\t0\\tshown\\tdate > /srv/r\\tsame\\t\\tsame\\t\\n\
-\"}";
+\",\"unseen\":\"/srv\\n\"}";
 
 /// A case in which mallory removes the link `/srv/l` and makes the link `/srv/m`.
 const LINKED: &str = "\
@@ -57,14 +59,14 @@ record\\tbegin\\tA\\t1764363129000000\\t0\\t/srv\\t2\\tshown\\tln -s d /srv/m\\n
 link\\t/srv/m\\t777\\t0\\t0\\t1\\t6\\t5\\t0\\t5\\t0\\t5\\t0\\n\
 target\\t/srv/m\\td\\n\
 record\\tend\\tA\\t1764363129000000\\t0\\t/srv\\t2\\t0\\t0\\tshown\\tln -s d /srv/m\\tsame\\t\\tsame\\t\\n\
-\"}";
+\",\"unseen\":\"\"}";
 
 /// Returns the bytes of a case by its name.
 pub(crate) fn account_document(name: &str) -> Option<&'static [u8]> {
     match name {
         "account" => Some(ACCOUNT.as_bytes()),
         "linked" => Some(LINKED.as_bytes()),
-        _ => None,
+        _ => machine_document(name),
     }
 }
 
@@ -91,6 +93,7 @@ ends: check damaged => 4 damaged: not a case: row 1 of its lines is damaged%(NL)
 writes: show account --cancel 1 =>
 | 4 lines of 2 sessions, Nov 28 20:51 to Nov 28 20:54. 1 cancelled.
 | Recorded on the machine. 3 lines stand as they were observed.
+| What lines only read wasn't always seen in /srv
 |
 | ? 1 line has to be run for real before this answer is whole.
 |       1  what it depends on would be another     3
@@ -118,11 +121,12 @@ writes: show account --cancel 1 =>
 |       1    1    1  sed -i s/one/two/ /srv/p                                      /srv/p
 has: show account --cancel 4 :: %(NL)No line has to be run for real.%(NL) => yes
 has: show account --cancel 1 --format json :: "observed":[1,3,4],"outside":[],"overlapping":[],"recording":false, => yes
-has: show account --cancel 1 --format json :: "unknown":[[3,"need"]] => yes
+has: show account --cancel 1 --format json :: "unknown":[[3,"need"]],"unseen":["/srv"]} => yes
 has: show account --cancel 1 --format json :: "looked":[{"about":"path","lines":[3], => yes
 has: show account --cancel 3 :: D /srv/q => yes
 has: show account --replace [[1,"rm_/srv/p"]] :: D /srv/p => yes
 page: page account --cancel 1 :: Recorded on the machine. 3 lines stand as they were observed. => yes
+page: page account --cancel 1 :: always seen in /srv. => yes
 ends: restore account --cancel 1 --root empty --at /srv =>
 | 4 ready 0, done 0, differs 1, blocked 0, outside the folder 0, not chosen 0
 | differs /srv/p: 1 line, 4 bytes / no such file

@@ -7,6 +7,7 @@ ghost use Rattle.std.specs.Prelude.{None};
 
 use crate::accounts::account_document;
 use crate::recorder::fault_of;
+use crate::status::{LIVED, SRV};
 use casebook_case::SpoolSource;
 use casebook_observe::SpoolError;
 use casebook_recorder_cli::OpenError;
@@ -34,20 +35,20 @@ bytes\t/g\t32dca98fb253c52a0da48080dcc522e2377ff4ba7c424fbe3024298683763c0e\n";
 /// A case of a session that makes a directory.
 const CASE: &str = r#"{"case":1,"contents":[],
 "first":"listing\t0\t1\ndir\t/srv\t755\t0\t0\t1\t2\t0\t0\t0\t0\t0\t0\n",
-"lines":"record\tbegin\tA\t5\t0\t/\t1\tshown\tx\ndir\t/srv/d\t755\t0\t0\t1\t8\t5\t0\t5\t0\t5\t0\nrecord\tend\tA\t5\t0\t/\t1\t0\t0\tshown\tx\tsame\t\tsame\t\n"}"#;
+"lines":"record\tbegin\tA\t5\t0\t/\t1\tshown\tx\ndir\t/srv/d\t755\t0\t0\t1\t8\t5\t0\t5\t0\t5\t0\nrecord\tend\tA\t5\t0\t/\t1\t0\t0\tshown\tx\tsame\t\tsame\t\n","unseen":""}"#;
 
 /// A case in which the directory is made where there is none.
 const ORPHAN: &str = r#"{"case":1,"contents":[],"first":"listing\t0\t0\n",
-"lines":"record\tbegin\tA\t5\t0\t/\t1\tshown\tx\ndir\t/srv/d\t755\t0\t0\t1\t8\t5\t0\t5\t0\t5\t0\nrecord\tend\tA\t5\t0\t/\t1\t0\t0\tshown\tx\tsame\t\tsame\t\n"}"#;
+"lines":"record\tbegin\tA\t5\t0\t/\t1\tshown\tx\ndir\t/srv/d\t755\t0\t0\t1\t8\t5\t0\t5\t0\t5\t0\nrecord\tend\tA\t5\t0\t/\t1\t0\t0\tshown\tx\tsame\t\tsame\t\n","unseen":""}"#;
 
 /// A case in which a line ends twice.
 const ENDED: &str = r#"{"case":1,"contents":[],"first":"listing\t0\t0\n",
-"lines":"record\tend\tA\t5\t0\t/\t1\t0\t0\tshown\tx\tsame\t\tsame\t\nrecord\tend\tA\t5\t0\t/\t1\t0\t0\tshown\tx\tsame\t\tsame\t\n"}"#;
+"lines":"record\tend\tA\t5\t0\t/\t1\t0\t0\tshown\tx\tsame\t\tsame\t\nrecord\tend\tA\t5\t0\t/\t1\t0\t0\tshown\tx\tsame\t\tsame\t\n","unseen":""}"#;
 
 /// A case whose first look has a file in a file.
 const LAWLESS: &str = r#"{"case":1,"contents":[],
 "first":"listing\t0\t2\nfile\t/f\t644\t0\t0\t1\t7\t1\t0\t1\t0\t1\t0\nfile\t/f/g\t644\t0\t0\t1\t7\t1\t0\t1\t0\t1\t0\n",
-"lines":""}"#;
+"lines":"","unseen":""}"#;
 
 /// Returns the bytes of a document about a case.
 pub(crate) fn case_document(name: &str) -> Option<&'static [u8]> {
@@ -57,9 +58,11 @@ pub(crate) fn case_document(name: &str) -> Option<&'static [u8]> {
         "ended" => Some(ENDED.as_bytes()),
         "lawless" => Some(LAWLESS.as_bytes()),
         "damaged" => Some(
-            br#"{"case":1,"contents":[],"first":"listing\t0\t0\n","lines":"x\ny\n"}"#,
+            br#"{"case":1,"contents":[],"first":"listing\t0\t0\n","lines":"x\ny\n","unseen":""}"#,
         ),
-        "digits" => Some(br#"{"case":1,"contents":["0"],"first":"listing\t0\t0\n","lines":""}"#),
+        "digits" => Some(
+            br#"{"case":1,"contents":["0"],"first":"listing\t0\t0\n","lines":"","unseen":""}"#,
+        ),
         _ => account_document(name),
     }
 }
@@ -144,12 +147,14 @@ pub(crate) fn source_of(name: &str) -> Result<NamedSource, OpenError> {
     }
     let first = match name {
         "kept" | "lost" => FILE,
+        "lived" => SRV,
         "unread" => "",
         _ => NOTHING,
     };
     let lines: &[u8] = match name {
         "kept" | "altered" | "shut" => FILES,
         "cut" => CUT,
+        "lived" => LIVED,
         "torn" => b"gone\n",
         "binary" => b"record\texit\ts\t5\t0\t/\t1\t0\n\xFF",
         _ => b"",
@@ -165,16 +170,16 @@ pub(crate) fn source_of(name: &str) -> Result<NamedSource, OpenError> {
 
 /// Cases of spools and logs of cases: what is written.
 pub(crate) const CASES: &str = r##"
-writes: import spool => {"case":1,"contents":[],"first":"listing\t0\t0\n","lines":""}%(NL)
+writes: import spool => {"case":1,"contents":[],"first":"listing\t0\t0\n","lines":"","unseen":""}%(NL)
 writes: import kept => {"case":1,"contents":["706c756d0a","6669670a"],\
   "first":"listing\t0\t1\nbytes\t/f\t\
   9436d49a899840d99d0a27a769a414257fcb12736f5e6dd277f9ba410bc676cf\n",\
   "lines":"bytes\t/g\t32dca98fb253c52a0da48080dcc522e2377ff4ba7c424fbe3024298683763c0e\n\
   bytes\t/h\t9436d49a899840d99d0a27a769a414257fcb12736f5e6dd277f9ba410bc676cf\n\
-  record\texit\ts\t5\t0\t/\t1\t0\n"}%(NL)
+  record\texit\ts\t5\t0\t/\t1\t0\n","unseen":""}%(NL)
 writes: import cut => {"case":1,"contents":[],"first":"listing\t0\t0\n",\
   "lines":"record\texit\ts\t5\t0\t/\t1\t0\n\
-  bytes\t/g\t32dca98fb253c52a0da48080dcc522e2377ff4ba7c424fbe3024298683763c0e\n"}%(NL)
+  bytes\t/g\t32dca98fb253c52a0da48080dcc522e2377ff4ba7c424fbe3024298683763c0e\n","unseen":""}%(NL)
 begins: import --help :: casebook import SPOOL > CASE%(NL) => yes
 same: import --help :: help import => yes
 writes: log case => {"from":1,"lines":[[1,1,"mkdir /srv/d",[["kind","/srv/d","missing"],\

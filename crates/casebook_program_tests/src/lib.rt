@@ -19,6 +19,8 @@ mod scripts;
 #[cfg(test)]
 mod snapshots;
 #[cfg(test)]
+mod status;
+#[cfg(test)]
 mod streams;
 #[cfg(test)]
 mod tables;

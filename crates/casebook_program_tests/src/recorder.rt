@@ -6,6 +6,7 @@ ghost use Rattle.std.specs.Prelude.{None};
 
 use crate::cases::{NamedSource, source_of};
 use crate::memory::Memory;
+use crate::status::{folders_of, unseen_of};
 use casebook_observe::{Found, Spool, SpoolError, WatchError, Watched};
 use casebook_recorder_cli::{OpenError, OpenSpool, Spools};
 use casebook_spool::{Digest, Looked, Unkept};
@@ -166,6 +167,17 @@ impl Spools for Memory {
 
     fn spool_source(&self, _alloc: Global, name: &str) -> Result<NamedSource, OpenError> {
         source_of(name)
+    }
+
+    fn folders_of(&self, alloc: Global, name: &str) -> Result<Vec<Path>, OpenError> {
+        folders_of(alloc, name)
+    }
+
+    fn unseen_of(&self, alloc: Global, name: &str) -> Result<Vec<u8>, OpenError> {
+        match Vec::from_slice(alloc, unseen_of(name)) {
+            Ok(rows) => Ok(rows),
+            Err(NoMem) => Err(OpenError::NoMem),
+        }
     }
 
     fn make_spool(

@@ -9,6 +9,7 @@ use crate::recorder::{RECORDED, REFUSED_RECORDS};
 use crate::restores::{REFUSED_RESTORES, RESTORES};
 use crate::scripts::{REFUSED_SCRIPTS, SCRIPTS};
 use crate::snapshots::{COMPARISONS, REFUSED_SNAPSHOTS, SNAPSHOTS};
+use crate::status::{REFUSED_STATUS, STATUS};
 use crate::tables::{LINES, OTHERS, PAGES, REFUSED, REPAIRS, TIMES};
 use retro_rows::{fail, rows, text};
 use std::alloc::AllocGlobal;
@@ -127,6 +128,7 @@ fn pages_checks_folders_and_helps_are_written(rt: HostRuntime) -> Result<(), Fai
         RECORDED,
         CASES,
         ACCOUNTS,
+        STATUS,
     ] {
         hold(&rt, table)?;
     }
@@ -148,6 +150,7 @@ fn words_and_documents_are_refused(rt: HostRuntime) -> Result<(), Fail> {
         REFUSED_RECORDS,
         REFUSED_CASES,
         REFUSED_ACCOUNTS,
+        REFUSED_STATUS,
     ] {
         hold(&rt, table)?;
     }

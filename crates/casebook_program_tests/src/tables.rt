@@ -129,13 +129,13 @@ writes: show log --cancel 1 --line 2 --about about =>
 
 writes: show log --cancel 1 --format json =>
   {"causes":[{"alike":0,"changed":1,"line":1,"paths":["/f"]}],"counts":{"alike":0,\
-  "cancelled":1,"changed":1,"kept":0,"untouched":0},"doubtful":[],"leaked":[],\
+  "cancelled":1,"changed":1,"kept":0,"untouched":0},"doubtful":[],"incomplete":[],"leaked":[],\
   "lines":[{"because_of":null,"fate":"cancelled","line":1,"note":null,"origin":null,\
   "session":2,"why":null},{"because_of":1,"fate":"changed","line":2,"note":0,"origin":1,\
   "session":1,"why":"query"}],"looked":[],"observed":[],"outside":[],"overlapping":[],"recording":true,"restore":[{"added":0,\
   "change":"removed","extent":"lines","path":"/f","removed":1}],"show":1,"source":"played",\
   "tell":[{"about":"path","lines":[2],"path":"/f","session":1,"user":null,"variable":null}],\
-  "unknown":[]}%(NL)
+  "unknown":[],"unseen":[]}%(NL)
 
 has: show log --replace [[1,"echo_plum_>_/f"]] ::       2 run again, another result => yes
 has: show log --replace [[1,"echo_plum_>_/f"]] ::   M /f  +1 -1 => yes

@@ -6,7 +6,7 @@ use Rattle.retro_path.specs.Path.{PathValue}
 use Rattle.retro_edge.specs.Calls.{Call, all_given, given}
 use Rattle.retro_edge.specs.Paths.{path_named}
 use Rattle.retro_edge.specs.Reads.{all_read}
-use Rattle.retro_edge.specs.Rules.{flag, help_flag, word, words}
+use Rattle.retro_edge.specs.Rules.{flag, help_flag, option, word, words}
 use Rattle.casebook_recorder_cli.specs.declared.request.RecorderProblem.{RecorderProblem}
 use Rattle.casebook_recorder_cli.specs.declared.request.RecorderProblem.TheVariants as problems
 
@@ -18,6 +18,10 @@ observe_rules =
 -- of `import`: which spool
 abbrev pub import_rules : List Rule
 import_rules = help_flag ∷ word (codes "spool") ∷ []
+
+-- of `status`: which spool, and the list of those who are logged in
+abbrev pub status_rules : List Rule
+status_rules = help_flag ∷ word (codes "spool") ∷ option (codes "who") ∷ []
 
 -- the spool that takes a record
 pub record ObserveValue : Type 0 where
@@ -31,6 +35,11 @@ pub record StartValue : Type 0 where
 -- the spool of which the case is written
 pub record ImportValue : Type 0 where
   pub spool : Text
+
+-- the spool of which it is said what it has, and the name of the list of those who are logged in
+pub record StatusValue : Type 0 where
+  pub spool : Text
+  pub who : Option Text
 
 infixl 10 ◌>>=◌
 abbrev pub ◌>>=◌ : {A B : Type 0} → Result A RecorderProblem → (A → Result B RecorderProblem) → Result B RecorderProblem
@@ -71,3 +80,10 @@ import_of spool = Ok (record { spool = spool })
 -- of which spool the case is written
 abbrev pub import_in : Call → Result ImportValue RecorderProblem
 import_in call = spool_given call >>= import_of
+
+abbrev pub status_of : Option Text → Text → Result StatusValue RecorderProblem
+status_of who spool = Ok (record { spool = spool; who = who })
+
+-- of which spool it is said what it has
+abbrev pub status_in : Call → Result StatusValue RecorderProblem
+status_in call = spool_given call >>= status_of (given (codes "who") call)

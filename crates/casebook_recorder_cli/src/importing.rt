@@ -10,8 +10,9 @@ use std::alloc::Global;
 /// Returns the document of the case of the spool with a name: what the spool holds at one moment.
 pub fn import_in<S: Spools>(alloc: Global, spools: &S, name: &str) -> Result<Vec<u8>, RecorderFault>
     ensures { IfSome (S.spools spools.now) (λ all. IfOk result (λ text.
-        IsCaseOf (all.held name.now) text.items)) }
+        IsCaseOf (all.held name.now) (all.unseen name.now) text.items)) }
 {
     let source = spools.spool_source(alloc, name)?;
-    Ok(spool_case(alloc, &source)?)
+    let unseen = spools.unseen_of(alloc, name)?;
+    Ok(spool_case(alloc, &source, unseen.as_slice())?)
 }

@@ -1,8 +1,9 @@
 //! The commands of `casebook` about spools: by `observe` a recorder takes what the hook in people's
 //! shells sends, and `import` writes what it took as one document.
 //!
-//! [`observe_command`] and [`import_command`] are the commands, as `clap` reads them, and
-//! [`observe_request`], [`start_request`] and [`import_request`] are what their words ask for.
+//! [`observe_command`], [`import_command`] and [`status_command`] are the commands, as `clap` reads
+//! them, and [`observe_request`], [`start_request`], [`import_request`] and [`status_request`] are
+//! what their words ask for.
 //! [`start_in`] makes a spool for some folders, and writes what they hold to it. [`observe_in`]
 //! opens a spool and its folders, and takes a record. [`import_in`] returns the document of a
 //! spool's case, which `casebook_case` makes; the folders of the spool needn't be there.
@@ -40,11 +41,11 @@ pub use fault::RecorderFault;
 pub use importing::import_in;
 pub use observing::{observe_in, start_in};
 pub use request::{
-    ImportRequest, ObserveRequest, RecorderProblem, StartRequest, WordsFault, import_request,
-    observe_request, start_request,
+    ImportRequest, ObserveRequest, RecorderProblem, StartRequest, StatusRequest, WordsFault,
+    import_request, observe_request, start_request, status_request,
 };
 pub use spools::{OpenError, OpenSpool, SENT_LIMIT, Spools};
-pub use words::{import_command, observe_command};
+pub use words::{import_command, observe_command, status_command};
 
 /// Allocation failed.
 pub use retro_path::NoMem;

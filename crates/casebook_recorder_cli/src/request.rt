@@ -2,8 +2,9 @@
 ghost use Rattle.std.specs.Prelude.{◌≡◌, map, option_map};
 ghost use Rattle.retro_edge.specs.Calls.{call_view};
 ghost use Rattle.casebook_recorder_cli.specs.Views.{Means, import_view, observe_view, start_view};
+ghost use Rattle.casebook_recorder_cli.specs.Views.{status_view};
 ghost use Rattle.casebook_recorder_cli.specs.Words.{folders_given, import_in, observe_in};
-ghost use Rattle.casebook_recorder_cli.specs.Words.{spool_given, start_in};
+ghost use Rattle.casebook_recorder_cli.specs.Words.{spool_given, start_in, status_in};
 ghost use Rattle.casebook_recorder_cli.specs.declared.request.WordsFault.TheVariants as faults;
 
 use crate::NoMem;
@@ -72,6 +73,15 @@ pub struct ImportRequest<'a> {
     pub spool: &'a str,
 }
 
+/// Of which spool it is said what it has.
+#[derive(Clone, Copy, Debug, Drop, PartialEq, Eq)]
+pub struct StatusRequest<'a> {
+    /// The name of the spool.
+    pub spool: &'a str,
+    /// The name of the list of those who are logged in, if one is given.
+    pub who: Option<&'a str>,
+}
+
 /// Returns the name of the spool.
 fn spool_given<'a>(call: &CommandCall<'a>) -> Result<&'a str, WordsFault>
     ensures { Means (λ s. s.now) result (spool_given (call_view call.now)) }
@@ -122,4 +132,13 @@ pub fn import_request<'a>(call: &CommandCall<'a>) -> Result<ImportRequest<'a>, W
 {
     let spool = spool_given(call)?;
     Ok(ImportRequest { spool })
+}
+
+/// Returns of which spool `status` says what it has.
+pub fn status_request<'a>(call: &CommandCall<'a>) -> Result<StatusRequest<'a>, WordsFault>
+    ensures { Means status_view result (status_in (call_view call.now)) }
+{
+    let spool = spool_given(call)?;
+    let who = call.text_of("who");
+    Ok(StatusRequest { spool, who })
 }

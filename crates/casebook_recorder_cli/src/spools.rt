@@ -88,6 +88,17 @@ pub trait Spools {
         ensures { IfSome (spools self.now) (λ all. IfOk result (λ source.
             Self.Source.holds source ≡ Some (all.held name.now))) };
 
+    /// Returns the folders that the spool with a name watches.
+    fn folders_of(&self, alloc: Global, name: &str) -> Result<Vec<Path>, OpenError>
+        ensures { IfSome (spools self.now) (λ all. IfOk result (λ folders.
+            folders.items ≡ all.watched name.now)) };
+
+    /// Returns the rows of the folders that the spool with a name watches, and in which it wasn't
+    /// always seen what lines only read.
+    fn unseen_of(&self, alloc: Global, name: &str) -> Result<Vec<u8>, OpenError>
+        ensures { IfSome (spools self.now) (λ all. IfOk result (λ rows.
+            rows.items ≡ all.unseen name.now)) };
+
     /// Makes a spool with a name, for folders, and opens it. It has no first look.
     fn make_spool(
         &self,

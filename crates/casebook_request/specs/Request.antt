@@ -17,8 +17,8 @@ use Rattle.casebook_folder_cli.specs.Words.{ComparedValue, SnapshotValue, compar
 use Rattle.casebook_folder_cli.specs.declared.request.FolderFault.{FolderFault}
 use Rattle.casebook_folder_cli.specs.declared.request.FolderFault.TheVariants as folder_faults
 use Rattle.casebook_folder_cli.specs.declared.request.FolderProblem.{FolderProblem}
-use Rattle.casebook_recorder_cli.specs.Words.{ImportValue, ObserveValue, StartValue}
-use Rattle.casebook_recorder_cli.specs.Words.{import_in, observe_in, start_in}
+use Rattle.casebook_recorder_cli.specs.Words.{ImportValue, ObserveValue, StartValue, StatusValue}
+use Rattle.casebook_recorder_cli.specs.Words.{import_in, observe_in, start_in, status_in}
 use Rattle.casebook_recorder_cli.specs.declared.request.RecorderProblem.{RecorderProblem}
 use Rattle.casebook_recorder_cli.specs.declared.request.WordsFault.{WordsFault as RecorderFault}
 use Rattle.casebook_recorder_cli.specs.declared.request.WordsFault.TheVariants as recorder_faults
@@ -33,7 +33,7 @@ use Rattle.casebook_request.specs.declared.format.Format.TheVariants as formats
 use Rattle.casebook_request.specs.declared.folder_help.TheConstants.{COMPARE, RESTORE, SCRIPT, SNAPSHOT}
 use Rattle.casebook_request.specs.declared.document_help.TheConstants.{DOCUMENTS, LISTS, PROFILE, REFUSALS}
 use Rattle.casebook_request.specs.declared.help.TheConstants.{PROGRAM, LINES, SHOW, PAGE, CHECK}
-use Rattle.casebook_request.specs.declared.recorder_help.TheConstants.{IMPORT, LOG, OBSERVE}
+use Rattle.casebook_request.specs.declared.recorder_help.TheConstants.{IMPORT, LOG, OBSERVE, STATUS}
 use Rattle.casebook_request.specs.declared.path_filters.NamedPath.{NamedPath}
 use Rattle.casebook_request.specs.declared.path_filters.PathFilters.{PathFilters}
 use Rattle.casebook_request.specs.declared.problem.Problem.{Problem}
@@ -118,6 +118,7 @@ pub data Request : Type 0 where
   start : StartValue → Request
   observe : ObserveValue → Request
   import : ImportValue → Request
+  status : StatusValue → Request
 
 -- ---- steps, of which the first problem ends them
 
@@ -143,6 +144,7 @@ topic_in text =
     else if is_text (codes "script") text then Some topics.Script
     else if is_text (codes "observe") text then Some topics.Observe
     else if is_text (codes "import") text then Some topics.Import
+    else if is_text (codes "status") text then Some topics.Status
     else if is_text (codes "log") text then Some topics.Log
     else if is_text (codes "lists") text then Some topics.Lists
     else if is_text (codes "documents") text then Some topics.Documents
@@ -171,6 +173,7 @@ help_text topics.Restore = RESTORE.now
 help_text topics.Script = SCRIPT.now
 help_text topics.Observe = OBSERVE.now
 help_text topics.Import = IMPORT.now
+help_text topics.Status = STATUS.now
 help_text topics.Log = LOG.now
 help_text topics.Lists = LISTS.now
 help_text topics.Documents = DOCUMENTS.now
@@ -465,6 +468,7 @@ command_request call =
     else if is_text (codes "script") call.name then in_folder script (script_asked call)
     else if is_text (codes "observe") call.name then observe_asked call
     else if is_text (codes "import") call.name then in_recorder import (import_in call)
+    else if is_text (codes "status") call.name then in_recorder status (status_in call)
     else result_map ask (query_in call)
 
 abbrev pub request_of : Named → Result Request Problem

@@ -3,11 +3,11 @@ use Rattle.std.specs.Prelude.{Option, Some, None, Result, Ok, Err, option_map}
 use Rattle.retro_tree.specs.OutOfMemory.{UnlessOutOfMemory}
 use Rattle.casebook_folder_cli.specs.Views.{compared_view, request_view as snapshot_view, restore_view, script_view}
 use Rattle.casebook_folder_cli.specs.Views.{undo_view}
-use Rattle.casebook_recorder_cli.specs.Views.{import_view, observe_view, start_view}
+use Rattle.casebook_recorder_cli.specs.Views.{import_view, observe_view, start_view, status_view}
 use Rattle.casebook_request.specs.Request.{LinesRequest, PageRequest, Query, RepairRequest, Request}
 use Rattle.casebook_request.specs.Request.{CompareValue, RoundsValue, ShowRequest, ask, case_log, check, compare, help, lines}
 use Rattle.casebook_request.specs.Request.{page, show}
-use Rattle.casebook_request.specs.Request.{FolderRepair, import, observe, restore, script, snapshot, start, undo}
+use Rattle.casebook_request.specs.Request.{FolderRepair, import, observe, restore, script, snapshot, start, status, undo}
 use Rattle.casebook_request.specs.Sources.{SourcesValue}
 use Rattle.casebook_request.specs.declared.lines_request.LinesRequest.{LinesRequest as LinesCode}
 use Rattle.casebook_request.specs.declared.problem.Problem.{Problem}
@@ -88,6 +88,7 @@ request_view (requests.Script request) = script (script_view request)
 request_view (requests.Start request) = start (start_view request)
 request_view (requests.Observe request) = observe (observe_view request)
 request_view (requests.Import request) = import (import_view request)
+request_view (requests.Status request) = status (status_view request)
 
 abbrev pub sources_view : Sources → SourcesValue
 sources_view sources = record {

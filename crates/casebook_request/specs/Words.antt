@@ -5,7 +5,7 @@ use Rattle.retro_edge.specs.Rules.{flag, help_flag, option, with_command, word}
 use Rattle.casebook_folder_cli.specs.RestoreWords.{restore_rules}
 use Rattle.casebook_folder_cli.specs.ScriptWords.{script_rules}
 use Rattle.casebook_folder_cli.specs.Words.{compare_rules, snapshot_rules}
-use Rattle.casebook_recorder_cli.specs.Words.{import_rules, observe_rules}
+use Rattle.casebook_recorder_cli.specs.Words.{import_rules, observe_rules, status_rules}
 
 -- ---- the command line
 
@@ -84,5 +84,7 @@ without_recorder =
 abbrev pub program : App
 program =
     with_command
+    (with_command
     (with_command (with_command without_recorder (codes "observe") observe_rules) (codes "import") import_rules)
+    (codes "status") status_rules)
     (codes "log") log_rules

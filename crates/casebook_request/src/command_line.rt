@@ -19,7 +19,7 @@ use crate::words::{WordsFault, call_in};
 use casebook_folder_cli::{
     compared_snapshot, restore_request, script_request, snapshot_request, undo_request,
 };
-use casebook_recorder_cli::{import_request, observe_request, start_request};
+use casebook_recorder_cli::{import_request, observe_request, start_request, status_request};
 use retro_edge::{CallFault, CommandCall};
 use std::alloc::Global;
 
@@ -39,6 +39,7 @@ fn topic_of(text: &str) -> Option<Topic>
         "script" => Some(Topic::Script),
         "observe" => Some(Topic::Observe),
         "import" => Some(Topic::Import),
+        "status" => Some(Topic::Status),
         "log" => Some(Topic::Log),
         "lists" => Some(Topic::Lists),
         "documents" => Some(Topic::Documents),
@@ -160,6 +161,9 @@ fn command_request<'a>(alloc: Global, call: &CommandCall<'a>) -> Result<Request<
     }
     if call.name == "import" {
         return Ok(Request::Import(import_request(call)?));
+    }
+    if call.name == "status" {
+        return Ok(Request::Status(status_request(call)?));
     }
     Ok(Request::Ask(query_of(alloc, call)?))
 }

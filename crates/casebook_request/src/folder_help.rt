@@ -87,13 +87,14 @@ to it. All of these are listed by
     casebook lines LOG --writes PATH
 
 A path isn't compared if it isn't PATH or below it, nor if casebook snapshot would
-skip it, as it does links, devices and large files. If the log has it, it has a line
-with the reason; standard error counts all that was skipped. Modes and owners aren't
-compared: they are in no log. Only the end is: what lines overwrote before it doesn't
-show.
+skip it, as it does links, devices and large files. If the log has a directory or a
+file there, it has a line with the reason; what a case has for a link, a device or a
+large file counts as recorded, whatever it is now. Standard error counts all that was
+skipped. Modes and owners aren't compared: they are in no log. Only the end is: what
+lines overwrote before it doesn't show.
 
 Exit status: 0 each path is as recorded, 4 one isn't, or was skipped though the log
-has it.
+has a directory or a file there.
 ";
 
 /// Help on the command `restore`.

@@ -4,7 +4,7 @@ ghost use Rattle.casebook_request.specs.Request.{help_text};
 
 use crate::document_help::{DOCUMENTS, LISTS, PROFILE, REFUSALS};
 use crate::folder_help::{COMPARE, RESTORE, SCRIPT, SNAPSHOT};
-use crate::recorder_help::{IMPORT, LOG, OBSERVE};
+use crate::recorder_help::{IMPORT, LOG, OBSERVE, STATUS};
 use crate::topic::Topic;
 
 /// Help on the program.
@@ -44,10 +44,12 @@ folder that it is told to restore, and spools.
         Keeps what lines do in folders: for the hook of the recorder.
     casebook import SPOOL
         What was kept, as a document: a case.
+    casebook status SPOOL [--who FILE]
+        Whether the recorder works: since when, whose sessions, and what is missing.
     casebook log CASE
         A log that explains it, line by line, for retro.
     casebook help [lines|show|page|check|snapshot|script|compare|restore|observe|
-                   import|log|lists|documents|refusals|profile]
+                   import|status|log|lists|documents|refusals|profile]
         This text, or more on a command, on lists of lines, on the documents that
         casebook reads, on why it refuses them, or on what a line may be.
 
@@ -130,8 +132,8 @@ of them hold. LOG is the name of a file, or - for standard input.
     --user NAME       a session with this name ran the line (see --about)
     --from N          the line's number is at least N
     --to N            the line's number is at most N
-    --from TIME       the line was typed at TIME or later (see --about)
-    --to TIME         the line was typed at TIME or before
+    --from TIME       the line's time is TIME or later (see --about)
+    --to TIME         the line's time is TIME or before
     --reads PATH      the line asked about PATH: read it, listed it, or tested
                       whether it is there. A listing counts for its directory
                       alone.
@@ -148,7 +150,8 @@ PATH begins with a slash. With a slash at the end, as /srv/shop/, it also means
 all paths below it. REGEX is a regular expression, as in `grep -E`: ^ and $ are the
 ends of a line. TIME is a date and a time of day, as '2025-05-06 10:30', or a date
 alone. With --to a time of day without seconds lasts a minute, and a date a day.
-Times are in UTC. A line of which no time is known passes no TIME.
+Times are in UTC. The time of a line of a case is that of its end. A line of which no
+time is known passes no TIME.
 
     --format text     one to five rows a line: number, session and line, with ?
                       before a line that wasn't understood, and why, and with o
@@ -210,7 +213,9 @@ The screen has these parts:
 
     N lines of N sessions. N cancelled.
     That retro's shell does what the log notes. If it doesn't, all below is only
-    what its notes say. Of a case: how many lines stand as they were observed.
+    what its notes say. Of a case: how many lines stand as they were observed, which
+    aren't told apart, which changes no recorded line made, of which sessions lines
+    have no record, and where it wasn't always seen what lines only read.
 
     ? How many lines weren't understood, how many of them are cancelled, and their
     numbers by reason. What they did isn't in the answer, so below they leak
@@ -218,7 +223,9 @@ The screen has these parts:
     has the reasons. Or: Every line was understood.
     Of a case: ? how many lines have to be run for real, and their numbers. What they
     depend on would be another, so what they would do isn't known. Until then they
-    stand as they were observed. Or: No line has to be run for real.
+    stand as they were observed, and so does what followed from them: it isn't below.
+    Or: No line has to be run for real. Modes and owners aren't followed: a line that
+    a mode stopped or let through, which would be another, isn't counted.
 
     How many lines are cancelled; are run again, with another result or with the
     same; read or wrote what differs but are kept as recorded; or have nothing to
@@ -298,6 +305,7 @@ pub fn help_text(topic: Topic) -> &'static str
         Topic::Script => SCRIPT,
         Topic::Observe => OBSERVE,
         Topic::Import => IMPORT,
+        Topic::Status => STATUS,
         Topic::Log => LOG,
         Topic::Lists => LISTS,
         Topic::Documents => DOCUMENTS,

@@ -22,7 +22,8 @@ are mounted in a folder aren't entered.
 
 Who may read the folders may read SPOOL's contents of them, and nobody else should:
 run this as root. Which files a line read shows by their times of reading: mount the
-folders with strictatime, or only what lines write is known.
+folders with strictatime, or only what lines write is known. `show` and `page` name a
+folder that was mounted otherwise, if only for one record.
 
     mount -o remount,strictatime /srv
     casebook observe --start /var/lib/retro/spool /srv /home
@@ -75,6 +76,46 @@ large or one that couldn't be read is a file with a text that says what it is.
 
 Exit status: 0 done, 1 SPOOL is damaged, or bytes are missing, 3 there is no SPOOL, it
 can't be read, or somebody else has it.
+";
+
+/// Help on the command `status`.
+pub(crate) const STATUS: &str = "\
+casebook status SPOOL [--who FILE]
+
+Says in ten rows whether the recorder works:
+
+      recorded  2026-11-28T20:51:09Z to 2026-11-30T08:01:13Z
+      folders   /home, /srv, /tmp
+      sessions  9: ann 3, bob 5, mallory 1
+      lines     412: 203 as typed, 209 as observed
+      overlaps  4: lines that aren't told apart
+      outside   3: changes that no recorded line made
+    ? missing   lines without a record: 2 of session 3
+    ? reads     not seen in /home, /tmp: mount them with strictatime
+    ? logins    not recorded: carol pts/3
+      case      3201334 bytes
+
+A row with a question mark says that something isn't known that an answer may need:
+
+    missing   the hook counts the lines of a session. One of which no record was taken,
+              since SPOOL was busy or its disk full, is missing, and what it changed
+              counts as what another line did.
+    reads     which files a line only reads shows by their times of reading, which a
+              folder has only if it is mounted with strictatime. Elsewhere a line needs
+              what its words name, and what it reads besides isn't known.
+    logins    somebody is logged in and has no session in SPOOL: his shell isn't bash,
+              or doesn't read the hook. Or FILE names nobody, so nothing is known of
+              logins. The row is there with --who alone.
+
+    --who FILE    FILE is what `who` prints, or - for standard input
+
+The last row is how long the document would be that `casebook import` writes. As long
+as that takes, `status` takes. SPOOL isn't changed.
+
+    who | casebook status /var/lib/retro/spool --who -
+
+Exit status: 0 nothing is missing, 1 SPOOL is damaged, or bytes are missing, 3 there is
+no SPOOL, it can't be read, or somebody else has it, 4 a row has a question mark.
 ";
 
 /// Help on the command `log`.

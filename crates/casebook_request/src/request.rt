@@ -5,7 +5,7 @@ use crate::topic::Topic;
 use casebook_folder_cli::{
     ComparedSnapshot, RestoreRequest, ScriptRequest, SnapshotRequest, UndoRequest,
 };
-use casebook_recorder_cli::{ImportRequest, ObserveRequest, StartRequest};
+use casebook_recorder_cli::{ImportRequest, ObserveRequest, StartRequest, StatusRequest};
 
 /// Which recording is compared with which snapshot.
 #[derive(Drop)]
@@ -48,4 +48,6 @@ pub enum Request<'a> {
     Observe(ObserveRequest<'a>),
     /// Write the case of a spool.
     Import(ImportRequest<'a>),
+    /// Say what a spool has.
+    Status(StatusRequest<'a>),
 }

@@ -25,6 +25,8 @@ pub enum Topic {
     Observe,
     /// The command `import`.
     Import,
+    /// The command `status`.
+    Status,
     /// The command `log`.
     Log,
     /// Lists of lines.

@@ -233,6 +233,7 @@ fn program_command<'a>(alloc: Global) -> Result<Command<'a>, NoMem>
     program_without_recorder(alloc)?
         .subcommand(recorder::observe_command(alloc)?)?
         .subcommand(recorder::import_command(alloc)?)?
+        .subcommand(recorder::status_command(alloc)?)?
         .subcommand(log_command(alloc)?)
 }
 

@@ -1,5 +1,6 @@
 -- What a log rests on, as a terminal shows it.
-use Rattle.std.specs.Prelude.{ℕ, ◌==◌, Bool, true, false, List, [], ◌∷◌, ◌++◌, codes, decimal, if◌then◌else◌, length}
+use Rattle.std.specs.Prelude.{ℕ, ◌==◌, Bool, true, false, List, [], ◌∷◌, ◌++◌, codes, decimal, flat_map, if◌then◌else◌, length}
+use Rattle.casebook_text.specs.SafeLine.{word_bytes}
 use Rattle.casebook_view.specs.Sources.{SeenValue, SourceValue, Played, Seen}
 use Rattle.casebook_screen.specs.Notices.{first_numbers}
 
@@ -35,11 +36,39 @@ abbrev pub outside_lines : List ℕ → List (List ℕ)
 outside_lines [] = []
 outside_lines (n ∷ numbers) = outside_text (n ∷ numbers) ∷ []
 
--- of lines that a recorder saw: how many stand as they were observed, and which aren't told apart or
--- are changes that no line made
+-- some lines of these sessions have no record
+unfoldable pub incomplete_text : List ℕ → List ℕ
+incomplete_text numbers = codes "Lines without a record: sessions" ++ first_numbers numbers
+
+abbrev pub incomplete_lines : List ℕ → List (List ℕ)
+incomplete_lines [] = []
+incomplete_lines (n ∷ numbers) = incomplete_text (n ∷ numbers) ∷ []
+
+-- a folder after a space
+abbrev pub folder_piece : List ℕ → List ℕ
+folder_piece folder = codes " " ++ word_bytes folder
+
+-- in these folders it wasn't always seen what lines only read
+unfoldable pub unseen_text : List (List ℕ) → List ℕ
+unseen_text folders =
+    codes "What lines only read wasn't always seen in" ++ flat_map folder_piece folders
+
+abbrev pub unseen_lines : List (List ℕ) → List (List ℕ)
+unseen_lines [] = []
+unseen_lines (folder ∷ folders) = unseen_text (folder ∷ folders) ∷ []
+
+-- which lines aren't told apart, and which are changes that no line made
+abbrev pub doubt_lines : SeenValue → List (List ℕ)
+doubt_lines seen = overlapping_lines seen.overlapping ++ outside_lines seen.outside
+
+-- what a recorder doesn't know
+abbrev pub lacking_lines : SeenValue → List (List ℕ)
+lacking_lines seen = incomplete_lines seen.incomplete ++ unseen_lines seen.unseen
+
+-- of lines that a recorder saw: how many stand as they were observed, which of them are in doubt, and
+-- what isn't known
 abbrev pub seen_lines : SeenValue → List (List ℕ)
-seen_lines seen =
-    seen_text (length seen.observed) ∷ overlapping_lines seen.overlapping ++ outside_lines seen.outside
+seen_lines seen = seen_text (length seen.observed) ∷ doubt_lines seen ++ lacking_lines seen
 
 abbrev pub basis_lines : SourceValue → Bool → List (List ℕ)
 basis_lines Played is_recording = played_text is_recording ∷ []

@@ -197,17 +197,17 @@ given: {"script":1,"tree":[],"sessions":[],"lines":[]} :: %(EMPTY) :: %(EMPTY) :
   recording
 - document: %(EMPTY)
   => {"causes":[],"counts":{"alike":0,"cancelled":0,"changed":0,"kept":0,"untouched":0},\
-  "doubtful":[],"leaked":[],"lines":[],"looked":[],"observed":[],"outside":[],"overlapping":[],\
-  "recording":true,"restore":[],"show":1,"source":"played","tell":[],"unknown":[]}
+  "doubtful":[],"incomplete":[],"leaked":[],"lines":[],"looked":[],"observed":[],"outside":[],"overlapping":[],\
+  "recording":true,"restore":[],"show":1,"source":"played","tell":[],"unknown":[],"unseen":[]}
 
 given: {"script":1,"tree":[],"sessions":[[1,"/",0,[]],[2,"/",0,[]]],\
   "lines":[[1,2,"echo a > f"],[4294967295,1,"cat f"]]} :: %(EMPTY) :: %(EMPTY) :: %(EMPTY) ::
   recording
 - document: %(EMPTY)
   => {"causes":[],"counts":{"alike":0,"cancelled":0,"changed":0,"kept":0,"untouched":2},\
-  "doubtful":[],"leaked":[],"lines":[{"because_of":null,"fate":"untouched","line":1,"note":null,\
+  "doubtful":[],"incomplete":[],"leaked":[],"lines":[{"because_of":null,"fate":"untouched","line":1,"note":null,\
   "origin":null,"session":2,"why":null},{"because_of":null,"fate":"untouched","line":4294967295,\
   "note":null,"origin":null,"session":1,"why":null}],"looked":[],"observed":[],"outside":[],\
   "overlapping":[],"recording":true,"restore":[],"show":1,"source":"played","tell":[],\
-  "unknown":[]}
+  "unknown":[],"unseen":[]}
 "##;

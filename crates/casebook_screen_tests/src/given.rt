@@ -63,12 +63,15 @@ pub fn repair_of(alloc: Global, recording: &Recording, edits: &[Edit]) -> Result
 }
 
 /// What a recorder says of lines: which were observed, which overlap, and which are changes outside
-/// of the recorded sessions.
+/// of the recorded sessions. And what it doesn't know: of which sessions lines have no record, and in
+/// which folders it isn't seen what lines only read.
 #[derive(Drop)]
 pub struct SeenLines {
     observed: Vec<u32>,
     overlapping: Vec<u32>,
     outside: Vec<u32>,
+    incomplete: Vec<u32>,
+    unseen: Vec<Text>,
 }
 
 /// Returns the numbers of a list, or no numbers for `none`.
@@ -79,9 +82,21 @@ fn numbers_or_none(alloc: Global, list: Option<&str>) -> Result<Vec<u32>, Fail> 
     }
 }
 
+/// Returns the folders of a list, or no folders if there is none.
+fn folders_or_none(alloc: Global, list: Option<&str>) -> Result<Vec<Text>, Fail> {
+    let mut folders = Vec::new(alloc);
+    if let Some(list) = list {
+        for folder in list.split(' ') {
+            folders.push(Text::of(String::from_str(alloc, folder)?))?;
+        }
+    }
+    Ok(folders)
+}
+
 /// Returns what a recorder says if a field says that one saw the lines of a log, or `None` if it says
 /// something else. `observed 2 4` says that it observed two lines, `observed none` that it observed
-/// none, and `observed 2 / 3 4 / 5` also that lines 3 and 4 overlap and that line 5 is nobody's.
+/// none, and `observed 2 / 3 4 / 5` also that lines 3 and 4 overlap and that line 5 is nobody's. Two
+/// more lists name sessions and folders.
 pub fn seen_of(alloc: Global, field: &str) -> Result<Option<SeenLines>, Fail> {
     let Some(("observed", lists)) = field.split_once(' ') else {
         return Ok(None);
@@ -91,6 +106,8 @@ pub fn seen_of(alloc: Global, field: &str) -> Result<Option<SeenLines>, Fail> {
         observed: numbers_or_none(alloc, lists.next())?,
         overlapping: numbers_or_none(alloc, lists.next())?,
         outside: numbers_or_none(alloc, lists.next())?,
+        incomplete: numbers_or_none(alloc, lists.next())?,
+        unseen: folders_or_none(alloc, lists.next())?,
     }))
 }
 
@@ -101,6 +118,8 @@ pub fn source_of(seen: &Option<SeenLines>) -> Source<'_> {
             observed: seen.observed.as_slice(),
             overlapping: seen.overlapping.as_slice(),
             outside: seen.outside.as_slice(),
+            incomplete: seen.incomplete.as_slice(),
+            unseen: seen.unseen.as_slice(),
         }),
         None => Source::Played,
     }

@@ -20,6 +20,8 @@ given: {"script":1,"tree":[["/f","610a"]],"sessions":[[1,"/",0,[]],[2,"/",0,[]]]
 - document: /observed => [2,3,5,6]
 - document: /outside => []
 - document: /overlapping => []
+- document: /incomplete => []
+- document: /unseen => []
 - document: /unknown => [[2,"need"],[3,"need"],[4,"command"]]
 - document: /doubtful => ["/g"]
 - document: /tell => []
@@ -33,15 +35,20 @@ given: {"script":1,"tree":[["/f","610a"]],"sessions":[[1,"/",0,[]]],"lines":\
 - document: /unknown => []
 
 given: {"script":1,"tree":[["/f","610a"]],"sessions":[[1,"/",0,[]]],"lines":\
-  [[1,1,"echo b > f"],[2,1,"cat f"]]} :: 1 :: %(EMPTY) :: %(EMPTY) :: observed none / 1 2 / 2
+  [[1,1,"echo b > f"],[2,1,"cat f"]]} :: 1 :: %(EMPTY) :: %(EMPTY) ::
+  observed none / 1 2 / 2 / 1 3 / /srv /home/a%(NL)b
 - document: /observed => []
 - document: /overlapping => [1,2]
 - document: /outside => [2]
+- document: /incomplete => [1,3]
+- document: /unseen => ["/srv","/home/a\nb"]
 - show: summary =>
 | 2 lines of 1 session. 1 cancelled.
 | Recorded on the machine. Each line did what Retro's shell does.
 | Not told apart, since they overlap: lines 1 2
 | Changes outside of the recorded sessions: lines 2
+| Lines without a record: sessions 1 3
+| What lines only read wasn't always seen in /srv /home/a⟨U+000A⟩b
 |
 | No line has to be run for real.
 |
@@ -66,11 +73,12 @@ given: {"script":1,"tree":[["/f","610a"]],"sessions":[[1,"/",0,[]]],"lines":\
   [[1,1,"echo b > f"],[2,1,"cat f"]]} :: 1 :: %(EMPTY) :: %(EMPTY) :: observed 2
 - document: %(EMPTY)
   => {"causes":[{"alike":0,"changed":1,"line":1,"paths":["/f"]}],\
-  "counts":{"alike":0,"cancelled":1,"changed":1,"kept":0,"untouched":0},"doubtful":[],"leaked":[],\
+  "counts":{"alike":0,"cancelled":1,"changed":1,"kept":0,"untouched":0},"doubtful":[],\
+  "incomplete":[],"leaked":[],\
   "lines":[{"because_of":null,"fate":"cancelled","line":1,"note":null,"origin":null,"session":1,\
   "why":null},{"because_of":1,"fate":"changed","line":2,"note":1,"origin":1,"session":1,\
   "why":"query"}],"looked":[{"about":"path","lines":[2],"path":"/f","session":1,"user":null,\
   "variable":null}],"observed":[2],"outside":[],"overlapping":[],"recording":false,\
   "restore":[{"added":1,"change":"modified","extent":"lines","path":"/f","removed":1}],"show":1,\
-  "source":"machine","tell":[],"unknown":[[2,"need"]]}
+  "source":"machine","tell":[],"unknown":[[2,"need"]],"unseen":[]}
 "##;

@@ -1,5 +1,5 @@
 -- The lines of observations, one after the other.
-use Rattle.std.proofs.Common.{◌≡◌, ◌∙◌, ℕ, suc, ◌+◌, ◌<◌, ◌≤◌, List, [], ◌∷◌, ◌++◌, get_or, length, map, flat_map, take, drop, refl, sym, ap, subst}
+use Rattle.std.proofs.Common.{◌≡◌, ◌∙◌, ℕ, suc, ◌+◌, ◌-◌, ◌<◌, ◌≤◌, List, [], ◌∷◌, ◌++◌, get_or, length, map, flat_map, take, drop, refl, sym, ap, subst}
 use Rattle.std.proofs.Math.Numerals.{add-one}
 use Rattle.std.proofs.Math.Seq.{drop-cons}
 use Rattle.std.proofs.lemmas.Grind.{flat_map-append}
@@ -11,6 +11,7 @@ use Rattle.casebook_spool.specs.declared.item.Item.TheVariants as items
 use Rattle.casebook_spool.specs.declared.note.Note.{Note}
 use Rattle.casebook_typed.specs.Lines.{LineValue, active_in, lines_after, lines_at, lines_from, lines_in, records_of, sights_before}
 use Rattle.casebook_typed.specs.Looks.{SeenValue, seen_by}
+use Rattle.casebook_typed.specs.Missing.{begun_in, missing_in, recorded_in}
 use Rattle.casebook_typed.specs.Observations.{Observed, notes_in, observations}
 use Rattle.casebook_typed.specs.Sessions.{SessionValue, session_in, session_names, sessions_of, step_in, steps_of}
 use Rattle.casebook_typed.specs.Spans.{active_at, spans_of}
@@ -111,6 +112,18 @@ sessions_are said_items os os1 os7 ns sessions all one seven names is =
     is
     ∙ (λ i. map (session_in (named i) (map said (seven i))) (named i))
     ∙ ap sessions_of (same_records os ∙ ap records_of all)
+
+pub missing_are : (os os1 os2 os9 : List Observation) (ns : List (List ℕ)) (steps s4 s7 : List Step) (spans s8 : List Span)
+    (number : ℕ → ℕ)
+    → os1 ≡ os → os2 ≡ os → os9 ≡ os → ns ≡ session_names (map said os1) → steps ≡ map (step_in ns) (map said os2)
+    → s4 ≡ steps → s7 ≡ steps → spans ≡ spans_of s4 → s8 ≡ spans
+    → ((s : ℕ) → number s ≡ begun_in s s7 - recorded_in s s8)
+    → (s : ℕ) → number s ≡ missing_in (steps_of (map said os9)) s
+missing_are os os1 os2 os9 ns steps s4 s7 spans s8 number one two nine names is four seven spanned eight counted s =
+    let named : ns ≡ session_names (map said os9) = names ∙ ap (λ xs. session_names (map said xs)) (one ∙ sym nine) in
+    let whole : steps ≡ steps_of (map said os9) = is ∙ (λ i. map (step_in (named i)) (map said ((two ∙ sym nine) i))) in
+    let lines : s8 ≡ spans_of (steps_of (map said os9)) = eight ∙ spanned ∙ ap spans_of (four ∙ whole) in
+    counted s ∙ (λ i. begun_in s ((seven ∙ whole) i) - recorded_in s (lines i))
 
 pub active_are : (os os8 : List Observation) (steps s4 s5 : List Step) (spans s6 : List Span) (lists s9 : List (Vec Span))
     → steps ≡ steps_of (records_of (map observed os)) → os8 ≡ os → s4 ≡ steps → s5 ≡ steps → spans ≡ spans_of s4 → s6 ≡ spans

@@ -25,7 +25,7 @@ marked marks earlier session (whats.Begin n) are =
     ∙ (λ i. sym (any_found (is_begin_of session n) 0 earlier) i || sym (any_found (is_end_of session n) 0 earlier) i)
 marked marks earlier session (whats.End n) are =
     ap is_some (are.ends session n) ∙ sym (any_found (is_end_of session n) 0 earlier)
-marked marks earlier session whats.Exit are = refl
+marked marks earlier session (whats.Exit m) are = refl
 
 none_there : (o : Option ℕ) → is_some o ≡ false → o ≡ None
 none_there None e = refl
@@ -51,7 +51,7 @@ new_begin earlier session (whats.Begin m) s n fine same is =
     (λ i. begin_of earlier (same i) (eqb-true n m is i))
     ∙ none_there _ (sym (any_found (is_begin_of session m) 0 earlier) ∙ first_no _ _ fine)
 new_begin earlier session (whats.End m) s n fine same is = absurd (false≢true is)
-new_begin earlier session whats.Exit s n fine same is = absurd (false≢true is)
+new_begin earlier session (whats.Exit m) s n fine same is = absurd (false≢true is)
 
 new_end : (earlier : List Step) (session : ℕ) (what : What) (s n : ℕ) → contradicts_by earlier session what ≡ false
     → s ≡ session → ends what n ≡ true → end_of earlier s n ≡ None
@@ -60,7 +60,7 @@ new_end earlier session (whats.Begin m) s n fine same is = absurd (false≢true 
 new_end earlier session (whats.End m) s n fine same is =
     (λ i. end_of earlier (same i) (eqb-true n m is i))
     ∙ none_there _ (sym (any_found (is_end_of session m) 0 earlier) ∙ fine)
-new_end earlier session whats.Exit s n fine same is = absurd (false≢true is)
+new_end earlier session (whats.Exit m) s n fine same is = absurd (false≢true is)
 
 or_new : (o : Option ℕ) (b : Bool) (at : ℕ) → (b ≡ true → o ≡ None) → cond b (Some at) o ≡ option_or o (cond b (Some at) None)
 or_new None true at h = refl

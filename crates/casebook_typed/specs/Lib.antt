@@ -2,6 +2,7 @@ pub mod Observations
 pub mod Seeing
 pub mod Sessions
 pub mod Spans
+pub mod Missing
 pub mod Looks
 pub mod Lines
 pub mod Values

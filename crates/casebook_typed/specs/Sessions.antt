@@ -7,6 +7,7 @@ use Rattle.casebook_record.specs.declared.event.Event.TheVariants as events
 use Rattle.casebook_record.specs.declared.record.Record.{Record}
 use Rattle.casebook_record.specs.declared.start.Start.{Start}
 use Rattle.retro_path.specs.Order.{text_eq}
+use Rattle.casebook_typed.specs.Missing.{missing_in}
 use Rattle.casebook_typed.specs.declared.step.Step.{Step}
 use Rattle.casebook_typed.specs.declared.step.What.{What}
 use Rattle.casebook_typed.specs.declared.step.What.TheVariants as whats
@@ -38,7 +39,7 @@ abbrev pub what_in : List (List ℕ) → Event → What
 what_in names (events.Start start) = whats.Start (parent_in names start.parent)
 what_in names (events.Begin begin) = whats.Begin begin.number
 what_in names (events.End end) = whats.End end.number
-what_in names (events.Exit exit) = whats.Exit
+what_in names (events.Exit exit) = whats.Exit exit.lines
 
 abbrev pub step_in : List (List ℕ) → Record → Step
 step_in names r = record { session = place_in names r.session; what = what_in names r.event }
@@ -73,13 +74,14 @@ abbrev pub parent_by : List (List ℕ) → Option Start → ℕ
 parent_by names None = 0
 parent_by names (Some start) = parent_in names start.parent
 
--- a session: its name, its first record, how it started, and the place of the session that started
--- it
+-- a session: its name, its first record, how it started, the place of the session that started it,
+-- and how many of its lines have no record
 pub record SessionValue : Type 0 where
   pub name : List ℕ
   pub first : Option Record
   pub start : Option Start
   pub parent : ℕ
+  pub missing : ℕ
 
 abbrev pub session_in : List (List ℕ) → List Record → List ℕ → SessionValue
 session_in names records name = record {
@@ -87,6 +89,7 @@ session_in names records name = record {
   first = first_record name records;
   start = first_start name records;
   parent = parent_by names (first_start name records);
+  missing = missing_in (steps_of records) (place_in names name);
 }
 
 -- the sessions, in the order in which they first appear in records

@@ -38,4 +38,5 @@ session_value s = record {
   first = option_map (λ r. r.now) s.first;
   start = option_map (λ start. start.now) s.start;
   parent = s.parent;
+  missing = s.missing;
 }

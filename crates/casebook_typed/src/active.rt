@@ -15,7 +15,7 @@ fn is_start_from(step: &Step, session: usize) -> bool
 {
     match step.what {
         What::Start(parent) => parent == session,
-        What::Begin(_) | What::End(_) | What::Exit => false,
+        What::Begin(_) | What::End(_) | What::Exit(_) => false,
     }
 }
 

@@ -21,7 +21,9 @@
 //!   The line then names them.
 //!
 //! Sessions are in the order in which they first appear in records, and are named by their places,
-//! counted from 1 (`specs/Sessions.antt`).
+//! counted from 1 (`specs/Sessions.antt`). Their lines are numbered from 1 on. A number below the
+//! greatest one that is of no line is that of a line of which no record was taken; what that line
+//! did is then another line's, or nobody's (`specs/Missing.antt`).
 //!
 //! If allocation fails, calls return `NoMem` or `TypedError::NoMem`.
 //!
@@ -47,6 +49,7 @@ mod key;
 mod laws;
 mod line;
 mod marks;
+mod missing;
 mod moment;
 mod names;
 mod observation;

@@ -68,7 +68,7 @@ impl Marks {
                     || self.ends.get(session, number).is_some()
             }
             What::End(number) => self.ends.get(session, number).is_some(),
-            What::Start(_) | What::Exit => false,
+            What::Start(_) | What::Exit(_) => false,
         }
     }
 
@@ -82,7 +82,7 @@ impl Marks {
         match step.what {
             What::Begin(number) => self.begins.insert(step.session, number, at),
             What::End(number) => self.ends.insert(step.session, number, at),
-            What::Start(_) | What::Exit => Ok(()),
+            What::Start(_) | What::Exit(_) => Ok(()),
         }
     }
 

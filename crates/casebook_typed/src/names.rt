@@ -121,7 +121,7 @@ impl<'a> Names<'a> {
             Event::Start(start) => Ok(What::Start(self.parent(alloc, Some(start))?)),
             Event::Begin(begin) => Ok(What::Begin(begin.number.get())),
             Event::End(end) => Ok(What::End(end.number.get())),
-            Event::Exit(_) => Ok(What::Exit),
+            Event::Exit(exit) => Ok(What::Exit(exit.lines)),
         }
     }
 

@@ -67,7 +67,7 @@ fn shown(marks: &Marks, steps: &[Step], at: usize, step: Step) -> Option<Span>
         What::End(number) if marks.begins.get(session, number).is_none() => {
             Some(lone(session, number, at))
         }
-        What::Start(_) | What::End(_) | What::Exit => None,
+        What::Start(_) | What::End(_) | What::Exit(_) => None,
     }
 }
 

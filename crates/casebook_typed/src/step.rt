@@ -9,8 +9,8 @@ pub enum What {
     Begin(u32),
     /// The line with this number ended.
     End(u32),
-    /// It ended.
-    Exit,
+    /// It ended. So many lines had begun.
+    Exit(u32),
 }
 
 /// What happened at a record.

@@ -5,19 +5,21 @@ ghost use Rattle.std.specs.FinMap as finmap;
 ghost use Rattle.casebook_spool.specs.After.{after_notes};
 ghost use Rattle.casebook_typed.specs.Lines.{active_in, lines_after, records_of};
 ghost use Rattle.casebook_typed.specs.Observations.{observations};
+ghost use Rattle.casebook_typed.specs.Missing.{missing_in};
 ghost use Rattle.casebook_typed.specs.Seeing.{observed, said};
 ghost use Rattle.casebook_typed.specs.Sessions.{first_record, first_start, session_in};
 ghost use Rattle.casebook_typed.specs.Sessions.{sessions_of, start_if, steps_of};
 ghost use Rattle.casebook_typed.specs.Spans.{contradiction};
 ghost use Rattle.casebook_typed.specs.Values.{line_value, session_value};
 ghost use Rattle.casebook_typed.specs.inner.Lists.{list_at};
-ghost use Rattle.casebook_typed.specs.inner.Places.{AreNames, names_in};
+ghost use Rattle.casebook_typed.specs.inner.Places.{AreNames, names_in, number_at};
 ghost use Rattle.casebook_typed.specs.declared.typed_error.TypedError.TheVariants as errors;
 
 use crate::NoMem;
 use crate::active::active;
 use crate::line::TypedLine;
 use crate::marks::Marks;
+use crate::missing::{LineCounts, missing};
 use crate::moment::Moment;
 use crate::names::Names;
 use crate::observation::{Observation, observations};
@@ -40,6 +42,8 @@ pub struct Session<'a> {
     pub start: Option<&'a Start>,
     /// The place of the session that started it, counted from 1, or 0.
     pub parent: usize,
+    /// How many of its lines have no record, since none was taken when they began or ended.
+    pub missing: usize,
 }
 
 /// The sessions and the lines of a spool.
@@ -99,20 +103,25 @@ fn session_of<'a>(
     alloc: Global,
     names: &Names<'a>,
     observations: &[Observation<'a>],
+    missing: &LineCounts,
     name: &'a SessionName,
 ) -> Result<Session<'a>, NoMem>
-    requires { AreNames names.now }
+    requires names { AreNames names.now }
+    requires missing { (s : ℕ) → number_at missing.now s
+        ≡ missing_in (steps_of (map said observations.now)) s }
     ensures { IfOk result (λ session. session_value session
         ≡ session_in (names_in names.now) (map said observations.now) name.now) }
 {
     let first = first_record(observations, name);
     let start = first_start(observations, name);
     let parent = names.parent(alloc, start)?;
+    let place = names.places.of(alloc, name)?;
     Ok(Session {
         name,
         first,
         start,
         parent,
+        missing: missing.at(place),
     })
 }
 
@@ -121,14 +130,17 @@ fn sessions<'a>(
     alloc: Global,
     names: &Names<'a>,
     observations: &[Observation<'a>],
+    missing: &LineCounts,
 ) -> Result<Vec<Session<'a>>, NoMem>
-    requires { AreNames names.now }
+    requires names { AreNames names.now }
+    requires missing { (s : ℕ) → number_at missing.now s
+        ≡ missing_in (steps_of (map said observations.now)) s }
     ensures { IfOk result (λ sessions. map session_value sessions.items
         ≡ map (session_in (names_in names.now) (map said observations.now)) (names_in names.now)) }
 {
     let mut sessions = Vec::new(alloc);
     for name in &names.all {
-        sessions.push(session_of(alloc, names, observations, *name)?)?;
+        sessions.push(session_of(alloc, names, observations, missing, *name)?)?;
     }
     Ok(sessions)
 }
@@ -188,7 +200,8 @@ pub fn typed_lines<'a>(
     let marks = Marks::of(alloc, steps.as_slice())?;
     let spans = spans(alloc, &marks, steps.as_slice())?;
     let active = active(alloc, steps.as_slice(), spans.as_slice())?;
-    let sessions = sessions(alloc, &names, observations.as_slice())?;
+    let missing = missing(alloc, steps.as_slice(), spans.as_slice())?;
+    let sessions = sessions(alloc, &names, observations.as_slice(), &missing)?;
     let sights = after_notes(Sights::new(alloc), first.notes())?;
     let lines = lines_after(alloc, sights, observations.as_slice(), active.as_slice())?;
     Ok(Typed { sessions, lines })

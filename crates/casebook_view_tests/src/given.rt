@@ -74,5 +74,7 @@ pub fn seen_source(observed: &[u32]) -> Source<'_> {
         observed,
         overlapping: &[],
         outside: &[],
+        incomplete: &[],
+        unseen: &[],
     })
 }

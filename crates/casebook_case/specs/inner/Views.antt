@@ -7,4 +7,5 @@ parts_view parts = record {
   contents = parts.contents.items;
   first = parts.first.now;
   lines = parts.lines.now;
+  unseen = parts.unseen.now;
 }

@@ -14,7 +14,7 @@ use Rattle.casebook_json.specs.Causes.{effect_data}
 use Rattle.casebook_json.specs.Counts.{counts_data}
 use Rattle.casebook_json.specs.Leaked.{leak_data}
 use Rattle.casebook_json.specs.Restore.{restoration_data}
-use Rattle.casebook_json.specs.Source.{observed_in, outside_in, overlapping_in, source_name}
+use Rattle.casebook_json.specs.Source.{incomplete_in, observed_in, outside_in, overlapping_in, source_name, unseen_in}
 use Rattle.casebook_json.specs.Tell.{group_data}
 use Rattle.casebook_json.specs.Unknown.{unknown_data}
 use Rattle.casebook_json.specs.Values.{path_data}
@@ -26,6 +26,7 @@ document lines is_recording parts = object
     (member (codes "causes") (array_of (map view parts.causes.items))
     (member (codes "counts") (view parts.counts)
     (member (codes "doubtful") (array_of (map view parts.doubtful.items))
+    (member (codes "incomplete") (array_of (map view parts.incomplete.items))
     (member (codes "leaked") (array_of (map view parts.leaked.items))
     (member (codes "lines") lines
     (member (codes "looked") (array_of (map view parts.looked.items))
@@ -37,7 +38,8 @@ document lines is_recording parts = object
     (member (codes "show") (number_data 1)
     (member (codes "source") (string parts.source.now)
     (member (codes "tell") (array_of (map view parts.tell.items))
-    (member (codes "unknown") (array_of (map view parts.unknown.items)) no_members)))))))))))))))
+    (member (codes "unknown") (array_of (map view parts.unknown.items))
+    (member (codes "unseen") (array_of (map view parts.unseen.items)) no_members)))))))))))))))))
 
 -- These are the parts of the document of a repair.
 pub record AreParts (summary : Summary) (restorations : List Restoration) (groups looks : List Group)
@@ -45,6 +47,7 @@ pub record AreParts (summary : Summary) (restorations : List Restoration) (group
   pub causes : map view parts.causes.items ≡ map (λ effect. effect_data (effect_value effect)) summary.effects.items
   pub counts : view parts.counts ≡ counts_data summary.fates.items
   pub doubtful : map view parts.doubtful.items ≡ map path_data summary.doubtful.items
+  pub incomplete : map view parts.incomplete.items ≡ map number_data (incomplete_in source)
   pub leaked : map view parts.leaked.items ≡ map (leak_data labels) summary.leaks.items
   pub looked : map view parts.looked.items ≡ map (λ group. group_data labels (group_value group)) looks
   pub observed : map view parts.observed.items ≡ map number_data (observed_in source)
@@ -54,3 +57,4 @@ pub record AreParts (summary : Summary) (restorations : List Restoration) (group
   pub named : parts.source.now ≡ source_name source
   pub tell : map view parts.tell.items ≡ map (λ group. group_data labels (group_value group)) groups
   pub unknown : map view parts.unknown.items ≡ map unknown_data summary.unknown.items
+  pub unseen : map view parts.unseen.items ≡ map string (unseen_in source)

@@ -10,6 +10,7 @@ use Rattle.casebook_typed.specs.declared.step.What.{What}
 use Rattle.casebook_typed.specs.declared.step.What.TheVariants as whats
 use Rattle.casebook_typed.specs.declared.marks.LinePlaces.{LinePlaces}
 use Rattle.casebook_typed.specs.declared.marks.Marks.{Marks}
+use Rattle.casebook_typed.specs.declared.missing.LineCounts.{LineCounts}
 use Rattle.casebook_typed.specs.Sessions.{place_in}
 use Rattle.casebook_typed.specs.declared.names.Names.{Names}
 use Rattle.casebook_typed.specs.declared.names.Places.{Places}
@@ -17,6 +18,10 @@ use Rattle.casebook_typed.specs.declared.names.Places.{Places}
 -- the place of the session with a name, or 0
 abbrev pub place_named : Places → List ℕ → ℕ
 place_named places name = unwrap_or (get_by (text_cmp name) places.places) 0
+
+-- the number of a session's lines
+abbrev pub number_at : LineCounts → ℕ → ℕ
+number_at counts session = unwrap_or (get_by (nat_cmp session) counts.by_place) 0
 
 -- the observation that is kept of a line
 abbrev pub place_of : LinePlaces → ℕ → ℕ → Option ℕ

@@ -23,12 +23,22 @@ coded_repair = (repair_type.the_row).coded
 abbrev pub coded_numbers : Coded (List ℕ)
 coded_numbers = coded_list coded_ℕ
 
+abbrev pub coded_texts : Coded (List (List ℕ))
+coded_texts = coded_list coded_numbers
+
 -- what a recorder says is stored as pairs of lists
 abbrev pub coded_seen : Coded SeenValue
 coded_seen =
-    code_by (List ℕ × (List ℕ × List ℕ)) (coded× coded_numbers (coded× coded_numbers coded_numbers))
-    (λ s. (s.observed, (s.overlapping, s.outside)))
-    (λ p. record { observed = p.0; overlapping = p.1.0; outside = p.1.1 }) (λ _. refl)
+    code_by (List ℕ × (List ℕ × (List ℕ × (List ℕ × List (List ℕ)))))
+    (coded× coded_numbers (coded× coded_numbers (coded× coded_numbers (coded× coded_numbers coded_texts))))
+    (λ s. (s.observed, (s.overlapping, (s.outside, (s.incomplete, s.unseen)))))
+    (λ p. record {
+      observed = p.0;
+      overlapping = p.1.0;
+      outside = p.1.1.0;
+      incomplete = p.1.1.1.0;
+      unseen = p.1.1.1.1;
+    }) (λ _. refl)
 
 -- a source is stored as what a recorder says, if one saw the lines
 abbrev pub seen_in : SourceValue → Option SeenValue

@@ -3,6 +3,7 @@ use Rattle.std.proofs.lemmas.Result.{err_from_is_err_and}
 use Rattle.casebook_typed.specs.Values.{line_value, session_value}
 use Rattle.casebook_recording.specs.declared.recording_fault.RecordingFault.TheVariants as faults
 use Rattle.casebook_account.specs.Accounts.{users_from}
+use Rattle.casebook_account.specs.Lacks.{incomplete_from, unseen_in}
 use Rattle.casebook_account.specs.Machine.{IsTooMany, machine_from}
 use Rattle.casebook_account.proofs.Telling.{not_numbered, not_recorded}
 use Rattle.casebook_account.proofs.reading.case_account.Goals as goal
@@ -38,5 +39,9 @@ returns-clause-ok c =
         users = c.in_ok-users.ensures.ok
             ∙ ap (λ ss. users_from 1 (map session_value ss)) c.as_slice.ensures.value
             ∙ ap (users_from 1) c.in_ok-typed.ensures.sessions;
+        incomplete = c.in_ok-incomplete.ensures.ok
+            ∙ ap (λ ss. incomplete_from 1 (map session_value ss)) c.as_slice-2.ensures.value
+            ∙ ap (incomplete_from 1) c.in_ok-typed.ensures.sessions;
+        unseen = c.in_ok-unseen.ensures ∙ ap unseen_in c.as_slice-3.ensures;
       };
     }

@@ -1,8 +1,7 @@
-use Rattle.casebook_case.proofs.Same.{case_as}
+use Rattle.casebook_case.specs.Cases.{case_of}
 use Rattle.casebook_case.proofs.checking.case_of.Goals as goal
 
 pub returns : goal.returns
+unfolding case_of
 returns c =
-    case_as c.case_with.result c.args.contents.items c.args.first.now c.args.lines.now
-    c.in_ok-first.first c.in_ok-lines.lines c.in_ok-held.held c.in_ok-first.ensures
-    c.in_ok-lines.ensures c.in_ok-held.ensures c.case_with.ensures
+    rw (c.in_ok-first.ensures, c.in_ok-lines.ensures, ← c.in_ok-held.ensures) c.case_with.ensures

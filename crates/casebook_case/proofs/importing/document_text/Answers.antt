@@ -20,11 +20,14 @@ returns-clause-written c =
     let contents = c.args.contents.now in
     let first = c.args.first.now in
     let lines = c.args.lines.now in
-    let written : view c.in_ok-value.value ≡ case_data contents first lines =
-    c.in_ok-value.ensures.value ∙ ap (λ x. case_data contents x c.in_ok-lines.lines.now) c.in_ok-first.ensures
-    ∙ ap (case_data contents first) c.in_ok-lines.ensures in
+    let unseen = c.args.unseen.now in
+    let written : view c.in_ok-value.value ≡ case_data contents first lines unseen =
+    c.in_ok-value.ensures.value
+    ∙ ap (λ x. case_data contents x c.in_ok-lines.lines.now c.in_ok-unseen.unseen.now) c.in_ok-first.ensures
+    ∙ ap (λ x. case_data contents first x c.in_ok-unseen.unseen.now) c.in_ok-lines.ensures
+    ∙ ap (case_data contents first lines) c.in_ok-unseen.ensures in
     let none : has_float (view c.in_ok-value.value) ≡ false =
-    ap has_float written ∙ case_float contents first lines in
+    ap has_float written ∙ case_float contents first lines unseen in
     c.in_ok-push.ensures.items
     ∙ ap (λ text. text ++ codes "\n") (c.in_ok-text.ensures.text none ∙ ap compact_text written)
 
@@ -35,13 +38,16 @@ returns-clause-again c =
     let lines = c.args.lines.now in
     let texts = c.in_ok-text.ensures in
     let text = c.in_ok-text.text.items in
-    let written : view c.in_ok-value.value ≡ case_data contents first lines =
-    c.in_ok-value.ensures.value ∙ ap (λ x. case_data contents x c.in_ok-lines.lines.now) c.in_ok-first.ensures
-    ∙ ap (case_data contents first) c.in_ok-lines.ensures in
+    let unseen = c.args.unseen.now in
+    let written : view c.in_ok-value.value ≡ case_data contents first lines unseen =
+    c.in_ok-value.ensures.value
+    ∙ ap (λ x. case_data contents x c.in_ok-lines.lines.now c.in_ok-unseen.unseen.now) c.in_ok-first.ensures
+    ∙ ap (λ x. case_data contents first x c.in_ok-unseen.unseen.now) c.in_ok-lines.ensures
+    ∙ ap (case_data contents first lines) c.in_ok-unseen.ensures in
     let low : depth (view c.in_ok-value.value) ≤ max_depth =
-    subst (λ d. depth d ≤ max_depth) (sym written) (case_low contents first lines) in
-    let reads : read (text ++ 10 ∷ []) ≡ Some (case_data contents first lines) =
+    subst (λ d. depth d ≤ max_depth) (sym written) (case_low contents first lines unseen) in
+    let reads : read (text ++ 10 ∷ []) ≡ Some (case_data contents first lines unseen) =
     newline_reads text _ texts.compact texts.order.1 ∙ texts.reads_back low ∙ ap Some written in
     let utf8 : IsUtf8 (text ++ 10 ∷ []) = IsUtf8-append text (10 ∷ []) texts.utf8 newline_utf8 in
     ap case_in c.in_ok-push.ensures.items
-    ∙ text_again (text ++ 10 ∷ []) contents first lines utf8 reads c.in_ok-value.ensures.typed
+    ∙ text_again (text ++ 10 ∷ []) contents first lines unseen utf8 reads c.in_ok-value.ensures.typed

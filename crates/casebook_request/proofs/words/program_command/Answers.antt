@@ -2,7 +2,7 @@ use Rattle.std.proofs.Common.{ap, ap₂, codes, ◌≡◌, ◌∙◌}
 use Rattle.std.proofs.lemmas.Result.{IfOk-weaker}
 use Rattle.clap.specs.Words.{App, Shape, app_of, with_subcommand}
 use Rattle.retro_edge.specs.Rules.{with_command}
-use Rattle.casebook_recorder_cli.specs.Words.{import_rules, observe_rules}
+use Rattle.casebook_recorder_cli.specs.Words.{import_rules, observe_rules, status_rules}
 use Rattle.casebook_request.specs.Words.{without_recorder}
 use Rattle.casebook_request.proofs.words.program_command.Goals as goal
 
@@ -18,7 +18,13 @@ returns c =
     ≡ with_command (with_command without_recorder (codes "observe") observe_rules) (codes "import") import_rules =
     c.in_ok-subcommand-2.ensures.shape c.in_ok-import_command.ensures.local
     ∙ ap₂ with_subcommand one (ap top c.in_ok-import_command.ensures.shape) in
-    IfOk-weaker c.subcommand-3.result _ _
+    let three : app_of c.in_ok-subcommand-3.field-0
+    ≡ with_command
+    (with_command (with_command without_recorder (codes "observe") observe_rules) (codes "import") import_rules)
+    (codes "status") status_rules =
+    c.in_ok-subcommand-3.ensures.shape c.in_ok-status_command.ensures.local
+    ∙ ap₂ with_subcommand two (ap top c.in_ok-status_command.ensures.shape) in
+    IfOk-weaker c.subcommand-4.result _ _
     (λ m h. h.shape c.in_ok-log_command.ensures.local
-    ∙ ap₂ with_subcommand two (ap top c.in_ok-log_command.ensures.shape))
-    c.subcommand-3.ensures
+    ∙ ap₂ with_subcommand three (ap top c.in_ok-log_command.ensures.shape))
+    c.subcommand-4.ensures

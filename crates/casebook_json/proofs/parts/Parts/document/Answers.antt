@@ -1,5 +1,5 @@
-use Rattle.std.proofs.Common.{refl}
 use Rattle.serde_json.proofs.Views.{view-Array, view-Object}
+use Rattle.casebook_json.proofs.SameDocument.{same_document}
 use Rattle.casebook_json.proofs.Shown.{view_flag}
 use Rattle.casebook_json.proofs.parts.Parts.document.Goals as goal
 
@@ -7,7 +7,9 @@ use Rattle.casebook_json.proofs.parts.Parts.document.Goals as goal
 pub returns : goal.returns
 returns c =
     rw (
-      view-Object c.put-15.new.map,
+      view-Object c.put-17.new.map,
+      c.in_ok-put-17.ensures.ok,
+      c.in_ok-put-16.ensures.ok,
       c.in_ok-put-15.ensures.ok,
       c.in_ok-put-14.ensures.ok,
       c.in_ok-put-13.ensures.ok,
@@ -25,20 +27,18 @@ returns c =
       c.in_ok-put.ensures.ok,
       c.new-map.ensures.empty,
     )
-    (rw (
-      view-Array c.args.self.causes,
-      view-Array c.args.self.doubtful,
-      view-Array c.args.self.leaked,
-    )
-    (rw (
-      view-Array c.args.self.looked,
-      view-Array c.args.self.observed,
-      view-Array c.args.self.outside,
-    )
-    (rw (
-      view-Array c.args.self.overlapping,
-      view-Array c.args.self.restore,
-      view-Array c.args.self.tell,
-    )
-    (rw (view-Array c.args.self.unknown, view-Array c.args.lines)
-    (rw (view_flag c.args.is_recording, c.from.ensures, c.in_ok-try_from_str.ensures) refl)))))
+    (rw (view_flag c.args.is_recording, c.from.ensures, c.in_ok-try_from_str.ensures)
+    (same_document _ _ _ _ _ _ _ _ _ _ _ _ _ _ _ _ _ _ _ _ _ _ _ _ _ _ _ _ _ _
+    (view-Array c.args.self.causes)
+    (view-Array c.args.self.doubtful)
+    (view-Array c.args.self.incomplete)
+    (view-Array c.args.self.leaked)
+    (view-Array c.args.lines)
+    (view-Array c.args.self.looked)
+    (view-Array c.args.self.observed)
+    (view-Array c.args.self.outside)
+    (view-Array c.args.self.overlapping)
+    (view-Array c.args.self.restore)
+    (view-Array c.args.self.tell)
+    (view-Array c.args.self.unknown)
+    (view-Array c.args.self.unseen)))

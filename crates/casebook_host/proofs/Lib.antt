@@ -1,0 +1,3 @@
+mod Unescaping
+mod Points
+mod RowsSoFar
