@@ -17,11 +17,13 @@ use Rattle.casebook_recording.specs.Faults.{of_tell}
 use Rattle.casebook_recording.specs.Told.{IsToldOf}
 use Rattle.casebook_recording.specs.declared.recording_fault.RecordingFault.{RecordingFault}
 use Rattle.casebook_recording.specs.declared.recording_fault.RecordingFault.TheVariants as faults
+use Rattle.casebook_account.specs.Attributes.{lines_seen}
 use Rattle.casebook_account.specs.Accounts.{IsAccountOf, IsNoCase, IsNoOther, IsShownAccount}
 use Rattle.casebook_account.specs.Faults.{of_recording}
 use Rattle.casebook_account.specs.Machine.{IsTooMany, machine_from}
 use Rattle.casebook_account.specs.Shown.{shown}
 use Rattle.casebook_account.specs.declared.account.Account.{Account}
+use Rattle.casebook_account.specs.declared.machine_line.MachineLine.{MachineLine}
 
 pub nothing_left : (number first : ℕ) (told : List ToldLine) (lines : List TypedLine)
     → ((length told ≡ 0) ⊎ (length lines ≡ 0)) → machine_from number first told (map line_value lines) ≡ []
@@ -29,6 +31,13 @@ nothing_left number first [] lines none = refl
 nothing_left number first (t ∷ told) [] none = refl
 nothing_left number first (t ∷ told) (line ∷ lines) (inl none) = cc
 nothing_left number first (t ∷ told) (line ∷ lines) (inr none) = cc
+
+pub nothing_seen : (lines : List MachineLine) (typed : List TypedLine)
+    → ((length lines ≡ 0) ⊎ (length typed ≡ 0)) → lines_seen lines (map line_value typed) ≡ []
+nothing_seen [] typed none = refl
+nothing_seen (l ∷ lines) [] none = refl
+nothing_seen (l ∷ lines) (line ∷ typed) (inl none) = cc
+nothing_seen (l ∷ lines) (line ∷ typed) (inr none) = cc
 
 -- told lines that are too many for a machine
 pub not_numbered : (case : Case) (told : ToldValue) → IsToldOf case told → (fault : RecordingFault)

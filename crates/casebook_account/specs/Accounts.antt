@@ -16,6 +16,7 @@ use Rattle.casebook_explain.specs.declared.noting.Noting.TheVariants.{WithNeeds}
 use Rattle.casebook_recording.specs.Told.{HasManySessions, IsToldOf, IsUntold, lines_in, sessions_in}
 use Rattle.casebook_recording.specs.declared.recording_fault.RecordingFault.{RecordingFault}
 use Rattle.casebook_recording.specs.declared.recording_fault.RecordingFault.TheVariants as recordings
+use Rattle.casebook_account.specs.Attributes.{attributes_seen}
 use Rattle.casebook_account.specs.Lacks.{incomplete_from, unseen_in}
 use Rattle.casebook_account.specs.Machine.{IsTooMany, machine_from, printed}
 use Rattle.casebook_account.specs.Shown.{HasNoShown, shown}
@@ -48,13 +49,15 @@ abbrev pub recording_told : ToldValue → RecordingValue
 recording_told told =
     record { first = told.first; from = 1; lines = recorded_lines WithNeeds told.lines }
 
--- A machine has the lines of a case that were told, the users of its sessions, and what the recorder
--- doesn't know.
+-- A machine has the lines of a case that were told, the users of its sessions, what the recorder
+-- doesn't know, and the modes and owners that paths were seen to have.
 pub record IsMachineOf (case : Case) (told : ToldValue) (machine : Machine) : Type 0 where
   pub lines : machine.lines.items ≡ machine_from 1 1 told.lines (lines_in case)
   pub users : map user_view machine.users.items ≡ users_from 1 (sessions_in case)
   pub incomplete : machine.incomplete.items ≡ incomplete_from 1 (sessions_in case)
   pub unseen : machine.unseen.items ≡ unseen_in case.unseen
+  pub attributes : machine.attributes.items
+      ≡ attributes_seen case.first.said machine.lines.items (lines_in case)
 
 abbrev pub HasMachine : Case → ToldValue → Option Machine → Type 0
 HasMachine case told None = ⊥

@@ -1,5 +1,6 @@
 pub mod Machine
 pub mod Lacks
+pub mod Attributes
 pub mod Faults
 pub mod Accounts
 pub mod Edits

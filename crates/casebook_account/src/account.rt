@@ -1,5 +1,6 @@
 //! Accounts of what happened.
 use crate::NoMem;
+use crate::attributes::SeenAttributes;
 use crate::machine_line::MachineLine;
 use casebook_about::SessionUser;
 use retro_keep::Recording;
@@ -17,6 +18,8 @@ pub struct Machine {
     pub incomplete: Vec<u32>,
     /// The watched folders in which it wasn't always seen what lines only read.
     pub unseen: Vec<Text>,
+    /// The modes and owners that paths were seen to have, in order.
+    pub attributes: Vec<SeenAttributes>,
 }
 
 /// What a document says that is read as a log: a recording, and if the document is a case, what its

@@ -35,6 +35,7 @@
 
 mod account;
 mod account_fault;
+mod attributes;
 mod lacks;
 mod laws;
 mod machine_line;
@@ -46,6 +47,7 @@ mod text_edits;
 
 pub use account::{Account, Machine};
 pub use account_fault::AccountFault;
+pub use attributes::SeenAttributes;
 pub use laws::what_no_line_touches_changes_nothing;
 pub use machine_line::MachineLine;
 pub use reading::{read_account, read_shown};

@@ -92,10 +92,10 @@ fn number_after(first: u32, count: usize) -> Option<u32>
 pub(crate) fn machine_lines(
     alloc: Global,
     told: &[ToldLine],
-    lines: Vec<TypedLine<'_>>,
+    lines: &[TypedLine<'_>],
 ) -> Result<Vec<MachineLine>, RecordingFault>
     ensures ok { IfOk result (λ found.
-        found.items ≡ machine_from 1 1 told.now (map line_value lines.entry.items)) }
+        found.items ≡ machine_from 1 1 told.now (map line_value lines.now)) }
     ensures err { IfErr result (λ fault.
         fault ≡ faults.NoMem ⊎ fault ≡ faults.TooManyLines × IsTooMany told.now) }
 {

@@ -11,6 +11,7 @@ ghost use Rattle.casebook_recording.specs.declared.recording_fault.RecordingFaul
 use crate::NoMem;
 use crate::account::{Account, Machine};
 use crate::account_fault::AccountFault;
+use crate::attributes::attributes_seen;
 use crate::lacks::{incomplete_of, unseen_in};
 use crate::machine_line::{machine_lines, printed};
 use casebook_about::SessionUser;
@@ -68,7 +69,9 @@ fn case_account(alloc: Global, case: &Case) -> Result<Account, RecordingFault>
     let users = users_of(alloc, typed.sessions.as_slice())?;
     let incomplete = incomplete_of(alloc, typed.sessions.as_slice())?;
     let unseen = unseen_in(alloc, case.unseen.as_slice())?;
-    let lines = machine_lines(alloc, told.lines(), typed.lines)?;
+    let typed = typed.lines.as_slice();
+    let lines = machine_lines(alloc, told.lines(), typed)?;
+    let attributes = attributes_seen(alloc, &case.first, lines.as_slice(), typed)?;
     let recording = told.into_recording(alloc, Noting::WithNeeds)?;
     Ok(Account {
         recording,
@@ -77,6 +80,7 @@ fn case_account(alloc: Global, case: &Case) -> Result<Account, RecordingFault>
             users,
             incomplete,
             unseen,
+            attributes,
         }),
     })
 }

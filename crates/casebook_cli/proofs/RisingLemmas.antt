@@ -25,7 +25,7 @@ use Rattle.casebook_view.specs.Fates.{AreFates}
 use Rattle.casebook_view.specs.Reasons.{AreReasons, number_in as number_of}
 use Rattle.casebook_view.specs.Sources.{SourceValue}
 use Rattle.casebook_view.specs.Summaries.{leak_for, notice_for, notices_at}
-use Rattle.casebook_view.specs.Unknown.{is_doubtful, is_understood, numbers_to_run, unknown_in}
+use Rattle.casebook_view.specs.Unknown.{AreUndecided, is_doubtful, is_understood, numbers_to_run, unknown_in}
 use Rattle.casebook_view.specs.declared.fate.Fate.{Fate}
 use Rattle.casebook_view.specs.declared.summary.Summary.{Summary}
 use Rattle.casebook_cli.specs.Repairs.{LinesRise}
@@ -117,6 +117,8 @@ pub whole_summary : {E : Type 0} (source : SourceValue) (edits : List Edit) (r :
     → IfOk found (λ s. s.unknown.items ≡ unknown_in source r repair)
     → IfOk found (λ s. s.doubtful.items
     ≡ filter (is_doubtful r repair.recording s.unknown.items) (map path_in s.restorations.items))
+    → IfOk found (λ s. AreUndecided r repair.recording s.unknown.items (map path_in s.restorations.items)
+    s.undecided.items)
     → IfOk found (λ s. AreFates r repair repair.lines.items s.fates.items)
     → IfOk found (λ s. AreReasons edits r repair s.reasons.items)
     → IfOk found (λ s. AreChangedPaths (last_state r.lines r.first).tree (repaired_state repair).tree s.restorations.items)
@@ -128,7 +130,7 @@ pub whole_summary : {E : Type 0} (source : SourceValue) (edits : List Edit) (r :
     → IfOk found (λ s. IsTrue (rises_from 0 (map number_of s.reasons.items))
     → map effect_value s.effects.items ≡ effects_of r s.reasons.items s.fates.items)
     → IfOk found (IsSummary source edits r repair)
-whole_summary source edits r repair (Ok s) verdicts unknown doubtful fates reasons restorations notices looks leaked effects =
+whole_summary source edits r repair (Ok s) verdicts unknown doubtful undecided fates reasons restorations notices looks leaked effects =
     let both : Rise s = rises edits r repair s verdicts fates reasons in
     record {
       fates = fates;
@@ -136,10 +138,11 @@ whole_summary source edits r repair (Ok s) verdicts unknown doubtful fates reaso
       restorations = restorations;
       unknown = unknown;
       doubtful = doubtful;
+      undecided = undecided;
       notices = notices both.1;
       looks = looks both.1;
       leaks = leaked;
       effects = effects both.1;
       rise = both;
     }
-whole_summary source edits r repair (Err e) verdicts unknown doubtful fates reasons restorations notices looks leaked effects = tt
+whole_summary source edits r repair (Err e) verdicts unknown doubtful undecided fates reasons restorations notices looks leaked effects = tt

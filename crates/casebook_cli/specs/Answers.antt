@@ -8,8 +8,8 @@ use Rattle.casebook_snapshot.specs.declared.snapshot.Snapshot.{Snapshot}
 use Rattle.casebook_folder_cli.specs.Answers.{IsSnapshotOf}
 use Rattle.casebook_folder_cli.specs.Comparing.{IsCompareAnswer}
 use Rattle.casebook_folder_cli.specs.Folders.{AllFolders}
-use Rattle.casebook_folder_cli.specs.RestoreWords.{UndoValue}
-use Rattle.casebook_folder_cli.specs.Restoring.{IsRestoreAnswer, IsUndoAnswer}
+use Rattle.casebook_folder_cli.specs.RestoreWords.{RestoreValue, UndoValue}
+use Rattle.casebook_folder_cli.specs.Restoring.{RepairedValue, IsRestoreAnswer, IsUndoAnswer}
 use Rattle.casebook_folder_cli.specs.Words.{SnapshotValue}
 use Rattle.casebook_folder_cli.specs.declared.comparing.CompareAnswer.{CompareAnswer}
 use Rattle.casebook_folder_cli.specs.declared.restoring.RestoreAnswer.{RestoreAnswer}
@@ -27,6 +27,7 @@ use Rattle.casebook_request.specs.Request.{Query, Request, ask, case_log, check,
 use Rattle.casebook_request.specs.Request.{CompareValue, FolderRepair, RepairRequest, compare, restore, script}
 use Rattle.casebook_request.specs.Request.{import, snapshot, observe, start, status, undo}
 use Rattle.casebook_cli.specs.Checks.{IsChecked}
+use Rattle.casebook_cli.specs.Attributes.{AreKnown}
 use Rattle.casebook_cli.specs.Documents.{AllDocuments}
 use Rattle.casebook_cli.specs.Harmless.{IsHarmless, is_plain}
 use Rattle.casebook_cli.specs.Inputs.{AreInputs, DocumentValue, InputsValue, IsDocument, IsDocumentIf}
@@ -93,18 +94,32 @@ pub record IsRepairOf (at : AllDocuments) (request : RepairRequest) (asked : Ask
   pub are_inputs : AreInputs at (repair_sources request) inputs
   pub is_asked : IsAsked inputs request asked
 
--- The answer to a restore: what it says of the plan that brings the folder from the end of the
--- recording to that of the repair, and no if a path isn't ready. It is harmless on a terminal.
+-- What is said of the plan that brings a folder from the end of the recording to that of its repair.
+-- What the folder doesn't have gets the mode and owner that it was last seen to have after a line of
+-- the repair.
+pub record IsRestoreOf (folders : AllFolders) (request : RestoreValue) (asked : AskedRepair) (restored : RestoreAnswer)
+    : Type 0 where
+  pub tree : RepairedValue
+  pub recorded : tree.recorded ≡ (last_state asked.recording.lines asked.recording.first).tree
+  pub repaired : tree.repaired ≡ (repaired_state asked.repair).tree
+  pub known : AreKnown asked.repair.recording.lines asked.attributes.items tree.known
+  pub is_restored : IsRestoreAnswer folders request tree restored
+
+-- An answer says this of the plan, and no if a path isn't ready. It is harmless on a terminal.
+pub record SaysRestore (folders : AllFolders) (request : RestoreValue) (asked : AskedRepair) (answer : AnswerValue)
+    : Type 0 where
+  pub restored : RestoreAnswer
+  pub is_restored : IsRestoreOf folders request asked restored
+  pub text : answer.text ≡ text_of_lines restored.lines.items
+  pub is_no : answer.is_no ≡ restored.is_no
+  pub harmless : IsHarmless answer.text
+
+-- the answer to a restore
 pub record AnswersRestore (at : AllDocuments) (folders : AllFolders) (request : FolderRepair) (answer : AnswerValue)
     : Type 0 where
   pub asked : AskedRepair
   pub is_repair : IsRepairOf at request.repair asked
-  pub restored : RestoreAnswer
-  pub is_restored : IsRestoreAnswer folders request.folder
-      (last_state asked.recording.lines asked.recording.first).tree (repaired_state asked.repair).tree restored
-  pub text : answer.text ≡ text_of_lines restored.lines.items
-  pub is_no : answer.is_no ≡ restored.is_no
-  pub harmless : IsHarmless answer.text
+  pub says : SaysRestore folders request.folder asked answer
 
 -- The same for a restore that is taken back by its undo file.
 pub record AnswersUndo (folders : AllFolders) (request : UndoValue) (answer : AnswerValue) : Type 0 where

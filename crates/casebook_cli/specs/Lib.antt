@@ -1,4 +1,5 @@
 pub mod Answers
+pub mod Attributes
 pub mod Checks
 pub mod Colours
 pub mod Documents

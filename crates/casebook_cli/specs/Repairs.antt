@@ -20,6 +20,7 @@ use Rattle.casebook_text.specs.ListFile.{list_of_file}
 use Rattle.casebook_text.specs.Item.{Line}
 use Rattle.casebook_text.specs.Lists.{lines_of_list}
 use Rattle.casebook_request.specs.Request.{RepairRequest, RoundsValue}
+use Rattle.casebook_cli.specs.Attributes.{attributes_by}
 use Rattle.casebook_cli.specs.Inputs.{DocumentValue, InputsValue}
 use Rattle.casebook_cli.specs.Labels.{AreLabels, lines_view, seen_by}
 use Rattle.casebook_cli.specs.declared.repairs.AskedRepair.{AskedRepair}
@@ -83,8 +84,8 @@ pub record IsRepairedBy (rounds : Option RoundsValue) (account : Account) (edits
   pub is_repair : IsRepairBy rounds texts account.recording repair
   pub is_shown : IsShownRepair account repair r repaired
 
--- The repair of the log or of the case that is asked for, with names and times, and with the numbers
--- of the lines that stand as they were observed.
+-- The repair of the log or of the case that is asked for, with names and times, with the numbers of
+-- the lines that stand as they were observed, and with the modes and owners that were seen.
 pub record IsAsked (inputs : InputsValue) (request : RepairRequest) (asked : AskedRepair) : Type 0 where
   pub account : Account
   pub is_account : IsAccountOf inputs.log.bytes account
@@ -94,3 +95,4 @@ pub record IsAsked (inputs : InputsValue) (request : RepairRequest) (asked : Ask
   pub is_repair : IsRepairedBy request.rounds account asked.edits.items asked.recording asked.repair
   pub labels : AreLabels account.machine inputs.about asked.labels
   pub seen : option_map lines_view asked.seen ≡ seen_by account.machine
+  pub attributes : asked.attributes.items ≡ attributes_by account.machine

@@ -15,7 +15,7 @@ use Rattle.casebook_view.specs.Groups.{group_value, grouped}
 use Rattle.casebook_view.specs.Reasons.{AreReasons, number_in}
 use Rattle.casebook_view.specs.Sources.{SourceValue}
 use Rattle.casebook_view.specs.Summaries.{leak_for, notice_for, notices_at}
-use Rattle.casebook_view.specs.Unknown.{is_doubtful, is_understood, numbers_to_run, unknown_in}
+use Rattle.casebook_view.specs.Unknown.{AreUndecided, is_doubtful, is_understood, numbers_to_run, unknown_in}
 use Rattle.casebook_view.specs.declared.group.Group.{Group}
 use Rattle.casebook_view.specs.declared.summary.Summary.{Summary}
 use Rattle.casebook_screen.specs.Detail.{detail_lines}
@@ -56,6 +56,8 @@ pub record IsSummary (source : SourceValue) (edits : List Edit) (r : RecordingVa
   pub unknown : summary.unknown.items ≡ unknown_in source r repair
   pub doubtful : summary.doubtful.items
       ≡ filter (is_doubtful r repair.recording summary.unknown.items) (map path_in summary.restorations.items)
+  pub undecided : AreUndecided r repair.recording summary.unknown.items (map path_in summary.restorations.items)
+      summary.undecided.items
   pub notices : summary.notices.items ≡ map (notice_for r summary.reasons.items)
       (filter (is_understood summary.unknown.items) (tellings r repair))
   pub looks : summary.looks.items ≡ notices_at r summary.reasons.items (numbers_to_run summary.unknown.items)

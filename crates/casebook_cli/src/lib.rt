@@ -66,6 +66,7 @@
 mod accounts;
 mod answer;
 mod answers;
+mod attributes;
 mod cases;
 mod checks;
 mod colours;

@@ -12,13 +12,14 @@ ghost use Rattle.casebook_cli.specs.inner.Views.{document_view, inputs_view};
 
 use crate::NoMem;
 use crate::accounts::{SeenLines, account_of, account_stop, seen_by, source_by};
+use crate::attributes::attributes_by;
 use crate::document::Document;
 use crate::inputs::Inputs;
 use crate::labels::labels_of;
 use crate::line_lists::{cancellations, list_given, numbers_of};
 use crate::progress::{Progress, Step};
 use crate::stop::Stop;
-use casebook_account::Account;
+use casebook_account::{Account, SeenAttributes};
 use casebook_request::{RepairRequest, Rounds};
 use casebook_view::{Case, Summary};
 use casebook_words::Labels;
@@ -42,6 +43,8 @@ pub(crate) struct AskedRepair {
     pub(crate) labels: Labels,
     /// Of a case what the recorder says of its lines.
     pub(crate) seen: Option<SeenLines>,
+    /// Of a case the modes and owners that paths were seen to have, in order.
+    pub(crate) attributes: Vec<SeenAttributes>,
 }
 
 impl AskedRepair {
@@ -167,18 +170,19 @@ fn shown_recording<'a>(
     }
 }
 
-/// Returns an account's own recording as it is shown.
-fn own_recording<'a>(
+/// Returns an account with its recording as it is shown.
+fn shown_account<'a>(
     alloc: Global,
     account: Account,
     log: &Document<'a>,
-) -> Result<Recording, Stop<'a>>
-    ensures ok { IfOk result (λ found. found ≡ shown account account.recording) }
+) -> Result<Account, Stop<'a>>
+    ensures ok { IfOk result (λ found. found.recording ≡ shown account account.recording) }
+    ensures machine { IfOk result (λ found. found.machine ≡ account.machine) }
     ensures err { IfErr result
         (StopsEdits (HasNoShown account account.recording) (document_view log.now)) }
 {
     match account.into_shown(alloc) {
-        Ok(account) => Ok(account.recording),
+        Ok(account) => Ok(account),
         Err(fault) => Err(account_stop(log.name, &fault)),
     }
 }
@@ -235,13 +239,14 @@ fn repaired<'a, R: Threads + Sync + AllocGlobal, P: Progress>(
     progress.begin(Step::Showing(count));
     let seen = seen_by(alloc, &account.machine)?;
     let shown = shown_repair(alloc, &account, &inputs.log, repair)?;
-    let recording = own_recording(alloc, account, &inputs.log)?;
+    let Account { recording, machine } = shown_account(alloc, account, &inputs.log)?;
     Ok(AskedRepair {
         recording,
         repair: shown,
         edits,
         labels,
         seen,
+        attributes: attributes_by(alloc, machine),
     })
 }
 

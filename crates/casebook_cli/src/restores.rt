@@ -1,15 +1,17 @@
 //! Restores of folders.
 ghost use Rattle.std.specs.Prelude.{◌≡◌, IfOk, IfErr, IfSome};
-ghost use Rattle.casebook_folder_cli.specs.Views.{undo_view};
+ghost use Rattle.casebook_folder_cli.specs.Views.{restore_view, undo_view};
 ghost use Rattle.casebook_text.specs.SafeLine.{text_of_lines};
 ghost use Rattle.casebook_request.specs.Views.{folder_repair_view, repair_view};
-ghost use Rattle.casebook_cli.specs.Answers.{AnswersRestore, AnswersUndo, IsRepairOf};
+ghost use Rattle.casebook_cli.specs.Answers.{AnswersRestore, AnswersUndo, IsRepairOf, IsRestoreOf};
+ghost use Rattle.casebook_cli.specs.Answers.{SaysRestore};
 ghost use Rattle.casebook_cli.specs.Harmless.{IsHarmless};
-ghost use Rattle.casebook_cli.specs.Stops.{StopsFolder, StopsRepairOf, StopsRestore};
+ghost use Rattle.casebook_cli.specs.Stops.{StopsFolder, StopsRepairOf, StopsRestore, undo_name};
 ghost use Rattle.casebook_cli.specs.inner.Views.{answer_view};
 
 use crate::NoMem;
 use crate::answer::Answer;
+use crate::attributes::known_attributes;
 use crate::documents::Documents;
 use crate::plain::plain_lines;
 use crate::progress::Progress;
@@ -17,7 +19,8 @@ use crate::reading::read_inputs;
 use crate::repairs::{AskedRepair, asked_repair};
 use crate::stop::Stop;
 use casebook_folder_cli::{
-    Folders, RestoreAnswer, RestoreFault, UndoRequest, restore_answer, undo_answer,
+    Folders, RepairedTree, RestoreAnswer, RestoreFault, RestoreRequest, UndoRequest,
+    restore_answer, undo_answer,
 };
 use casebook_request::{FolderRepair, RepairRequest, repair_sources};
 use casebook_text::SafeLine;
@@ -90,6 +93,49 @@ fn tell_to_run<P: Progress>(alloc: Global, progress: &P, asked: &AskedRepair) ->
     Ok(())
 }
 
+/// Brings a folder from the end of a recording to that of its repair, or plans it. What comes back
+/// gets the mode and the owner that it was last seen to have after a line of the repair.
+fn restore_of<D: Folders>(
+    alloc: Global,
+    folders: &D,
+    folder: &RestoreRequest<'_>,
+    asked: &AskedRepair,
+) -> Result<RestoreAnswer, RestoreFault>
+    ensures { IfOk result (λ restored. IfSome (D.holds folders.now) (λ at.
+        IsRestoreOf at (restore_view folder.now) asked.now restored)) }
+{
+    let known = known_attributes(alloc, &asked.repair.recording, asked.attributes.as_slice())?;
+    let recorded = asked.recording.last().tree();
+    let repaired = asked.repair.state().tree();
+    let tree = RepairedTree {
+        recorded,
+        repaired,
+        known,
+    };
+    restore_answer(alloc, folders, folder, tree)
+}
+
+/// Returns what a restore of a folder by a repair does or would do, and tells whether it was done.
+fn restored<'a, D: Folders + Progress>(
+    alloc: Global,
+    documents: &D,
+    folder: &RestoreRequest<'a>,
+    asked: &AskedRepair,
+) -> Result<Answer, Stop<'a>>
+    ensures ok { IfOk result (λ answer. IfSome (D.holds documents.now) (λ folders.
+        SaysRestore folders (restore_view folder.now) asked.now (answer_view answer))) }
+    ensures err { IfErr result (StopsFolder (restore_view folder.now).root
+        (undo_name (restore_view folder.now).undo)) }
+{
+    match restore_of(alloc, documents, folder, asked) {
+        Ok(answer) => {
+            documents.remark(&answer.remark);
+            Ok(shown(alloc, &answer)?)
+        }
+        Err(fault) => Err(restore_stop(folder.root, folder.undo.unwrap_or(""), fault)),
+    }
+}
+
 /// Returns what a restore of a folder does or would do, and tells whether it was done.
 pub(crate) fn restore_text<'a, R: Threads + Sync + AllocGlobal, D: Documents + Folders + Progress>(
     rt: &R,
@@ -106,15 +152,7 @@ pub(crate) fn restore_text<'a, R: Threads + Sync + AllocGlobal, D: Documents + F
     let FolderRepair { repair, folder } = request;
     let asked = repair_of(rt, documents, repair)?;
     tell_to_run(rt.alloc(), documents, &asked)?;
-    let recorded = asked.recording.last().tree();
-    let repaired = asked.repair.state().tree();
-    match restore_answer(rt.alloc(), documents, &folder, recorded, repaired) {
-        Ok(answer) => {
-            documents.remark(&answer.remark);
-            Ok(shown(rt.alloc(), &answer)?)
-        }
-        Err(fault) => Err(restore_stop(folder.root, folder.undo.unwrap_or(""), fault)),
-    }
+    restored(rt.alloc(), documents, &folder, &asked)
 }
 
 /// Returns what taking a restore back does or would do, and tells whether it was done.

@@ -2,6 +2,7 @@
 use Rattle.std.specs.Prelude.{Option, Some, None, Result, Ok, Err, option_map}
 use Rattle.retro_path.specs.OutOfMemory.{UnlessOutOfMemory}
 use Rattle.casebook_folder_cli.specs.RestoreWords.{RestoreValue, UndoValue}
+use Rattle.casebook_folder_cli.specs.Restoring.{RepairedValue}
 use Rattle.casebook_folder_cli.specs.ScriptWords.{ScriptValue}
 use Rattle.casebook_folder_cli.specs.Sources.{SourceValue, archive, folder}
 use Rattle.casebook_folder_cli.specs.Words.{ComparedValue, SnapshotValue, taken, written}
@@ -13,6 +14,7 @@ use Rattle.casebook_folder_cli.specs.declared.request.FolderProblem.{FolderProbl
 use Rattle.casebook_folder_cli.specs.declared.request.SnapshotRequest.{SnapshotRequest}
 use Rattle.casebook_folder_cli.specs.declared.restore_requests.RestoreRequest.{RestoreRequest}
 use Rattle.casebook_folder_cli.specs.declared.restore_requests.UndoRequest.{UndoRequest}
+use Rattle.casebook_folder_cli.specs.declared.restoring.RepairedTree.{RepairedTree}
 use Rattle.casebook_folder_cli.specs.declared.script_names.ScriptRequest.{ScriptRequest}
 use Rattle.casebook_folder_cli.specs.declared.source.Source.{Source}
 use Rattle.casebook_folder_cli.specs.declared.source.Source.TheVariants as sources
@@ -38,6 +40,13 @@ restore_view request = record {
   at = request.at;
   only = request.only.items;
   undo = option_map (λ s. s.now) request.undo;
+}
+
+abbrev pub tree_view : RepairedTree → RepairedValue
+tree_view tree = record {
+  recorded = tree.recorded.now;
+  repaired = tree.repaired.now;
+  known = tree.known;
 }
 
 abbrev pub undo_view : UndoRequest → UndoValue

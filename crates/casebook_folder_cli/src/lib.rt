@@ -64,7 +64,7 @@ pub use request::{
 };
 pub use restore_fault::RestoreFault;
 pub use restore_requests::{RestoreRequest, UndoRequest, restore_request, undo_request};
-pub use restoring::{RestoreAnswer, restore_answer};
+pub use restoring::{KnownAttributes, RepairedTree, RestoreAnswer, restore_answer};
 pub use script_names::{ScriptRequest, script_request};
 pub use scripting::{ScriptFault, ScriptParts, script_answer};
 pub use source::{Mounts, Source};

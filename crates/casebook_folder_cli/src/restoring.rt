@@ -4,7 +4,7 @@ ghost use Rattle.casebook_folder.specs.Plans.{AreSeenRows};
 ghost use Rattle.casebook_folder.specs.Steps.{after_steps};
 ghost use Rattle.casebook_folder_cli.specs.Faults.{fault_of_look, fault_of_steps, is_unfinished};
 ghost use Rattle.casebook_folder_cli.specs.Restoring.{IsGiven, IsRestoreAnswer, said_of};
-ghost use Rattle.casebook_folder_cli.specs.Views.{restore_view};
+ghost use Rattle.casebook_folder_cli.specs.Views.{restore_view, tree_view};
 ghost use Rattle.casebook_restore.specs.Carrying.{IsRepaired};
 ghost use Rattle.casebook_restore.specs.Plans.{can_be_carried_out};
 ghost use Rattle.casebook_restore.specs.Restores.{IsRestorePlan, RestoreValue};
@@ -18,6 +18,7 @@ use crate::undo_rows::rows_in_file;
 use casebook_folder::{Attributes, Folder, FolderError, GivenAttributes, Trees};
 use casebook_restore::{RestorePlan, RestoreTask, carry_out, plan_lines, plan_restore};
 use casebook_text::SafeLine;
+use retro_path::Path;
 use retro_tree::Tree;
 use std::alloc::Global;
 use std::collections::BTreeMap;
@@ -39,14 +40,35 @@ const FILE_MODE: u32 = 0o600;
 /// The mode of a new directory.
 const DIR_MODE: u32 = 0o700;
 
-/// Returns the modes and owners of what is new.
-fn given_by(alloc: Global, owner: Owner) -> GivenAttributes
-    ensures { IsGiven owner result }
+/// Modes and owners that are known of paths.
+#[derive(Drop)]
+pub struct KnownAttributes {
+    /// Those of files.
+    pub files: BTreeMap<Path, Attributes>,
+    /// Those of directories.
+    pub dirs: BTreeMap<Path, Attributes>,
+}
+
+/// From which tree to which a folder is brought, and what is known of modes and owners.
+#[derive(Drop)]
+pub struct RepairedTree<'a> {
+    /// The recorded tree.
+    pub recorded: &'a Tree,
+    /// The repaired tree.
+    pub repaired: &'a Tree,
+    /// The modes and owners that are known of paths.
+    pub known: KnownAttributes,
+}
+
+/// Returns the modes and owners of what is new: those that are known, and others for all other
+/// paths.
+fn given_by(known: KnownAttributes, owner: Owner) -> GivenAttributes
+    ensures { IsGiven known owner result }
 {
     let Owner { uid, gid } = owner;
     GivenAttributes {
-        files: BTreeMap::new(alloc),
-        dirs: BTreeMap::new(alloc),
+        files: known.files,
+        dirs: known.dirs,
         file: Attributes {
             mode: FILE_MODE,
             uid,
@@ -165,19 +187,25 @@ fn plan_of<F: Folder>(
 }
 
 /// Plans a restore of a folder from a recorded to a repaired tree, and carries it out if that is
-/// asked for, what was at each path is kept, and the folder is ready for it or done with it.
+/// asked for, what was at each path is kept, and the folder is ready for it or done with it. What
+/// the folder doesn't have gets the mode and the owner that are known of its path, or else the mode
+/// 0600 or 0700 and who runs the program.
 pub fn restore_answer<'a, D: Folders>(
     alloc: Global,
     folders: &D,
     request: &'a RestoreRequest<'_>,
-    recorded: &'a Tree,
-    repaired: &'a Tree,
+    tree: RepairedTree<'a>,
 ) -> Result<RestoreAnswer, RestoreFault>
     ensures { IfOk result (λ answer. IfSome (D.holds folders.now) (λ at.
-        IsRestoreAnswer at (restore_view request.now) recorded.now repaired.now answer)) }
+        IsRestoreAnswer at (restore_view request.now) (tree_view tree.entry) answer)) }
 {
     let mut folder = folders.open(alloc, request.root, &request.at)?;
-    let given = given_by(alloc, folders.owner()?);
+    let RepairedTree {
+        recorded,
+        repaired,
+        known,
+    } = tree;
+    let given = given_by(known, folders.owner()?);
     let task = RestoreTask {
         trees: Trees {
             recorded,

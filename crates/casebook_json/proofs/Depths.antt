@@ -1,5 +1,5 @@
 -- The document nests few arrays and objects, so its text can be read back.
-use Rattle.std.proofs.Common.{◌≡◌, ℕ, ◌≤◌, List, [], ◌∷◌, Bool, Option, Some, None, arith}
+use Rattle.std.proofs.Common.{◌≡◌, ◌++◌, ℕ, ◌≤◌, List, [], ◌∷◌, Bool, Option, Some, None, arith}
 use Rattle.std.proofs.Common.{map, refl}
 use Rattle.serde_json.specs.Data.{Data, Members, boolean, depth, items_depth, member, members_depth, no_members, object, string}
 use Rattle.serde_json.specs.Read.{max_depth}
@@ -180,7 +180,7 @@ is_low r summary restorations groups looks is_recording source labels =
     (low_member _ _ _
     (low_array (λ (e : Effect). effect_data (effect_value e)) (λ e. effect_low (effect_value e)) summary.effects.items)
     (low_member _ _ _ (low_counts summary.fates.items)
-    (low_member _ _ _ (low_array path_data (λ p. omega arith) summary.doubtful.items)
+    (low_member _ _ _ (low_array path_data (λ p. omega arith) (summary.doubtful.items ++ summary.undecided.items))
     (low_member _ _ _ (low_numbers (incomplete_in source))
     (low_member _ _ _ (low_array (leak_data labels) (leak_lower labels) summary.leaks.items)
     (low_member _ _ _

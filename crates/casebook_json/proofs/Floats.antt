@@ -1,5 +1,5 @@
 -- The document has no float, so its text is determined.
-use Rattle.std.proofs.Common.{◌≡◌, ℕ, List, Bool, false, Option, Some, None, refl}
+use Rattle.std.proofs.Common.{◌≡◌, ◌++◌, ℕ, List, Bool, false, Option, Some, None, refl}
 use Rattle.serde_json.specs.Data.{string}
 use Rattle.serde_json.specs.Written.{has_float}
 use Rattle.retro_json.proofs.Floats.{array_float}
@@ -114,7 +114,7 @@ summary_float r summary restorations groups looks is_recording source labels = r
   array_float (λ (e : Effect). effect_data (effect_value e)) (λ e. effect_float (effect_value e))
       summary.effects.items,
   counts_float summary.fates.items,
-  array_float path_data (λ p. refl) summary.doubtful.items,
+  array_float path_data (λ p. refl) (summary.doubtful.items ++ summary.undecided.items),
   array_float number_data (λ n. refl) (incomplete_in source),
   array_float (leak_data labels) (leak_float labels) summary.leaks.items,
   array_float (line_data r summary.reasons.items) (line_float r summary.reasons.items)

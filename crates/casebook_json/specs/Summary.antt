@@ -30,7 +30,8 @@ summary_with lines summary restorations groups looks is_recording source labels 
     (member (codes "causes")
     (array_of (map (λ effect. effect_data (effect_value effect)) summary.effects.items))
     (member (codes "counts") (counts_data summary.fates.items)
-    (member (codes "doubtful") (array_of (map path_data summary.doubtful.items))
+    (member (codes "doubtful")
+    (array_of (map path_data (summary.doubtful.items ++ summary.undecided.items)))
     (member (codes "incomplete") (numbers_data (incomplete_in source))
     (member (codes "leaked") (array_of (map (leak_data labels) summary.leaks.items))
     (member (codes "lines") lines

@@ -1,8 +1,9 @@
 //! The parts of the document.
-ghost use Rattle.std.specs.Prelude.{◌≡◌, IfOk, map};
+ghost use Rattle.std.specs.Prelude.{◌≡◌, ◌++◌, IfOk, map};
 ghost use Rattle.serde_json.specs.View.{view};
 ghost use Rattle.retro_json.specs.Values.{array_of};
 ghost use Rattle.casebook_view.specs.Sources.{source_view};
+ghost use Rattle.casebook_json.specs.Values.{path_data};
 ghost use Rattle.casebook_json.specs.inner.Parts.{AreParts, document};
 
 use crate::NoMem;
@@ -18,6 +19,7 @@ use crate::source_value::{
 use crate::unknown_value::unknown_values;
 use crate::value::path_values;
 use casebook_screen::Sheet;
+use casebook_view::Summary;
 use casebook_words::Labels;
 use serde_json::{Map, Value, put};
 use std::alloc::Global;
@@ -44,6 +46,17 @@ pub(crate) struct Parts {
     unseen: Vec<Value>,
 }
 
+/// Returns the JSON values of the doubtful paths, and then of those of which it isn't known what they
+/// would be.
+fn doubtful_values(alloc: Global, summary: &Summary) -> Result<Vec<Value>, NoMem>
+    ensures { IfOk result (λ vs. map view vs.items
+        ≡ map path_data (summary.now.doubtful.items ++ summary.now.undecided.items)) }
+{
+    let mut values = path_values(alloc, summary.doubtful.as_slice())?;
+    values.append(&mut path_values(alloc, summary.undecided.as_slice())?)?;
+    Ok(values)
+}
+
 impl Parts {
     /// Returns the parts of the document of a repair.
     pub(crate) fn of(alloc: Global, sheet: Sheet<'_>, labels: &Labels) -> Result<Parts, NoMem>
@@ -55,7 +68,7 @@ impl Parts {
         Ok(Parts {
             causes: effect_values(alloc, summary.effects.as_slice())?,
             counts: counts_value(alloc, summary.fates.as_slice())?,
-            doubtful: path_values(alloc, summary.doubtful.as_slice())?,
+            doubtful: doubtful_values(alloc, summary)?,
             incomplete: incomplete_values(alloc, sheet.source)?,
             leaked: leak_values(alloc, labels, summary.leaks.as_slice())?,
             looked: group_values(alloc, labels, sheet.looks)?,

@@ -61,6 +61,8 @@ tag_text tags.LeakEnd = codes "</mark>"
 tag_text tags.Modified = codes "<details class=\"f change\"><summary><i>M</i><code>"
 tag_text tags.Added = codes "<details class=\"f restore\"><summary><i>A</i><code>"
 tag_text tags.Removed = codes "<details class=\"f remove\"><summary><i>D</i><code>"
+tag_text tags.Undecided =
+    codes "<details class=f><summary><i class=q title=\"written by a line that has to be run for real\">?</i><code>"
 tag_text tags.Subject = codes "<details class=f><summary><i>"
 tag_text tags.Times = codes "&times;</i><code>"
 tag_text tags.EffectName = codes "</i> <b class=who>"

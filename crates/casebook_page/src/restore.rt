@@ -146,17 +146,43 @@ fn push_rows(
     Ok(())
 }
 
-/// Appends the section of paths to restore. No path is left out.
+/// Appends the row of a path of which it isn't known what it would be.
+fn push_undecided(html: &mut Html, alloc: Global, path: &Path) -> Result<(), NoMem> {
+    html.fixed(Tag::Undecided)?;
+    push_shown_path(html, alloc, path)?;
+    html.fixed(Tag::RowDetail)?;
+    html.fixed(Tag::RowBody)?;
+    html.fixed(Tag::Small)?;
+    html.words(
+        alloc,
+        "as it was recorded, until the lines that wrote it are run for real",
+    )?;
+    html.fixed(Tag::ParagraphEnd)?;
+    html.fixed(Tag::DetailsEnd)
+}
+
+/// Appends the rows of all paths of which it isn't known what they would be.
+fn push_all_undecided(html: &mut Html, alloc: Global, paths: &[Path]) -> Result<(), NoMem> {
+    for path in paths {
+        push_undecided(html, alloc, path)?;
+    }
+    Ok(())
+}
+
+/// Appends the section of paths to restore, and of those of which it isn't known what they would be.
+/// No path is left out.
 pub(crate) fn push_restore(
     html: &mut Html,
     alloc: Global,
     contents: Contents<'_, '_>,
 ) -> Result<(), NoMem> {
     let paths = contents.summary.restorations.as_slice();
+    let undecided = contents.summary.undecided.as_slice();
     html.fixed(Tag::Restore)?;
     push_counts(html, alloc, paths)?;
     html.fixed(Tag::HeadEnd)?;
     push_rows(html, alloc, contents, paths)?;
-    push_none(html, alloc, paths.len())?;
+    push_all_undecided(html, alloc, undecided)?;
+    push_none(html, alloc, paths.len().max(undecided.len()))?;
     html.fixed(Tag::SectionEnd)
 }

@@ -109,6 +109,8 @@ pub enum Tag {
     Added,
     /// The row of a path that goes.
     Removed,
+    /// The row of a path that a line wrote which has to be run for real, and that doesn't differ.
+    Undecided,
     /// The row of what a session is told about.
     Subject,
     /// What comes after how often something was seen.
@@ -249,6 +251,8 @@ impl Tag {
             Tag::Modified => "<details class=\"f change\"><summary><i>M</i><code>",
             Tag::Added => "<details class=\"f restore\"><summary><i>A</i><code>",
             Tag::Removed => "<details class=\"f remove\"><summary><i>D</i><code>",
+            Tag::Undecided =>
+                "<details class=f><summary><i class=q title=\"written by a line that has to be run for real\">?</i><code>",
             Tag::Subject => "<details class=f><summary><i>",
             Tag::Times => "&times;</i><code>",
             Tag::EffectName => "</i> <b class=who>",

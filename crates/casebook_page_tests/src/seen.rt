@@ -7,15 +7,15 @@ use retro_tree::Text;
 use std::alloc::Global;
 use std::test::Fail;
 
-/// A script. Without line 1, lines 2 and 5 read another text, and line 5 writes it to a file. Lines
-/// 3 and 4 depend on nothing of it.
+/// A script. Without line 1, lines 2 and 5 read another text, and line 5 writes it to a file, and the
+/// same text as before to another one. Lines 3 and 4 depend on nothing of it.
 const SCRIPT: &str =
     "{\"script\":1,\"tree\":[[\"/f\",\"780a\"]],\"sessions\":[[1,\"/\",0,[]],[2,\"/\",0,[]]],
-    \"lines\":[[1,2,\"echo a > f\"],[2,1,\"cat f\"],[3,1,\"echo b > g\"],[4,2,\"cat g\"],[5,1,\"cat f > h\"]]}";
+    \"lines\":[[1,2,\"echo a > f\"],[2,1,\"cat f\"],[3,1,\"echo b > g\"],[4,2,\"cat g\"],[5,1,\"cat f > h; echo c > i\"]]}";
 
 /// Parts of the page without line 1, if lines 2, 3 and 5 were observed. A sign is in the closed and
 /// in the open row of its line.
-const TWO: [(&str, usize); 12] = [
+const TWO: [(&str, usize); 13] = [
     (
         "5 lines of 2 sessions. Recorded on the machine. 3 lines stand as they were observed. <a class=q href=#unknown>? 2 lines have to be run for real.</a></p>",
         1,
@@ -40,6 +40,10 @@ const TWO: [(&str, usize); 12] = [
     ),
     (
         " <i class=q title=\"written by a line that has to be run for real\">?</i>",
+        1,
+    ),
+    (
+        "<details class=f><summary><i class=q title=\"written by a line that has to be run for real\">?</i><code>/i</code><span></span></summary><p class=io>as it was recorded, until the lines that wrote it are run for real</p></details>\n",
         1,
     ),
     (

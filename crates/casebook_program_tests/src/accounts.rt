@@ -61,11 +61,36 @@ target\\t/srv/m\\td\\n\
 record\\tend\\tA\\t1764363129000000\\t0\\t/srv\\t2\\t0\\t0\\tshown\\tln -s d /srv/m\\tsame\\t\\tsame\\t\\n\
 \",\"unseen\":\"\"}";
 
+/// A case in which alice makes her file `/srv/f` readable for all, and mallory removes it and the
+/// directory `/srv/d`, which are alice's and of another group.
+const REMOVED: &str = "\
+{\"case\":1,\"contents\":[\"6669670a\"],\n\
+\"first\":\"\
+listing\\t0\\t4\\n\
+dir\\t/srv\\t755\\t0\\t0\\t1\\t8\\t0\\t0\\t0\\t0\\t0\\t0\\n\
+dir\\t/srv/d\\t2750\\t1001\\t1002\\t1\\t9\\t0\\t0\\t0\\t0\\t0\\t0\\n\
+file\\t/srv/f\\t640\\t1001\\t1002\\t1\\t7\\t1\\t0\\t1\\t0\\t1\\t0\\n\
+bytes\\t/srv/f\\t9436d49a899840d99d0a27a769a414257fcb12736f5e6dd277f9ba410bc676cf\\n\
+\",\n\
+\"lines\":\"\
+record\\tstart\\tA\\t1764363069000000\\t0\\t/srv\\t\\tpts\\t0022\\talice\\t\\tsame\\t\\tnew\\tset +o posix\\n\
+record\\tstart\\tB\\t1764363069000000\\t0\\t/srv\\t\\tpts\\t0022\\tmallory\\t\\tsame\\t\\tnew\\tset +o posix\\n\
+record\\tbegin\\tA\\t1764363069000000\\t0\\t/srv\\t1\\tshown\\tchmod 644 /srv/f\\n\
+file\\t/srv/f\\t644\\t1001\\t1002\\t1\\t7\\t1\\t0\\t1\\t0\\t5\\t0\\n\
+bytes\\t/srv/f\\t9436d49a899840d99d0a27a769a414257fcb12736f5e6dd277f9ba410bc676cf\\n\
+record\\tend\\tA\\t1764363069000000\\t0\\t/srv\\t1\\t0\\t0\\tshown\\tchmod 644 /srv/f\\tsame\\t\\tsame\\t\\n\
+record\\tbegin\\tB\\t1764363129000000\\t0\\t/srv\\t1\\tshown\\trm -r /srv/f /srv/d\\n\
+gone\\t/srv/d\\n\
+gone\\t/srv/f\\n\
+record\\tend\\tB\\t1764363129000000\\t0\\t/srv\\t1\\t0\\t0\\tshown\\trm -r /srv/f /srv/d\\tsame\\t\\tsame\\t\\n\
+\",\"unseen\":\"\"}";
+
 /// Returns the bytes of a case by its name.
 pub(crate) fn account_document(name: &str) -> Option<&'static [u8]> {
     match name {
         "account" => Some(ACCOUNT.as_bytes()),
         "linked" => Some(LINKED.as_bytes()),
+        "removed" => Some(REMOVED.as_bytes()),
         _ => machine_document(name),
     }
 }
@@ -107,6 +132,8 @@ writes: show account --cancel 1 =>
 |
 | RESTORE  1 change, 0 come back, 0 go
 |   M /srv/p  +1 -1
+| ?   /srv/q
+|   ? written by a line that wasn't understood or has to be run for real
 |
 | TELL  1 session about 1 screen
 |   alice   /srv/p                               1x  lines 2
@@ -164,6 +191,17 @@ ends: restore linked --cancel 1,2 --root folder --at /srv --only /srv/m =>
 | Paths are shown as recorded / as repaired, and where the folder differs as recorded / as in the folder.
 
 keeps: restore linked --cancel 1 --root folder --at /srv --apply --undo new => nothing
+ends: restore removed --cancel 2 --root empty --at /srv =>
+| 0 ready 2, done 0, differs 0, blocked 0, outside the folder 0, not chosen 0
+| ready /srv/d: no such file / a directory; gets 2750 1001:1002
+| ready /srv/f: no such file / 1 line, 4 bytes; gets 0644 1001:1002
+| Paths are shown as recorded / as repaired, and where the folder differs as recorded / as in the folder.
+
+ends: restore removed --cancel 1,2 --root empty --at /srv --only /srv/f =>
+| 0 ready 1, done 0, differs 0, blocked 0, outside the folder 0, not chosen 1
+| ready /srv/f: no such file / 1 line, 4 bytes; gets 0640 1001:1002
+| Paths are shown as recorded / as repaired, and where the folder differs as recorded / as in the folder.
+
 ends: compare linked folder --at /srv =>
 | 0 as recorded 3, not as recorded 0, skipped 0
 | Paths are shown as recorded / as in the folder. What was overwritten before the end isn't compared.

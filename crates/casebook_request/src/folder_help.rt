@@ -126,8 +126,9 @@ Each path of the plan has a line:
               and isn't kept
 
 If one differs or is blocked, nothing is changed at all. A file that is changed keeps
-its mode and owner; one that comes back gets the mode 0600, a directory 0700, and the
-user who runs this. Its time, its ACL and its other names are lost.
+its mode and owner. What comes back gets those that a CASE last saw there, but for what
+the lines did that are left out. A LOG has none: then a file gets the mode 0600, a
+directory 0700, and both the user who runs this. Times, ACLs and other names are lost.
 
 No link is followed, and nothing outside of FOLDER is changed. Each file is written
 beside its path and renamed over it, so each path holds its old or its new file at any

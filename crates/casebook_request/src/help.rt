@@ -223,7 +223,8 @@ The screen has these parts:
     has the reasons. Or: Every line was understood.
     Of a case: ? how many lines have to be run for real, and their numbers. What they
     depend on would be another, so what they would do isn't known. Until then they
-    stand as they were observed, and so does what followed from them: it isn't below.
+    stand as they were observed, and so does what followed from them: of that only the
+    paths that they wrote are below.
     Or: No line has to be run for real. Modes and owners aren't followed: a line that
     a mode stopped or let through, which would be another, isn't counted.
 
@@ -233,7 +234,9 @@ The screen has these parts:
 
     RESTORE  each path that would be different at the end:
              M changes, A comes back, D goes; lines that come (+) and go (-);
-             ? if a line wrote it that wasn't understood, or has to be run for real
+             ? if a line wrote it that wasn't understood, or has to be run for real. With
+             ? alone, such a line wrote the path, and it isn't different as long as the
+             line stands as it was observed
     TELL     session, path, how often, which lines: what these lines printed would
              have been different, since the path would have been
     LEAKED   cancelled lines that printed something, and how many bytes; of observed

@@ -1,6 +1,6 @@
 -- What is to be restored, as a summary shows it.
 use Rattle.std.specs.Prelude.{◌≡◌, ℕ, Bool, List, [], ◌∷◌, ◌++◌, chars, codes, count_by, decimal, length, map, max}
-use Rattle.std.specs.Prelude.{Option, Some, None, true, false, ◌||◌, if◌then◌else◌}
+use Rattle.std.specs.Prelude.{Option, Some, None, true, false, not, ◌==◌, ◌||◌, if◌then◌else◌}
 use Rattle.std.specs.FinMap as map_of
 use Rattle.std.specs.List.{list_any}
 use Rattle.casebook_changes.specs.declared.changed_path.ChangedPath.{ChangedPath}
@@ -148,14 +148,26 @@ restoration_among width doubtful r = restoration_text width (is_doubtful doubtfu
 
 -- what question marks say, if there are any
 unfoldable pub doubt_text : List ℕ
-doubt_text = codes "  ? written by a line that wasn't understood"
+doubt_text = codes "  ? written by a line that wasn't understood or has to be run for real"
 
-abbrev pub doubt_lines : List PathValue → List (List ℕ)
-doubt_lines [] = []
-doubt_lines (path ∷ doubtful) = doubt_text ∷ []
+-- whether there are paths with a question mark
+abbrev pub has_doubts : List PathValue → List PathValue → Bool
+has_doubts doubtful undecided = not (length doubtful == 0) || not (length undecided == 0)
 
--- an empty line, how many paths there are, each of them, and what question marks say
-abbrev pub restoration_lines : List PathValue → List Restoration → List (List ℕ)
-restoration_lines doubtful rs =
-    [] ∷ restorations_head rs
-    ∷ (map (restoration_among (widest rs) doubtful) rs ++ doubt_lines doubtful)
+abbrev pub doubt_lines : Bool → List (List ℕ)
+doubt_lines has_doubts = if has_doubts then doubt_text ∷ [] else []
+
+-- a path of which it isn't known what it would be
+unfoldable pub undecided_text : PathValue → List ℕ
+undecided_text path = codes "?   " ++ path_words path
+
+-- paths to restore, and those of which it isn't known what they would be
+abbrev pub path_rows : List PathValue → List PathValue → List Restoration → List (List ℕ)
+path_rows doubtful undecided rs =
+    map (restoration_among (widest rs) doubtful) rs ++ map undecided_text undecided
+
+-- an empty line, how many paths there are to restore, these and those of which it isn't known what
+-- they would be, and what question marks say
+abbrev pub restoration_lines : List PathValue → List PathValue → List Restoration → List (List ℕ)
+restoration_lines doubtful undecided rs =
+    [] ∷ restorations_head rs ∷ (path_rows doubtful undecided rs ++ doubt_lines (has_doubts doubtful undecided))

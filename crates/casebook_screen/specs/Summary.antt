@@ -66,7 +66,7 @@ summary_lines source r summary restorations groups looks is_recording labels wid
     head_lines r labels summary.fates.items (basis_lines source is_recording)
     ++ unknown_lines source summary.unknown.items summary.fates.items
     ++ [] ∷ count_lines summary.fates.items
-    ++ restoration_lines summary.doubtful.items restorations
+    ++ restoration_lines summary.doubtful.items summary.undecided.items restorations
     ++ notice_lines labels width (length summary.notices.items) groups
     ++ look_lines labels width (length summary.looks.items) looks
     ++ leak_lines r labels width summary.leaks.items (unshown_in source summary.fates.items)

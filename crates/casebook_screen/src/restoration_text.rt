@@ -3,15 +3,18 @@ ghost use Rattle.std.specs.Prelude.{◌≡◌, ◌++◌, IfOk, OnOk, map};
 ghost use Rattle.casebook_words.specs.Words.{path_words};
 ghost use Rattle.casebook_screen.specs.Restorations.{change_sign, count_changed, extent_words};
 ghost use Rattle.casebook_screen.specs.Restorations.{doubt_lines, doubt_sign, doubt_text};
+ghost use Rattle.casebook_screen.specs.Restorations.{has_doubts};
 ghost use Rattle.casebook_screen.specs.Restorations.{is_doubtful, restoration_among};
-ghost use Rattle.casebook_screen.specs.Restorations.{restoration_lines, restoration_text};
-ghost use Rattle.casebook_screen.specs.Restorations.{restorations_head, widest};
+ghost use Rattle.casebook_screen.specs.Restorations.{path_rows, restoration_lines};
+ghost use Rattle.casebook_screen.specs.Restorations.{restoration_text, restorations_head};
+ghost use Rattle.casebook_screen.specs.Restorations.{undecided_text, widest};
 
 use crate::NoMem;
 use crate::layout::push_padded;
 use crate::restoration::{Extent, Restoration};
 use casebook_changes::PathChange;
 use casebook_text::SafeLine;
+use casebook_view::Summary;
 use casebook_words::push_path;
 use retro_tree::Path;
 use std::alloc::Global;
@@ -148,41 +151,85 @@ fn push_restorations(
     Ok(())
 }
 
+/// Returns a path of which it isn't known what it would be.
+#[tactic(auto, unfolding(crate::specs::Restorations::undecided_text))]
+fn undecided_line(alloc: Global, path: &Path) -> Result<SafeLine, NoMem>
+    ensures { IfOk result (λ line. line ≡ undecided_text path.now) }
+{
+    let mut line = SafeLine::new(alloc);
+    line.push_ascii("?   ")?;
+    push_path(alloc, &mut line, path)?;
+    Ok(line)
+}
+
+/// Appends a line for each path of which it isn't known what it would be.
+fn push_undecided(alloc: Global, lines: &mut Vec<SafeLine>, undecided: &[Path]) -> Result<(), NoMem>
+    ensures { OnOk result
+        (lines.new.items ≡ lines.old.items ++ map undecided_text undecided.now) }
+{
+    for path in undecided {
+        lines.push(undecided_line(alloc, path)?)?;
+    }
+    Ok(())
+}
+
+/// Appends a line for each path: those to restore, with a question mark before doubtful ones, and
+/// those of which it isn't known what they would be.
+fn push_paths(
+    alloc: Global,
+    lines: &mut Vec<SafeLine>,
+    summary: &Summary,
+    paths: &[Restoration],
+) -> Result<(), NoMem>
+    ensures { OnOk result (lines.new.items ≡ lines.old.items
+        ++ path_rows summary.now.doubtful.items summary.now.undecided.items paths.now) }
+{
+    let width = widest(alloc, paths)?;
+    push_restorations(alloc, lines, summary.doubtful.as_slice(), paths, width)?;
+    push_undecided(alloc, lines, summary.undecided.as_slice())
+}
+
 /// Returns what question marks say.
 #[tactic(auto, unfolding(crate::specs::Restorations::doubt_text))]
 fn doubt_line(alloc: Global) -> Result<SafeLine, NoMem>
     ensures { IfOk result (λ line. line ≡ doubt_text) }
 {
     let mut line = SafeLine::new(alloc);
-    line.push_ascii("  ? written by a line that wasn't understood")?;
+    line.push_ascii("  ? written by a line that wasn't understood or has to be run for real")?;
     Ok(line)
 }
 
-/// Appends what question marks say, if there are any.
-fn push_doubts(alloc: Global, lines: &mut Vec<SafeLine>, doubtful: &[Path]) -> Result<(), NoMem>
-    ensures { OnOk result (lines.new.items ≡ lines.old.items ++ doubt_lines doubtful.now) }
+/// Returns whether there are paths with a question mark.
+fn has_doubts(summary: &Summary) -> bool
+    ensures { result ≡ has_doubts summary.now.doubtful.items summary.now.undecided.items }
 {
-    if doubtful.is_empty() {
-        return Ok(());
+    !summary.doubtful.is_empty() || !summary.undecided.is_empty()
+}
+
+/// Appends what question marks say, if there are any.
+fn push_doubts(alloc: Global, lines: &mut Vec<SafeLine>, has_doubts: bool) -> Result<(), NoMem>
+    ensures { OnOk result (lines.new.items ≡ lines.old.items ++ doubt_lines has_doubts) }
+{
+    if has_doubts {
+        lines.push(doubt_line(alloc)?)?;
     }
-    lines.push(doubt_line(alloc)?)?;
     Ok(())
 }
 
-/// Returns what is to be restored: an empty line, how many paths there are, and each of them, with
-/// a question mark before doubtful ones.
+/// Returns what is to be restored: an empty line, how many paths there are, each of them, with a
+/// question mark before doubtful ones, and the paths of which it isn't known what they would be.
 pub(crate) fn restoration_lines(
     alloc: Global,
-    doubtful: &[Path],
+    summary: &Summary,
     paths: &[Restoration],
 ) -> Result<Vec<SafeLine>, NoMem>
-    ensures { IfOk result (λ lines. lines.items ≡ restoration_lines doubtful.now paths.now) }
+    ensures { IfOk result (λ lines. lines.items
+        ≡ restoration_lines summary.now.doubtful.items summary.now.undecided.items paths.now) }
 {
-    let width = widest(alloc, paths)?;
     let mut lines = Vec::new(alloc);
     lines.push(SafeLine::new(alloc))?;
     lines.push(restorations_head(alloc, paths)?)?;
-    push_restorations(alloc, &mut lines, doubtful, paths, width)?;
-    push_doubts(alloc, &mut lines, doubtful)?;
+    push_paths(alloc, &mut lines, summary, paths)?;
+    push_doubts(alloc, &mut lines, has_doubts(summary))?;
     Ok(lines)
 }

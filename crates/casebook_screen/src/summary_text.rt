@@ -62,7 +62,7 @@ pub fn summary_lines(
     lines.append(&mut unknown_lines(alloc, sheet.source, unknown, fates)?)?;
     lines.push(SafeLine::new(alloc))?;
     lines.append(&mut count_lines(alloc, fates)?)?;
-    lines.append(&mut restoration_lines(alloc, summary.doubtful.as_slice(), sheet.restorations)?)?;
+    lines.append(&mut restoration_lines(alloc, summary, sheet.restorations)?)?;
     lines.append(&mut notice_lines(alloc, names, screens, sheet.groups)?)?;
     lines.append(&mut look_lines(alloc, names, summary.looks.len(), sheet.looks)?)?;
     let unshown = unshown_in(alloc, sheet.source, fates)?;

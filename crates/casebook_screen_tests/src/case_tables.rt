@@ -198,7 +198,8 @@ given: {"script":1,"tree":[],"sessions":[],"lines":[]} :: %(EMPTY) :: %(EMPTY) :
 - document: %(EMPTY)
   => {"causes":[],"counts":{"alike":0,"cancelled":0,"changed":0,"kept":0,"untouched":0},\
   "doubtful":[],"incomplete":[],"leaked":[],"lines":[],"looked":[],"observed":[],"outside":[],"overlapping":[],\
-  "recording":true,"restore":[],"show":1,"source":"played","tell":[],"unknown":[],"unseen":[]}
+  "recording":true,"restore":[],"show":1,"source":"played","tell":[],\
+  "unknown":[],"unseen":[]}
 
 given: {"script":1,"tree":[],"sessions":[[1,"/",0,[]],[2,"/",0,[]]],\
   "lines":[[1,2,"echo a > f"],[4294967295,1,"cat f"]]} :: %(EMPTY) :: %(EMPTY) :: %(EMPTY) ::

@@ -2,8 +2,8 @@
 
 /// What is shown of repairs of lines that a recorder saw. In the first one two lines that it
 /// observed are run again, others are kept, and a line runs another text, which Retro's shell
-/// doesn't know. In the second one an observed line is run again, and in the third one no line was
-/// observed.
+/// doesn't know. In the second and third one an observed line is run again, which in the third one
+/// writes a path that doesn't differ, and in the fourth one no line was observed.
 pub const SEEN: &str = r##"
 given: {"script":1,"tree":[["/f","610a"]],"sessions":[[1,"/",0,[]],[2,"/",0,[]]],"lines":\
   [[1,2,"echo b > f"],[2,1,"cat f > g; cat g"],[3,1,"cat f"],[4,1,"cat f"],[5,1,"echo done"],\
@@ -26,7 +26,7 @@ given: {"script":1,"tree":[["/f","610a"]],"sessions":[[1,"/",0,[]],[2,"/",0,[]]]
 | RESTORE  2 change, 0 come back, 0 go
 |   M /f  +1 -1
 | ? M /g  +1 -1
-|   ? written by a line that wasn't understood
+|   ? written by a line that wasn't understood or has to be run for real
 |
 | TELL  0 sessions about 0 screens
 |
@@ -83,6 +83,39 @@ given: {"script":1,"tree":[["/f","610a"]],"sessions":[[1,"/",0,[]]],"lines":\
 |
 | CAUSES  what each edited line led to: lines with another result, run again alike, paths it wrote
 |       1    1    0  echo b > f                                                    /f
+
+given: {"script":1,"tree":[["/f","610a"]],"sessions":[[1,"/",0,[]]],"lines":\
+  [[1,1,"echo b > f"],[2,1,"cat f; echo c > g"]]} :: 1 :: %(EMPTY) :: %(EMPTY) :: observed 2
+- show: summary =>
+| 2 lines of 1 session. 1 cancelled.
+| Recorded on the machine. 1 line stands as it was observed.
+|
+| ? 1 line has to be run for real before this answer is whole.
+|       1  what it depends on would be another     2
+|   Until then it stands as it was observed.
+|
+|       1 cancelled
+|       1 run again, another result
+|       0 run again, the same result
+|       0 met, kept as recorded
+|       0 untouched
+|
+| RESTORE  1 change, 0 come back, 0 go
+|   M /f  +1 -1
+| ?   /g
+|   ? written by a line that wasn't understood or has to be run for real
+|
+| TELL  0 sessions about 0 screens
+|
+| LOOKED  1 session by 1 observed line, at what would be another
+|   1        /f                                   1x  lines 2
+|
+| LEAKED  0 cancelled lines showed something
+|
+| CAUSES  what each edited line led to: lines with another result, run again alike, paths it wrote
+|       1    1    0  echo b > f                                                    /f
+
+- document: /doubtful => ["/g"]
 
 given: {"script":1,"tree":[["/f","610a"]],"sessions":[[1,"/",0,[]]],"lines":\
   [[1,1,"echo b > f"],[2,1,"cat f"]]} :: 1 :: %(EMPTY) :: %(EMPTY) :: observed none

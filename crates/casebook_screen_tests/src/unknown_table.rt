@@ -26,7 +26,7 @@ given: unknown :: 2 3 5 10 :: 1=ann, 2=eve :: %(EMPTY) :: recording
 | RESTORE  1 change, 0 come back, 1 go
 | ? M /srv/list   +1 -1
 |   D /srv/other  +0 -1
-|   ? written by a line that wasn't understood
+|   ? written by a line that wasn't understood or has to be run for real
 |
 | TELL  1 session about 1 screen
 |   ann      /srv/list                            1x  lines 6

@@ -69,14 +69,14 @@ fn first_record<'a>(observations: &[Observation<'a>], name: &SessionName) -> Opt
 }
 
 /// Returns how a record says that a session started, if it does.
-fn start_if<'a>(name: &SessionName, record: &'a Record) -> Option<&'a Start>
+fn start_if<'a>(name: &SessionName, one: &'a Record) -> Option<&'a Start>
     ensures { option_map (λ start. start.now) result
-        ≡ start_if name.now record.now.session record.now.event }
+        ≡ start_if name.now one.now.session one.now.event }
 {
-    if name.as_slice() != record.session.as_slice() {
+    if name.as_slice() != one.session.as_slice() {
         return None;
     }
-    match &record.event {
+    match &one.event {
         Event::Start(start) => Some(start),
         Event::Begin(_) => None,
         Event::End(_) => None,

@@ -56,7 +56,8 @@
 //!   isn't, in order of numbers [by `specs/Unknown.antt`]. Of lines that a recorder saw, the former
 //!   are exactly those that stand as they were observed and that the repair ran again with their
 //!   own texts (`lines_to_run`). `Summary::of` names the paths to restore that one of these lines
-//!   wrote, in one of the two recordings.
+//!   wrote, in one of the two recordings, and of those that don't differ exactly the ones that a
+//!   line wrote that has to be run for real [`undecided`].
 //! - `leaks_of` returns what the compensations of cancelled lines say, and `notices` what all
 //!   others say, but for lines that aren't understood: an equation each. So by
 //!   `leaks_and_tellings_are_all` each compensation of a line that is understood is in one of them.

@@ -115,7 +115,7 @@ pub fn notices(
 }
 
 /// Returns whether a line has to be run for real.
-fn is_need(obstacle: Obstacle) -> bool
+pub(crate) fn is_need(obstacle: Obstacle) -> bool
     ensures { result ≡ is_need obstacle }
 {
     matches!(obstacle, Obstacle::Need)

@@ -1,8 +1,9 @@
 //! Sets of paths.
-ghost use Rattle.std.specs.Prelude.{◌≡◌, [], ◌||◌, OnOk};
+ghost use Rattle.std.specs.Prelude.{◌≡◌, [], ◌||◌, ◌&&◌, IfOk, OnOk, not};
 ghost use Rattle.std.specs.List.{list_any};
+ghost use Rattle.std.specs.List.Sorted.{IsStrictlySortedBy};
 ghost use Rattle.std.specs.Option.{option_copied};
-ghost use Rattle.retro_tree.specs.Order.{path_eq};
+ghost use Rattle.retro_tree.specs.Order.{path_cmp, path_eq};
 ghost use Rattle.retro_tree.specs.Path.{PathValue};
 ghost use Rattle.casebook_cause.specs.Cause.{notes_of};
 ghost use Rattle.casebook_view.specs.Unknown.{writes_to};
@@ -76,10 +77,26 @@ impl PathSet {
         }
     }
 
+    /// Removes a path, if it is in the set.
+    pub(crate) fn remove(&mut self, path: &Path)
+        ensures { (p : PathValue) → has_path p self.new.paths.keys
+            ≡ (has_path p self.old.paths.keys && not (path_eq p path.now)) }
+    {
+        self.paths.remove(path);
+    }
+
     /// Returns whether a path is in the set.
     pub(crate) fn contains(&self, path: &Path) -> bool
         ensures { result ≡ has_path path.now self.now.paths.keys }
     {
         self.paths.contains(path)
+    }
+
+    /// Returns the paths, in order.
+    pub(crate) fn into_paths(self, alloc: Global) -> Result<Vec<Path>, NoMem>
+        ensures items { IfOk result (λ found. found.items ≡ self.paths.keys) }
+        ensures sorted { IfOk result (λ found. IsStrictlySortedBy path_cmp found.items) }
+    {
+        self.paths.into_iter().collect(alloc)
     }
 }

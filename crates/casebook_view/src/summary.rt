@@ -11,12 +11,12 @@ ghost use Rattle.casebook_view.specs.Fates.{AreFates, fate_at};
 ghost use Rattle.casebook_view.specs.Reasons.{AreReasons, number_in};
 ghost use Rattle.casebook_view.specs.Summaries.{leak_for, line_told, notice_for, notices_at};
 ghost use Rattle.casebook_view.specs.Summaries.{number_of};
-ghost use Rattle.casebook_view.specs.Unknown.{is_doubtful, is_understood, numbers_to_run};
-ghost use Rattle.casebook_view.specs.Unknown.{unknown_in};
+ghost use Rattle.casebook_view.specs.Unknown.{AreUndecided, is_doubtful, is_understood};
+ghost use Rattle.casebook_view.specs.Unknown.{numbers_to_run, unknown_in};
 
 use crate::NoMem;
 use crate::case::Case;
-use crate::doubt::doubtful_paths;
+use crate::doubt::{doubtful_paths, undecided_paths};
 use crate::effect::{Effect, effects};
 use crate::fate::{Fate, fates};
 use crate::leak::{Leak, leaks_of};
@@ -45,6 +45,9 @@ pub struct Summary {
     /// Those of these paths to which a line wrote that isn't understood, as it was recorded or in
     /// the repaired recording, in order.
     pub doubtful: Vec<Path>,
+    /// The paths that don't differ at the end, and to which a line wrote that has to be run for
+    /// real, as it was recorded or in the repaired recording, in order.
+    pub undecided: Vec<Path>,
     /// Whom to tell about what: a notice for each line that is understood, isn't cancelled and
     /// prints something else, in order.
     pub notices: Vec<Notice>,
@@ -83,6 +86,9 @@ impl Summary {
         ensures doubtful { IfOk result (λ summary. summary.doubtful.items ≡ filter (is_doubtful
             case.now.recording case.now.repair.recording summary.unknown.items)
             (map path_in summary.restorations.items)) }
+        ensures undecided { IfOk result (λ summary. AreUndecided
+            case.now.recording case.now.repair.recording summary.unknown.items
+            (map path_in summary.restorations.items) summary.undecided.items) }
         ensures lines_told { IfOk result (λ summary. map line_told summary.notices.items
             ≡ map number_of (filter (is_understood summary.unknown.items)
             (tellings case.now.recording case.now.repair))) }
@@ -110,8 +116,10 @@ impl Summary {
         let reasons = reasons(alloc, case)?;
         let restorations = restorations(alloc, case)?;
         let effects = effects(alloc, case, reasons.as_slice(), fates.as_slice())?;
+        let changed = restorations.as_slice();
         Ok(Summary {
-            doubtful: doubtful_paths(alloc, case, unknown.as_slice(), restorations.as_slice())?,
+            doubtful: doubtful_paths(alloc, case, unknown.as_slice(), changed)?,
+            undecided: undecided_paths(alloc, case, unknown.as_slice(), changed)?,
             notices: notices(alloc, case, reasons.as_slice(), unknown.as_slice())?,
             looks: looks(alloc, case, reasons.as_slice(), unknown.as_slice())?,
             leaks: leaks_of(alloc, case, unknown.as_slice())?,

@@ -2,7 +2,7 @@
 use crate::words::{change_sign, fate_sign, obstacle_word, push_item, subject_text};
 use casebook_view::{Effect, Notice, Reason, Summary, Why, chain};
 use retro_rows::text;
-use retro_tree::NoMem;
+use retro_tree::{NoMem, Path};
 use std::alloc::Global;
 
 /// Returns what becomes of each line.
@@ -26,10 +26,10 @@ fn restorations(alloc: Global, summary: &Summary) -> Result<String, NoMem> {
     Ok(out)
 }
 
-/// Returns the doubtful paths.
-fn doubtful(alloc: Global, summary: &Summary) -> Result<String, NoMem> {
+/// Returns paths.
+fn paths(alloc: Global, paths: &[Path]) -> Result<String, NoMem> {
     let mut out = String::new(alloc);
-    for path in &summary.doubtful {
+    for path in paths {
         push_item(&mut out, ", ", path.as_str())?;
     }
     Ok(out)
@@ -138,7 +138,8 @@ pub fn part(alloc: Global, summary: &Summary, name: &str) -> Result<String, NoMe
     match name {
         "fates" => fates(alloc, summary),
         "restore" => restorations(alloc, summary),
-        "doubtful" => doubtful(alloc, summary),
+        "doubtful" => paths(alloc, summary.doubtful.as_slice()),
+        "undecided" => paths(alloc, summary.undecided.as_slice()),
         "unknown" => unknown(alloc, summary),
         "tell" => notices(alloc, summary.notices.as_slice()),
         "looked" => notices(alloc, summary.looks.as_slice()),

@@ -115,7 +115,8 @@ given: unknown :: 1=echo, 6=ls, 10=echo z > /srv/other; ls
 /// session looked at `/f`, and what it wrote is doubtful. Line 3 is run again too, but does what
 /// Retro's shell does. The observed lines 4 and 8 are kept and cancelled. Lines 5 to 7 run other
 /// texts, which are tested as ever. No recorded text is tested, as that of line 9. A line that an
-/// edit gives its own text is run again with it.
+/// edit gives its own text is run again with it. In the second log the observed line 2 writes paths
+/// that are the same without line 1; of these it isn't known what they would be.
 pub const SEEN: &str = r##"
 given: {"script":1,"tree":[["/f","610a"]],"sessions":[[1,"/",0,[]]],\
   "lines":[[1,1,"echo b > f"],[2,1,"cat f > g; cat g"],[3,1,"cat f"],[4,1,"echo a"],\
@@ -128,9 +129,20 @@ given: {"script":1,"tree":[["/f","610a"]],"sessions":[[1,"/",0,[]]],\
 - show: 2 4 5 6 8 :: leaked => 8 1 2
 - show: 2 4 5 6 8 :: restore => M /f, M /g, A /h
 - show: 2 4 5 6 8 :: doubtful => /g, /h
+- show: 2 4 5 6 8 :: undecided => %(EMPTY)
 - show: none :: unknown => 6 command, 7 command
 - show: none :: looked => %(EMPTY)
 - show: unknown => 6 command, 7 command, 9 command
+
+given: {"script":1,"tree":[["/f","610a"],["/k","6b0a"]],"sessions":[[1,"/",0,[]]],\
+  "lines":[[1,1,"echo b > f"],[2,1,"cat f > i; echo c > h; echo c >> g; rm k"],\
+  [3,1,"cat f; echo d > j"],[4,1,"echo e > l"],[5,1,"echo d > m"]]} :: 1
+- show: 2 4 :: unknown => 2 need
+- show: 2 4 :: restore => M /f, M /i
+- show: 2 4 :: doubtful => /i
+- show: 2 4 :: undecided => /g, /h, /k
+- show: none :: undecided => %(EMPTY)
+- show: undecided => %(EMPTY)
 
 given: {"script":1,"tree":[["/f","610a"]],"sessions":[[1,"/",0,[]]],\
   "lines":[[1,1,"cat f"],[2,1,"ls"],[3,1,"cat g"]]} :: 1=cat f, 2=ls

@@ -1,5 +1,5 @@
 -- The parts of the document, as the code has them.
-use Rattle.std.specs.Prelude.{◌≡◌, Bool, List, codes, map}
+use Rattle.std.specs.Prelude.{◌≡◌, ◌++◌, Bool, List, codes, map}
 use Rattle.serde_json.specs.Data.{Data, boolean, string, object, no_members, member}
 use Rattle.serde_json.specs.View.{view}
 use Rattle.retro_json.specs.Values.{array_of, number_data}
@@ -46,7 +46,8 @@ pub record AreParts (summary : Summary) (restorations : List Restoration) (group
     (source : SourceValue) (labels : Labels) (parts : Parts) : Type 0 where
   pub causes : map view parts.causes.items ≡ map (λ effect. effect_data (effect_value effect)) summary.effects.items
   pub counts : view parts.counts ≡ counts_data summary.fates.items
-  pub doubtful : map view parts.doubtful.items ≡ map path_data summary.doubtful.items
+  pub doubtful : map view parts.doubtful.items
+      ≡ map path_data (summary.doubtful.items ++ summary.undecided.items)
   pub incomplete : map view parts.incomplete.items ≡ map number_data (incomplete_in source)
   pub leaked : map view parts.leaked.items ≡ map (leak_data labels) summary.leaks.items
   pub looked : map view parts.looked.items ≡ map (λ group. group_data labels (group_value group)) looks

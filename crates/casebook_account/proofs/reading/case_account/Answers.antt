@@ -3,6 +3,7 @@ use Rattle.std.proofs.lemmas.Result.{err_from_is_err_and}
 use Rattle.casebook_typed.specs.Values.{line_value, session_value}
 use Rattle.casebook_recording.specs.declared.recording_fault.RecordingFault.TheVariants as faults
 use Rattle.casebook_account.specs.Accounts.{users_from}
+use Rattle.casebook_account.specs.Attributes.{attributes_seen}
 use Rattle.casebook_account.specs.Lacks.{incomplete_from, unseen_in}
 use Rattle.casebook_account.specs.Machine.{IsTooMany, machine_from}
 use Rattle.casebook_account.proofs.Telling.{not_numbered, not_recorded}
@@ -34,7 +35,8 @@ returns-clause-ok c =
       recorded = c.in_ok-recording.ensures.recorded;
       machine = record {
         lines = c.in_ok-lines.ensures.ok
-            ∙ ap (λ ts. machine_from 1 1 ts (map line_value c.in_ok-typed.field-0.typed.lines.items)) c.lines.ensures
+            ∙ ap (λ ts. machine_from 1 1 ts (map line_value c.as_slice-typed.result.now)) c.lines.ensures
+            ∙ ap (λ ls. machine_from 1 1 told.lines (map line_value ls)) c.as_slice-typed.ensures.value
             ∙ ap (machine_from 1 1 told.lines) c.in_ok-typed.ensures.lines;
         users = c.in_ok-users.ensures.ok
             ∙ ap (λ ss. users_from 1 (map session_value ss)) c.as_slice.ensures.value
@@ -43,5 +45,11 @@ returns-clause-ok c =
             ∙ ap (λ ss. incomplete_from 1 (map session_value ss)) c.as_slice-2.ensures.value
             ∙ ap (incomplete_from 1) c.in_ok-typed.ensures.sessions;
         unseen = c.in_ok-unseen.ensures ∙ ap unseen_in c.as_slice-3.ensures;
+        attributes = c.in_ok-attributes.ensures
+            ∙ ap (λ ms. attributes_seen c.args.case.now.first.said ms (map line_value c.as_slice-typed.result.now))
+            c.as_slice-4.ensures.value
+            ∙ ap (λ ls. attributes_seen c.args.case.now.first.said c.in_ok-lines.lines.items (map line_value ls))
+            c.as_slice-typed.ensures.value
+            ∙ ap (attributes_seen c.args.case.now.first.said c.in_ok-lines.lines.items) c.in_ok-typed.ensures.lines;
       };
     }

@@ -1,10 +1,11 @@
-use Rattle.std.proofs.Common.{◌≡◌, IsTrue, Ok, map, option_map, string_bytes, subst, sym}
+use Rattle.std.proofs.Common.{◌≡◌, ◌∙◌, IsTrue, Ok, ap, map, option_map, string_bytes, subst, sym}
 use Rattle.retro_keep.specs.Script.{rises_from}
 use Rattle.std.proofs.lemmas.Result.{err_from_is_err_and}
 use Rattle.retro_keep.specs.Edit.{edit_of}
 use Rattle.casebook_account.specs.Edits.{HasNoText, known_lines, text_edits}
 use Rattle.casebook_account.proofs.Rising.{shown_lines_rise}
 use Rattle.casebook_request.specs.Views.{repair_view, rounds_view}
+use Rattle.casebook_cli.specs.Attributes.{attributes_by}
 use Rattle.casebook_cli.specs.Repairs.{AreEdits, IsRepairBy}
 use Rattle.casebook_cli.specs.Stops.{StopsEdits, StopsNumbers, StopsRepair, StopsRepaired}
 use Rattle.casebook_cli.specs.inner.Views.{document_view, inputs_view}
@@ -94,6 +95,7 @@ returns-clause-ok g c =
       };
       labels = c.in_ok-labels.ensures.ok;
       seen = c.in_ok-seen.ensures;
+      attributes = c.attributes_by.ensures ∙ ap attributes_by c.in_ok-recording.ensures.machine;
     }
 
 pub returns-clause-rise : goal.returns-clause-rise
