@@ -351,5 +351,5 @@ def cwd_in(tree, cwd):
 
 def squeezed(text):
     """A text without what the history changes: continued rows, and empty ones after a
-    here-document."""
-    return re.sub(r"\n+", "\n", text.replace("\\\n", "")).rstrip("\n")
+    here-document. Of a row that is continued by an empty one it has the backslash alone."""
+    return re.sub(r"\n+", "\n", f"{text}\n".replace("\\\n", "")).rstrip("\n")

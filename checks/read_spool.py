@@ -136,8 +136,15 @@ class Spool:
             self.nodes[path] = node._replace(data=old.data)
         for word, *fields in notes:
             if word == "looked":
-                self.nodes[decoded(fields[0]).decode()].sight[5:7] = map(int, fields[1:3])
+                self.look(self.nodes[decoded(fields[0]).decode()], list(map(int, fields[1:3])))
         return changes, reads
+
+    def look(self, looked, when):
+        """Notes when the recorder read a path, by any name that it has."""
+        for node in self.nodes.values():
+            if node is looked or (node.kind == "file" and node.sight[3:5] == looked.sight[3:5]
+                                  and node.sight[7:] == looked.sight[7:]):
+                node.sight[5:7] = when
 
     def more(self):
         """The records that are new since the last call."""
