@@ -91,4 +91,41 @@ def fan(size):
     return tree, [1], lines
 
 
+# Of these an answer has the more to show, the longer the log is: sessions, causes, leaks, paths of
+# which it isn't known what they hold, and rows of a text.
+
+
+def crowd(size):
+    """Each line is of a session of its own, and half of them show what the line before wrote."""
+    texts = ("echo {0} > f{1}", "cat f{1}")
+    lines = [(at + 1, texts[at % 2].format(at, at // 2 % 100)) for at in range(size)]
+    return [], range(1, size + 1), lines
+
+
+def leading(size):
+    """Of ten lines the first one leads to the other nine, which each show what it wrote."""
+    lines = []
+    for at in range(size):
+        text = "cat f{0}" if at % 10 else "echo {0} > f{0}"
+        lines.append((at % 7 + 1, text.format(at // 10)))
+    return [], range(1, 8), lines
+
+
+def leaking(size):
+    """Each line shows something."""
+    return [], [1, 2], [(at % 2 + 1, f"echo secret {at}") for at in range(size)]
+
+
+def doubtful(size):
+    """Of two lines the first one writes a path, to which the second one writes what isn't known."""
+    texts = ("echo {0} > f{0}", "perl x >> f{0}")
+    return [], [1], [(1, texts[at % 2].format(at // 2)) for at in range(size)]
+
+
+def long_text(size):
+    """A tenth of the rows of a long text go, and the text is shown."""
+    text = "".join(f"{at:06} {'abcdefghij'[at % 10]}\n" for at in range(size))
+    return [["/f", text.encode().hex()]], [1], [(1, "grep -Fv h f > g; mv g f"), (1, "cat f")]
+
+
 CASES = {"growing": growing, "spread": spread, "tree": tree_of, "mix": mix, "moving": moving}
