@@ -1,5 +1,5 @@
 -- What holds of documents and folders if it is known what they are.
-use Rattle.std.proofs.Common.{Option, Some, None, IfSome}
+use Rattle.std.proofs.Common.{Option, Some, None, IfSome, Result, Ok, Err, IfOk}
 
 -- from one fact to another
 pub one : {A : Type 0} (o : Option A) (P Q : A → Type 0) → IfSome o P → ((x : A) → P x → Q x) → IfSome o Q
@@ -57,3 +57,9 @@ pub both_known : {A B : Type 0} (o : Option A) (p : Option B) (P R : A → B →
 both_known None p P R h f = tt
 both_known (Some x) None P R h f = tt
 both_known (Some x) (Some y) P R h f = f x y h
+
+-- from two facts of a result to another
+pub of_ok : {A E : Type 0} (r : Result A E) (P Q R : A → Type 0) → IfOk r P → IfOk r Q
+    → ((x : A) → P x → Q x → R x) → IfOk r R
+of_ok (Ok x) P Q R h k f = f x h k
+of_ok (Err e) P Q R h k f = tt

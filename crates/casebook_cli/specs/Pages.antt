@@ -6,11 +6,11 @@ use Rattle.retro_redo.specs.declared.repair.Repair.{Repair}
 use Rattle.casebook_page.specs.Page.{IsPageText}
 use Rattle.casebook_page.specs.Rows.{shows_untouched, written_lines}
 use Rattle.casebook_view.specs.Sources.{SourceValue}
-use Rattle.casebook_view.specs.declared.summary.Summary.{Summary}
+use Rattle.casebook_summary.specs.declared.summary.Summary.{Summary}
 use Rattle.casebook_request.specs.Request.{PageRequest}
 use Rattle.casebook_cli.specs.Inputs.{InputsValue}
 use Rattle.casebook_cli.specs.Repairs.{IsAsked}
-use Rattle.casebook_cli.specs.Screens.{IsSummary, asked_source}
+use Rattle.casebook_cli.specs.Screens.{IsSummaryOf, asked_source}
 use Rattle.casebook_cli.specs.declared.repairs.AskedRepair.{AskedRepair}
 
 -- The text is a page with a row for each line of the recording, but for untouched lines if they are
@@ -18,7 +18,7 @@ use Rattle.casebook_cli.specs.declared.repairs.AskedRepair.{AskedRepair}
 pub record IsPageOf (source : SourceValue) (edits : List Edit) (r : RecordingValue) (repair : Repair) (all : Bool) (text : List ℕ)
     : Type 0 where
   pub summary : Summary
-  pub is_summary : IsSummary source edits r repair summary
+  pub is_summary : IsSummaryOf source edits r repair summary
   pub page : IsPageText (written_lines (shows_untouched all summary.fates.items) summary.fates.items) text
 
 -- The text is a page of the repair of the log or of the case that is asked for.

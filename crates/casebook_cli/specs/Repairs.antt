@@ -1,10 +1,9 @@
 -- The repairs that are asked for.
-use Rattle.std.specs.Prelude.{◌≡◌, List, ℕ, ◌++◌, Option, Some, None, Ok, IsTrue, map, option_map}
+use Rattle.std.specs.Prelude.{◌≡◌, List, ℕ, ◌++◌, Option, Some, None, Ok, map, option_map}
 use Rattle.std.specs.Str.{IsUtf8}
 use Rattle.retro_keep.specs.Edit.{edit_of}
 use Rattle.retro_keep.specs.Recording.{RecordingValue, IsRecordingOf}
 use Rattle.retro_keep.specs.Recording as recordings
-use Rattle.retro_keep.specs.Script.{rises_from}
 use Rattle.retro_keep.specs.declared.edit.Edit.{Edit}
 use Rattle.retro_keep.specs.declared.edit.Edit.TheVariants.{Cancel}
 use Rattle.retro_redo.specs.Editing.{AreAccepted}
@@ -52,10 +51,6 @@ pub record IsRepairBy (rounds : Option RoundsValue) (edits : List Edit) (r : Rec
   pub accepted : Accepts rounds edits r
   pub is_repair : IsRecordingOf (recordings.script_in r) r → IsRepair (edit_of edits) r repair
   pub settled : AreSettled (edit_of edits) r repair
-
--- the lines of a repair are in order of their numbers
-abbrev pub LinesRise : Repair → Type 0
-LinesRise repair = IsTrue (rises_from 0 (map (λ l. l.number) repair.lines.items))
 
 -- the edits that leave out the lines with these numbers
 abbrev pub cancelled : List ℕ → List Edit

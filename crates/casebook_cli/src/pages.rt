@@ -1,12 +1,11 @@
 //! Pages of repairs.
 ghost use Rattle.std.specs.Prelude.{IfOk, string_bytes};
 ghost use Rattle.casebook_cli.specs.Pages.{IsPageOf};
-ghost use Rattle.casebook_cli.specs.Repairs.{LinesRise};
 ghost use Rattle.casebook_cli.specs.Screens.{asked_source};
+ghost use Rattle.casebook_summary.specs.Summary.{LinesRise};
 
 use crate::NoMem;
 use crate::repairs::{AskedRepair, summary_of};
-use crate::screens::is_recording;
 use casebook_page::{Contents, page};
 use casebook_view::{Case, Filters, rows};
 use casebook_words::Labels;
@@ -44,7 +43,6 @@ fn page_of_case<'x>(
         lines: lines.as_slice(),
         labels,
         title,
-        is_recording: is_recording(alloc, case)?,
         shows_all: all,
     };
     page(alloc, contents)

@@ -1,11 +1,13 @@
 //! Repairs that are asked for.
-ghost use Rattle.std.specs.Prelude.{◌≡◌, IfOk, IfErr, Ok, option_map};
+ghost use Rattle.std.specs.Prelude.{◌≡◌, IfOk, IfErr, Ok, option_map, true};
+ghost use Rattle.retro_keep.specs.Recording.{IsRecordingOf, script_in};
 ghost use Rattle.casebook_account.specs.Accounts.{IsAccountOf};
 ghost use Rattle.casebook_account.specs.Edits.{HasNoText, known_lines, text_edits};
 ghost use Rattle.casebook_account.specs.Shown.{HasNoShown, shown, shown_settled};
 ghost use Rattle.casebook_request.specs.Views.{repair_view, rounds_view};
-ghost use Rattle.casebook_cli.specs.Repairs.{AreEdits, IsAsked, IsRepairBy, LinesRise};
-ghost use Rattle.casebook_cli.specs.Screens.{IsSummary, asked_source};
+ghost use Rattle.casebook_cli.specs.Repairs.{AreEdits, IsAsked, IsRepairBy};
+ghost use Rattle.casebook_summary.specs.Summary.{LinesRise};
+ghost use Rattle.casebook_cli.specs.Screens.{IsSummaryOf, asked_source};
 ghost use Rattle.casebook_cli.specs.Stops.{IsRefused, IsUnshownRepair, StopsAsked, StopsEdits};
 ghost use Rattle.casebook_cli.specs.Stops.{StopsNumbers, StopsRepair, StopsRepaired};
 ghost use Rattle.casebook_cli.specs.inner.Views.{document_view, inputs_view};
@@ -21,9 +23,11 @@ use crate::progress::{Progress, Step};
 use crate::stop::Stop;
 use casebook_account::{Account, SeenAttributes};
 use casebook_request::{RepairRequest, Rounds};
-use casebook_view::{Case, Summary};
+use casebook_summary::Summary;
+use casebook_view::{Case, Source};
 use casebook_words::Labels;
 use retro_keep::{Edit, Recording};
+use retro_log::check;
 use retro_redo::{Quiet, Repair, RepairFault, repair_alone};
 use retro_rounds::repair;
 use std::alloc::{AllocGlobal, Global};
@@ -66,13 +70,25 @@ impl AskedRepair {
     }
 }
 
+/// Returns whether a log is as its lines run. Of lines that were seen on a machine that isn't said.
+fn is_recording(alloc: Global, case: &Case<'_>) -> Result<bool, NoMem>
+    ensures { IfOk result (λ yes. yes ≡ true
+        → IsRecordingOf (script_in case.now.recording) case.now.recording) }
+{
+    match case.source() {
+        Source::Played => check(alloc, case.recording()),
+        Source::Seen(_) => Ok(false),
+    }
+}
+
 /// Returns what a repair would do.
 pub(crate) fn summary_of(alloc: Global, case: &Case<'_>) -> Result<Summary, NoMem>
     requires { LinesRise case.now.repair }
     ensures { IfOk result
-        (IsSummary case.now.source case.now.edits case.now.recording case.now.repair) }
+        (IsSummaryOf case.now.source case.now.edits case.now.recording case.now.repair) }
 {
-    Summary::of(alloc, case)
+    let is_recording = is_recording(alloc, case)?;
+    Summary::of(alloc, case, is_recording)
 }
 
 /// Returns why a repair is refused.

@@ -1,11 +1,10 @@
 //! What is shown of repairs.
-ghost use Rattle.std.specs.Prelude.{◌≡◌, IfOk, IfErr, IsTrue, not, string_bytes, true};
-ghost use Rattle.retro_keep.specs.Recording.{IsRecordingOf, script_in};
+ghost use Rattle.std.specs.Prelude.{IfOk, IfErr, IsTrue, not, string_bytes};
 ghost use Rattle.casebook_cli.specs.Harmless.{IsHarmless, is_plain_shown};
-ghost use Rattle.casebook_cli.specs.Repairs.{LinesRise};
-ghost use Rattle.casebook_cli.specs.Screens.{AreDiffLines, AreParts, AreSummaryLines, AreWhyLines};
+ghost use Rattle.casebook_summary.specs.Summary.{LinesRise, Rise};
+ghost use Rattle.casebook_cli.specs.Screens.{AreDiffLines, AreSummaryLines, AreWhyLines};
 ghost use Rattle.casebook_cli.specs.Screens.{IsJson, IsLineText, IsScreenText, IsShownOf, IsTextOf};
-ghost use Rattle.casebook_cli.specs.Screens.{Rise, asked_source};
+ghost use Rattle.casebook_cli.specs.Screens.{asked_source};
 ghost use Rattle.casebook_cli.specs.Stops.{IsNoLine, StopsShown};
 ghost use Rattle.casebook_cli.specs.inner.Views.{screen_view};
 
@@ -16,13 +15,11 @@ use crate::rows_text::widest_name;
 use crate::stop::Stop;
 use casebook_json::summary_json;
 use casebook_request::{Extras, ShownPart};
-use casebook_screen::{
-    Names, Restoration, Sheet, detail_lines, diff_lines, summary_lines, to_restore, why_lines,
-};
+use casebook_screen::{Names, detail_lines, diff_lines, summary_lines, why_lines};
+use casebook_summary::Summary;
 use casebook_text::SafeLine;
-use casebook_view::{Case, Group, Source, Summary, grouped};
+use casebook_view::Case;
 use casebook_words::Labels;
-use retro_log::check;
 use std::alloc::Global;
 
 /// What is shown of a repair, and how.
@@ -38,59 +35,12 @@ struct Screen<'s, 'c> {
     colours: bool,
 }
 
-/// Returns whether a log is as its lines run. Of lines that were seen on a machine that isn't said.
-pub(crate) fn is_recording(alloc: Global, case: &Case<'_>) -> Result<bool, NoMem>
-    ensures { IfOk result (λ yes. yes ≡ true
-        → IsRecordingOf (script_in case.now.recording) case.now.recording) }
-{
-    match case.source() {
-        Source::Played => check(alloc, case.recording()),
-        Source::Seen(_) => Ok(false),
-    }
-}
-
-/// What a sheet has beside a recording and a summary.
-#[derive(Drop)]
-struct Parts {
-    /// The paths to restore.
-    restorations: Vec<Restoration>,
-    /// Whom to tell about what.
-    groups: Vec<Group>,
-    /// Who looked at what.
-    looks: Vec<Group>,
-    /// Whether the log is as its lines run.
-    is_recording: bool,
-}
-
 impl Screen<'_, '_> {
-    /// Returns the parts of the sheet.
-    fn parts(self, alloc: Global) -> Result<Parts, NoMem>
-        ensures { IfOk result (AreParts (screen_view self.entry)) }
-    {
-        let summary = self.summary;
-        Ok(Parts {
-            restorations: to_restore(alloc, self.case, summary.restorations.as_slice())?,
-            groups: grouped(alloc, summary.notices.as_slice())?,
-            looks: grouped(alloc, summary.looks.as_slice())?,
-            is_recording: is_recording(alloc, self.case)?,
-        })
-    }
-
     /// Returns what the repair would do.
     fn summary_lines(self, alloc: Global) -> Result<Vec<SafeLine>, NoMem>
         ensures { IfOk result (λ lines. AreSummaryLines (screen_view self.entry) lines.items) }
     {
-        let parts = self.parts(alloc)?;
-        let sheet = Sheet {
-            recording: self.case.recording(),
-            summary: self.summary,
-            restorations: parts.restorations.as_slice(),
-            groups: parts.groups.as_slice(),
-            looks: parts.looks.as_slice(),
-            source: self.case.source(),
-            is_recording: parts.is_recording,
-        };
-        summary_lines(alloc, sheet, self.names)
+        summary_lines(alloc, self.case, self.summary, self.names)
     }
 
     /// Returns what the repair would do, for programs.
@@ -98,17 +48,7 @@ impl Screen<'_, '_> {
         requires { Rise self.summary.now }
         ensures { IfOk result (λ text. IsJson (screen_view self.entry) (string_bytes text)) }
     {
-        let parts = self.parts(alloc)?;
-        let sheet = Sheet {
-            recording: self.case.recording(),
-            summary: self.summary,
-            restorations: parts.restorations.as_slice(),
-            groups: parts.groups.as_slice(),
-            looks: parts.looks.as_slice(),
-            source: self.case.source(),
-            is_recording: parts.is_recording,
-        };
-        summary_json(alloc, sheet, self.names.labels)
+        summary_json(alloc, self.case, self.summary, self.names.labels)
     }
 
     /// Returns why lines are run again, if that is asked for.

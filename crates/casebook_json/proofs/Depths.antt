@@ -7,26 +7,26 @@ use Rattle.serde_json.specs.View.{items_of}
 use Rattle.retro_json.specs.Values.{array_of, number_data}
 use Rattle.retro_keep.specs.Recording.{RecordingValue}
 use Rattle.casebook_profile.specs.declared.unknown_line.UnknownLine.{UnknownLine}
-use Rattle.casebook_view.specs.Effects.{EffectValue, effect_value}
-use Rattle.casebook_view.specs.Groups.{GroupValue, group_value}
+use Rattle.casebook_summary.specs.Effects.{EffectValue, effect_value}
+use Rattle.casebook_summary.specs.Groups.{GroupValue, group_value}
 use Rattle.casebook_view.specs.Reasons.{cause_in, failing_in, reason_at}
 use Rattle.casebook_view.specs.Sources.{SourceValue}
-use Rattle.casebook_view.specs.declared.effect.Effect.{Effect}
+use Rattle.casebook_summary.specs.declared.effect.Effect.{Effect}
 use Rattle.casebook_view.specs.declared.fate.Fate.{Fate}
-use Rattle.casebook_view.specs.declared.group.Group.{Group}
-use Rattle.casebook_view.specs.declared.leak.Leak.{Leak}
+use Rattle.casebook_summary.specs.declared.group.Group.{Group}
+use Rattle.casebook_summary.specs.declared.leak.Leak.{Leak}
 use Rattle.casebook_view.specs.declared.reason.Reason.{Reason}
-use Rattle.casebook_view.specs.declared.subject.Subject.{Subject}
-use Rattle.casebook_view.specs.declared.subject.Subject.TheVariants.{At, Directory, Variable}
-use Rattle.casebook_view.specs.declared.subject.Subject.TheVariants.{Status, Text, Again}
-use Rattle.casebook_view.specs.declared.summary.Summary.{Summary}
+use Rattle.casebook_summary.specs.declared.subject.Subject.{Subject}
+use Rattle.casebook_summary.specs.declared.subject.Subject.TheVariants.{At, Directory, Variable}
+use Rattle.casebook_summary.specs.declared.subject.Subject.TheVariants.{Status, Text, Again}
+use Rattle.casebook_summary.specs.declared.summary.Summary.{Summary}
 use Rattle.casebook_words.specs.declared.labels.Labels.{Labels}
-use Rattle.casebook_screen.specs.declared.restoration.Restoration.{Restoration}
+use Rattle.casebook_summary.specs.declared.restoration.Restoration.{Restoration}
 use Rattle.casebook_json.specs.Causes.{effect_data}
 use Rattle.casebook_json.specs.Counts.{counts_data}
 use Rattle.casebook_json.specs.Leaked.{leak_data}
 use Rattle.casebook_json.specs.Lines.{line_data, line_with_reason, origin_in, why_or_null}
-use Rattle.casebook_json.specs.Restore.{added_in, removed_in, restoration_data}
+use Rattle.casebook_json.specs.Restore.{added_in, doubtful_paths, removed_in, restoration_data}
 use Rattle.casebook_json.specs.Source.{incomplete_in, observed_in, outside_in, overlapping_in, source_name, unseen_in}
 use Rattle.casebook_json.specs.Summary.{summary_data, summary_with}
 use Rattle.casebook_json.specs.Tell.{group_data, subject_path, subject_variable}
@@ -171,34 +171,32 @@ unknown_lower line = let low = unknown_low line in omega (arith, low)
 low_none : AreLow no_members
 low_none = record { low = omega arith }
 
-is_low : (r : RecordingValue) (summary : Summary) (restorations : List Restoration) (groups looks : List Group)
-    (is_recording : Bool) (source : SourceValue) (labels : Labels)
-    → IsLow (summary_data r summary restorations groups looks is_recording source labels)
+is_low : (r : RecordingValue) (summary : Summary) (source : SourceValue) (labels : Labels)
+    → IsLow (summary_data r summary source labels)
 unfolding summary_with
-is_low r summary restorations groups looks is_recording source labels =
+is_low r summary source labels =
     low_object _
     (low_member _ _ _
     (low_array (λ (e : Effect). effect_data (effect_value e)) (λ e. effect_low (effect_value e)) summary.effects.items)
     (low_member _ _ _ (low_counts summary.fates.items)
-    (low_member _ _ _ (low_array path_data (λ p. omega arith) (summary.doubtful.items ++ summary.undecided.items))
+    (low_member _ _ _ (low_array path_data (λ p. omega arith) (doubtful_paths summary.restorations.items ++ summary.undecided.items))
     (low_member _ _ _ (low_numbers (incomplete_in source))
     (low_member _ _ _ (low_array (leak_data labels) (leak_lower labels) summary.leaks.items)
     (low_member _ _ _
     (low_array (line_data r summary.reasons.items) (line_lower r summary.reasons.items) summary.fates.items)
-    (low_member _ _ _ (low_groups labels looks)
+    (low_member _ _ _ (low_groups labels summary.looked.items)
     (low_member _ _ _ (low_numbers (observed_in source))
     (low_member _ _ _ (low_numbers (outside_in source))
     (low_member _ _ _ (low_numbers (overlapping_in source))
-    (low_member _ _ _ (low_flag is_recording)
-    (low_member _ _ _ (low_array restoration_data restoration_lower restorations)
+    (low_member _ _ _ (low_flag summary.is_recording)
+    (low_member _ _ _ (low_array restoration_data restoration_lower summary.restorations.items)
     (low_member _ _ _ (low_number 1)
     (low_member _ _ _ (low_text (source_name source))
-    (low_member _ _ _ (low_groups labels groups)
+    (low_member _ _ _ (low_groups labels summary.told.items)
     (low_member _ _ _ (low_array unknown_data unknown_lower summary.unknown.items)
     (low_member _ _ _ (low_array string (λ t. omega arith) (unseen_in source)) low_none)))))))))))))))))
 
-pub summary_low : (r : RecordingValue) (summary : Summary) (restorations : List Restoration)
-    (groups looks : List Group) (is_recording : Bool) (source : SourceValue) (labels : Labels)
-    → depth (summary_data r summary restorations groups looks is_recording source labels) ≤ max_depth
-summary_low r summary restorations groups looks is_recording source labels =
-    (is_low r summary restorations groups looks is_recording source labels).low
+pub summary_low : (r : RecordingValue) (summary : Summary) (source : SourceValue) (labels : Labels)
+    → depth (summary_data r summary source labels) ≤ max_depth
+summary_low r summary source labels =
+    (is_low r summary source labels).low

@@ -1,31 +1,31 @@
 -- The document has no float, so its text is determined.
-use Rattle.std.proofs.Common.{◌≡◌, ◌++◌, ℕ, List, Bool, false, Option, Some, None, refl}
+use Rattle.std.proofs.Common.{◌≡◌, ◌++◌, ℕ, List, false, Option, Some, None, refl}
 use Rattle.serde_json.specs.Data.{string}
 use Rattle.serde_json.specs.Written.{has_float}
 use Rattle.retro_json.proofs.Floats.{array_float}
 use Rattle.retro_json.specs.Values.{number_data}
 use Rattle.retro_keep.specs.Recording.{RecordingValue}
 use Rattle.casebook_profile.specs.declared.unknown_line.UnknownLine.{UnknownLine}
-use Rattle.casebook_view.specs.Effects.{EffectValue, effect_value}
-use Rattle.casebook_view.specs.Groups.{GroupValue, group_value}
+use Rattle.casebook_summary.specs.Effects.{EffectValue, effect_value}
+use Rattle.casebook_summary.specs.Groups.{GroupValue, group_value}
 use Rattle.casebook_view.specs.Reasons.{cause_in, failing_in, reason_at}
 use Rattle.casebook_view.specs.Sources.{SourceValue}
-use Rattle.casebook_view.specs.declared.effect.Effect.{Effect}
+use Rattle.casebook_summary.specs.declared.effect.Effect.{Effect}
 use Rattle.casebook_view.specs.declared.fate.Fate.{Fate}
-use Rattle.casebook_view.specs.declared.group.Group.{Group}
-use Rattle.casebook_view.specs.declared.leak.Leak.{Leak}
+use Rattle.casebook_summary.specs.declared.group.Group.{Group}
+use Rattle.casebook_summary.specs.declared.leak.Leak.{Leak}
 use Rattle.casebook_view.specs.declared.reason.Reason.{Reason}
-use Rattle.casebook_view.specs.declared.subject.Subject.{Subject}
-use Rattle.casebook_view.specs.declared.subject.Subject.TheVariants.{At, Directory, Variable}
-use Rattle.casebook_view.specs.declared.subject.Subject.TheVariants.{Status, Text, Again}
-use Rattle.casebook_view.specs.declared.summary.Summary.{Summary}
+use Rattle.casebook_summary.specs.declared.subject.Subject.{Subject}
+use Rattle.casebook_summary.specs.declared.subject.Subject.TheVariants.{At, Directory, Variable}
+use Rattle.casebook_summary.specs.declared.subject.Subject.TheVariants.{Status, Text, Again}
+use Rattle.casebook_summary.specs.declared.summary.Summary.{Summary}
 use Rattle.casebook_words.specs.declared.labels.Labels.{Labels}
-use Rattle.casebook_screen.specs.declared.restoration.Restoration.{Restoration}
+use Rattle.casebook_summary.specs.declared.restoration.Restoration.{Restoration}
 use Rattle.casebook_json.specs.Causes.{effect_data}
 use Rattle.casebook_json.specs.Counts.{counts_data}
 use Rattle.casebook_json.specs.Leaked.{leak_data}
 use Rattle.casebook_json.specs.Lines.{line_data, line_with_reason, origin_in, why_or_null}
-use Rattle.casebook_json.specs.Restore.{added_in, removed_in, restoration_data}
+use Rattle.casebook_json.specs.Restore.{added_in, doubtful_paths, removed_in, restoration_data}
 use Rattle.casebook_json.specs.Source.{incomplete_in, observed_in, outside_in, overlapping_in, unseen_in}
 use Rattle.casebook_json.specs.Summary.{summary_data, summary_with}
 use Rattle.casebook_json.specs.Tell.{group_data, subject_path, subject_variable}
@@ -106,27 +106,26 @@ counts_float fates = refl
 unknown_float : (line : UnknownLine) → has_float (unknown_data line) ≡ false
 unknown_float line = refl
 
-pub summary_float : (r : RecordingValue) (summary : Summary) (restorations : List Restoration)
-    (groups looks : List Group) (is_recording : Bool) (source : SourceValue) (labels : Labels)
-    → has_float (summary_data r summary restorations groups looks is_recording source labels) ≡ false
+pub summary_float : (r : RecordingValue) (summary : Summary) (source : SourceValue) (labels : Labels)
+    → has_float (summary_data r summary source labels) ≡ false
 unfolding summary_with
-summary_float r summary restorations groups looks is_recording source labels = rw (
+summary_float r summary source labels = rw (
   array_float (λ (e : Effect). effect_data (effect_value e)) (λ e. effect_float (effect_value e))
       summary.effects.items,
   counts_float summary.fates.items,
-  array_float path_data (λ p. refl) (summary.doubtful.items ++ summary.undecided.items),
+  array_float path_data (λ p. refl) (doubtful_paths summary.restorations.items ++ summary.undecided.items),
   array_float number_data (λ n. refl) (incomplete_in source),
   array_float (leak_data labels) (leak_float labels) summary.leaks.items,
   array_float (line_data r summary.reasons.items) (line_float r summary.reasons.items)
       summary.fates.items,
   array_float (λ (g : Group). group_data labels (group_value g))
-      (λ g. group_float labels (group_value g)) looks,
+      (λ g. group_float labels (group_value g)) summary.looked.items,
   array_float number_data (λ n. refl) (observed_in source),
   array_float number_data (λ n. refl) (outside_in source),
   array_float number_data (λ n. refl) (overlapping_in source),
-  array_float restoration_data restoration_float restorations,
+  array_float restoration_data restoration_float summary.restorations.items,
   array_float (λ (g : Group). group_data labels (group_value g))
-      (λ g. group_float labels (group_value g)) groups,
+      (λ g. group_float labels (group_value g)) summary.told.items,
   array_float unknown_data unknown_float summary.unknown.items,
   array_float string (λ t. refl) (unseen_in source),
 ) refl

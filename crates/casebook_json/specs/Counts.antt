@@ -5,7 +5,7 @@ use Rattle.retro_json.specs.Values.{number_data}
 use Rattle.casebook_view.specs.declared.fate.Fate.{Fate}
 use Rattle.casebook_view.specs.declared.fate.Fate.TheVariants.{Cancelled, Changed, Alike, Kept}
 use Rattle.casebook_view.specs.declared.fate.Fate.TheVariants.{Untouched}
-use Rattle.casebook_screen.specs.Counts.{count_of}
+use Rattle.casebook_summary.specs.Counts.{count_of}
 
 -- `{"alike":n,"cancelled":n,"changed":n,"kept":n,"untouched":n}`
 unfoldable pub counts_data : List (ℕ × Fate) → Data

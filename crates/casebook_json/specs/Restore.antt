@@ -1,14 +1,16 @@
 -- What is to be restored, as JSON.
-use Rattle.std.specs.Prelude.{ℕ, List, Option, Some, None, codes}
+use Rattle.std.specs.Prelude.{ℕ, List, Option, Some, None, codes, map}
+use Rattle.std.specs.List.{filter}
+use Rattle.retro_tree.specs.Path.{PathValue}
 use Rattle.serde_json.specs.Data.{Data, string, object, no_members, member}
 use Rattle.casebook_changes.specs.declared.changed_path.PathChange.{PathChange}
 use Rattle.casebook_changes.specs.declared.changed_path.PathChange.TheVariants.{Added}
 use Rattle.casebook_changes.specs.declared.changed_path.PathChange.TheVariants.{Removed, Modified}
-use Rattle.casebook_screen.specs.declared.restoration.Extent.{Extent}
-use Rattle.casebook_screen.specs.declared.restoration.Extent.TheVariants.{Directory}
-use Rattle.casebook_screen.specs.declared.restoration.Extent.TheVariants.{EmptyFile, Lines, NotKept}
-use Rattle.casebook_screen.specs.declared.restoration.Extent.TheVariants.{ToDirectory, ToFile}
-use Rattle.casebook_screen.specs.declared.restoration.Restoration.{Restoration}
+use Rattle.casebook_summary.specs.declared.restoration.Extent.{Extent}
+use Rattle.casebook_summary.specs.declared.restoration.Extent.TheVariants.{Directory}
+use Rattle.casebook_summary.specs.declared.restoration.Extent.TheVariants.{EmptyFile, Lines, NotKept}
+use Rattle.casebook_summary.specs.declared.restoration.Extent.TheVariants.{ToDirectory, ToFile}
+use Rattle.casebook_summary.specs.declared.restoration.Restoration.{Restoration}
 use Rattle.casebook_json.specs.Values.{number_or_null, path_data}
 
 abbrev pub change_name : PathChange → List ℕ
@@ -32,6 +34,10 @@ added_in _ = None
 abbrev pub removed_in : Extent → Option ℕ
 removed_in (Lines counts) = Some counts.removed
 removed_in _ = None
+
+-- the paths of the doubtful ones
+abbrev pub doubtful_paths : List Restoration → List PathValue
+doubtful_paths rs = map (λ r. r.path) (filter (λ r. r.is_doubtful) rs)
 
 -- `{"added":n,"change":name,"extent":name,"path":path,"removed":n}`
 unfoldable pub restoration_data : Restoration → Data

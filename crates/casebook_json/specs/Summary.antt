@@ -1,21 +1,19 @@
 -- What a repair would do, as JSON.
-use Rattle.std.specs.Prelude.{ℕ, Bool, List, ◌++◌, codes, map}
+use Rattle.std.specs.Prelude.{ℕ, List, ◌++◌, codes, map}
 use Rattle.serde_json.specs.Data.{Data, boolean, string, object, no_members, member}
 use Rattle.serde_json.specs.Written.{compact_text}
 use Rattle.retro_json.specs.Values.{array_of, number_data}
 use Rattle.retro_keep.specs.Recording.{RecordingValue}
-use Rattle.casebook_view.specs.Effects.{effect_value}
-use Rattle.casebook_view.specs.Groups.{group_value}
+use Rattle.casebook_summary.specs.Effects.{effect_value}
+use Rattle.casebook_summary.specs.Groups.{group_value}
 use Rattle.casebook_view.specs.Sources.{SourceValue}
-use Rattle.casebook_view.specs.declared.group.Group.{Group}
-use Rattle.casebook_view.specs.declared.summary.Summary.{Summary}
+use Rattle.casebook_summary.specs.declared.summary.Summary.{Summary}
 use Rattle.casebook_words.specs.declared.labels.Labels.{Labels}
-use Rattle.casebook_screen.specs.declared.restoration.Restoration.{Restoration}
 use Rattle.casebook_json.specs.Causes.{effect_data}
 use Rattle.casebook_json.specs.Counts.{counts_data}
 use Rattle.casebook_json.specs.Leaked.{leak_data}
 use Rattle.casebook_json.specs.Lines.{line_data}
-use Rattle.casebook_json.specs.Restore.{restoration_data}
+use Rattle.casebook_json.specs.Restore.{doubtful_paths, restoration_data}
 use Rattle.casebook_json.specs.Source.{incomplete_in, numbers_data, observed_in, outside_in, overlapping_in, source_name, texts_data, unseen_in}
 use Rattle.casebook_json.specs.Tell.{group_data}
 use Rattle.casebook_json.specs.Unknown.{unknown_data}
@@ -24,41 +22,36 @@ use Rattle.casebook_json.specs.Values.{path_data}
 -- `{"causes":..,"counts":..,"doubtful":..,"incomplete":..,"leaked":..,"lines":..,"looked":..,
 -- "observed":..,"outside":..,"overlapping":..,"recording":..,"restore":..,"show":1,"source":..,
 -- "tell":..,"unknown":..,"unseen":..}`, with the keys in byte order, where these are the lines
-unfoldable pub summary_with :
-    Data → Summary → List Restoration → List Group → List Group → Bool → SourceValue → Labels → Data
-summary_with lines summary restorations groups looks is_recording source labels = object
+unfoldable pub summary_with : Data → Summary → SourceValue → Labels → Data
+summary_with lines summary source labels = object
     (member (codes "causes")
     (array_of (map (λ effect. effect_data (effect_value effect)) summary.effects.items))
     (member (codes "counts") (counts_data summary.fates.items)
     (member (codes "doubtful")
-    (array_of (map path_data (summary.doubtful.items ++ summary.undecided.items)))
+    (array_of (map path_data (doubtful_paths summary.restorations.items ++ summary.undecided.items)))
     (member (codes "incomplete") (numbers_data (incomplete_in source))
     (member (codes "leaked") (array_of (map (leak_data labels) summary.leaks.items))
     (member (codes "lines") lines
     (member (codes "looked")
-    (array_of (map (λ group. group_data labels (group_value group)) looks))
+    (array_of (map (λ group. group_data labels (group_value group)) summary.looked.items))
     (member (codes "observed") (numbers_data (observed_in source))
     (member (codes "outside") (numbers_data (outside_in source))
     (member (codes "overlapping") (numbers_data (overlapping_in source))
-    (member (codes "recording") (boolean is_recording)
-    (member (codes "restore") (array_of (map restoration_data restorations))
+    (member (codes "recording") (boolean summary.is_recording)
+    (member (codes "restore") (array_of (map restoration_data summary.restorations.items))
     (member (codes "show") (number_data 1)
     (member (codes "source") (string (source_name source))
     (member (codes "tell")
-    (array_of (map (λ group. group_data labels (group_value group)) groups))
+    (array_of (map (λ group. group_data labels (group_value group)) summary.told.items))
     (member (codes "unknown") (array_of (map unknown_data summary.unknown.items))
     (member (codes "unseen") (texts_data (unseen_in source)) no_members)))))))))))))))))
 
 abbrev pub lines_data : RecordingValue → Summary → Data
 lines_data r summary = array_of (map (line_data r summary.reasons.items) summary.fates.items)
 
-abbrev pub summary_data :
-    RecordingValue → Summary → List Restoration → List Group → List Group → Bool → SourceValue → Labels → Data
-summary_data r summary restorations groups looks is_recording source labels =
-    summary_with (lines_data r summary) summary restorations groups looks is_recording source labels
+abbrev pub summary_data : RecordingValue → Summary → SourceValue → Labels → Data
+summary_data r summary source labels = summary_with (lines_data r summary) summary source labels
 
 -- the document: compact, with a newline at the end
-unfoldable pub summary_text :
-    RecordingValue → Summary → List Restoration → List Group → List Group → Bool → SourceValue → Labels → List ℕ
-summary_text r summary restorations groups looks is_recording source labels =
-    compact_text (summary_data r summary restorations groups looks is_recording source labels) ++ codes "\n"
+unfoldable pub summary_text : RecordingValue → Summary → SourceValue → Labels → List ℕ
+summary_text r summary source labels = compact_text (summary_data r summary source labels) ++ codes "\n"

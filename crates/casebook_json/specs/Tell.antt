@@ -2,10 +2,10 @@
 use Rattle.std.specs.Prelude.{ℕ, List, codes, map}
 use Rattle.serde_json.specs.Data.{Data, null, string, object, no_members, member}
 use Rattle.retro_json.specs.Values.{array_of, number_data}
-use Rattle.casebook_view.specs.Groups.{GroupValue}
-use Rattle.casebook_view.specs.declared.subject.Subject.{Subject}
-use Rattle.casebook_view.specs.declared.subject.Subject.TheVariants.{At, Directory, Variable}
-use Rattle.casebook_view.specs.declared.subject.Subject.TheVariants.{Status, Text, Again}
+use Rattle.casebook_summary.specs.Groups.{GroupValue}
+use Rattle.casebook_summary.specs.declared.subject.Subject.{Subject}
+use Rattle.casebook_summary.specs.declared.subject.Subject.TheVariants.{At, Directory, Variable}
+use Rattle.casebook_summary.specs.declared.subject.Subject.TheVariants.{Status, Text, Again}
 use Rattle.casebook_words.specs.declared.labels.Labels.{Labels}
 use Rattle.casebook_json.specs.Values.{path_data, user_data}
 

@@ -1,7 +1,7 @@
 //! How many lines have which fate, as JSON.
 ghost use Rattle.std.specs.Prelude.{◌≡◌, IfOk};
 ghost use Rattle.serde_json.specs.View.{view};
-ghost use Rattle.casebook_screen.specs.Counts.{count_of};
+ghost use Rattle.casebook_summary.specs.Counts.{count_of};
 ghost use Rattle.casebook_json.specs.Counts.{counts_data};
 
 use crate::NoMem;

@@ -1,12 +1,13 @@
 //! What cancelled and replaced lines led to, as JSON.
 ghost use Rattle.std.specs.Prelude.{◌≡◌, IfOk, map};
 ghost use Rattle.serde_json.specs.View.{view};
-ghost use Rattle.casebook_view.specs.Effects.{effect_value};
+ghost use Rattle.casebook_summary.specs.Effects.{effect_value};
 ghost use Rattle.casebook_json.specs.Causes.{effect_data};
 
 use crate::NoMem;
 use crate::value::path_values;
-use casebook_view::Effect;
+use casebook_summary::Effect;
+use casebook_view::Fate;
 use serde_json::{Value, json};
 use std::alloc::Global;
 
@@ -17,8 +18,8 @@ fn effect_value(alloc: Global, effect: &Effect) -> Result<Value, NoMem>
 {
     let paths = path_values(alloc, effect.wrote.as_slice())?;
     json!(in alloc; {
-        "alike": effect.alike,
-        "changed": effect.changed,
+        "alike": effect.count(Fate::Alike),
+        "changed": effect.count(Fate::Changed),
         "line": effect.number,
         "paths": paths
     })

@@ -1,13 +1,13 @@
 //! Whom to tell about what, as JSON.
 ghost use Rattle.std.specs.Prelude.{◌≡◌, IfOk, map};
 ghost use Rattle.serde_json.specs.View.{view};
-ghost use Rattle.casebook_view.specs.Groups.{group_value};
+ghost use Rattle.casebook_summary.specs.Groups.{group_value};
 ghost use Rattle.casebook_json.specs.Tell.{group_data, subject_name, subject_path};
 ghost use Rattle.casebook_json.specs.Tell.{subject_variable};
 
 use crate::NoMem;
 use crate::value::{number_values, path_value, user_value};
-use casebook_view::{Group, Subject};
+use casebook_summary::{Group, Subject};
 use casebook_words::Labels;
 use serde_json::{Value, json};
 use std::alloc::Global;

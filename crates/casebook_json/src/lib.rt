@@ -1,7 +1,7 @@
 //! What a repair would do, as one JSON document for programs.
 //!
-//! [`summary_json`] writes a `Sheet` of `casebook_screen`, which is also what a terminal shows of a
-//! repair. Each value of the sheet becomes a JSON value by a definition of its own in `specs/`, and
+//! [`summary_json`] writes a `Summary` of `casebook_summary`, which is also what a terminal shows of a
+//! repair. Each value of the summary becomes a JSON value by a definition of its own in `specs/`, and
 //! nothing is computed anew. Every object has all its keys, and what there isn't is null.
 //!
 //! If allocation fails, calls return `NoMem`.
@@ -9,12 +9,9 @@
 //! # What is proved
 //!
 //! - `summary_json` returns the compact text of the JSON value that `specs/Summary.antt` defines
-//!   for a summary, for what is to be restored, for the groups of lines to tell about and of lines by
-//!   which somebody looked, for whether the log is as its lines run and for where the recording comes
-//!   from, and a newline [`text`];
-//!   and `serde_json` reads the text as this value [`read`]. Each value of a summary has a
-//!   definition of its own, so all of them are in the document. Both clauses are equations if the
-//!   reasons of the summary are in order of lines.
+//!   for a case and a summary, and a newline [`text`]; and `serde_json` reads the text as this value
+//!   [`read`]. Each value of a summary has a definition of its own, so all of them are in the
+//!   document. Both clauses are equations if the reasons of the summary are in order of lines.
 #![tactic(auto)]
 
 mod count_value;

@@ -3,6 +3,7 @@ ghost use Rattle.std.specs.Prelude.{◌≡◌, ◌++◌, IfOk, map};
 ghost use Rattle.serde_json.specs.View.{view};
 ghost use Rattle.retro_json.specs.Values.{array_of};
 ghost use Rattle.casebook_view.specs.Sources.{source_view};
+ghost use Rattle.casebook_json.specs.Restore.{doubtful_paths};
 ghost use Rattle.casebook_json.specs.Values.{path_data};
 ghost use Rattle.casebook_json.specs.inner.Parts.{AreParts, document};
 
@@ -11,15 +12,15 @@ use crate::count_value::counts_value;
 use crate::effect_value::effect_values;
 use crate::group_value::group_values;
 use crate::leak_value::leak_values;
-use crate::restoration_value::restoration_values;
+use crate::restoration_value::{doubtful_restorations, restoration_values};
 use crate::source_value::{
     incomplete_values, observed_values, outside_values, overlapping_values, source_name,
     unseen_values,
 };
 use crate::unknown_value::unknown_values;
 use crate::value::path_values;
-use casebook_screen::Sheet;
-use casebook_view::Summary;
+use casebook_summary::Summary;
+use casebook_view::Source;
 use casebook_words::Labels;
 use serde_json::{Map, Value, put};
 use std::alloc::Global;
@@ -49,37 +50,39 @@ pub(crate) struct Parts {
 /// Returns the JSON values of the doubtful paths, and then of those of which it isn't known what they
 /// would be.
 fn doubtful_values(alloc: Global, summary: &Summary) -> Result<Vec<Value>, NoMem>
-    ensures { IfOk result (λ vs. map view vs.items
-        ≡ map path_data (summary.now.doubtful.items ++ summary.now.undecided.items)) }
+    ensures { IfOk result (λ vs. map view vs.items ≡ map path_data
+        (doubtful_paths summary.now.restorations.items ++ summary.now.undecided.items)) }
 {
-    let mut values = path_values(alloc, summary.doubtful.as_slice())?;
+    let mut values = doubtful_restorations(alloc, summary.restorations.as_slice())?;
     values.append(&mut path_values(alloc, summary.undecided.as_slice())?)?;
     Ok(values)
 }
 
 impl Parts {
     /// Returns the parts of the document of a repair.
-    pub(crate) fn of(alloc: Global, sheet: Sheet<'_>, labels: &Labels) -> Result<Parts, NoMem>
-        ensures { IfOk result (AreParts sheet.entry.summary.now sheet.entry.restorations.now
-            sheet.entry.groups.now sheet.entry.looks.now (source_view sheet.entry.source)
-            labels.now) }
+    pub(crate) fn of(
+        alloc: Global,
+        source: Source<'_>,
+        summary: &Summary,
+        labels: &Labels,
+    ) -> Result<Parts, NoMem>
+        ensures { IfOk result (AreParts summary.now (source_view source.entry) labels.now) }
     {
-        let summary = sheet.summary;
         Ok(Parts {
             causes: effect_values(alloc, summary.effects.as_slice())?,
             counts: counts_value(alloc, summary.fates.as_slice())?,
             doubtful: doubtful_values(alloc, summary)?,
-            incomplete: incomplete_values(alloc, sheet.source)?,
+            incomplete: incomplete_values(alloc, source)?,
             leaked: leak_values(alloc, labels, summary.leaks.as_slice())?,
-            looked: group_values(alloc, labels, sheet.looks)?,
-            observed: observed_values(alloc, sheet.source)?,
-            outside: outside_values(alloc, sheet.source)?,
-            overlapping: overlapping_values(alloc, sheet.source)?,
-            restore: restoration_values(alloc, sheet.restorations)?,
-            source: source_name(sheet.source),
-            tell: group_values(alloc, labels, sheet.groups)?,
+            looked: group_values(alloc, labels, summary.looked.as_slice())?,
+            observed: observed_values(alloc, source)?,
+            outside: outside_values(alloc, source)?,
+            overlapping: overlapping_values(alloc, source)?,
+            restore: restoration_values(alloc, summary.restorations.as_slice())?,
+            source: source_name(source),
+            tell: group_values(alloc, labels, summary.told.as_slice())?,
             unknown: unknown_values(alloc, summary.unknown.as_slice())?,
-            unseen: unseen_values(alloc, sheet.source)?,
+            unseen: unseen_values(alloc, source)?,
         })
     }
 

@@ -2,12 +2,13 @@
 ghost use Rattle.std.specs.Prelude.{◌≡◌, IfOk, map};
 ghost use Rattle.serde_json.specs.View.{view};
 ghost use Rattle.casebook_json.specs.Restore.{added_in, change_name, extent_name, removed_in};
-ghost use Rattle.casebook_json.specs.Restore.{restoration_data};
+ghost use Rattle.casebook_json.specs.Restore.{doubtful_paths, restoration_data};
+ghost use Rattle.casebook_json.specs.Values.{path_data};
 
 use crate::NoMem;
 use crate::value::{number_or_null, path_value};
 use casebook_changes::PathChange;
-use casebook_screen::{Extent, Restoration};
+use casebook_summary::{Extent, Restoration};
 use serde_json::{Value, json};
 use std::alloc::Global;
 
@@ -81,6 +82,23 @@ pub(crate) fn restoration_values(
     let mut values = Vec::new(alloc);
     for restoration in restorations {
         values.push(restoration_value(alloc, restoration)?)?;
+    }
+    Ok(values)
+}
+
+/// Returns the JSON values of the doubtful paths to restore, in order.
+pub(crate) fn doubtful_restorations(
+    alloc: Global,
+    restorations: &[Restoration],
+) -> Result<Vec<Value>, NoMem>
+    ensures { IfOk result (λ vs. map view vs.items
+        ≡ map path_data (doubtful_paths restorations.now)) }
+{
+    let mut values = Vec::new(alloc);
+    for restoration in restorations {
+        if restoration.is_doubtful {
+            values.push(path_value(alloc, &restoration.path)?)?;
+        }
     }
     Ok(values)
 }

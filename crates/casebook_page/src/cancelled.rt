@@ -7,30 +7,15 @@ use crate::shown::{
     push_command, push_fated_links, push_link, push_name, push_none, push_paths, sign_of,
 };
 use crate::tag::Tag;
-use casebook_view::{Effect, Source};
+use casebook_summary::Effect;
+use casebook_view::{Fate, Source};
 use std::alloc::Global;
-
-/// Returns the numbers of the lines that are run again because of a line, in order.
-fn led_to(alloc: Global, contents: Contents<'_, '_>, origin: u32) -> Result<Vec<u32>, NoMem> {
-    let mut numbers = Vec::new(alloc);
-    for reason in &contents.summary.reasons {
-        if reason.origin == origin && reason.number != origin {
-            numbers.push(reason.number)?;
-        }
-    }
-    Ok(numbers)
-}
-
-/// Returns how many lines a line led to.
-fn count_led(effect: &Effect) -> usize {
-    effect.changed.saturating_add(effect.alike)
-}
 
 /// Returns the greatest number of lines that one line led to.
 fn most_led(effects: &[Effect]) -> usize {
     let mut most = 0_usize;
     for effect in effects {
-        most = most.max(count_led(effect));
+        most = most.max(effect.led.len());
     }
     most
 }
@@ -46,12 +31,12 @@ fn percent(count: usize, whole: usize) -> usize {
 /// Appends how many lines a line led to, with a bar that compares it with the line that led to the
 /// most. A line that led to none has no bar.
 fn push_led(html: &mut Html, alloc: Global, effect: &Effect, most: usize) -> Result<(), NoMem> {
-    let count = count_led(effect);
+    let count = effect.led.len();
     if count == 0 {
         return Ok(());
     }
-    let changed = percent(effect.changed, most) as u64;
-    let alike = percent(effect.alike, most) as u64;
+    let changed = percent(effect.count(Fate::Changed), most) as u64;
+    let alike = percent(effect.count(Fate::Alike), most) as u64;
     html.bar(alloc, changed, alike)?;
     html.count(alloc, count, "line")
 }
@@ -83,13 +68,11 @@ fn push_leak(
     contents: Contents<'_, '_>,
     number: u32,
 ) -> Result<(), NoMem> {
-    for leak in &contents.summary.leaks {
-        if leak.number == number {
-            html.fixed(Tag::Leak)?;
-            html.count(alloc, leak.bytes, "byte")?;
-            html.words(alloc, " seen")?;
-            return html.fixed(Tag::LeakEnd);
-        }
+    if let Some(bytes) = contents.leaked_by(number) {
+        html.fixed(Tag::Leak)?;
+        html.count(alloc, bytes, "byte")?;
+        html.words(alloc, " seen")?;
+        return html.fixed(Tag::LeakEnd);
     }
     if contents.is_cancelled(number) && contents.is_observed(number) {
         html.words(alloc, " what it showed isn't recorded")?;
@@ -109,18 +92,13 @@ fn push_wrote(html: &mut Html, alloc: Global, effect: &Effect) -> Result<(), NoM
 }
 
 /// Appends links to the lines that are run again because of a line, unless there are none.
-fn push_then(
-    html: &mut Html,
-    alloc: Global,
-    contents: Contents<'_, '_>,
-    numbers: &[u32],
-) -> Result<(), NoMem> {
-    if numbers.is_empty() {
+fn push_then(html: &mut Html, alloc: Global, lines: &[(u32, Fate)]) -> Result<(), NoMem> {
+    if lines.is_empty() {
         return Ok(());
     }
     html.fixed(Tag::Small)?;
     html.words(alloc, "then run again:")?;
-    push_fated_links(html, alloc, contents, numbers)?;
+    push_fated_links(html, alloc, lines)?;
     html.fixed(Tag::ParagraphEnd)
 }
 
@@ -132,8 +110,7 @@ fn push_inside(
     effect: &Effect,
 ) -> Result<(), NoMem> {
     push_wrote(html, alloc, effect)?;
-    let numbers = led_to(alloc, contents, effect.number)?;
-    push_then(html, alloc, contents, numbers.as_slice())?;
+    push_then(html, alloc, effect.led.as_slice())?;
     if let Some(line) = contents.line(effect.number) {
         push_output(html, alloc, line.output.as_slice())?;
     }

@@ -1,5 +1,6 @@
 //! What a page shows.
-use casebook_view::{Case, Fate, LineRow, Obstacle, Summary};
+use casebook_summary::Summary;
+use casebook_view::{Case, Fate, LineRow, Obstacle};
 use casebook_words::Labels;
 
 /// What a page shows.
@@ -15,8 +16,6 @@ pub struct Contents<'a, 'r> {
     pub labels: &'a Labels,
     /// The title.
     pub title: &'a str,
-    /// Whether the log is as its lines run. If not, the page says so.
-    pub is_recording: bool,
     /// Whether untouched lines have rows also if there are many lines.
     pub shows_all: bool,
 }
@@ -50,6 +49,15 @@ impl<'a> Contents<'a, '_> {
     /// Returns whether a line is cancelled.
     pub(crate) fn is_cancelled(&self, number: u32) -> bool {
         self.summary.fate_of(number) == Some(Fate::Cancelled)
+    }
+
+    /// Returns how many bytes a cancelled line showed, or `None` if it showed nothing.
+    pub(crate) fn leaked_by(&self, number: u32) -> Option<usize> {
+        let leaks = self.summary.leaks.as_slice();
+        match leaks.binary_search_by_key(&number, |leak| leak.number) {
+            Ok(index) => Some(leaks[index].bytes),
+            Err(_) => None,
+        }
     }
 
     /// Returns whether a line was observed on a machine.

@@ -26,7 +26,7 @@ fn front(contents: Contents<'_, '_>, rows: &Rows<'_, '_>) -> Result<Html, NoMem>
     push_head(&mut html, alloc, contents.title, rows.columns.len())?;
     push_lead(&mut html, alloc, contents, rows.columns.len())?;
     push_unknown(&mut html, alloc, contents, rows.shows_untouched)?;
-    push_overview(&mut html, alloc, contents, rows.columns)?;
+    push_overview(&mut html, alloc, contents)?;
     push_key(&mut html, alloc, contents)?;
     push_cancelled(&mut html, alloc, contents)?;
     push_restore(&mut html, alloc, contents)?;

@@ -138,7 +138,7 @@ fn push_seen(html: &mut Html, alloc: Global, seen: Seen<'_>) -> Result<(), NoMem
 fn push_basis(html: &mut Html, alloc: Global, contents: Contents<'_, '_>) -> Result<(), NoMem> {
     match contents.case.source() {
         Source::Seen(seen) => push_seen(html, alloc, seen),
-        Source::Played if contents.is_recording => html.words(
+        Source::Played if contents.summary.is_recording => html.words(
             alloc,
             ". Played in Retro's shell. Whether the machine did the same isn't known.",
         ),

@@ -27,31 +27,39 @@ fn push_tick(html: &mut Html, alloc: Global, place: u64, line: (u32, Fate)) -> R
     html.numbered(alloc, tick_of(line.1), place)
 }
 
-/// Returns the sessions of all lines, in order.
-fn sessions(alloc: Global, contents: Contents<'_, '_>) -> Result<Vec<u32>, NoMem> {
-    let mut sessions = Vec::new(alloc);
-    for line in &contents.summary.fates {
-        sessions.push(contents.session_of(line.0))?;
+/// A line's place among all lines, from 0 on, and the line.
+type Placed = (u64, (u32, Fate));
+
+/// Adds a line to those of its session.
+fn add_line(
+    sessions: &mut BTreeMap<u32, Vec<Placed>>,
+    alloc: Global,
+    session: u32,
+    line: Placed,
+) -> Result<(), NoMem> {
+    if let Some(lines) = sessions.get_mut(&session) {
+        lines.push(line)?;
+        return Ok(());
     }
-    Ok(sessions)
+    let mut lines = Vec::new(alloc);
+    lines.push(line)?;
+    sessions.insert(session, lines)?;
+    Ok(())
 }
 
-/// Appends the ticks of a session. `sessions` are those of all lines.
-fn push_ticks(
-    html: &mut Html,
+/// Returns the lines of each session, in order.
+fn lines_by_session(
     alloc: Global,
     contents: Contents<'_, '_>,
-    sessions: &[u32],
-    session: u32,
-) -> Result<(), NoMem> {
+) -> Result<BTreeMap<u32, Vec<Placed>>, NoMem> {
+    let mut sessions = BTreeMap::new(alloc);
     let mut place = 0_u64;
-    for (line, line_session) in contents.summary.fates.iter().zip(sessions) {
-        if *line_session == session {
-            push_tick(html, alloc, place, *line)?;
-        }
+    for line in &contents.summary.fates {
+        let session = contents.session_of(line.0);
+        add_line(&mut sessions, alloc, session, (place, *line))?;
         place = place.saturating_add(1);
     }
-    Ok(())
+    Ok(sessions)
 }
 
 /// Appends the row of a session: its name, and a tick for each of its lines.
@@ -59,8 +67,8 @@ fn push_session(
     html: &mut Html,
     alloc: Global,
     contents: Contents<'_, '_>,
-    sessions: &[u32],
     session: u32,
+    lines: &[Placed],
 ) -> Result<(), NoMem> {
     let name = contents.labels.name_of(alloc, session)?;
     html.fixed(Tag::Span)?;
@@ -68,7 +76,9 @@ fn push_session(
     html.numbered(alloc, NumberTag::Map, contents.summary.fates.len() as u64)?;
     html.shown(alloc, &name)?;
     html.fixed(Tag::MapName)?;
-    push_ticks(html, alloc, contents, sessions, session)?;
+    for (place, line) in lines {
+        push_tick(html, alloc, *place, *line)?;
+    }
     html.fixed(Tag::MapEnd)
 }
 
@@ -94,12 +104,11 @@ pub(crate) fn push_overview(
     html: &mut Html,
     alloc: Global,
     contents: Contents<'_, '_>,
-    columns: &BTreeMap<u32, u32>,
 ) -> Result<(), NoMem> {
-    let sessions = sessions(alloc, contents)?;
+    let sessions = lines_by_session(alloc, contents)?;
     html.fixed(Tag::Map)?;
-    for (session, _) in columns {
-        push_session(html, alloc, contents, sessions.as_slice(), *session)?;
+    for (session, lines) in &sessions {
+        push_session(html, alloc, contents, *session, lines.as_slice())?;
     }
     html.fixed(Tag::BlockEnd)
 }

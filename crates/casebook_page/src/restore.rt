@@ -6,19 +6,19 @@ use crate::merged_texts::MergedTexts;
 use crate::pair::{push_diff, push_preview};
 use crate::shown::{push_link, push_none, push_shown_path};
 use crate::tag::Tag;
-use casebook_changes::{ChangedPath, PathChange};
-use casebook_opaque::is_opaque;
+use casebook_changes::PathChange;
+use casebook_summary::{Extent, Restoration};
 use casebook_view::Source;
 use retro_tree::{Ask, Entry, Path, Tree};
 use std::alloc::Global;
 
 /// Returns how many paths differ in a way.
-fn count(paths: &[ChangedPath], change: PathChange) -> usize {
+fn count(paths: &[Restoration], change: PathChange) -> usize {
     paths.iter().filter(|path| path.change == change).count()
 }
 
 /// Appends how many paths change, come back and go.
-fn push_counts(html: &mut Html, alloc: Global, paths: &[ChangedPath]) -> Result<(), NoMem> {
+fn push_counts(html: &mut Html, alloc: Global, paths: &[Restoration]) -> Result<(), NoMem> {
     html.number(alloc, count(paths, PathChange::Modified) as u64)?;
     html.words(alloc, " change, ")?;
     html.number(alloc, count(paths, PathChange::Added) as u64)?;
@@ -44,36 +44,15 @@ fn file_at<'a>(tree: &'a Tree, path: &Path) -> &'a [u8] {
     }
 }
 
-/// Returns whether there is a file that stands for what isn't kept.
-fn is_unkept(entry: Option<&Entry>) -> bool {
-    match entry {
-        Some(Entry::File(bytes)) => is_opaque(bytes.as_slice()),
-        _ => false,
-    }
-}
-
 /// Appends what comes, goes or becomes another kind at a path, unless lines say it.
-fn push_kind(
-    html: &mut Html,
-    alloc: Global,
-    before: Option<&Entry>,
-    after: Option<&Entry>,
-) -> Result<(), NoMem> {
-    if is_unkept(before) || is_unkept(after) {
-        return html.words(alloc, "not kept, restore by hand ");
-    }
-    match (before, after) {
-        (Some(Entry::Dir), None) | (None, Some(Entry::Dir)) => html.words(alloc, "directory"),
-        (Some(Entry::Dir), Some(Entry::File(_))) => html.words(alloc, "becomes a file "),
-        (Some(Entry::File(_)), Some(Entry::Dir)) => html.words(alloc, "becomes a directory "),
-        (Some(Entry::File(bytes)), None) | (None, Some(Entry::File(bytes))) => {
-            if bytes.is_empty() {
-                html.words(alloc, "empty file")
-            } else {
-                Ok(())
-            }
-        }
-        _ => Ok(()),
+fn push_kind(html: &mut Html, alloc: Global, extent: Extent) -> Result<(), NoMem> {
+    match extent {
+        Extent::NotKept => html.words(alloc, "not kept, restore by hand "),
+        Extent::Directory => html.words(alloc, "directory"),
+        Extent::ToFile => html.words(alloc, "becomes a file "),
+        Extent::ToDirectory => html.words(alloc, "becomes a directory "),
+        Extent::EmptyFile => html.words(alloc, "empty file"),
+        Extent::Lines(_) => Ok(()),
     }
 }
 
@@ -94,12 +73,7 @@ fn push_writer(
     Ok(())
 }
 
-/// Returns whether a line wrote a path that wasn't understood or has to be run for real.
-fn is_doubtful(contents: Contents<'_, '_>, path: &Path) -> bool {
-    contents.summary.doubtful.binary_search(path).is_ok()
-}
-
-/// Returns the sign of such a path.
+/// Returns the sign of a doubtful path.
 fn doubt_of(source: Source<'_>) -> Tag {
     match source {
         Source::Played => Tag::SignDoubtful,
@@ -112,23 +86,22 @@ fn push_row(
     html: &mut Html,
     alloc: Global,
     contents: Contents<'_, '_>,
-    path: &ChangedPath,
+    restoration: &Restoration,
 ) -> Result<(), NoMem> {
     let before = contents.case.recording().last().tree();
     let after = contents.case.repair().state().tree();
-    let old = file_at(before, &path.path);
-    let new = file_at(after, &path.path);
-    let merged = MergedTexts::of(alloc, old, new)?;
-    html.fixed(row_of(path.change))?;
-    push_shown_path(html, alloc, &path.path)?;
+    let path = &restoration.path;
+    let merged = MergedTexts::of(alloc, file_at(before, path), file_at(after, path))?;
+    html.fixed(row_of(restoration.change))?;
+    push_shown_path(html, alloc, path)?;
     html.fixed(Tag::RowDetail)?;
-    push_kind(html, alloc, before.get(&path.path), after.get(&path.path))?;
+    push_kind(html, alloc, restoration.extent)?;
     push_preview(html, alloc, &merged)?;
-    if is_doubtful(contents, &path.path) {
+    if restoration.is_doubtful {
         html.fixed(doubt_of(contents.case.source()))?;
     }
     html.fixed(Tag::RowBody)?;
-    push_writer(html, alloc, contents, &path.path)?;
+    push_writer(html, alloc, contents, path)?;
     push_diff(html, alloc, &merged)?;
     html.fixed(Tag::DetailsEnd)
 }
@@ -138,7 +111,7 @@ fn push_rows(
     html: &mut Html,
     alloc: Global,
     contents: Contents<'_, '_>,
-    paths: &[ChangedPath],
+    paths: &[Restoration],
 ) -> Result<(), NoMem> {
     for path in paths {
         push_row(html, alloc, contents, path)?;

@@ -37,11 +37,11 @@ pub(crate) fn push_links(html: &mut Html, alloc: Global, numbers: &[u32]) -> Res
 }
 
 /// Returns the start of a link to a line that has a fate.
-fn link_of(fate: Option<Fate>) -> NumberTag {
+fn link_of(fate: Fate) -> NumberTag {
     match fate {
-        Some(Fate::Changed) => NumberTag::LinkChanged,
-        Some(Fate::Alike) => NumberTag::LinkAlike,
-        _ => NumberTag::Link,
+        Fate::Changed => NumberTag::LinkChanged,
+        Fate::Alike => NumberTag::LinkAlike,
+        Fate::Cancelled | Fate::Kept | Fate::Untouched => NumberTag::Link,
     }
 }
 
@@ -49,14 +49,12 @@ fn link_of(fate: Option<Fate>) -> NumberTag {
 pub(crate) fn push_fated_links(
     html: &mut Html,
     alloc: Global,
-    contents: Contents<'_, '_>,
-    numbers: &[u32],
+    lines: &[(u32, Fate)],
 ) -> Result<(), NoMem> {
-    for number in numbers {
+    for line in lines {
         html.words(alloc, " ")?;
-        let link = link_of(contents.summary.fate_of(*number));
-        html.numbered(alloc, link, u64::from(*number))?;
-        html.number(alloc, u64::from(*number))?;
+        html.numbered(alloc, link_of(line.1), u64::from(line.0))?;
+        html.number(alloc, u64::from(line.0))?;
         html.fixed(Tag::LinkEnd)?;
     }
     Ok(())

@@ -6,8 +6,8 @@ use crate::merged_texts::MergedTexts;
 use crate::pair::{push_pair, push_preview};
 use crate::shown::{push_command, push_links, push_none, push_shown_path};
 use crate::tag::Tag;
+use casebook_summary::{Group, Subject};
 use casebook_text::SafeLine;
-use casebook_view::{Group, Subject, grouped};
 use std::alloc::Global;
 
 /// Appends what a group of lines is about.
@@ -150,7 +150,7 @@ fn push_groups(
 
 /// Appends who looked at what by lines that have to be run for real, or nothing if nobody did.
 fn push_looks(html: &mut Html, alloc: Global, contents: Contents<'_, '_>) -> Result<(), NoMem> {
-    let groups = grouped(alloc, contents.summary.looks.as_slice())?;
+    let groups = contents.summary.looked.as_slice();
     if groups.is_empty() {
         return Ok(());
     }
@@ -160,7 +160,7 @@ fn push_looks(html: &mut Html, alloc: Global, contents: Contents<'_, '_>) -> Res
         "Who looked by observed lines, at what would be another:",
     )?;
     html.fixed(Tag::ParagraphEnd)?;
-    push_groups(html, alloc, contents, groups.as_slice(), Screens::Unknown)
+    push_groups(html, alloc, contents, groups, Screens::Unknown)
 }
 
 /// Appends the section of whom to tell: by session, and by what the lines are about. No session and
@@ -170,9 +170,9 @@ pub(crate) fn push_tell(
     alloc: Global,
     contents: Contents<'_, '_>,
 ) -> Result<(), NoMem> {
-    let groups = grouped(alloc, contents.summary.notices.as_slice())?;
+    let groups = contents.summary.told.as_slice();
     html.fixed(Tag::Tell)?;
-    push_groups(html, alloc, contents, groups.as_slice(), Screens::Known)?;
+    push_groups(html, alloc, contents, groups, Screens::Known)?;
     push_none(html, alloc, groups.len())?;
     push_looks(html, alloc, contents)?;
     html.fixed(Tag::SectionEnd)

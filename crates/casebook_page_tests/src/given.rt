@@ -1,6 +1,7 @@
 //! Pages of scripts with cancelled lines.
 use casebook_page::{Contents, page};
-use casebook_view::{Case, Filters, Source, Summary, rows};
+use casebook_summary::Summary;
+use casebook_view::{Case, Filters, Source, rows};
 use casebook_words::Labels;
 use retro_keep::{Edit, Recording, keep_alone};
 use retro_log::read_script;
@@ -64,7 +65,7 @@ fn labels_of(alloc: Global, names: &[(u32, &str)]) -> Result<Labels, Fail> {
 
 /// Returns the page of a repair.
 fn page_of_case(alloc: Global, case: &Case<'_>, given: Given<'_>) -> Result<String, Fail> {
-    let summary = Summary::of(alloc, case)?;
+    let summary = Summary::of(alloc, case, given.is_recording)?;
     let mut filters = Filters {
         tests: Vec::new(alloc),
         text: None,
@@ -79,7 +80,6 @@ fn page_of_case(alloc: Global, case: &Case<'_>, given: Given<'_>) -> Result<Stri
         lines: lines.as_slice(),
         labels: &labels,
         title: given.title,
-        is_recording: given.is_recording,
         shows_all: given.shows_all,
     };
     Ok(page(alloc, contents)?)

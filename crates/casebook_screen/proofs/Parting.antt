@@ -1,7 +1,7 @@
 -- Lines that are made of parts, one part after another.
-use Rattle.std.proofs.Common.{◌≡◌, ℕ, ◌+◌, ◌<◌, ◌≤◌, List, [], ◌∷◌, ◌++◌, ap, append_assoc, drop, get_or, length, map, refl, subst, sym, ◌∙◌}
+use Rattle.std.proofs.Common.{◌≡◌, ℕ, ◌+◌, ◌<◌, ◌≤◌, List, [], ◌∷◌, ◌++◌, append_assoc, drop, get_or, length, map, refl, subst, sym}
 use Rattle.std.proofs.lemmas.List.{append-nil, drop_all, drop_more}
-use Rattle.casebook_changes.specs.declared.changed_path.ChangedPath.{ChangedPath}
+use Rattle.casebook_summary.specs.declared.restoration.Restoration.{Restoration}
 use Rattle.retro_tree.specs.Tree.{Tree}
 use Rattle.casebook_screen.specs.Diffs.{AreParts, IsPathDiff}
 
@@ -34,10 +34,10 @@ parts_map f P [] lines are = are
 parts_map f P (x ∷ xs) lines are = (are.0, are.1, are.2, parts_map f P xs are.1 are.3, are.4)
 
 -- the diffs of paths in two trees are those in equal trees
-pub same_trees : (before after old new : Tree) (paths : List ChangedPath) (lines : List (List ℕ))
+pub same_trees : (before after old new : Tree) (restorations : List Restoration) (lines : List (List ℕ))
     → before ≡ old → after ≡ new
-    → AreParts (λ (changed : ChangedPath). IsPathDiff before after changed.path) paths lines
-    → AreParts (λ (changed : ChangedPath). IsPathDiff old new changed.path) paths lines
-same_trees before after old new paths lines first second are =
-    subst (λ t. AreParts (λ (changed : ChangedPath). IsPathDiff t new changed.path) paths lines) first
-    (subst (λ t. AreParts (λ (changed : ChangedPath). IsPathDiff before t changed.path) paths lines) second are)
+    → AreParts (λ (x : Restoration). IsPathDiff before after x.path) restorations lines
+    → AreParts (λ (x : Restoration). IsPathDiff old new x.path) restorations lines
+same_trees before after old new restorations lines first second are =
+    subst (λ t. AreParts (λ (x : Restoration). IsPathDiff t new x.path) restorations lines) first
+    (subst (λ t. AreParts (λ (x : Restoration). IsPathDiff before t x.path) restorations lines) second are)

@@ -5,7 +5,9 @@ use Rattle.retro_keep.specs.Recording.{RecordingValue}
 use Rattle.retro_tree.specs.Path.{PathValue}
 use Rattle.casebook_text.specs.SafeLine.{ellipsis}
 use Rattle.casebook_profile.specs.declared.unknown_line.UnknownLine.{UnknownLine}
-use Rattle.casebook_view.specs.Effects.{EffectValue}
+use Rattle.casebook_view.specs.declared.fate.Fate.TheVariants.{Alike, Changed}
+use Rattle.casebook_summary.specs.Counts.{count_of}
+use Rattle.casebook_summary.specs.Effects.{EffectValue}
 use Rattle.casebook_view.specs.Unknown.{is_unknown}
 use Rattle.casebook_screen.specs.Layout.{count_width, left_aligned, right_aligned}
 use Rattle.casebook_screen.specs.LineTexts.{text_limit, text_of_line}
@@ -42,8 +44,8 @@ led_words false count = decimal count
 unfoldable pub effect_text : RecordingValue → Bool → EffectValue → List ℕ
 effect_text r unknown effect =
     right_aligned count_width (decimal effect.number)
-    ++ right_aligned led_width (led_words unknown effect.changed)
-    ++ right_aligned led_width (led_words unknown effect.alike)
+    ++ right_aligned led_width (led_words unknown (count_of effect.led Changed))
+    ++ right_aligned led_width (led_words unknown (count_of effect.led Alike))
     ++ codes "  " ++ done_text (text_of_line text_limit r effect.number) effect.wrote
 
 unfoldable pub effects_head : List ℕ

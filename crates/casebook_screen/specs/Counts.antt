@@ -1,8 +1,8 @@
 -- What a summary says first: what the log holds, and how many lines have which fate.
-use Rattle.std.specs.Prelude.{ℕ, List, [], ◌∷◌, ◌++◌, codes, count_by, decimal}
-use Rattle.casebook_view.specs.Fates.{fate_eq}
+use Rattle.std.specs.Prelude.{ℕ, List, [], ◌∷◌, ◌++◌, codes, decimal}
 use Rattle.casebook_view.specs.declared.fate.Fate.{Fate}
 use Rattle.casebook_view.specs.declared.fate.Fate.TheVariants.{Cancelled, Changed, Alike, Kept, Untouched}
+use Rattle.casebook_summary.specs.Counts.{count_of}
 use Rattle.casebook_screen.specs.Layout.{count_width, right_aligned}
 
 unfoldable pub fate_words : Fate → List ℕ
@@ -11,10 +11,6 @@ fate_words Changed = codes "run again, another result"
 fate_words Alike = codes "run again, the same result"
 fate_words Kept = codes "met, kept as recorded"
 fate_words Untouched = codes "untouched"
-
--- how many lines have a fate
-abbrev pub count_of : List (ℕ × Fate) → Fate → ℕ
-count_of fates fate = count_by (λ line. fate_eq line.1 fate) fates
 
 unfoldable pub count_text : List (ℕ × Fate) → Fate → List ℕ
 count_text fates fate =

@@ -10,7 +10,7 @@ use Rattle.retro_tree.specs.declared.note.Note.{Note}
 use Rattle.casebook_text.specs.SafeLine.{safe_bytes}
 use Rattle.casebook_view.specs.declared.fate.Fate.{Fate}
 use Rattle.casebook_view.specs.declared.reason.Reason.{Reason}
-use Rattle.casebook_view.specs.declared.summary.Summary.{Summary}
+use Rattle.casebook_summary.specs.declared.summary.Summary.{Summary}
 use Rattle.casebook_words.specs.FileLines.{shown_lines}
 use Rattle.casebook_words.specs.Labels.{name_words, time_words}
 use Rattle.casebook_words.specs.Words.{note_words}

@@ -2,7 +2,6 @@
 use Rattle.std.specs.Prelude.{◌≡◌, ℕ, Bool, true, false, ◌||◌, List, [], ◌∷◌, ◌++◌, Option, Some, None}
 use Rattle.std.specs.Prelude.{codes, decimal}
 use Rattle.std.specs.FinMap as map_of
-use Rattle.casebook_changes.specs.declared.changed_path.ChangedPath.{ChangedPath}
 use Rattle.casebook_words.specs.FileLines.{lines_at, shown_lines}
 use Rattle.casebook_words.specs.Words.{path_words}
 use Rattle.retro_keep.specs.Recording.{RecordingValue, last_state}
@@ -13,6 +12,7 @@ use Rattle.retro_tree.specs.Path.{PathValue}
 use Rattle.retro_tree.specs.Tree.{Tree}
 use Rattle.retro_tree.specs.declared.entry.Entry.{Entry}
 use Rattle.retro_tree.specs.declared.entry.Entry.TheVariants.{Dir, File}
+use Rattle.casebook_summary.specs.declared.restoration.Restoration.{Restoration}
 use Rattle.casebook_screen.specs.Unified.{IsUnified}
 
 -- The lines of a diff of two texts: their names, and what differs.
@@ -69,13 +69,13 @@ IsOutputDiff c lines =
 
 -- ---- all
 
--- An empty line, a diff for each path, and a diff for each output that differs.
-pub record AreDiffs (r : RecordingValue) (repair : Repair) (paths : List ChangedPath)
+-- An empty line, a diff for each path to restore, and a diff for each output that differs.
+pub record AreDiffs (r : RecordingValue) (repair : Repair) (restorations : List Restoration)
     (lines : List (List ℕ)) : Type 0 where
   pub files : List (List ℕ)
   pub outputs : List (List ℕ)
   pub of_paths : AreParts
-      (λ changed. IsPathDiff (last_state r.lines r.first).tree (repaired_state repair).tree changed.path)
-      paths files
+      (λ x. IsPathDiff (last_state r.lines r.first).tree (repaired_state repair).tree x.path)
+      restorations files
   pub of_outputs : AreParts IsOutputDiff (compensations_in r repair) outputs
   pub shown : lines ≡ [] ∷ (files ++ outputs)

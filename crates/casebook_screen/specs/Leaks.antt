@@ -6,7 +6,7 @@ use Rattle.casebook_view.specs.Fates.{fate_eq}
 use Rattle.casebook_view.specs.Sources.{SourceValue, Played, Seen}
 use Rattle.casebook_view.specs.declared.fate.Fate.{Fate}
 use Rattle.casebook_view.specs.declared.fate.Fate.TheVariants.{Cancelled}
-use Rattle.casebook_view.specs.declared.leak.Leak.{Leak}
+use Rattle.casebook_summary.specs.declared.leak.Leak.{Leak}
 use Rattle.casebook_words.specs.Words.{count_words}
 use Rattle.casebook_words.specs.declared.labels.Labels.{Labels}
 use Rattle.casebook_screen.specs.LineTexts.{line_head, text_limit, text_of_line}

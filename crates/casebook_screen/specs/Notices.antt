@@ -2,10 +2,10 @@
 use Rattle.std.specs.Prelude.{ℕ, zero, suc, ◌+◌, ◌==◌, Bool, false, List, [], ◌∷◌, ◌++◌, codes, decimal, encode_utf8}
 use Rattle.std.specs.Prelude.{Option, Some, None, flat_map, if◌then◌else◌, length, map, nat_le, replicate, take}
 use Rattle.casebook_text.specs.SafeLine.{ellipsis, word_bytes}
-use Rattle.casebook_view.specs.Groups.{GroupValue, group_value}
-use Rattle.casebook_view.specs.declared.group.Group.{Group}
-use Rattle.casebook_view.specs.declared.subject.Subject.{Subject}
-use Rattle.casebook_view.specs.declared.subject.Subject.TheVariants.{At, Directory, Variable, Status, Text, Again}
+use Rattle.casebook_summary.specs.Groups.{GroupValue, group_value}
+use Rattle.casebook_summary.specs.declared.group.Group.{Group}
+use Rattle.casebook_summary.specs.declared.subject.Subject.{Subject}
+use Rattle.casebook_summary.specs.declared.subject.Subject.TheVariants.{At, Directory, Variable, Status, Text, Again}
 use Rattle.casebook_words.specs.Labels.{name_words}
 use Rattle.casebook_words.specs.Words.{count_words, path_words}
 use Rattle.casebook_words.specs.declared.labels.Labels.{Labels}

@@ -1,28 +1,27 @@
 -- Summaries of repairs, as a terminal shows them.
-use Rattle.std.specs.Prelude.{ℕ, ◌-◌, Bool, List, [], ◌∷◌, ◌++◌, codes, decimal, length, map}
+use Rattle.std.specs.Prelude.{ℕ, ◌-◌, List, [], ◌∷◌, ◌++◌, codes, decimal, length, map}
 use Rattle.std.specs.Prelude.{Option, Some, None}
 use Rattle.std.specs.BTreeSet.{insert_key}
 use Rattle.std.specs.List.{fold, slice_get}
 use Rattle.std.specs.Ordering.{nat_cmp}
 use Rattle.retro_keep.specs.Recording.{RecordingValue}
 use Rattle.retro_keep.specs.declared.noted.Noted.{Noted}
-use Rattle.casebook_view.specs.Effects.{effect_value}
+use Rattle.casebook_summary.specs.Effects.{effect_value}
 use Rattle.casebook_view.specs.Sources.{SourceValue}
 use Rattle.casebook_view.specs.declared.fate.Fate.{Fate}
 use Rattle.casebook_view.specs.declared.fate.Fate.TheVariants.{Cancelled}
-use Rattle.casebook_view.specs.declared.summary.Summary.{Summary}
+use Rattle.casebook_summary.specs.declared.summary.Summary.{Summary}
 use Rattle.casebook_words.specs.Labels.{time_words}
 use Rattle.casebook_words.specs.Words.{count_words}
 use Rattle.casebook_words.specs.declared.labels.Labels.{Labels}
 use Rattle.casebook_screen.specs.Basis.{basis_lines}
 use Rattle.casebook_screen.specs.Causes.{effect_lines}
-use Rattle.casebook_screen.specs.Counts.{count_lines, count_of}
+use Rattle.casebook_screen.specs.Counts.{count_lines}
+use Rattle.casebook_summary.specs.Counts.{count_of}
 use Rattle.casebook_screen.specs.Leaks.{leak_lines, unshown_in}
 use Rattle.casebook_screen.specs.Notices.{look_lines, notice_lines}
 use Rattle.casebook_screen.specs.Restorations.{restoration_lines}
 use Rattle.casebook_screen.specs.Unknown.{unknown_lines}
-use Rattle.casebook_view.specs.declared.group.Group.{Group}
-use Rattle.casebook_screen.specs.declared.restoration.Restoration.{Restoration}
 
 -- the sessions that ran lines, each once
 abbrev pub sessions_in : List (ℕ × Noted) → List ℕ
@@ -59,15 +58,13 @@ head_lines r labels fates basis = head_text r labels fates ∷ basis ++ [] ∷ [
 
 -- the head, which lines aren't understood, how many lines have which fate, what is to be restored,
 -- whom to tell, who looked at what, what cancelled lines showed, and what they led to
-abbrev pub summary_lines :
-    SourceValue → RecordingValue → Summary → List Restoration → List Group → List Group → Bool → Labels → ℕ
-    → List (List ℕ)
-summary_lines source r summary restorations groups looks is_recording labels width =
-    head_lines r labels summary.fates.items (basis_lines source is_recording)
+abbrev pub summary_lines : SourceValue → RecordingValue → Summary → Labels → ℕ → List (List ℕ)
+summary_lines source r summary labels width =
+    head_lines r labels summary.fates.items (basis_lines source summary.is_recording)
     ++ unknown_lines source summary.unknown.items summary.fates.items
     ++ [] ∷ count_lines summary.fates.items
-    ++ restoration_lines summary.doubtful.items summary.undecided.items restorations
-    ++ notice_lines labels width (length summary.notices.items) groups
-    ++ look_lines labels width (length summary.looks.items) looks
+    ++ restoration_lines summary.undecided.items summary.restorations.items
+    ++ notice_lines labels width (length summary.notices.items) summary.told.items
+    ++ look_lines labels width (length summary.looks.items) summary.looked.items
     ++ leak_lines r labels width summary.leaks.items (unshown_in source summary.fates.items)
     ++ effect_lines r summary.unknown.items (map effect_value summary.effects.items)

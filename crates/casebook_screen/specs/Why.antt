@@ -10,7 +10,7 @@ use Rattle.casebook_view.specs.Reasons.{chain_from}
 use Rattle.casebook_view.specs.declared.fate.Fate.{Fate}
 use Rattle.casebook_view.specs.declared.fate.Fate.TheVariants.{Changed}
 use Rattle.casebook_view.specs.declared.reason.Reason.{Reason}
-use Rattle.casebook_view.specs.declared.summary.Summary.{Summary}
+use Rattle.casebook_summary.specs.declared.summary.Summary.{Summary}
 use Rattle.casebook_view.specs.declared.why.Why.{Why}
 use Rattle.casebook_view.specs.declared.why.Why.TheVariants.{Replaced, Query, RunAgain}
 use Rattle.casebook_words.specs.Difference.{difference_words}

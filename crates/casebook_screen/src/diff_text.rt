@@ -1,17 +1,15 @@
 //! Unified diffs of what a repair changes, as a terminal shows them.
-ghost use Rattle.std.specs.Prelude.{◌≡◌, ◌++◌, ◌||◌, IfOk, OnOk, IsTrue};
+ghost use Rattle.std.specs.Prelude.{◌≡◌, ◌++◌, ◌||◌, IfOk, IsTrue};
 ghost use Rattle.std.specs.List.{list_all};
 ghost use Rattle.std.specs.Option.{option_copied};
-ghost use Rattle.retro_keep.specs.Recording.{last_state};
 ghost use Rattle.retro_redo.specs.Moments.{compensation_view};
-ghost use Rattle.retro_redo.specs.Repair.{repaired_state};
 ghost use Rattle.casebook_text.specs.SafeText.{is_printable};
 ghost use Rattle.casebook_screen.specs.Diffs.{AreDiffs, AreParts, IsDiff, IsOutputDiff};
 ghost use Rattle.casebook_screen.specs.Diffs.{IsPathDiff, has_file, is_file, output_name, side_name};
 
 use crate::NoMem;
 use crate::unified::unified_lines;
-use casebook_changes::ChangedPath;
+use casebook_summary::Restoration;
 use casebook_text::SafeLine;
 use casebook_view::Case;
 use casebook_words::{FileLines, push_path};
@@ -97,14 +95,14 @@ fn path_diffs(
     alloc: Global,
     before: &Tree,
     after: &Tree,
-    paths: &[ChangedPath],
+    restorations: &[Restoration],
 ) -> Result<Vec<SafeLine>, NoMem>
     ensures { IfOk result (λ lines. AreParts
-        (λ changed. IsPathDiff before.now after.now changed.path) paths.now lines.items) }
+        (λ r. IsPathDiff before.now after.now r.path) restorations.now lines.items) }
 {
     let mut lines = Vec::new(alloc);
-    for changed in paths {
-        lines.append(&mut path_diff(alloc, before, after, &changed.path)?)?;
+    for restoration in restorations {
+        lines.append(&mut path_diff(alloc, before, after, &restoration.path)?)?;
     }
     Ok(lines)
 }
@@ -141,16 +139,16 @@ fn output_diffs(alloc: Global, compensations: &[Compensation<'_>]) -> Result<Vec
     Ok(lines)
 }
 
-/// Returns unified diffs: of the files at paths in which the recorded and the repaired machine
-/// differ at the end, and then of each output that differs. A path without a file before and after,
-/// as that of a directory, has none. The lines of texts are compared as they are shown.
+/// Returns unified diffs: of the files at the paths to restore, and then of each output that differs.
+/// A path without a file before and after, as that of a directory, has none. The lines of texts are
+/// compared as they are shown.
 pub fn diff_lines(
     alloc: Global,
     case: &Case<'_>,
-    changed: &[ChangedPath],
+    restorations: &[Restoration],
 ) -> Result<Vec<SafeLine>, NoMem>
     ensures { IfOk result (λ lines. AreDiffs
-        case.now.recording case.now.repair changed.now lines.items) }
+        case.now.recording case.now.repair restorations.now lines.items) }
 {
     let repair = case.repair();
     let before = case.recording().last().tree();
@@ -158,7 +156,7 @@ pub fn diff_lines(
     let compensations = repair.compensations(alloc, case.recording())?;
     let mut lines = Vec::new(alloc);
     lines.push(SafeLine::new(alloc))?;
-    lines.append(&mut path_diffs(alloc, before, after, changed)?)?;
+    lines.append(&mut path_diffs(alloc, before, after, restorations)?)?;
     lines.append(&mut output_diffs(alloc, &compensations)?)?;
     Ok(lines)
 }

@@ -1,6 +1,6 @@
 //! What cancelled and replaced lines led to, as a terminal shows it.
 ghost use Rattle.std.specs.Prelude.{◌≡◌, ◌++◌, IfOk, OnOk, map};
-ghost use Rattle.casebook_view.specs.Effects.{effect_value};
+ghost use Rattle.casebook_summary.specs.Effects.{effect_value};
 ghost use Rattle.casebook_screen.specs.Causes.{done_text, effect_among, effect_lines, effect_text};
 ghost use Rattle.casebook_screen.specs.Causes.{effects_head, first_paths, led_width, led_words};
 ghost use Rattle.casebook_screen.specs.Layout.{right_aligned};
@@ -10,8 +10,9 @@ use crate::layout::{COUNT_WIDTH, column, number_column, number_line, push_padded
 use crate::line_text::{TEXT_LIMIT, push_text};
 use crate::row_text::push_paths;
 use crate::unknown_numbers::UnknownNumbers;
+use casebook_summary::Effect;
 use casebook_text::SafeLine;
-use casebook_view::{Effect, UnknownLine};
+use casebook_view::{Fate, UnknownLine};
 use retro_keep::Recording;
 use retro_tree::Path;
 use std::alloc::Global;
@@ -89,8 +90,8 @@ fn effect_line(
     let mut text = SafeLine::new(alloc);
     push_text(alloc, &mut text, recording, effect.number, TEXT_LIMIT)?;
     let mut line = number_column(alloc, u64::from(effect.number), COUNT_WIDTH)?;
-    line.push_line(&led_column(alloc, is_unknown, effect.changed)?)?;
-    line.push_line(&led_column(alloc, is_unknown, effect.alike)?)?;
+    line.push_line(&led_column(alloc, is_unknown, effect.count(Fate::Changed))?)?;
+    line.push_line(&led_column(alloc, is_unknown, effect.count(Fate::Alike))?)?;
     line.push_ascii("  ")?;
     push_done(alloc, &mut line, &text, effect.wrote.as_slice())?;
     Ok(line)

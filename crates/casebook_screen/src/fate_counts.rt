@@ -1,6 +1,7 @@
 //! How many lines have which fate.
 ghost use Rattle.std.specs.Prelude.{◌≡◌, ◌++◌, IfOk, OnOk};
-ghost use Rattle.casebook_screen.specs.Counts.{count_lines, count_of, count_text, fate_words};
+ghost use Rattle.casebook_screen.specs.Counts.{count_lines, count_text, fate_words};
+ghost use Rattle.casebook_summary.specs.Counts.{count_of};
 
 use crate::NoMem;
 use crate::layout::{COUNT_WIDTH, number_column};

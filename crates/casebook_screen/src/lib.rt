@@ -2,9 +2,8 @@
 //!
 //! [`row_lines`], [`row_table`] and [`row_numbers`] show rows as text, as a table and as numbers.
 //!
-//! [`summary_lines`] shows a [`Sheet`], which says what a repair would do: which lines aren't
-//! understood, how many lines have which fate, what is to be restored (by [`to_restore`]), whom to
-//! tell about what, which cancelled lines showed something, and what each edited line led to. If a
+//! [`summary_lines`] shows a summary of `casebook_summary`, which says what a repair would do: which lines aren't
+//! understood, how many lines have which fate, what is to be restored, whom to tell about what, which cancelled lines showed something, and what each edited line led to. If a
 //! recorder saw the lines on a machine, it says which ones have to be run there for real in place
 //! of which ones aren't understood, and who looked at something by these. Rows mark the lines that
 //! stand as they were observed with an `o`.
@@ -23,13 +22,8 @@
 //!
 //! - `row_lines`, `row_table` and `row_numbers` return the lines, fields and numbers that
 //!   `specs/RowTexts.antt` and `specs/Fields.antt` define for each row, in order: an equation each.
-//! - `to_restore` returns a restoration for each path that it is given, in order, with how it
-//!   differs and how much: a directory or an empty file that comes or goes, a file that becomes a
-//!   directory or the other way, or how many lines a diff of the two files adds and removes [by
-//!   `IsExtent`].
-//! - `summary_lines` returns the lines that `specs/Summary.antt` defines for a summary, for what is
-//!   to be restored and for the groups of lines to tell about and of lines by which somebody looked
-//!   that it is given: an equation.
+//! - `summary_lines` returns the lines that `specs/Summary.antt` defines for a case and a summary: an
+//!   equation.
 //! - `why_lines` returns the lines that `specs/Why.antt` defines: two for each line that is run
 //!   again with another result, with the chain of causes, and with the query that fails and both
 //!   its answers, or that its text is replaced, or that it is run again with all others. It is an
@@ -54,7 +48,6 @@ mod leak_text;
 mod line_text;
 mod names;
 mod notice_text;
-mod restoration;
 mod restoration_text;
 mod row_text;
 mod summary_head;
@@ -69,9 +62,8 @@ mod why_text;
 pub use detail_text::detail_lines;
 pub use diff_text::diff_lines;
 pub use names::Names;
-pub use restoration::{Extent, LineCounts, Restoration, to_restore};
 pub use row_text::row_lines;
-pub use summary_text::{Sheet, summary_lines};
+pub use summary_text::summary_lines;
 pub use table::{row_numbers, row_table};
 pub use why_text::why_lines;
 

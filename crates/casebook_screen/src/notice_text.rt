@@ -1,6 +1,6 @@
 //! Whom to tell about what, as a terminal shows it.
 ghost use Rattle.std.specs.Prelude.{◌≡◌, ◌++◌, IfOk, None, OnOk, flat_map};
-ghost use Rattle.casebook_view.specs.Groups.{group_value};
+ghost use Rattle.casebook_summary.specs.Groups.{group_value};
 ghost use Rattle.casebook_screen.specs.Notices.{first_numbers, group_lines, group_text};
 ghost use Rattle.casebook_screen.specs.Notices.{is_session, look_lines, looks_head, notice_lines};
 ghost use Rattle.casebook_screen.specs.Notices.{notices_head, number_piece, sessions_after};
@@ -9,8 +9,8 @@ ghost use Rattle.casebook_screen.specs.Notices.{subject_words};
 use crate::NoMem;
 use crate::layout::{indented, number_column, push_padded};
 use crate::names::Names;
+use casebook_summary::{Group, Subject};
 use casebook_text::SafeLine;
-use casebook_view::{Group, Subject};
 use casebook_words::{push_count, push_path};
 use std::alloc::Global;
 

@@ -1,20 +1,19 @@
 //! What is to be restored, as a terminal shows it.
 ghost use Rattle.std.specs.Prelude.{◌≡◌, ◌++◌, IfOk, OnOk, map};
+ghost use Rattle.std.specs.List.{list_any};
 ghost use Rattle.casebook_words.specs.Words.{path_words};
 ghost use Rattle.casebook_screen.specs.Restorations.{change_sign, count_changed, extent_words};
 ghost use Rattle.casebook_screen.specs.Restorations.{doubt_lines, doubt_sign, doubt_text};
 ghost use Rattle.casebook_screen.specs.Restorations.{has_doubts};
-ghost use Rattle.casebook_screen.specs.Restorations.{is_doubtful, restoration_among};
 ghost use Rattle.casebook_screen.specs.Restorations.{path_rows, restoration_lines};
 ghost use Rattle.casebook_screen.specs.Restorations.{restoration_text, restorations_head};
 ghost use Rattle.casebook_screen.specs.Restorations.{undecided_text, widest};
 
 use crate::NoMem;
 use crate::layout::push_padded;
-use crate::restoration::{Extent, Restoration};
 use casebook_changes::PathChange;
+use casebook_summary::{Extent, Restoration, Summary};
 use casebook_text::SafeLine;
-use casebook_view::Summary;
 use casebook_words::push_path;
 use retro_tree::Path;
 use std::alloc::Global;
@@ -85,16 +84,11 @@ fn widest(alloc: Global, paths: &[Restoration]) -> Result<usize, NoMem>
 
 /// Returns what is to be restored at a path.
 #[tactic(auto, unfolding(crate::specs::Restorations::restoration_text))]
-fn restoration_line(
-    alloc: Global,
-    path: &Restoration,
-    is_doubtful: bool,
-    width: usize,
-) -> Result<SafeLine, NoMem>
-    ensures { IfOk result (λ line. line ≡ restoration_text width is_doubtful path.now) }
+fn restoration_line(alloc: Global, path: &Restoration, width: usize) -> Result<SafeLine, NoMem>
+    ensures { IfOk result (λ line. line ≡ restoration_text width path.now) }
 {
     let mut line = SafeLine::new(alloc);
-    push_doubt(&mut line, is_doubtful)?;
+    push_doubt(&mut line, path.is_doubtful)?;
     push_sign(&mut line, path.change)?;
     push_padded(&mut line, &path_line(alloc, &path.path)?, width)?;
     line.push_ascii("  ")?;
@@ -125,28 +119,18 @@ fn restorations_head(alloc: Global, paths: &[Restoration]) -> Result<SafeLine, N
     Ok(line)
 }
 
-/// Returns whether a path is among doubtful ones.
-fn is_doubtful(doubtful: &[Path], path: &Path) -> bool
-    ensures { result ≡ is_doubtful doubtful.now path.now }
-{
-    doubtful.iter().any(|other| *other == *path)
-}
-
-/// Appends a line for each path. Takes time in proportion to the number of paths times the number
-/// of doubtful ones.
+/// Appends a line for each path to restore.
 fn push_restorations(
     alloc: Global,
     lines: &mut Vec<SafeLine>,
-    doubtful: &[Path],
     paths: &[Restoration],
     width: usize,
 ) -> Result<(), NoMem>
     ensures { OnOk result (lines.new.items
-        ≡ lines.old.items ++ map (restoration_among width doubtful.now) paths.now) }
+        ≡ lines.old.items ++ map (restoration_text width) paths.now) }
 {
     for path in paths {
-        let is_doubtful = is_doubtful(doubtful, &path.path);
-        lines.push(restoration_line(alloc, path, is_doubtful, width)?)?;
+        lines.push(restoration_line(alloc, path, width)?)?;
     }
     Ok(())
 }
@@ -175,17 +159,13 @@ fn push_undecided(alloc: Global, lines: &mut Vec<SafeLine>, undecided: &[Path]) 
 
 /// Appends a line for each path: those to restore, with a question mark before doubtful ones, and
 /// those of which it isn't known what they would be.
-fn push_paths(
-    alloc: Global,
-    lines: &mut Vec<SafeLine>,
-    summary: &Summary,
-    paths: &[Restoration],
-) -> Result<(), NoMem>
+fn push_paths(alloc: Global, lines: &mut Vec<SafeLine>, summary: &Summary) -> Result<(), NoMem>
     ensures { OnOk result (lines.new.items ≡ lines.old.items
-        ++ path_rows summary.now.doubtful.items summary.now.undecided.items paths.now) }
+        ++ path_rows summary.now.undecided.items summary.now.restorations.items) }
 {
+    let paths = summary.restorations.as_slice();
     let width = widest(alloc, paths)?;
-    push_restorations(alloc, lines, summary.doubtful.as_slice(), paths, width)?;
+    push_restorations(alloc, lines, paths, width)?;
     push_undecided(alloc, lines, summary.undecided.as_slice())
 }
 
@@ -199,11 +179,18 @@ fn doubt_line(alloc: Global) -> Result<SafeLine, NoMem>
     Ok(line)
 }
 
-/// Returns whether there are paths with a question mark.
-fn has_doubts(summary: &Summary) -> bool
-    ensures { result ≡ has_doubts summary.now.doubtful.items summary.now.undecided.items }
+/// Returns whether some path has a question mark.
+fn has_doubtful(paths: &[Restoration]) -> bool
+    ensures { result ≡ list_any (λ r. r.is_doubtful) paths.now }
 {
-    !summary.doubtful.is_empty() || !summary.undecided.is_empty()
+    paths.iter().any(|path| path.is_doubtful)
+}
+
+/// Returns whether there are paths with a question mark.
+fn has_doubts(undecided: &[Path], paths: &[Restoration]) -> bool
+    ensures { result ≡ has_doubts undecided.now paths.now }
+{
+    has_doubtful(paths) || !undecided.is_empty()
 }
 
 /// Appends what question marks say, if there are any.
@@ -218,18 +205,16 @@ fn push_doubts(alloc: Global, lines: &mut Vec<SafeLine>, has_doubts: bool) -> Re
 
 /// Returns what is to be restored: an empty line, how many paths there are, each of them, with a
 /// question mark before doubtful ones, and the paths of which it isn't known what they would be.
-pub(crate) fn restoration_lines(
-    alloc: Global,
-    summary: &Summary,
-    paths: &[Restoration],
-) -> Result<Vec<SafeLine>, NoMem>
+pub(crate) fn restoration_lines(alloc: Global, summary: &Summary) -> Result<Vec<SafeLine>, NoMem>
     ensures { IfOk result (λ lines. lines.items
-        ≡ restoration_lines summary.now.doubtful.items summary.now.undecided.items paths.now) }
+        ≡ restoration_lines summary.now.undecided.items summary.now.restorations.items) }
 {
+    let paths = summary.restorations.as_slice();
+    let has_doubts = has_doubts(summary.undecided.as_slice(), paths);
     let mut lines = Vec::new(alloc);
     lines.push(SafeLine::new(alloc))?;
     lines.push(restorations_head(alloc, paths)?)?;
-    push_paths(alloc, &mut lines, summary, paths)?;
-    push_doubts(alloc, &mut lines, has_doubts(summary))?;
+    push_paths(alloc, &mut lines, summary)?;
+    push_doubts(alloc, &mut lines, has_doubts)?;
     Ok(lines)
 }

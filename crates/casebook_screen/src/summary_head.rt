@@ -1,7 +1,6 @@
 //! What a log holds, as a terminal shows it.
 ghost use Rattle.std.specs.Prelude.{◌≡◌, ◌++◌, [], IfOk, OnOk, length};
 ghost use Rattle.std.specs.Option.{option_copied};
-ghost use Rattle.casebook_view.specs.Sources.{source_view};
 ghost use Rattle.casebook_screen.specs.Basis.{basis_lines};
 ghost use Rattle.casebook_screen.specs.Summary.{head_lines, head_text, period_words};
 ghost use Rattle.casebook_screen.specs.Summary.{sessions_in, span_words, times_words};
@@ -9,9 +8,9 @@ ghost use Rattle.casebook_screen.specs.Summary.{sessions_in, span_words, times_w
 use crate::NoMem;
 use crate::basis_text::push_basis;
 use crate::fate_counts::count_of;
-use crate::summary_text::Sheet;
+use casebook_summary::Summary;
 use casebook_text::SafeLine;
-use casebook_view::Fate;
+use casebook_view::{Case, Fate};
 use casebook_words::{Labels, push_count};
 use retro_keep::{Noted, Recording};
 use std::alloc::Global;
@@ -112,17 +111,17 @@ fn head_line(
 /// Returns what the log holds, what it rests on, and an empty line.
 pub(crate) fn head_lines(
     alloc: Global,
-    sheet: Sheet<'_>,
+    case: &Case<'_>,
+    summary: &Summary,
     labels: &Labels,
 ) -> Result<Vec<SafeLine>, NoMem>
-    ensures { IfOk result (λ lines. lines.items ≡ head_lines sheet.entry.recording.now labels.now
-        sheet.entry.summary.now.fates.items
-        (basis_lines (source_view sheet.entry.source) sheet.entry.is_recording)) }
+    ensures { IfOk result (λ lines. lines.items ≡ head_lines case.now.recording labels.now
+        summary.now.fates.items (basis_lines case.now.source summary.now.is_recording)) }
 {
-    let fates = sheet.summary.fates.as_slice();
+    let fates = summary.fates.as_slice();
     let mut lines = Vec::new(alloc);
-    lines.push(head_line(alloc, sheet.recording, labels, fates)?)?;
-    push_basis(alloc, &mut lines, sheet.source, sheet.is_recording)?;
+    lines.push(head_line(alloc, case.recording(), labels, fates)?)?;
+    push_basis(alloc, &mut lines, case.source(), summary.is_recording)?;
     lines.push(SafeLine::new(alloc))?;
     Ok(lines)
 }

@@ -9,7 +9,8 @@ use crate::show::Shown;
 use crate::source_table::SOURCES;
 use crate::unknown_table::UNKNOWN;
 use crate::unlike::unlike;
-use casebook_view::{Case, Summary};
+use casebook_summary::Summary;
+use casebook_view::Case;
 use retro_keep::{Edit, Recording};
 use retro_redo::Repair;
 use retro_rows::{fail, rows};
@@ -48,14 +49,13 @@ fn of_summary(
         case,
         summary,
         labels: &labels,
-        is_recording: asked.kind == "recording",
     };
     told(alloc, shown, asked.call, asked.of)
 }
 
 /// Returns what a case answers.
 fn of_case(alloc: Global, case: &Case<'_>, asked: Asked<'_>) -> Result<String, Fail> {
-    let summary = Summary::of(alloc, case)?;
+    let summary = Summary::of(alloc, case, asked.kind == "recording")?;
     of_summary(alloc, case, &summary, asked)
 }
 

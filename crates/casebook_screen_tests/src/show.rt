@@ -1,10 +1,9 @@
 //! What is shown of repairs: summaries, reasons, diffs, single lines, and documents.
 use casebook_json::summary_json;
-use casebook_screen::{
-    Names, NoMem, Sheet, detail_lines, diff_lines, summary_lines, to_restore, why_lines,
-};
+use casebook_screen::{Names, NoMem, detail_lines, diff_lines, summary_lines, why_lines};
+use casebook_summary::Summary;
 use casebook_text::text_of_lines;
-use casebook_view::{Case, Summary, grouped};
+use casebook_view::Case;
 use casebook_words::Labels;
 use retro_rows::{fail, text};
 use serde_json::Value;
@@ -23,8 +22,6 @@ pub struct Shown<'a, 'r> {
     pub summary: &'a Summary,
     /// What sessions and lines are called.
     pub labels: &'a Labels,
-    /// Whether the log is a recording.
-    pub is_recording: bool,
 }
 
 impl<'a> Shown<'a, '_> {
@@ -37,34 +34,12 @@ impl<'a> Shown<'a, '_> {
     }
 
     /// Returns the summary as the text that a terminal shows, or as a document.
-    fn sheet_text(
-        self,
-        alloc: Global,
-        sheet: Sheet<'_>,
-        is_document: bool,
-    ) -> Result<String, NoMem> {
-        if is_document {
-            return summary_json(alloc, sheet, self.labels);
-        }
-        let lines = summary_lines(alloc, sheet, self.names())?;
-        text_of_lines(alloc, lines.as_slice())
-    }
-
-    /// Returns the summary with its sections.
     fn summary_text(self, alloc: Global, is_document: bool) -> Result<String, NoMem> {
-        let restorations = to_restore(alloc, self.case, self.summary.restorations.as_slice())?;
-        let groups = grouped(alloc, self.summary.notices.as_slice())?;
-        let looks = grouped(alloc, self.summary.looks.as_slice())?;
-        let sheet = Sheet {
-            recording: self.case.recording(),
-            summary: self.summary,
-            restorations: restorations.as_slice(),
-            groups: groups.as_slice(),
-            looks: looks.as_slice(),
-            source: self.case.source(),
-            is_recording: self.is_recording,
-        };
-        self.sheet_text(alloc, sheet, is_document)
+        if is_document {
+            return summary_json(alloc, self.case, self.summary, self.labels);
+        }
+        let lines = summary_lines(alloc, self.case, self.summary, self.names())?;
+        text_of_lines(alloc, lines.as_slice())
     }
 
     /// Returns why lines are run again.

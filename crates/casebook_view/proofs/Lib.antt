@@ -3,10 +3,7 @@ pub mod FateLemmas
 pub mod Failing
 pub mod Finding
 pub mod FirstLemmas
-pub mod GroupLemmas
-pub mod OriginLemmas
 pub mod PathLemmas
-pub mod PathSets
 pub mod Reasoning
 pub mod Replacing
 pub mod RowLemmas

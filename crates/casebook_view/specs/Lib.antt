@@ -4,12 +4,9 @@ pub mod FirstOfEach
 pub mod NotePaths
 pub mod Filters
 pub mod Unknown
+pub mod Obstacles
 pub mod Rows
 pub mod Fates
 pub mod Reasons
 pub mod OtherAnswers
-pub mod Subjects
-pub mod Effects
-pub mod Summaries
-pub mod Groups
 pub mod inner

@@ -1,13 +1,9 @@
 -- Lines of a repair that aren't understood: as they were recorded, or since they run another text in
 -- it that isn't.
-use Rattle.std.specs.Prelude.{◌≡◌, ℕ, ◌==◌, Bool, true, false, not, ◌&&◌, ◌||◌, List, Option, Some, None}
+use Rattle.std.specs.Prelude.{ℕ, ◌==◌, Bool, true, false, not, ◌&&◌, List, Option, Some, None}
 use Rattle.std.specs.Prelude.{if◌then◌else◌, is_some, map, option_map}
 use Rattle.std.specs.List.{filter, filter_map, list_any}
-use Rattle.std.specs.List.Sorted.{IsStrictlySortedBy}
-use Rattle.std.specs.Option.{option_map_or}
-use Rattle.retro_tree.specs.Order.{path_cmp, path_eq, text_eq}
-use Rattle.retro_tree.specs.Path.{PathValue}
-use Rattle.retro_tree.specs.declared.note.Note.{Note}
+use Rattle.retro_tree.specs.Order.{text_eq}
 use Rattle.retro_keep.specs.Recording.{RecordingValue, noted_at}
 use Rattle.retro_keep.specs.declared.noted.Noted.{Noted}
 use Rattle.retro_redo.specs.Moments.{CompensationValue}
@@ -19,8 +15,6 @@ use Rattle.casebook_usage.specs.declared.obstacle.Obstacle.TheVariants.{Need}
 use Rattle.casebook_profile.specs.UnknownLines.{unknown_lines_of}
 use Rattle.casebook_profile.specs.declared.unknown_line.UnknownLine.{UnknownLine}
 use Rattle.casebook_view.specs.ByNumber.{with_number}
-use Rattle.casebook_view.specs.NotePaths.{path_written}
-use Rattle.casebook_view.specs.Reasons.{notes_at}
 use Rattle.casebook_view.specs.Sources.{SourceValue, Played, Seen}
 
 -- ---- obstacles by number
@@ -103,35 +97,3 @@ numbers_to_run unknown = map unknown_number (filter (λ line. is_need line.obsta
 -- the lines of a recording from a source that aren't understood in a repair of it, in order
 abbrev pub unknown_in : SourceValue → RecordingValue → Repair → List UnknownLine
 unknown_in source r repair = filter_map (λ line. unknown_line_in source r repair line.0) r.lines
-
--- ---- the paths that such lines write
-
--- whether a note writes to a path
-abbrev pub writes_to : PathValue → Note → Bool
-writes_to p note = option_map_or (path_eq p) (path_written note) false
-
--- whether the line with a number writes to a path in one of two recordings
-abbrev pub is_writer : RecordingValue → RecordingValue → PathValue → ℕ → Bool
-is_writer r repaired p n =
-    list_any (writes_to p) (notes_at n r) || list_any (writes_to p) (notes_at n repaired)
-
--- whether a line that isn't understood writes to a path in one of two recordings
-abbrev pub is_doubtful : RecordingValue → RecordingValue → List UnknownLine → PathValue → Bool
-is_doubtful r repaired unknown p = list_any (λ line. is_writer r repaired p line.number) unknown
-
--- whether a line that has to be run for real writes to a path in one of two recordings
-abbrev pub is_written_for_real : RecordingValue → RecordingValue → List UnknownLine → PathValue → Bool
-is_written_for_real r repaired unknown p = list_any (is_writer r repaired p) (numbers_to_run unknown)
-
--- whether a path is among some
-abbrev pub is_named : PathValue → List PathValue → Bool
-is_named p paths = list_any (path_eq p) paths
-
--- The paths of which it isn't known what they would be, though two recordings have the same there at
--- their ends: exactly those to which a line writes that has to be run for real, but for the changed
--- ones, in order.
-pub record AreUndecided (r repaired : RecordingValue) (unknown : List UnknownLine) (changed : List PathValue)
-    (paths : List PathValue) : Type 0 where
-  pub sorted : IsStrictlySortedBy path_cmp paths
-  pub exact : (p : PathValue)
-      → is_named p paths ≡ (is_written_for_real r repaired unknown p && not (is_named p changed))

@@ -122,21 +122,21 @@ impl<'a> Case<'a> {
     }
 
     /// Returns a line as it was recorded.
-    pub(crate) fn recorded(&self, number: u32) -> Option<&'a Noted>
+    pub fn recorded(&self, number: u32) -> Option<&'a Noted>
         ensures { option_copied result ≡ noted_at number self.now.recording.lines }
     {
         self.recording().run_of(number)
     }
 
     /// Returns a line as it runs in the repaired recording.
-    pub(crate) fn repaired(&self, number: u32) -> Option<&'a Noted>
+    pub fn repaired(&self, number: u32) -> Option<&'a Noted>
         ensures { option_copied result ≡ noted_at number self.now.repair.recording.lines }
     {
         self.repair.recording.run_of(number)
     }
 
     /// Returns the session that ran a line, or 0 if there is no such line.
-    pub(crate) fn session_of(&self, number: u32) -> u32
+    pub fn session_of(&self, number: u32) -> u32
         ensures { result ≡ session_in (noted_at number self.now.recording.lines) }
     {
         match self.recorded(number) {

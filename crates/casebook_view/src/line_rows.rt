@@ -4,7 +4,7 @@ ghost use Rattle.casebook_profile.specs.declared.unknown_line.UnknownLine.{Unkno
 ghost use Rattle.casebook_view.specs.Filters.{filters_of};
 ghost use Rattle.casebook_view.specs.Rows.{row_value, row_with, rows_among, rows_of};
 ghost use Rattle.casebook_view.specs.Sources.{source_view};
-ghost use Rattle.casebook_view.specs.inner.Obstacles.{AreObstacles};
+ghost use Rattle.casebook_view.specs.Obstacles.{AreObstacles};
 
 use crate::filters::Filters;
 use crate::line_row::LineRow;

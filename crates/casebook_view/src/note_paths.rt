@@ -70,7 +70,7 @@ fn read_path(alloc: Global, note: &Note, is_observed: bool) -> Result<Option<Pat
 }
 
 /// Returns the path to which a note writes, and how, or `None` if it writes to none.
-pub(crate) fn written_path(note: &Note) -> Option<(WriteKind, &Path)>
+pub fn written_path(note: &Note) -> Option<(WriteKind, &Path)>
     ensures { option_map (λ w. write_of w.0 w.1.now) result ≡ write_in note.now }
 {
     match note {
@@ -191,7 +191,7 @@ pub(crate) fn writes_of(alloc: Global, notes: &[Note]) -> Result<Vec<PathWrite>,
 
 /// Returns the paths to which notes write, each once, in the order in which they first occur. Takes
 /// time in proportion to the number of notes times the number of paths.
-pub(crate) fn written_paths(alloc: Global, notes: &[Note]) -> Result<Vec<Path>, NoMem>
+pub fn written_paths(alloc: Global, notes: &[Note]) -> Result<Vec<Path>, NoMem>
     ensures { IfOk result (λ paths.
         paths.items ≡ first_of_each path_eq (filter_map path_written notes.now)) }
 {

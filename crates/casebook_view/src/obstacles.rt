@@ -2,7 +2,7 @@
 ghost use Rattle.std.specs.Prelude.{◌≡◌, ◌∷◌, [], ℕ, List, IfOk, None, OnOk, not};
 ghost use Rattle.casebook_profile.specs.declared.unknown_line.UnknownLine.{UnknownLine as UnknownValue};
 ghost use Rattle.casebook_view.specs.Unknown.{first_obstacle, is_unknown, obstacle_at};
-ghost use Rattle.casebook_view.specs.inner.Obstacles.{AreObstacles, obstacle_of};
+ghost use Rattle.casebook_view.specs.Obstacles.{AreObstacles, obstacle_of};
 
 use crate::NoMem;
 use casebook_profile::{Obstacle, UnknownLine};
@@ -11,7 +11,7 @@ use std::collections::BTreeMap;
 
 /// Why lines aren't understood, by their numbers.
 #[derive(Drop)]
-pub(crate) struct Obstacles {
+pub struct Obstacles {
     by_number: BTreeMap<u32, Obstacle>,
 }
 
@@ -37,7 +37,7 @@ impl Obstacles {
     }
 
     /// Returns the obstacles of lines. If a line is named twice, the first one counts.
-    pub(crate) fn of(alloc: Global, unknown: &[UnknownLine]) -> Result<Obstacles, NoMem>
+    pub fn of(alloc: Global, unknown: &[UnknownLine]) -> Result<Obstacles, NoMem>
         ensures { IfOk result (AreObstacles unknown.now) }
     {
         let mut obstacles = Obstacles::new(alloc);
@@ -48,7 +48,7 @@ impl Obstacles {
     }
 
     /// Returns whether a line is understood.
-    pub(crate) fn has_none(&self, number: u32) -> bool
+    pub fn has_none(&self, number: u32) -> bool
         ensures { (unknown : List UnknownValue) → AreObstacles unknown self.now
             → result ≡ not (is_unknown unknown number) }
     {

@@ -48,7 +48,7 @@ fn query_at(noted: &Noted, index: usize) -> Option<&Ask>
 }
 
 /// Returns the reason of the line with a number, of reasons in order of numbers.
-pub(crate) fn reason_of(reasons: &[Reason], number: u32) -> Option<&Reason>
+pub fn reason_of(reasons: &[Reason], number: u32) -> Option<&Reason>
     ensures { IsTrue (rises_from 0 (map number_in reasons.now))
         → option_copied result ≡ reason_at number reasons.now }
 {
@@ -74,11 +74,7 @@ fn origin_of(reasons: &[Reason], number: u32, cause: Option<u32>) -> u32
 }
 
 /// Returns the query of a line's failing note, or `None` if no note fails.
-pub(crate) fn failing_ask<'a>(
-    case: &Case<'a>,
-    number: u32,
-    failing: Option<usize>,
-) -> Option<&'a Ask>
+pub fn failing_ask<'a>(case: &Case<'a>, number: u32, failing: Option<usize>) -> Option<&'a Ask>
     ensures { option_copied result
         ≡ failing_query failing (notes_at number case.now.recording) }
 {

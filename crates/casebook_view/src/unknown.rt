@@ -3,7 +3,8 @@ ghost use Rattle.std.specs.Prelude.{◌≡◌, IfOk, Some};
 ghost use Rattle.std.specs.List.{list_any};
 ghost use Rattle.casebook_profile.specs.UnknownLines.{unknown_lines_of};
 ghost use Rattle.casebook_view.specs.Unknown.{has_other_text, is_replaced, unknown_in};
-ghost use Rattle.casebook_view.specs.inner.Obstacles.{AreObstacles, AreReplaced};
+ghost use Rattle.casebook_view.specs.Obstacles.{AreObstacles};
+ghost use Rattle.casebook_view.specs.inner.Obstacles.{AreReplaced};
 
 use crate::NoMem;
 use crate::case::Case;

@@ -1,5 +1,6 @@
 //! The answers to the queries for which lines are run again.
-use casebook_view::{Case, OtherAnswer, Reason, Summary, answers_of};
+use casebook_summary::Summary;
+use casebook_view::{Case, OtherAnswer, Reason, answers_of};
 use retro_rows::{fail, text, utf8};
 use retro_tree::{Answer, Ask, Node};
 use std::alloc::Global;

@@ -1,6 +1,7 @@
 //! The parts of a summary as texts.
 use crate::words::{change_sign, fate_sign, obstacle_word, push_item, subject_text};
-use casebook_view::{Effect, Notice, Reason, Summary, Why, chain};
+use casebook_summary::{Effect, Notice, Summary};
+use casebook_view::{Fate, Reason, Why, chain};
 use retro_rows::text;
 use retro_tree::{NoMem, Path};
 use std::alloc::Global;
@@ -31,6 +32,17 @@ fn paths(alloc: Global, paths: &[Path]) -> Result<String, NoMem> {
     let mut out = String::new(alloc);
     for path in paths {
         push_item(&mut out, ", ", path.as_str())?;
+    }
+    Ok(out)
+}
+
+/// Returns the doubtful paths to restore.
+fn doubtful(alloc: Global, summary: &Summary) -> Result<String, NoMem> {
+    let mut out = String::new(alloc);
+    for restoration in &summary.restorations {
+        if restoration.is_doubtful {
+            push_item(&mut out, ", ", restoration.path.as_str())?;
+        }
     }
     Ok(out)
 }
@@ -69,7 +81,8 @@ fn leaks(alloc: Global, summary: &Summary) -> Result<String, NoMem> {
 /// Returns an effect as text: the line, to how many lines with another result and with the same one
 /// it led, and the paths that it wrote.
 fn effect_text(alloc: Global, effect: &Effect) -> Result<String, NoMem> {
-    let mut out = format!(in alloc; "{} {} {}", effect.number, effect.changed, effect.alike)?;
+    let (changed, alike) = (effect.count(Fate::Changed), effect.count(Fate::Alike));
+    let mut out = format!(in alloc; "{} {changed} {alike}", effect.number)?;
     for path in &effect.wrote {
         push_item(&mut out, " ", path.as_str())?;
     }
@@ -138,7 +151,7 @@ pub fn part(alloc: Global, summary: &Summary, name: &str) -> Result<String, NoMe
     match name {
         "fates" => fates(alloc, summary),
         "restore" => restorations(alloc, summary),
-        "doubtful" => paths(alloc, summary.doubtful.as_slice()),
+        "doubtful" => doubtful(alloc, summary),
         "undecided" => paths(alloc, summary.undecided.as_slice()),
         "unknown" => unknown(alloc, summary),
         "tell" => notices(alloc, summary.notices.as_slice()),

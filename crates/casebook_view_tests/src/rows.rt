@@ -7,7 +7,8 @@ use crate::parts::part;
 use crate::tables::{INCIDENTS, LISTED, SEEN, SHOWN, TREES};
 use crate::trees::changed;
 use crate::words::fate_sign;
-use casebook_view::{Case, Source, Summary};
+use casebook_summary::Summary;
+use casebook_view::{Case, Source};
 use retro_keep::{Edit, Recording};
 use retro_redo::Repair;
 use retro_rows::{fail, rows, text};
@@ -40,7 +41,7 @@ fn of_summary(
 
 /// Returns the result of a call on a case, as text.
 fn of_case(alloc: Global, case: &Case<'_>, call: &str, of: &str) -> Result<String, Fail> {
-    let summary = Summary::of(alloc, case)?;
+    let summary = Summary::of(alloc, case, true)?;
     of_summary(alloc, case, &summary, call, of)
 }
 

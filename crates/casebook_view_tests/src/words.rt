@@ -1,6 +1,7 @@
 //! The words of values in rows.
 use casebook_changes::PathChange;
-use casebook_view::{Fate, Obstacle, Subject, WriteKind};
+use casebook_summary::Subject;
+use casebook_view::{Fate, Obstacle, WriteKind};
 use retro_tree::NoMem;
 
 /// Appends a text after a separator, or alone as the first one.

@@ -1,19 +1,17 @@
 -- The parts of the document, as the code has them.
-use Rattle.std.specs.Prelude.{◌≡◌, ◌++◌, Bool, List, codes, map}
+use Rattle.std.specs.Prelude.{◌≡◌, ◌++◌, Bool, codes, map}
 use Rattle.serde_json.specs.Data.{Data, boolean, string, object, no_members, member}
 use Rattle.serde_json.specs.View.{view}
 use Rattle.retro_json.specs.Values.{array_of, number_data}
-use Rattle.casebook_view.specs.Effects.{effect_value}
-use Rattle.casebook_view.specs.Groups.{group_value}
+use Rattle.casebook_summary.specs.Effects.{effect_value}
+use Rattle.casebook_summary.specs.Groups.{group_value}
 use Rattle.casebook_view.specs.Sources.{SourceValue}
-use Rattle.casebook_view.specs.declared.group.Group.{Group}
-use Rattle.casebook_view.specs.declared.summary.Summary.{Summary}
+use Rattle.casebook_summary.specs.declared.summary.Summary.{Summary}
 use Rattle.casebook_words.specs.declared.labels.Labels.{Labels}
-use Rattle.casebook_screen.specs.declared.restoration.Restoration.{Restoration}
 use Rattle.casebook_json.specs.Causes.{effect_data}
 use Rattle.casebook_json.specs.Counts.{counts_data}
 use Rattle.casebook_json.specs.Leaked.{leak_data}
-use Rattle.casebook_json.specs.Restore.{restoration_data}
+use Rattle.casebook_json.specs.Restore.{doubtful_paths, restoration_data}
 use Rattle.casebook_json.specs.Source.{incomplete_in, observed_in, outside_in, overlapping_in, source_name, unseen_in}
 use Rattle.casebook_json.specs.Tell.{group_data}
 use Rattle.casebook_json.specs.Unknown.{unknown_data}
@@ -42,20 +40,19 @@ document lines is_recording parts = object
     (member (codes "unseen") (array_of (map view parts.unseen.items)) no_members)))))))))))))))))
 
 -- These are the parts of the document of a repair.
-pub record AreParts (summary : Summary) (restorations : List Restoration) (groups looks : List Group)
-    (source : SourceValue) (labels : Labels) (parts : Parts) : Type 0 where
+pub record AreParts (summary : Summary) (source : SourceValue) (labels : Labels) (parts : Parts) : Type 0 where
   pub causes : map view parts.causes.items ≡ map (λ effect. effect_data (effect_value effect)) summary.effects.items
   pub counts : view parts.counts ≡ counts_data summary.fates.items
   pub doubtful : map view parts.doubtful.items
-      ≡ map path_data (summary.doubtful.items ++ summary.undecided.items)
+      ≡ map path_data (doubtful_paths summary.restorations.items ++ summary.undecided.items)
   pub incomplete : map view parts.incomplete.items ≡ map number_data (incomplete_in source)
   pub leaked : map view parts.leaked.items ≡ map (leak_data labels) summary.leaks.items
-  pub looked : map view parts.looked.items ≡ map (λ group. group_data labels (group_value group)) looks
+  pub looked : map view parts.looked.items ≡ map (λ group. group_data labels (group_value group)) summary.looked.items
   pub observed : map view parts.observed.items ≡ map number_data (observed_in source)
   pub outside : map view parts.outside.items ≡ map number_data (outside_in source)
   pub overlapping : map view parts.overlapping.items ≡ map number_data (overlapping_in source)
-  pub restore : map view parts.restore.items ≡ map restoration_data restorations
+  pub restore : map view parts.restore.items ≡ map restoration_data summary.restorations.items
   pub named : parts.source.now ≡ source_name source
-  pub tell : map view parts.tell.items ≡ map (λ group. group_data labels (group_value group)) groups
+  pub tell : map view parts.tell.items ≡ map (λ group. group_data labels (group_value group)) summary.told.items
   pub unknown : map view parts.unknown.items ≡ map unknown_data summary.unknown.items
   pub unseen : map view parts.unseen.items ≡ map string (unseen_in source)

@@ -1,6 +1,6 @@
 use Rattle.std.proofs.Common.{◌≡◌, ◌++◌, map, drop}
 use Rattle.serde_json.specs.View.{view}
-use Rattle.casebook_view.specs.Effects.{effect_value}
+use Rattle.casebook_summary.specs.Effects.{effect_value}
 use Rattle.casebook_json.specs.Causes.{effect_data}
 use Rattle.casebook_json.proofs.effect_value.effect_values.Given as goal
 

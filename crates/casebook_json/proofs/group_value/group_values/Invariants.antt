@@ -1,6 +1,6 @@
 use Rattle.std.proofs.Common.{◌≡◌, ◌++◌, map, drop}
 use Rattle.serde_json.specs.View.{view}
-use Rattle.casebook_view.specs.Groups.{group_value}
+use Rattle.casebook_summary.specs.Groups.{group_value}
 use Rattle.casebook_json.specs.Tell.{group_data}
 use Rattle.casebook_json.proofs.group_value.group_values.Given as goal
 

@@ -3,7 +3,7 @@ use Rattle.std.proofs.Common.{ℕ, List, ◌++◌, drop}
 use Rattle.casebook_screen.specs.Diffs.{AreParts, IsPathDiff}
 use Rattle.casebook_screen.proofs.diff_text.path_diffs.Given as goal
 
-abbrev pub invariant-loop-changed : goal.invariant-loop-changed
-invariant-loop-changed l =
-    (rest : List (List ℕ)) → AreParts (λ changed. IsPathDiff l.before l.after changed.path) (drop l.changed-index l.paths) rest
-    → AreParts (λ changed. IsPathDiff l.before l.after changed.path) l.paths (l.lines.items ++ rest)
+abbrev pub invariant-loop-restoration : goal.invariant-loop-restoration
+invariant-loop-restoration l =
+    (rest : List (List ℕ)) → AreParts (λ x. IsPathDiff l.before l.after x.path) (drop l.restoration-index l.restorations) rest
+    → AreParts (λ x. IsPathDiff l.before l.after x.path) l.restorations (l.lines.items ++ rest)

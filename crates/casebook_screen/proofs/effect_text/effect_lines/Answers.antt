@@ -1,5 +1,5 @@
 use Rattle.std.proofs.Common.{◌≡◌, ◌∙◌, [], ◌∷◌, ap, map, rules, sym}
-use Rattle.casebook_view.specs.Effects.{effect_value}
+use Rattle.casebook_summary.specs.Effects.{effect_value}
 use Rattle.casebook_screen.specs.Causes.{effect_among, effects_head}
 use Rattle.casebook_screen.proofs.RowParts.{map_map}
 use Rattle.casebook_screen.proofs.effect_text.effect_lines.Goals as goal

@@ -1,5 +1,5 @@
 use Rattle.std.proofs.Common.{◌≡◌, ◌++◌, map, take}
-use Rattle.casebook_view.specs.Effects.{effect_value}
+use Rattle.casebook_summary.specs.Effects.{effect_value}
 use Rattle.casebook_screen.specs.Causes.{effect_among}
 use Rattle.casebook_screen.proofs.effect_text.push_effects.Given as goal
 

@@ -1,5 +1,5 @@
 use Rattle.std.proofs.Common.{◌≡◌, ◌++◌, map, take}
-use Rattle.casebook_view.specs.Groups.{group_value}
+use Rattle.casebook_summary.specs.Groups.{group_value}
 use Rattle.casebook_screen.specs.Notices.{group_text}
 use Rattle.casebook_screen.proofs.notice_text.push_groups.Given as goal
 

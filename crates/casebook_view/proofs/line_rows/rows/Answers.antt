@@ -2,7 +2,7 @@ use Rattle.std.proofs.Common.{◌≡◌, ◌++◌, ◌∷◌, [], map, subst, �
 use Rattle.casebook_view.specs.Filters.{FiltersValue, filters_of, passes}
 use Rattle.casebook_view.specs.Rows.{row_of, row_value, rows_among, unknown_of}
 use Rattle.casebook_view.specs.Sources.{source_view}
-use Rattle.casebook_view.specs.inner.Obstacles.{AreObstacles}
+use Rattle.casebook_view.specs.Obstacles.{AreObstacles}
 use Rattle.casebook_view.proofs.FirstLemmas.{kept_at}
 use Rattle.casebook_view.proofs.line_rows.rows.Goals as goal
 

@@ -1,7 +1,7 @@
 -- The obstacles of the lines so far come before those of the lines that are left.
 use Rattle.std.proofs.Common.{◌≡◌, ℕ, drop}
 use Rattle.casebook_view.specs.Unknown.{first_obstacle, obstacle_at}
-use Rattle.casebook_view.specs.inner.Obstacles.{obstacle_of}
+use Rattle.casebook_view.specs.Obstacles.{obstacle_of}
 use Rattle.casebook_view.proofs.obstacles.Obstacles.of.Given as goal
 
 abbrev pub invariant-loop-line : goal.invariant-loop-line

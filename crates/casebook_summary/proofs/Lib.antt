@@ -1,0 +1,6 @@
+pub mod GroupLemmas
+pub mod LedLemmas
+pub mod PathSets
+pub mod Restoring
+pub mod RisingLemmas
+pub mod Whole

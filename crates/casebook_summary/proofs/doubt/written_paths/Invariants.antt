@@ -1,0 +1,12 @@
+-- The paths so far, and those of the lines that are left.
+use Rattle.std.proofs.Common.{◌≡◌, ◌||◌, drop}
+use Rattle.retro_tree.specs.Path.{PathValue}
+use Rattle.casebook_summary.specs.Doubts.{is_doubtful}
+use Rattle.casebook_summary.specs.inner.PathSets.{has_path}
+use Rattle.casebook_summary.proofs.doubt.written_paths.Given as goal
+
+abbrev pub invariant-loop-line : goal.invariant-loop-line
+invariant-loop-line l =
+    (p : PathValue) → (has_path p l.paths.paths.keys
+    || is_doubtful l.case.recording l.case.repair.recording (drop l.line-index l.unknown) p)
+    ≡ is_doubtful l.case.recording l.case.repair.recording l.unknown p

@@ -1,0 +1,8 @@
+-- How many lines have which fate.
+use Rattle.std.specs.Prelude.{ℕ, List, count_by}
+use Rattle.casebook_view.specs.Fates.{fate_eq}
+use Rattle.casebook_view.specs.declared.fate.Fate.{Fate}
+
+-- how many lines have a fate
+abbrev pub count_of : List (ℕ × Fate) → Fate → ℕ
+count_of fates fate = count_by (λ line. fate_eq line.1 fate) fates

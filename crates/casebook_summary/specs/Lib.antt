@@ -1,0 +1,9 @@
+pub mod Counts
+pub mod Doubts
+pub mod Restorations
+pub mod Subjects
+pub mod Summaries
+pub mod Effects
+pub mod Groups
+pub mod Summary
+pub mod inner

@@ -1,5 +1,0 @@
-use Rattle.casebook_view.proofs.PathSets.{removed_path}
-use Rattle.casebook_view.proofs.path_set.PathSet.remove.Goals as goal
-
-pub returns : goal.returns
-returns c = removed_path c.args.self.now.paths.keys c.remove.new.self.keys c.args.path.now c.remove.ensures.updates.0
