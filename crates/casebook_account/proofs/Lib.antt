@@ -1,6 +1,6 @@
 mod EditLists
 mod Fronts
 mod Printed
-pub mod Rising
+pub mod Matching
 mod Telling
 mod Untouched

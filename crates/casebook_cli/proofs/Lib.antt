@@ -3,7 +3,7 @@ pub mod CheckLemmas
 pub mod HarmlessLemmas
 pub mod KindLemmas
 pub mod Known
-pub mod RisingLemmas
+pub mod MatchLemmas
 pub mod RowLemmas
 pub mod ScreenLemmas
 pub mod StatusStops

@@ -40,10 +40,10 @@ module _ {edits those : List Edit} {r s : RecordingValue} {repair other : Repair
       (subst (λ es. IsShownOf from es r repair labels shown colours text) are_edits
       (subst (λ at. IsShownOf at edits r repair labels shown colours text) is_source h)))
 
-  pub page_same : (all : Bool) (text : List ℕ) → IsPageOf source edits r repair all text
-      → IsPageOf from those s other all text
-  page_same all text h =
-      subst (λ p. IsPageOf from those s p all text) is_repair
-      (subst (λ o. IsPageOf from those o repair all text) is_recording
-      (subst (λ es. IsPageOf from es r repair all text) are_edits
-      (subst (λ at. IsPageOf at edits r repair all text) is_source h)))
+  pub page_same : (labels : Labels) (title : List ℕ) (all : Bool) (text : List ℕ)
+      → IsPageOf source edits r repair labels title all text → IsPageOf from those s other labels title all text
+  page_same labels title all text h =
+      subst (λ p. IsPageOf from those s p labels title all text) is_repair
+      (subst (λ o. IsPageOf from those o repair labels title all text) is_recording
+      (subst (λ es. IsPageOf from es r repair labels title all text) are_edits
+      (subst (λ at. IsPageOf at edits r repair labels title all text) is_source h)))

@@ -50,7 +50,7 @@ AreSummaryLines s lines = lines ≡ summary_lines s.source s.recording s.summary
 
 -- the same for programs
 abbrev pub IsJson : ScreenValue → List ℕ → Type 0
-IsJson s text = text ≡ summary_text s.recording s.summary s.source s.labels
+IsJson s text = text ≡ summary_text s.summary s.source s.labels
 
 -- ---- reasons and differences
 

@@ -30,9 +30,8 @@
 //!   `IsRepairBy`]. The repair is exact if the log is a recording of its lines, and otherwise what
 //!   choices for its lines come to, whether lines are run ahead or not. The summary says that the
 //!   log is as its lines run only if it is a recording of them; that it never says no of what
-//!   `retro record` wrote is only tested. The numbers of the lines of which the summary speaks
-//!   rise, so reasons, single lines and the JSON are as the clauses of the crates below define them
-//!   [`rise` of `IsSummary`].
+//!   `retro record` wrote is only tested. The page tells exactly what that summary
+//!   says, in order, and begins with its policy [`page` of `IsPageOf`].
 //! - With colours, each line of what `show` writes for people stands between two codes that its
 //!   first byte chooses (`specs/Colours.antt`), and everything else is the same. What `lines`,
 //!   `check` and, without colours, `show` write for people has no control code but newlines and

@@ -2,24 +2,14 @@
 ghost use Rattle.std.specs.Prelude.{IfOk, string_bytes};
 ghost use Rattle.casebook_cli.specs.Pages.{IsPageOf};
 ghost use Rattle.casebook_cli.specs.Screens.{asked_source};
-ghost use Rattle.casebook_summary.specs.Summary.{LinesRise};
+ghost use Rattle.casebook_view.specs.Lines.{LinesMatch};
 
 use crate::NoMem;
 use crate::repairs::{AskedRepair, summary_of};
 use casebook_page::{Contents, page};
-use casebook_view::{Case, Filters, rows};
+use casebook_view::Case;
 use casebook_words::Labels;
 use std::alloc::Global;
-
-/// Returns filters that all lines pass.
-fn no_filters(alloc: Global) -> Filters<'static> {
-    Filters {
-        tests: Vec::new(alloc),
-        text: None,
-        shown: None,
-        is_unknown: false,
-    }
-}
 
 /// Returns the page of a recording and its repair.
 fn page_of_case<'x>(
@@ -29,18 +19,15 @@ fn page_of_case<'x>(
     title: &'x str,
     all: bool,
 ) -> Result<String, NoMem>
-    requires { LinesRise case.now.repair }
+    requires { LinesMatch case.now.recording case.now.repair }
     ensures { IfOk result (λ text.
         IsPageOf case.entry.now.source case.entry.now.edits case.entry.now.recording
-        case.entry.now.repair all (string_bytes text)) }
+        case.entry.now.repair labels.entry.now title.entry.now all (string_bytes text)) }
 {
     let summary = summary_of(alloc, case)?;
-    let mut filters = no_filters(alloc);
-    let lines = rows(alloc, case.recording(), case.source(), &mut filters)?;
     let contents = Contents {
         case,
         summary: &summary,
-        lines: lines.as_slice(),
         labels,
         title,
         shows_all: all,
@@ -56,10 +43,10 @@ pub(crate) fn page_text(
     title: &str,
     all: bool,
 ) -> Result<String, NoMem>
-    requires { LinesRise asked.now.repair }
+    requires { LinesMatch asked.now.recording asked.now.repair }
     ensures { IfOk result (λ text.
         IsPageOf (asked_source asked.now) asked.now.edits.items asked.now.recording
-        asked.now.repair all (string_bytes text)) }
+        asked.now.repair asked.now.labels title.now all (string_bytes text)) }
 {
     let case = asked.case(alloc)?;
     page_of_case(alloc, &case, &asked.labels, title, all)

@@ -6,7 +6,7 @@ ghost use Rattle.casebook_account.specs.Edits.{HasNoText, known_lines, text_edit
 ghost use Rattle.casebook_account.specs.Shown.{HasNoShown, shown, shown_settled};
 ghost use Rattle.casebook_request.specs.Views.{repair_view, rounds_view};
 ghost use Rattle.casebook_cli.specs.Repairs.{AreEdits, IsAsked, IsRepairBy};
-ghost use Rattle.casebook_summary.specs.Summary.{LinesRise};
+ghost use Rattle.casebook_view.specs.Lines.{LinesMatch};
 ghost use Rattle.casebook_cli.specs.Screens.{IsSummaryOf, asked_source};
 ghost use Rattle.casebook_cli.specs.Stops.{IsRefused, IsUnshownRepair, StopsAsked, StopsEdits};
 ghost use Rattle.casebook_cli.specs.Stops.{StopsNumbers, StopsRepair, StopsRepaired};
@@ -83,7 +83,7 @@ fn is_recording(alloc: Global, case: &Case<'_>) -> Result<bool, NoMem>
 
 /// Returns what a repair would do.
 pub(crate) fn summary_of(alloc: Global, case: &Case<'_>) -> Result<Summary, NoMem>
-    requires { LinesRise case.now.repair }
+    requires { LinesMatch case.now.recording case.now.repair }
     ensures { IfOk result
         (IsSummaryOf case.now.source case.now.edits case.now.recording case.now.repair) }
 {
@@ -239,7 +239,7 @@ fn repaired<'a, R: Threads + Sync + AllocGlobal, P: Progress>(
 ) -> Result<AskedRepair, Stop<'a>>
     requires { IsAccountOf (inputs_view inputs.now).log.bytes account }
     ensures ok { IfOk result (IsAsked (inputs_view inputs.now) (repair_view request.entry)) }
-    ensures rise { IfOk result (λ asked. LinesRise asked.repair) }
+    ensures lines { IfOk result (λ asked. LinesMatch asked.recording asked.repair) }
     ensures err { IfErr result
         (StopsRepaired (inputs_view inputs.now) (repair_view request.entry) account) }
 {
@@ -274,7 +274,7 @@ pub(crate) fn asked_repair<'a, R: Threads + Sync + AllocGlobal, P: Progress>(
     request: RepairRequest<'a>,
 ) -> Result<AskedRepair, Stop<'a>>
     ensures ok { IfOk result (IsAsked (inputs_view inputs.now) (repair_view request.entry)) }
-    ensures rise { IfOk result (λ asked. LinesRise asked.repair) }
+    ensures lines { IfOk result (λ asked. LinesMatch asked.recording asked.repair) }
     ensures err { IfErr result (StopsAsked (inputs_view inputs.now) (repair_view request.entry)) }
 {
     progress.begin(Step::Reading(inputs.log.bytes.len()));

@@ -1,7 +1,7 @@
 //! What is shown of repairs.
 ghost use Rattle.std.specs.Prelude.{IfOk, IfErr, IsTrue, not, string_bytes};
 ghost use Rattle.casebook_cli.specs.Harmless.{IsHarmless, is_plain_shown};
-ghost use Rattle.casebook_summary.specs.Summary.{LinesRise, Rise};
+ghost use Rattle.casebook_view.specs.Lines.{LinesMatch};
 ghost use Rattle.casebook_cli.specs.Screens.{AreDiffLines, AreSummaryLines, AreWhyLines};
 ghost use Rattle.casebook_cli.specs.Screens.{IsJson, IsLineText, IsScreenText, IsShownOf, IsTextOf};
 ghost use Rattle.casebook_cli.specs.Screens.{asked_source};
@@ -45,15 +45,13 @@ impl Screen<'_, '_> {
 
     /// Returns what the repair would do, for programs.
     fn json(self, alloc: Global) -> Result<String, NoMem>
-        requires { Rise self.summary.now }
         ensures { IfOk result (λ text. IsJson (screen_view self.entry) (string_bytes text)) }
     {
-        summary_json(alloc, self.case, self.summary, self.names.labels)
+        summary_json(alloc, self.case.source(), self.summary, self.names.labels)
     }
 
     /// Returns why lines are run again, if that is asked for.
     fn why_lines(self, alloc: Global, is_asked: bool) -> Result<Vec<SafeLine>, NoMem>
-        requires { Rise self.summary.now }
         ensures { IfOk result (λ lines.
             AreWhyLines is_asked (screen_view self.entry) lines.items) }
     {
@@ -76,7 +74,6 @@ impl Screen<'_, '_> {
 
     /// Returns the summary with what else is asked for.
     fn text(self, alloc: Global, extras: Extras) -> Result<String, NoMem>
-        requires { Rise self.summary.now }
         ensures value { IfOk result (λ text.
             IsScreenText extras (screen_view self.entry) (string_bytes text)) }
         ensures harmless { IfOk result (λ text.
@@ -90,7 +87,6 @@ impl Screen<'_, '_> {
 
     /// Returns one line in full.
     fn line<'a>(self, alloc: Global, number: u32) -> Result<String, Stop<'a>>
-        requires { Rise self.summary.now }
         ensures ok { IfOk result (λ text.
             IsLineText number (screen_view self.entry) (string_bytes text)) }
         ensures harmless { IfOk result (λ text.
@@ -106,7 +102,6 @@ impl Screen<'_, '_> {
 
     /// Returns what is to be shown.
     fn shown<'a>(self, alloc: Global, shown: ShownPart) -> Result<String, Stop<'a>>
-        requires { Rise self.summary.now }
         ensures ok { IfOk result (λ text.
             IsTextOf shown (screen_view self.entry) (string_bytes text)) }
         ensures harmless { IfOk result (λ text. IsTrue (is_plain_shown self.entry.colours shown)
@@ -129,7 +124,7 @@ fn text_of_case<'a>(
     shown: ShownPart,
     colours: bool,
 ) -> Result<String, Stop<'a>>
-    requires { LinesRise case.now.repair }
+    requires { LinesMatch case.now.recording case.now.repair }
     ensures ok { IfOk result (λ text. IsShownOf case.now.source case.now.edits
         case.now.recording case.now.repair labels.now shown colours (string_bytes text)) }
     ensures harmless { IfOk result (λ text. IsTrue (is_plain_shown colours shown)
@@ -154,7 +149,7 @@ pub(crate) fn shown_text<'a>(
     shown: ShownPart,
     colours: bool,
 ) -> Result<String, Stop<'a>>
-    requires { LinesRise asked.now.repair }
+    requires { LinesMatch asked.now.recording asked.now.repair }
     ensures ok { IfOk result (λ text. IsShownOf (asked_source asked.now) asked.now.edits.items
         asked.now.recording asked.now.repair asked.now.labels shown colours
         (string_bytes text)) }

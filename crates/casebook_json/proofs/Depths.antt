@@ -5,14 +5,13 @@ use Rattle.serde_json.specs.Data.{Data, Members, boolean, depth, items_depth, me
 use Rattle.serde_json.specs.Read.{max_depth}
 use Rattle.serde_json.specs.View.{items_of}
 use Rattle.retro_json.specs.Values.{array_of, number_data}
-use Rattle.retro_keep.specs.Recording.{RecordingValue}
 use Rattle.casebook_profile.specs.declared.unknown_line.UnknownLine.{UnknownLine}
 use Rattle.casebook_summary.specs.Effects.{EffectValue, effect_value}
 use Rattle.casebook_summary.specs.Groups.{GroupValue, group_value}
-use Rattle.casebook_view.specs.Reasons.{cause_in, failing_in, reason_at}
+use Rattle.casebook_view.specs.Reasons.{cause_in}
 use Rattle.casebook_view.specs.Sources.{SourceValue}
 use Rattle.casebook_summary.specs.declared.effect.Effect.{Effect}
-use Rattle.casebook_view.specs.declared.fate.Fate.{Fate}
+use Rattle.casebook_view.specs.declared.case_line.CaseLine.{CaseLine}
 use Rattle.casebook_summary.specs.declared.group.Group.{Group}
 use Rattle.casebook_summary.specs.declared.leak.Leak.{Leak}
 use Rattle.casebook_view.specs.declared.reason.Reason.{Reason}
@@ -25,10 +24,10 @@ use Rattle.casebook_summary.specs.declared.restoration.Restoration.{Restoration}
 use Rattle.casebook_json.specs.Causes.{effect_data}
 use Rattle.casebook_json.specs.Counts.{counts_data}
 use Rattle.casebook_json.specs.Leaked.{leak_data}
-use Rattle.casebook_json.specs.Lines.{line_data, line_with_reason, origin_in, why_or_null}
+use Rattle.casebook_json.specs.Lines.{failing_in, line_data, origin_in, why_or_null}
 use Rattle.casebook_json.specs.Restore.{added_in, doubtful_paths, removed_in, restoration_data}
 use Rattle.casebook_json.specs.Source.{incomplete_in, observed_in, outside_in, overlapping_in, source_name, unseen_in}
-use Rattle.casebook_json.specs.Summary.{summary_data, summary_with}
+use Rattle.casebook_json.specs.Summary.{summary_data}
 use Rattle.casebook_json.specs.Tell.{group_data, subject_path, subject_variable}
 use Rattle.casebook_json.specs.Unknown.{unknown_data}
 use Rattle.casebook_words.specs.Labels.{name_in}
@@ -97,26 +96,21 @@ why_depth : (reason : Option Reason) → depth (why_or_null reason) ≡ 0
 why_depth None = refl
 why_depth (Some reason) = refl
 
-reasoned_low : (session : ℕ) (reason : Option Reason) (line : ℕ × Fate)
-    → depth (line_with_reason session reason line) ≤ 1
-unfolding line_with_reason
-reasoned_low session reason line =
-    let a = number_depth (cause_in reason) in
-    let b = number_depth (failing_in reason) in
-    let c = number_depth (origin_in reason) in
-    let d = why_depth reason in
+line_low : (line : CaseLine) → depth (line_data line) ≤ 1
+unfolding line_data
+line_low line =
+    let a = number_depth (cause_in line.reason) in
+    let b = number_depth (failing_in line.reason) in
+    let c = number_depth (origin_in line.reason) in
+    let d = why_depth line.reason in
     omega (arith, a, b, c, d)
-
-line_low : (r : RecordingValue) (reasons : List Reason) (line : ℕ × Fate)
-    → depth (line_data r reasons line) ≤ 1
-line_low r reasons line = reasoned_low _ (reason_at line.0 reasons) line
 
 unknown_low : (line : UnknownLine) → depth (unknown_data line) ≤ 1
 unknown_low line = omega arith
 
-counts_low : (fates : List (ℕ × Fate)) → depth (counts_data fates) ≤ 1
+counts_low : (lines : List CaseLine) → depth (counts_data lines) ≤ 1
 unfolding counts_data
-counts_low fates = omega arith
+counts_low lines = omega arith
 
 -- ---- the members of the document
 
@@ -153,14 +147,14 @@ low_number n = omega arith
 low_text : (text : List ℕ) → depth (string text) ≤ 3
 low_text text = omega arith
 
-low_counts : (fates : List (ℕ × Fate)) → depth (counts_data fates) ≤ 3
-low_counts fates = let low = counts_low fates in omega (arith, low)
+low_counts : (lines : List CaseLine) → depth (counts_data lines) ≤ 3
+low_counts lines = let low = counts_low lines in omega (arith, low)
 
 leak_lower : (labels : Labels) (leak : Leak) → depth (leak_data labels leak) ≤ 2
 leak_lower labels leak = let low = leak_low labels leak in omega (arith, low)
 
-line_lower : (r : RecordingValue) (reasons : List Reason) (line : ℕ × Fate) → depth (line_data r reasons line) ≤ 2
-line_lower r reasons line = let low = line_low r reasons line in omega (arith, low)
+line_lower : (line : CaseLine) → depth (line_data line) ≤ 2
+line_lower line = let low = line_low line in omega (arith, low)
 
 restoration_lower : (r : Restoration) → depth (restoration_data r) ≤ 2
 restoration_lower r = let low = restoration_low r in omega (arith, low)
@@ -171,19 +165,18 @@ unknown_lower line = let low = unknown_low line in omega (arith, low)
 low_none : AreLow no_members
 low_none = record { low = omega arith }
 
-is_low : (r : RecordingValue) (summary : Summary) (source : SourceValue) (labels : Labels)
-    → IsLow (summary_data r summary source labels)
-unfolding summary_with
-is_low r summary source labels =
+is_low : (summary : Summary) (source : SourceValue) (labels : Labels)
+    → IsLow (summary_data summary source labels)
+unfolding summary_data
+is_low summary source labels =
     low_object _
     (low_member _ _ _
     (low_array (λ (e : Effect). effect_data (effect_value e)) (λ e. effect_low (effect_value e)) summary.effects.items)
-    (low_member _ _ _ (low_counts summary.fates.items)
+    (low_member _ _ _ (low_counts summary.lines)
     (low_member _ _ _ (low_array path_data (λ p. omega arith) (doubtful_paths summary.restorations.items ++ summary.undecided.items))
     (low_member _ _ _ (low_numbers (incomplete_in source))
     (low_member _ _ _ (low_array (leak_data labels) (leak_lower labels) summary.leaks.items)
-    (low_member _ _ _
-    (low_array (line_data r summary.reasons.items) (line_lower r summary.reasons.items) summary.fates.items)
+    (low_member _ _ _ (low_array line_data line_lower summary.lines)
     (low_member _ _ _ (low_groups labels summary.looked.items)
     (low_member _ _ _ (low_numbers (observed_in source))
     (low_member _ _ _ (low_numbers (outside_in source))
@@ -196,7 +189,7 @@ is_low r summary source labels =
     (low_member _ _ _ (low_array unknown_data unknown_lower summary.unknown.items)
     (low_member _ _ _ (low_array string (λ t. omega arith) (unseen_in source)) low_none)))))))))))))))))
 
-pub summary_low : (r : RecordingValue) (summary : Summary) (source : SourceValue) (labels : Labels)
-    → depth (summary_data r summary source labels) ≤ max_depth
-summary_low r summary source labels =
-    (is_low r summary source labels).low
+pub summary_low : (summary : Summary) (source : SourceValue) (labels : Labels)
+    → depth (summary_data summary source labels) ≤ max_depth
+summary_low summary source labels =
+    (is_low summary source labels).low

@@ -4,14 +4,13 @@ use Rattle.serde_json.specs.Data.{string}
 use Rattle.serde_json.specs.Written.{has_float}
 use Rattle.retro_json.proofs.Floats.{array_float}
 use Rattle.retro_json.specs.Values.{number_data}
-use Rattle.retro_keep.specs.Recording.{RecordingValue}
 use Rattle.casebook_profile.specs.declared.unknown_line.UnknownLine.{UnknownLine}
 use Rattle.casebook_summary.specs.Effects.{EffectValue, effect_value}
 use Rattle.casebook_summary.specs.Groups.{GroupValue, group_value}
-use Rattle.casebook_view.specs.Reasons.{cause_in, failing_in, reason_at}
+use Rattle.casebook_view.specs.Reasons.{cause_in}
 use Rattle.casebook_view.specs.Sources.{SourceValue}
 use Rattle.casebook_summary.specs.declared.effect.Effect.{Effect}
-use Rattle.casebook_view.specs.declared.fate.Fate.{Fate}
+use Rattle.casebook_view.specs.declared.case_line.CaseLine.{CaseLine}
 use Rattle.casebook_summary.specs.declared.group.Group.{Group}
 use Rattle.casebook_summary.specs.declared.leak.Leak.{Leak}
 use Rattle.casebook_view.specs.declared.reason.Reason.{Reason}
@@ -24,10 +23,10 @@ use Rattle.casebook_summary.specs.declared.restoration.Restoration.{Restoration}
 use Rattle.casebook_json.specs.Causes.{effect_data}
 use Rattle.casebook_json.specs.Counts.{counts_data}
 use Rattle.casebook_json.specs.Leaked.{leak_data}
-use Rattle.casebook_json.specs.Lines.{line_data, line_with_reason, origin_in, why_or_null}
+use Rattle.casebook_json.specs.Lines.{failing_in, line_data, origin_in, why_or_null}
 use Rattle.casebook_json.specs.Restore.{added_in, doubtful_paths, removed_in, restoration_data}
 use Rattle.casebook_json.specs.Source.{incomplete_in, observed_in, outside_in, overlapping_in, unseen_in}
-use Rattle.casebook_json.specs.Summary.{summary_data, summary_with}
+use Rattle.casebook_json.specs.Summary.{summary_data}
 use Rattle.casebook_json.specs.Tell.{group_data, subject_path, subject_variable}
 use Rattle.casebook_json.specs.Unknown.{unknown_data}
 use Rattle.casebook_words.specs.Labels.{name_in}
@@ -85,39 +84,33 @@ why_float : (reason : Option Reason) → has_float (why_or_null reason) ≡ fals
 why_float None = refl
 why_float (Some reason) = refl
 
-reasoned_float : (session : ℕ) (reason : Option Reason) (line : ℕ × Fate)
-    → has_float (line_with_reason session reason line) ≡ false
-unfolding line_with_reason
-reasoned_float session reason line = rw (
-  number_float (cause_in reason),
-  number_float (failing_in reason),
-  number_float (origin_in reason),
-  why_float reason,
+line_float : (line : CaseLine) → has_float (line_data line) ≡ false
+unfolding line_data
+line_float line = rw (
+  number_float (cause_in line.reason),
+  number_float (failing_in line.reason),
+  number_float (origin_in line.reason),
+  why_float line.reason,
 ) refl
 
-line_float : (r : RecordingValue) (reasons : List Reason) (line : ℕ × Fate)
-    → has_float (line_data r reasons line) ≡ false
-line_float r reasons line = reasoned_float _ (reason_at line.0 reasons) line
-
-counts_float : (fates : List (ℕ × Fate)) → has_float (counts_data fates) ≡ false
+counts_float : (lines : List CaseLine) → has_float (counts_data lines) ≡ false
 unfolding counts_data
-counts_float fates = refl
+counts_float lines = refl
 
 unknown_float : (line : UnknownLine) → has_float (unknown_data line) ≡ false
 unknown_float line = refl
 
-pub summary_float : (r : RecordingValue) (summary : Summary) (source : SourceValue) (labels : Labels)
-    → has_float (summary_data r summary source labels) ≡ false
-unfolding summary_with
-summary_float r summary source labels = rw (
+pub summary_float : (summary : Summary) (source : SourceValue) (labels : Labels)
+    → has_float (summary_data summary source labels) ≡ false
+unfolding summary_data
+summary_float summary source labels = rw (
   array_float (λ (e : Effect). effect_data (effect_value e)) (λ e. effect_float (effect_value e))
       summary.effects.items,
-  counts_float summary.fates.items,
+  counts_float summary.lines,
   array_float path_data (λ p. refl) (doubtful_paths summary.restorations.items ++ summary.undecided.items),
   array_float number_data (λ n. refl) (incomplete_in source),
   array_float (leak_data labels) (leak_float labels) summary.leaks.items,
-  array_float (line_data r summary.reasons.items) (line_float r summary.reasons.items)
-      summary.fates.items,
+  array_float line_data line_float summary.lines,
   array_float (λ (g : Group). group_data labels (group_value g))
       (λ g. group_float labels (group_value g)) summary.looked.items,
   array_float number_data (λ n. refl) (observed_in source),

@@ -3,7 +3,6 @@ use Rattle.std.specs.Prelude.{ℕ, List, ◌++◌, codes, map}
 use Rattle.serde_json.specs.Data.{Data, boolean, string, object, no_members, member}
 use Rattle.serde_json.specs.Written.{compact_text}
 use Rattle.retro_json.specs.Values.{array_of, number_data}
-use Rattle.retro_keep.specs.Recording.{RecordingValue}
 use Rattle.casebook_summary.specs.Effects.{effect_value}
 use Rattle.casebook_summary.specs.Groups.{group_value}
 use Rattle.casebook_view.specs.Sources.{SourceValue}
@@ -21,17 +20,17 @@ use Rattle.casebook_json.specs.Values.{path_data}
 
 -- `{"causes":..,"counts":..,"doubtful":..,"incomplete":..,"leaked":..,"lines":..,"looked":..,
 -- "observed":..,"outside":..,"overlapping":..,"recording":..,"restore":..,"show":1,"source":..,
--- "tell":..,"unknown":..,"unseen":..}`, with the keys in byte order, where these are the lines
-unfoldable pub summary_with : Data → Summary → SourceValue → Labels → Data
-summary_with lines summary source labels = object
+-- "tell":..,"unknown":..,"unseen":..}`, with the keys in byte order
+unfoldable pub summary_data : Summary → SourceValue → Labels → Data
+summary_data summary source labels = object
     (member (codes "causes")
     (array_of (map (λ effect. effect_data (effect_value effect)) summary.effects.items))
-    (member (codes "counts") (counts_data summary.fates.items)
+    (member (codes "counts") (counts_data summary.lines)
     (member (codes "doubtful")
     (array_of (map path_data (doubtful_paths summary.restorations.items ++ summary.undecided.items)))
     (member (codes "incomplete") (numbers_data (incomplete_in source))
     (member (codes "leaked") (array_of (map (leak_data labels) summary.leaks.items))
-    (member (codes "lines") lines
+    (member (codes "lines") (array_of (map line_data summary.lines))
     (member (codes "looked")
     (array_of (map (λ group. group_data labels (group_value group)) summary.looked.items))
     (member (codes "observed") (numbers_data (observed_in source))
@@ -46,12 +45,6 @@ summary_with lines summary source labels = object
     (member (codes "unknown") (array_of (map unknown_data summary.unknown.items))
     (member (codes "unseen") (texts_data (unseen_in source)) no_members)))))))))))))))))
 
-abbrev pub lines_data : RecordingValue → Summary → Data
-lines_data r summary = array_of (map (line_data r summary.reasons.items) summary.fates.items)
-
-abbrev pub summary_data : RecordingValue → Summary → SourceValue → Labels → Data
-summary_data r summary source labels = summary_with (lines_data r summary) summary source labels
-
 -- the document: compact, with a newline at the end
-unfoldable pub summary_text : RecordingValue → Summary → SourceValue → Labels → List ℕ
-summary_text r summary source labels = compact_text (summary_data r summary source labels) ++ codes "\n"
+unfoldable pub summary_text : Summary → SourceValue → Labels → List ℕ
+summary_text summary source labels = compact_text (summary_data summary source labels) ++ codes "\n"

@@ -1,18 +1,13 @@
 //! What becomes of each line, and why, as JSON.
-ghost use Rattle.std.specs.Prelude.{◌≡◌, IfOk, IsTrue, map};
-ghost use Rattle.std.specs.Option.{option_copied};
+ghost use Rattle.std.specs.Prelude.{◌≡◌, IfOk, map};
 ghost use Rattle.serde_json.specs.View.{view};
-ghost use Rattle.retro_keep.specs.Recording.{noted_at};
-ghost use Rattle.retro_keep.specs.Script.{rises_from};
-ghost use Rattle.casebook_view.specs.Fates.{session_in};
-ghost use Rattle.casebook_view.specs.Reasons.{cause_in, failing_in, number_in, reason_at};
-ghost use Rattle.casebook_json.specs.Lines.{fate_name, line_data, line_with_reason, origin_in};
+ghost use Rattle.casebook_view.specs.Reasons.{cause_in};
+ghost use Rattle.casebook_json.specs.Lines.{failing_in, fate_name, line_data, origin_in};
 ghost use Rattle.casebook_json.specs.Lines.{why_name, why_or_null};
 
 use crate::NoMem;
 use crate::value::number_or_null;
-use casebook_view::{Fate, Reason, Why};
-use retro_keep::Recording;
+use casebook_view::{CaseLine, Fate, Reason, Why};
 use serde_json::{Value, json};
 use std::alloc::Global;
 
@@ -26,27 +21,6 @@ fn fate_name(fate: Fate) -> &'static str
         Fate::Alike => "alike",
         Fate::Kept => "kept",
         Fate::Untouched => "untouched",
-    }
-}
-
-/// Returns the session that ran a line, or 0 if there is no such line.
-fn session_of(recording: &Recording, number: u32) -> u32
-    ensures { result ≡ session_in (noted_at number recording.now.lines) }
-{
-    match recording.run_of(number) {
-        Some(noted) => noted.sid,
-        None => 0,
-    }
-}
-
-/// Returns the reason of the line with a number, of reasons in order of numbers.
-fn reason_of(reasons: &[Reason], number: u32) -> Option<Reason>
-    ensures { IsTrue (rises_from 0 (map number_in reasons.now))
-        → result ≡ reason_at number reasons.now }
-{
-    match reasons.binary_search_by_key(&number, |reason| reason.number) {
-        Ok(index) => Some(reasons[index]),
-        Err(_) => None,
     }
 }
 
@@ -101,56 +75,31 @@ fn why_or_null(alloc: Global, reason: Option<Reason>) -> Result<Value, NoMem>
     }
 }
 
-/// Returns the JSON value of a line that is run again for this reason, if there is one.
-#[tactic(auto, unfolding(crate::specs::Lines::line_with_reason))]
-fn line_with_reason(
-    alloc: Global,
-    session: u32,
-    reason: Option<Reason>,
-    line: (u32, Fate),
-) -> Result<Value, NoMem>
-    ensures { IfOk result (λ v. view v ≡ line_with_reason session reason line) }
+/// Returns the JSON value of a line.
+#[tactic(auto, unfolding(crate::specs::Lines::line_data))]
+fn line_value(alloc: Global, line: &CaseLine) -> Result<Value, NoMem>
+    ensures { IfOk result (λ v. view v ≡ line_data line.now) }
 {
+    let reason = line.reason;
     let why = why_or_null(alloc, reason)?;
     json!(in alloc; {
         "because_of": number_or_null(cause_in(reason)),
-        "fate": fate_name(line.1),
-        "line": line.0,
+        "fate": fate_name(line.fate),
+        "line": line.number,
         "note": number_or_null(failing_in(reason)),
         "origin": number_or_null(origin_in(reason)),
-        "session": session,
+        "session": line.session,
         "why": why
     })
 }
 
-/// Returns the JSON value of a line.
-fn line_value(
-    alloc: Global,
-    recording: &Recording,
-    reasons: &[Reason],
-    line: (u32, Fate),
-) -> Result<Value, NoMem>
-    ensures { IsTrue (rises_from 0 (map number_in reasons.now))
-        → IfOk result (λ v. view v ≡ line_data recording.now reasons.now line) }
-{
-    let session = session_of(recording, line.0);
-    line_with_reason(alloc, session, reason_of(reasons, line.0), line)
-}
-
-/// Returns the JSON values of lines, in order. Takes time in proportion to the number of lines, and
-/// to the logarithm of the number of reasons.
-pub(crate) fn line_values(
-    alloc: Global,
-    recording: &Recording,
-    reasons: &[Reason],
-    fates: &[(u32, Fate)],
-) -> Result<Vec<Value>, NoMem>
-    ensures { IsTrue (rises_from 0 (map number_in reasons.now)) → IfOk result (λ vs.
-        map view vs.items ≡ map (line_data recording.now reasons.now) fates.now) }
+/// Returns the JSON values of lines, in order.
+pub(crate) fn line_values(alloc: Global, lines: &[CaseLine]) -> Result<Vec<Value>, NoMem>
+    ensures { IfOk result (λ vs. map view vs.items ≡ map line_data lines.now) }
 {
     let mut values = Vec::new(alloc);
-    for line in fates {
-        values.push(line_value(alloc, recording, reasons, *line)?)?;
+    for line in lines {
+        values.push(line_value(alloc, line)?)?;
     }
     Ok(values)
 }

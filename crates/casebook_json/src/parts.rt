@@ -1,7 +1,6 @@
 //! The parts of the document.
 ghost use Rattle.std.specs.Prelude.{◌≡◌, ◌++◌, IfOk, map};
 ghost use Rattle.serde_json.specs.View.{view};
-ghost use Rattle.retro_json.specs.Values.{array_of};
 ghost use Rattle.casebook_view.specs.Sources.{source_view};
 ghost use Rattle.casebook_json.specs.Restore.{doubtful_paths};
 ghost use Rattle.casebook_json.specs.Values.{path_data};
@@ -12,6 +11,7 @@ use crate::count_value::counts_value;
 use crate::effect_value::effect_values;
 use crate::group_value::group_values;
 use crate::leak_value::leak_values;
+use crate::line_value::line_values;
 use crate::restoration_value::{doubtful_restorations, restoration_values};
 use crate::source_value::{
     incomplete_values, observed_values, outside_values, overlapping_values, source_name,
@@ -28,7 +28,7 @@ use std::alloc::Global;
 /// The version of the document.
 const VERSION: u32 = 1;
 
-/// The parts of the document, but for its lines.
+/// The parts of the document.
 #[derive(Drop)]
 pub(crate) struct Parts {
     causes: Vec<Value>,
@@ -36,6 +36,7 @@ pub(crate) struct Parts {
     doubtful: Vec<Value>,
     incomplete: Vec<Value>,
     leaked: Vec<Value>,
+    lines: Vec<Value>,
     looked: Vec<Value>,
     observed: Vec<Value>,
     outside: Vec<Value>,
@@ -70,10 +71,11 @@ impl Parts {
     {
         Ok(Parts {
             causes: effect_values(alloc, summary.effects.as_slice())?,
-            counts: counts_value(alloc, summary.fates.as_slice())?,
+            counts: counts_value(alloc, summary)?,
             doubtful: doubtful_values(alloc, summary)?,
             incomplete: incomplete_values(alloc, source)?,
             leaked: leak_values(alloc, labels, summary.leaks.as_slice())?,
+            lines: line_values(alloc, summary.lines.as_slice())?,
             looked: group_values(alloc, labels, summary.looked.as_slice())?,
             observed: observed_values(alloc, source)?,
             outside: outside_values(alloc, source)?,
@@ -86,15 +88,9 @@ impl Parts {
         })
     }
 
-    /// Returns the document of these parts, with these lines.
-    pub(crate) fn document(
-        self,
-        alloc: Global,
-        lines: Vec<Value>,
-        is_recording: bool,
-    ) -> Result<Value, NoMem>
-        ensures { IfOk result (λ v.
-            view v ≡ document (array_of (map view lines.items)) is_recording self) }
+    /// Returns the document of these parts.
+    pub(crate) fn document(self, alloc: Global, is_recording: bool) -> Result<Value, NoMem>
+        ensures { IfOk result (λ v. view v ≡ document is_recording self) }
     {
         let mut map = Map::new(alloc);
         put(&mut map, alloc, "causes", Value::Array(self.causes))?;
@@ -102,7 +98,7 @@ impl Parts {
         put(&mut map, alloc, "doubtful", Value::Array(self.doubtful))?;
         put(&mut map, alloc, "incomplete", Value::Array(self.incomplete))?;
         put(&mut map, alloc, "leaked", Value::Array(self.leaked))?;
-        put(&mut map, alloc, "lines", Value::Array(lines))?;
+        put(&mut map, alloc, "lines", Value::Array(self.lines))?;
         put(&mut map, alloc, "looked", Value::Array(self.looked))?;
         put(&mut map, alloc, "observed", Value::Array(self.observed))?;
         put(&mut map, alloc, "outside", Value::Array(self.outside))?;

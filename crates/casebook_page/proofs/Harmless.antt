@@ -9,7 +9,7 @@ use Rattle.casebook_text.specs.declared.safe_text.Breaks.TheVariants.{Keep}
 use Rattle.casebook_text.proofs.HtmlLemmas.{IsPlain, no_markup, unescapes}
 use Rattle.casebook_text.proofs.Lists.{flat_map_all}
 use Rattle.casebook_page.specs.Harmless.{IsHarmlessHtml, begins_escapes}
-use Rattle.casebook_page.specs.Page.{is_safe_text}
+use Rattle.casebook_page.specs.Safe.{is_safe_text}
 
 -- a proof for each byte, by its escape
 by_escape : (P : ℕ → Type 0) → P 38 → P 60 → P 62 → P 34 → P 39 → ((b : ℕ) → IsPlain b → P b) → (b : ℕ) → P b

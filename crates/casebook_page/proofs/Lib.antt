@@ -1,4 +1,3 @@
-pub mod Pieces
 pub mod SafeTexts
+pub mod SessionLemmas
 pub mod Harmless
-pub mod RowLemmas

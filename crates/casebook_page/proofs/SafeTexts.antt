@@ -6,7 +6,7 @@ use Rattle.std.proofs.lemmas.Bool.{and_from, and_parts, or_left}
 use Rattle.casebook_text.specs.SafeText.{is_safe, is_safe_byte}
 use Rattle.casebook_text.specs.SafeLine.{IsSafeLine}
 use Rattle.casebook_text.specs.declared.safe_text.Breaks.TheVariants.{Keep, Show}
-use Rattle.casebook_page.specs.Page.{is_safe_text}
+use Rattle.casebook_page.specs.Safe.{is_safe_text}
 
 all_imply : (p q : ℕ → Bool) → ((x : ℕ) → p x ≡ true → q x ≡ true) → (xs : List ℕ) → list_all p xs ≡ true → list_all q xs ≡ true
 all_imply p q each [] all = refl

@@ -1,4 +1,7 @@
 pub mod Template
+pub mod Safe
 pub mod Page
+pub mod Told
+pub mod Views
 pub mod Harmless
-pub mod Rows
+pub mod inner

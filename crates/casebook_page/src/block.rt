@@ -1,8 +1,12 @@
-//! Texts of several lines, cut in the middle if they are long.
+//! Texts of several lines, cut in the middle if they are long. They tell nothing of the repair.
+ghost use Rattle.std.specs.Prelude.{◌≡◌, OnOk};
+
 use crate::NoMem;
 use crate::html::Html;
 use crate::tag::Tag;
 use crate::text_line::{Form, TextLine};
+use casebook_text::SafeLine;
+use casebook_words::push_count;
 use std::alloc::Global;
 
 /// A text with more lines is cut.
@@ -86,7 +90,9 @@ fn push_lines(
     lines: &[TextLine<'_>],
     form: Form,
     limit: usize,
-) -> Result<(), NoMem> {
+) -> Result<(), NoMem>
+    ensures { OnOk result (html.new ≡ html.old) }
+{
     for line in lines {
         line.push(html, alloc, form, limit)?;
     }
@@ -94,16 +100,20 @@ fn push_lines(
 }
 
 /// Appends how much is left out, unless it is nothing.
-fn push_left_out(html: &mut Html, alloc: Global, lines: &[TextLine<'_>]) -> Result<(), NoMem> {
+fn push_left_out(html: &mut Html, alloc: Global, lines: &[TextLine<'_>]) -> Result<(), NoMem>
+    ensures { OnOk result (html.new ≡ html.old) }
+{
     if lines.is_empty() {
         return Ok(());
     }
+    let mut line = SafeLine::new(alloc);
+    line.push_ascii(".. ")?;
+    push_count(alloc, &mut line, lines.len(), "line")?;
+    line.push_ascii(", ")?;
+    push_count(alloc, &mut line, count_bytes(lines), "byte")?;
+    line.push_ascii(" left out ..")?;
     html.fixed(Tag::Cut)?;
-    html.words(alloc, ".. ")?;
-    html.count(alloc, lines.len(), "line")?;
-    html.words(alloc, ", ")?;
-    html.count(alloc, count_bytes(lines), "byte")?;
-    html.words(alloc, " left out ..")?;
+    html.aside(line)?;
     html.fixed(Tag::CutEnd)?;
     html.fixed(Tag::Newline)
 }
@@ -115,7 +125,9 @@ pub(crate) fn push_block(
     alloc: Global,
     lines: &[TextLine<'_>],
     form: Form,
-) -> Result<(), NoMem> {
+) -> Result<(), NoMem>
+    ensures { OnOk result (html.new ≡ html.old) }
+{
     if lines.len() <= LINE_LIMIT && count_bytes(lines) <= BYTE_LIMIT {
         return push_lines(html, alloc, lines, form, BYTE_LIMIT);
     }

@@ -1,70 +1,85 @@
 //! Pages of repairs.
-ghost use Rattle.std.specs.Prelude.{IfOk, string_bytes};
-ghost use Rattle.casebook_page.specs.Page.{IsPageText};
-ghost use Rattle.casebook_page.specs.Rows.{shows_untouched, written_lines};
+ghost use Rattle.std.specs.Prelude.{◌≡◌, ◌++◌, IfOk, OnOk, string_bytes};
+ghost use Rattle.casebook_page.specs.Page.{IsPage};
+ghost use Rattle.casebook_page.specs.Told.{front_told, page_told, rows_told};
+ghost use Rattle.casebook_page.specs.Views.{contents_view};
 
 use crate::NoMem;
 use crate::cancelled::push_cancelled;
 use crate::contents::Contents;
 use crate::head::{push_head, push_key, push_lead};
 use crate::html::Html;
-use crate::lines::shows_untouched;
-use crate::overview::{columns, push_overview};
+use crate::overview::{push_overview, sessions_of};
 use crate::restore::push_restore;
 use crate::row::Rows;
-use crate::sheet::Sheet;
 use crate::tag::Tag;
 use crate::tell::push_tell;
 use crate::unknown::push_unknown;
-use crate::why::whys;
 use std::alloc::Global;
+use std::collections::{BTreeMap, BTreeSet};
 
-/// Returns all of a page that comes before the rows of lines.
-fn front(contents: Contents<'_, '_>, rows: &Rows<'_, '_>) -> Result<Html, NoMem> {
-    let alloc = rows.alloc;
-    let mut html = Html::new(alloc);
-    push_head(&mut html, alloc, contents.title, rows.columns.len())?;
-    push_lead(&mut html, alloc, contents, rows.columns.len())?;
-    push_unknown(&mut html, alloc, contents, rows.shows_untouched)?;
-    push_overview(&mut html, alloc, contents)?;
-    push_key(&mut html, alloc, contents)?;
-    push_cancelled(&mut html, alloc, contents)?;
-    push_restore(&mut html, alloc, contents)?;
-    push_tell(&mut html, alloc, contents)?;
-    rows.push_heads(&mut html)?;
-    Ok(html)
+/// Returns the column of each session, from 0 on.
+fn columns_of(alloc: Global, sessions: &BTreeSet<u32>) -> Result<BTreeMap<u32, u32>, NoMem> {
+    let mut columns = BTreeMap::new(alloc);
+    let mut next = 0_u32;
+    for session in sessions {
+        columns.insert(*session, next)?;
+        next = next.saturating_add(1);
+    }
+    Ok(columns)
 }
 
-/// Returns all of a page that comes after the rows of lines.
-fn back(alloc: Global) -> Result<Html, NoMem> {
-    let mut html = Html::new(alloc);
-    html.fixed(Tag::LinesEnd)?;
-    html.fixed(Tag::Script)?;
-    Ok(html)
-}
-
-/// Returns the page of a repair. It begins with its policy, and is made of constants of the
-/// template, of numbers in their tags, of escaped texts, and of the starts of rows: one for each
-/// line, but for untouched lines if there are more than 5,000 lines and not all are asked for.
-pub fn page(alloc: Global, contents: Contents<'_, '_>) -> Result<String, NoMem>
-    ensures { IfOk result (λ text. IsPageText
-        (written_lines (shows_untouched contents.entry.shows_all contents.entry.summary.now.fates.items)
-        contents.entry.summary.now.fates.items) (string_bytes text)) }
+/// Appends all of a page that comes before the rows of lines, of so many sessions.
+fn push_front(
+    html: &mut Html,
+    alloc: Global,
+    contents: Contents<'_, '_>,
+    sessions: usize,
+) -> Result<(), NoMem>
+    ensures { OnOk result (html.new ≡ html.old ++ front_told (contents_view contents.entry)) }
 {
-    let columns = columns(alloc, contents)?;
-    let whys = whys(alloc, contents.case, contents.summary.reasons.as_slice())?;
-    let lines = contents.summary.fates.as_slice();
+    push_head(html, alloc, contents.title, sessions)?;
+    push_lead(html, alloc, contents)?;
+    push_unknown(html, alloc, contents)?;
+    push_overview(html, alloc, contents)?;
+    push_key(html, contents.summary)?;
+    push_cancelled(html, alloc, contents)?;
+    push_restore(html, alloc, contents)?;
+    push_tell(html, alloc, contents)
+}
+
+/// Appends the rows of lines, in columns by session, and the end of the page.
+fn push_rows(
+    html: &mut Html,
+    alloc: Global,
+    contents: Contents<'_, '_>,
+    sessions: &BTreeSet<u32>,
+) -> Result<(), NoMem>
+    ensures { OnOk result (html.new ≡ html.old
+        ++ rows_told (contents_view contents.entry) sessions.now.keys) }
+{
+    let columns = columns_of(alloc, sessions)?;
     let rows = Rows {
         alloc,
         contents,
         columns: &columns,
-        whys: &whys,
-        shows_untouched: shows_untouched(contents.shows_all, lines),
     };
-    let front = front(contents, &rows)?;
-    let back = back(alloc)?;
-    let sheet = Sheet::new(alloc)?.with_part(&front)?;
-    let sheet = rows.with_all(sheet, lines)?;
-    let sheet = sheet.with_part(&back)?;
-    Ok(sheet.into_string())
+    rows.push_heads(html, sessions)?;
+    rows.push_all(html, contents.summary.lines.as_slice())?;
+    html.fixed(Tag::LinesEnd)?;
+    html.fixed(Tag::Script)
+}
+
+/// Returns the page of a repair. It begins with its policy, and tells what `specs/Told.antt` says of
+/// the repair, in order, and nothing else. A line has a row, but an untouched one if there are more
+/// than 5,000 lines and not all are asked for.
+pub fn page(alloc: Global, contents: Contents<'_, '_>) -> Result<String, NoMem>
+    ensures { IfOk result (λ text.
+        IsPage (page_told (contents_view contents.entry)) (string_bytes text)) }
+{
+    let sessions = sessions_of(alloc, contents.summary.lines.as_slice())?;
+    let mut html = Html::new(alloc);
+    push_front(&mut html, alloc, contents, sessions.len())?;
+    push_rows(&mut html, alloc, contents, &sessions)?;
+    html.page(alloc)
 }

@@ -1,20 +1,37 @@
 //! The head of a page: its title and style, its first sentences, and the boxes that hide lines.
-ghost use Rattle.std.specs.Prelude.{IsTrue};
-ghost use Rattle.std.specs.List.{list_all};
-ghost use Rattle.casebook_text.specs.SafeText.{is_printable};
+ghost use Rattle.std.specs.Prelude.{◌≡◌, ◌++◌, ◌∷◌, [], IfOk, IsTrue, OnOk, length, map};
+ghost use Rattle.casebook_text.specs.SafeLine.{safe_bytes, word_bytes};
+ghost use Rattle.casebook_view.specs.Sources.{seen_view, source_view};
+ghost use Rattle.casebook_page.specs.Page.{is_words};
+ghost use Rattle.casebook_page.specs.Told.{basis_told, box_of, box_told, counts_told, key_told, lead_told};
+ghost use Rattle.casebook_page.specs.Told.{link_told, observed_told, played_told, seen_told};
+ghost use Rattle.casebook_page.specs.Told.{rests_told, sessions_told, title_told};
+ghost use Rattle.casebook_page.specs.Views.{contents_view};
+ghost use Rattle.casebook_page.specs.declared.piece.Piece.TheVariants.{Fixed, Number, Text as Told};
 
 use crate::NoMem;
 use crate::contents::Contents;
 use crate::html::Html;
 use crate::number_tag::NumberTag;
+use crate::overview::count_sessions;
 use crate::shown::push_links;
 use crate::tag::Tag;
 use crate::unknown::push_unknown_link;
+use casebook_summary::{Notice, Summary};
 use casebook_text::SafeLine;
 use casebook_view::{Fate, Seen, Source};
 use retro_tree::Text;
 use std::alloc::Global;
 use std::collections::BTreeSet;
+
+/// Returns the title as a line.
+fn title_line(alloc: Global, title: &str) -> Result<SafeLine, NoMem>
+    ensures { IfOk result (λ line. line ≡ safe_bytes title.now) }
+{
+    let mut line = SafeLine::new(alloc);
+    line.push_bytes(alloc, title.as_bytes())?;
+    Ok(line)
+}
 
 /// Appends the rest of the page's head after its policy, which forbids a network and all scripts
 /// but this one: the title and the style. Then the header comes.
@@ -23,145 +40,209 @@ pub(crate) fn push_head(
     alloc: Global,
     title: &str,
     sessions: usize,
-) -> Result<(), NoMem> {
-    let mut line = SafeLine::new(alloc);
-    line.push_bytes(alloc, title.as_bytes())?;
-    html.shown(alloc, &line)?;
+) -> Result<(), NoMem>
+    ensures { OnOk result (html.new ≡ html.old ++ title_told title.now) }
+{
+    html.text(title_line(alloc, title)?)?;
     html.fixed(Tag::Style)?;
-    html.numbered(alloc, NumberTag::Body, sessions as u64)?;
-    html.shown(alloc, &line)?;
+    html.numbered(NumberTag::Body, sessions as u64)?;
+    html.text(title_line(alloc, title)?)?;
     html.fixed(Tag::Header)
 }
 
-/// Returns how many lines have a fate.
-fn count_fate(contents: Contents<'_, '_>, fate: Fate) -> usize {
-    let fates = &contents.summary.fates;
-    fates.iter().filter(|line| line.1 == fate).count()
-}
-
 /// Returns how many sessions ran lines that are told about.
-fn count_told(alloc: Global, contents: Contents<'_, '_>) -> Result<usize, NoMem> {
+fn count_told(alloc: Global, notices: &[Notice]) -> Result<usize, NoMem>
+    ensures { IfOk result (λ count. count ≡ length (sessions_told notices.now)) }
+{
     let mut sessions = BTreeSet::new(alloc);
-    for notice in &contents.summary.notices {
+    for notice in notices {
         sessions.insert(notice.session)?;
     }
     Ok(sessions.len())
 }
 
 /// Appends how many sessions would have seen something else, on how many screens.
-fn push_told(html: &mut Html, alloc: Global, contents: Contents<'_, '_>) -> Result<(), NoMem> {
-    let sessions = count_told(alloc, contents)?;
+fn push_told(html: &mut Html, alloc: Global, notices: &[Notice]) -> Result<(), NoMem>
+    ensures { OnOk result (html.new ≡ html.old
+        ++ Number (length (sessions_told notices.now)) ∷ Number (length notices.now) ∷ []) }
+{
+    let sessions = count_told(alloc, notices)?;
     html.fixed(Tag::Strong)?;
-    html.count(alloc, sessions, "session")?;
+    html.count(sessions, "session")?;
     html.fixed(Tag::StrongEnd)?;
-    html.words(alloc, " would have seen something else on ")?;
+    html.words(" would have seen something else on ")?;
     html.fixed(Tag::Strong)?;
-    html.count(alloc, contents.summary.notices.len(), "screen")?;
+    html.count(notices.len(), "screen")?;
     html.fixed(Tag::StrongEnd)
 }
 
 /// Appends how many lines of a machine's recording stand as they were observed, or that each did
 /// what Retro's shell does.
-fn push_observed(html: &mut Html, alloc: Global, count: usize) -> Result<(), NoMem> {
-    html.words(alloc, ". Recorded on the machine. ")?;
+fn push_observed(html: &mut Html, alloc: Global, count: usize) -> Result<(), NoMem>
+    ensures { OnOk result (html.new ≡ html.old ++ observed_told count) }
+{
+    html.words(". Recorded on the machine. ")?;
     if count == 0 {
-        return html.words(alloc, "Each line did what Retro's shell does.");
+        return html.said(alloc, "Each line did what Retro's shell does.");
     }
-    html.count(alloc, count, "line")?;
+    html.count(count, "line")?;
     if count == 1 {
-        html.words(alloc, " stands as it was observed.")
+        html.words(" stands as it was observed.")
     } else {
-        html.words(alloc, " stand as they were observed.")
+        html.words(" stand as they were observed.")
     }
 }
 
 /// Appends which lines some words are about, if there are some.
-fn push_numbered(html: &mut Html, alloc: Global, words: &str, numbers: &[u32]) -> Result<(), NoMem>
-    requires { IsTrue (list_all is_printable words.now) }
+fn push_numbered(html: &mut Html, words: &'static str, numbers: &[u32]) -> Result<(), NoMem>
+    requires { IsTrue (is_words words.now) }
+    ensures { OnOk result (html.new ≡ html.old ++ map link_told numbers.now) }
 {
     if numbers.is_empty() {
         return Ok(());
     }
-    html.words(alloc, words)?;
-    push_links(html, alloc, numbers)?;
-    html.words(alloc, ".")
+    html.words(words)?;
+    push_links(html, numbers)?;
+    html.words(".")
+}
+
+/// Appends numbers, each after a space.
+fn push_numbers(html: &mut Html, numbers: &[u32]) -> Result<(), NoMem>
+    ensures { OnOk result (html.new ≡ html.old ++ map Number numbers.now) }
+{
+    for number in numbers {
+        html.words(" ")?;
+        html.number(u64::from(*number))?;
+    }
+    Ok(())
 }
 
 /// Appends of which sessions some lines have no record, if there are some.
-fn push_incomplete(html: &mut Html, alloc: Global, numbers: &[u32]) -> Result<(), NoMem> {
+fn push_incomplete(html: &mut Html, numbers: &[u32]) -> Result<(), NoMem>
+    ensures { OnOk result (html.new ≡ html.old ++ map Number numbers.now) }
+{
     if numbers.is_empty() {
         return Ok(());
     }
-    html.words(alloc, " Lines without a record: sessions")?;
-    for number in numbers {
-        html.words(alloc, " ")?;
-        html.number(alloc, u64::from(*number))?;
+    html.words(" Lines without a record: sessions")?;
+    push_numbers(html, numbers)?;
+    html.words(".")
+}
+
+/// Appends a folder after a space.
+fn push_folder(html: &mut Html, alloc: Global, folder: &Text) -> Result<(), NoMem>
+    ensures { OnOk result (html.new ≡ html.old ++ Told (word_bytes folder.now) ∷ []) }
+{
+    let mut line = SafeLine::new(alloc);
+    line.push_word(alloc, folder.as_str().as_bytes())?;
+    html.words(" ")?;
+    html.text(line)
+}
+
+/// Appends folders, each after a space.
+fn push_folders(html: &mut Html, alloc: Global, folders: &[Text]) -> Result<(), NoMem>
+    ensures { OnOk result (html.new
+        ≡ html.old ++ map (λ folder. Told (word_bytes folder)) folders.now) }
+{
+    for folder in folders {
+        push_folder(html, alloc, folder)?;
     }
-    html.words(alloc, ".")
+    Ok(())
 }
 
 /// Appends in which folders it wasn't always seen what lines only read, if there are some.
-fn push_unseen(html: &mut Html, alloc: Global, folders: &[Text]) -> Result<(), NoMem> {
+fn push_unseen(html: &mut Html, alloc: Global, folders: &[Text]) -> Result<(), NoMem>
+    ensures { OnOk result (html.new
+        ≡ html.old ++ map (λ folder. Told (word_bytes folder)) folders.now) }
+{
     if folders.is_empty() {
         return Ok(());
     }
-    let mut line = SafeLine::new(alloc);
-    line.push_ascii(" What lines only read wasn't always seen in")?;
-    for folder in folders {
-        line.push_ascii(" ")?;
-        line.push_word(alloc, folder.as_str().as_bytes())?;
-    }
-    line.push_ascii(".")?;
-    html.shown(alloc, &line)
+    html.words(" What lines only read wasn't always seen in")?;
+    push_folders(html, alloc, folders)?;
+    html.words(".")
 }
 
 /// Appends what a recorder says of its lines.
-fn push_seen(html: &mut Html, alloc: Global, seen: Seen<'_>) -> Result<(), NoMem> {
+fn push_seen(html: &mut Html, alloc: Global, seen: Seen<'_>) -> Result<(), NoMem>
+    ensures { OnOk result (html.new ≡ html.old ++ seen_told (seen_view seen.entry)) }
+{
     push_observed(html, alloc, seen.observed.len())?;
     push_numbered(
         html,
-        alloc,
         " Not told apart, since they overlap: lines",
         seen.overlapping,
     )?;
     push_numbered(
         html,
-        alloc,
         " Changes outside of the recorded sessions: lines",
         seen.outside,
     )?;
-    push_incomplete(html, alloc, seen.incomplete)?;
+    push_incomplete(html, seen.incomplete)?;
     push_unseen(html, alloc, seen.unseen)
 }
 
-/// Appends how the log came about: from a machine, by playing its lines, or otherwise.
-fn push_basis(html: &mut Html, alloc: Global, contents: Contents<'_, '_>) -> Result<(), NoMem> {
-    match contents.case.source() {
-        Source::Seen(seen) => push_seen(html, alloc, seen),
-        Source::Played if contents.summary.is_recording => html.words(
+/// Appends whether a log of lines that were played is as its lines run.
+fn push_played(html: &mut Html, alloc: Global, is_recording: bool) -> Result<(), NoMem>
+    ensures { OnOk result (html.new ≡ html.old ++ played_told is_recording) }
+{
+    html.words(". ")?;
+    if is_recording {
+        html.said(
             alloc,
-            ". Played in Retro's shell. Whether the machine did the same isn't known.",
-        ),
-        Source::Played => html.words(
+            "Played in Retro's shell. Whether the machine did the same isn't known.",
+        )
+    } else {
+        html.said(
             alloc,
-            ". The log isn't as its lines run: what was recorded is only what its notes say.",
-        ),
+            "The log isn't as its lines run: what was recorded is only what its notes say.",
+        )
     }
 }
 
-/// Appends what the page rests on: how many lines the log has, how it came about, and how many of
-/// the lines weren't understood or have to be run for real.
-fn push_rests(
+/// Appends how the log came about: from a machine, by playing its lines, or otherwise.
+fn push_basis(
     html: &mut Html,
     alloc: Global,
-    contents: Contents<'_, '_>,
-    sessions: usize,
-) -> Result<(), NoMem> {
-    html.count(alloc, contents.summary.fates.len(), "line")?;
-    html.words(alloc, " of ")?;
-    html.count(alloc, sessions, "session")?;
-    push_basis(html, alloc, contents)?;
-    push_unknown_link(html, alloc, contents)
+    source: Source<'_>,
+    is_recording: bool,
+) -> Result<(), NoMem>
+    ensures { OnOk result (html.new
+        ≡ html.old ++ basis_told (source_view source.entry) is_recording) }
+{
+    match source {
+        Source::Seen(seen) => push_seen(html, alloc, seen),
+        Source::Played => push_played(html, alloc, is_recording),
+    }
+}
+
+/// Appends what the page rests on: how many lines and sessions the log has, how it came about, and
+/// how many of the lines weren't understood or have to be run for real.
+fn push_rests(html: &mut Html, alloc: Global, contents: Contents<'_, '_>) -> Result<(), NoMem>
+    ensures { OnOk result (html.new ≡ html.old ++ rests_told (contents_view contents.entry)) }
+{
+    let lines = contents.summary.lines.as_slice();
+    let source = contents.case.source();
+    html.count(lines.len(), "line")?;
+    html.words(" of ")?;
+    html.count(count_sessions(alloc, lines)?, "session")?;
+    push_basis(html, alloc, source, contents.summary.is_recording)?;
+    push_unknown_link(html, source, contents.summary.unknown.as_slice())
+}
+
+/// Appends how many paths and screens differ without the cancelled lines.
+fn push_counts(html: &mut Html, alloc: Global, summary: &Summary) -> Result<(), NoMem>
+    ensures { OnOk result (html.new ≡ html.old ++ counts_told summary.now) }
+{
+    html.words("Without the ")?;
+    html.count(summary.count(Fate::Cancelled), "cancelled line")?;
+    html.words(", ")?;
+    html.fixed(Tag::Strong)?;
+    html.count(summary.restorations.len(), "path")?;
+    html.fixed(Tag::StrongEnd)?;
+    html.words(" would differ and ")?;
+    push_told(html, alloc, summary.notices.as_slice())?;
+    html.words(". ")
 }
 
 /// Appends the page's first sentences: how many paths and screens differ, and what that rests on.
@@ -169,69 +250,61 @@ pub(crate) fn push_lead(
     html: &mut Html,
     alloc: Global,
     contents: Contents<'_, '_>,
-    sessions: usize,
-) -> Result<(), NoMem> {
+) -> Result<(), NoMem>
+    ensures { OnOk result (html.new ≡ html.old ++ lead_told (contents_view contents.entry)) }
+{
     html.fixed(Tag::Lead)?;
-    html.words(alloc, "Without the ")?;
-    let cancelled = count_fate(contents, Fate::Cancelled);
-    html.count(alloc, cancelled, "cancelled line")?;
-    html.words(alloc, ", ")?;
-    html.fixed(Tag::Strong)?;
-    html.count(alloc, contents.summary.restorations.len(), "path")?;
-    html.fixed(Tag::StrongEnd)?;
-    html.words(alloc, " would differ and ")?;
-    push_told(html, alloc, contents)?;
-    html.words(alloc, ". ")?;
-    push_rests(html, alloc, contents, sessions)?;
+    push_counts(html, alloc, contents.summary)?;
+    push_rests(html, alloc, contents)?;
     html.fixed(Tag::ParagraphEnd)
 }
 
-/// Returns the start of the box of a fate.
-fn box_of(fate: Fate) -> Tag {
+/// Appends the start of the box of a fate.
+fn push_box_start(html: &mut Html, fate: Fate) -> Result<(), NoMem>
+    ensures { OnOk result (html.new ≡ html.old ++ Fixed (box_of fate) ∷ []) }
+{
     match fate {
-        Fate::Cancelled => Tag::KeyCancelled,
-        Fate::Changed => Tag::KeyChanged,
-        Fate::Alike => Tag::KeyAlike,
-        Fate::Kept => Tag::KeyKept,
-        Fate::Untouched => Tag::KeyUntouched,
+        Fate::Cancelled => html.sign(Tag::KeyCancelled),
+        Fate::Changed => html.sign(Tag::KeyChanged),
+        Fate::Alike => html.sign(Tag::KeyAlike),
+        Fate::Kept => html.sign(Tag::KeyKept),
+        Fate::Untouched => html.sign(Tag::KeyUntouched),
     }
 }
 
-/// Appends what a fate is called.
-fn push_fate(html: &mut Html, alloc: Global, fate: Fate) -> Result<(), NoMem> {
+/// Appends what becomes of lines with a fate.
+fn push_fate(html: &mut Html, fate: Fate) -> Result<(), NoMem>
+    ensures { OnOk result (html.new ≡ html.old) }
+{
     match fate {
-        Fate::Cancelled => html.words(alloc, " cancelled"),
-        Fate::Changed => html.words(alloc, " run again, another result"),
-        Fate::Alike => html.words(alloc, " run again, the same result"),
-        Fate::Kept => html.words(alloc, " met, kept"),
-        Fate::Untouched => html.words(alloc, " untouched"),
+        Fate::Cancelled => html.words(" cancelled"),
+        Fate::Changed => html.words(" run again, another result"),
+        Fate::Alike => html.words(" run again, the same result"),
+        Fate::Kept => html.words(" met, kept"),
+        Fate::Untouched => html.words(" untouched"),
     }
 }
 
 /// Appends the box that shows or hides the lines of a fate, and how many there are.
-fn push_box(
-    html: &mut Html,
-    alloc: Global,
-    contents: Contents<'_, '_>,
-    fate: Fate,
-) -> Result<(), NoMem> {
-    html.fixed(box_of(fate))?;
-    html.number(alloc, count_fate(contents, fate) as u64)?;
-    push_fate(html, alloc, fate)?;
+#[tactic(auto, unfolding(crate::specs::Told::box_told))]
+fn push_box(html: &mut Html, summary: &Summary, fate: Fate) -> Result<(), NoMem>
+    ensures { OnOk result (html.new ≡ html.old ++ box_told summary.now.lines fate) }
+{
+    push_box_start(html, fate)?;
+    html.number(summary.count(fate) as u64)?;
+    push_fate(html, fate)?;
     html.fixed(Tag::LabelEnd)
 }
 
 /// Appends the boxes that show and hide lines.
-pub(crate) fn push_key(
-    html: &mut Html,
-    alloc: Global,
-    contents: Contents<'_, '_>,
-) -> Result<(), NoMem> {
+pub(crate) fn push_key(html: &mut Html, summary: &Summary) -> Result<(), NoMem>
+    ensures { OnOk result (html.new ≡ html.old ++ key_told summary.now.lines) }
+{
     html.fixed(Tag::Key)?;
-    push_box(html, alloc, contents, Fate::Cancelled)?;
-    push_box(html, alloc, contents, Fate::Changed)?;
-    push_box(html, alloc, contents, Fate::Alike)?;
-    push_box(html, alloc, contents, Fate::Kept)?;
-    push_box(html, alloc, contents, Fate::Untouched)?;
+    push_box(html, summary, Fate::Cancelled)?;
+    push_box(html, summary, Fate::Changed)?;
+    push_box(html, summary, Fate::Alike)?;
+    push_box(html, summary, Fate::Kept)?;
+    push_box(html, summary, Fate::Untouched)?;
     html.fixed(Tag::KeyEnd)
 }

@@ -1,38 +1,41 @@
 //! Parts of a page.
-ghost use Rattle.std.specs.Prelude.{◌≡◌, ◌++◌, [], IsTrue, OnErr, OnOk, decimal};
-ghost use Rattle.std.specs.Prelude.{encode_utf8_all};
+ghost use Rattle.std.specs.Prelude.{◌≡◌, ◌++◌, ◌∷◌, [], IfOk, IsTrue, OnErr, OnOk, not};
+ghost use Rattle.std.specs.Prelude.{flat_map, string_bytes};
 ghost use Rattle.std.specs.List.{list_all};
-ghost use Rattle.casebook_text.specs.Html.{escaped};
-ghost use Rattle.casebook_text.specs.SafeText.{is_printable, safe_text};
-ghost use Rattle.casebook_text.specs.declared.safe_text.Breaks.TheVariants.{Keep};
-ghost use Rattle.casebook_words.specs.Words.{count_words};
-ghost use Rattle.casebook_page.specs.Page.{IsHtml, is_safe_text};
-ghost use Rattle.casebook_page.specs.Template.{bar_text, number_text, tag_text};
+ghost use Rattle.casebook_text.specs.SafeText.{is_printable};
+ghost use Rattle.casebook_page.specs.Page.{IsPage, is_allowed, is_link, is_sign, is_words};
+ghost use Rattle.casebook_page.specs.Page.{piece_text, told};
+ghost use Rattle.casebook_page.specs.declared.piece.Piece.TheVariants as pieces;
 
 use crate::NoMem;
+use crate::excerpt::Excerpt;
 use crate::number_tag::NumberTag;
+use crate::piece::Piece;
+use crate::render::push_piece;
+use crate::row_class::RowClass;
+use crate::run::Run;
 use crate::tag::Tag;
-use casebook_text::{Breaks, SafeLine, escape, safe};
-use casebook_words::push_count;
+use casebook_text::SafeLine;
 use std::alloc::Global;
 use std::marker::Model;
 
-/// A part of a page, without rows of lines: constants of the template and escaped texts, one after
-/// another. So no tag is in it that isn't the template's.
+/// A part of a page, as pieces, one after another. In contracts it is those of them that are told.
 #[derive(Drop)]
 pub struct Html {
-    text: String,
+    pieces: Vec<Piece>,
 }
 
 impl Model for Html {
-    ghost use Rattle.std.specs.Prelude.{List, ℕ, [], string_bytes};
-    ghost use Rattle.casebook_page.specs.Page.{IsHtml};
+    ghost use Rattle.std.specs.Prelude.{IsTrue, List};
+    ghost use Rattle.std.specs.List.{list_all};
+    ghost use Rattle.casebook_page.specs.Page.{is_allowed, told};
+    ghost use Rattle.casebook_page.specs.declared.piece.Piece.{Piece as Part};
 
-    ghost Value = { List ℕ };
+    ghost Value = { List Part };
 
-    ghost view = { λ a. string_bytes a.text };
+    ghost view = { λ a. told a.pieces.items };
 
-    ghost invariant = { λ a. IsHtml [] (string_bytes a.text) };
+    ghost invariant = { λ a. IsTrue (list_all is_allowed a.pieces.items) };
 }
 
 impl Html {
@@ -41,110 +44,159 @@ impl Html {
         ensures { result ≡ [] }
     {
         Html {
-            text: String::new(alloc),
+            pieces: Vec::new(alloc),
         }
     }
 
-    /// Returns the text.
-    pub fn as_str(&self) -> &str
-        ensures value { result.now ≡ self.now }
-        ensures html { IsHtml [] self.now }
+    /// Appends a piece.
+    fn push(&mut self, piece: Piece) -> Result<(), NoMem>
+        requires { IsTrue (is_allowed piece) }
+        ensures { OnOk result (self.new ≡ self.old ++ told (piece ∷ [])) }
     {
-        self.text.as_str()
+        self.pieces.push(piece)?;
+        Ok(())
     }
 
-    /// Appends a constant of the template.
+    /// Appends a constant of the template that says nothing of the repair.
     pub fn fixed(&mut self, tag: Tag) -> Result<(), NoMem>
-        ensures ok { OnOk result (self.new ≡ self.old ++ tag_text tag) }
-        ensures err { OnErr result (self.new ≡ self.old) }
+        requires { IsTrue (not (is_sign tag)) }
+        ensures { OnOk result (self.new ≡ self.old) }
     {
-        self.text.push_str(tag.as_str())
+        self.push(Piece::Fixed(tag))
+    }
+
+    /// Appends a sign.
+    pub fn sign(&mut self, tag: Tag) -> Result<(), NoMem>
+        requires { IsTrue (is_sign tag) }
+        ensures { OnOk result (self.new ≡ self.old ++ pieces.Fixed tag ∷ []) }
+    {
+        self.push(Piece::Fixed(tag))
     }
 
     /// Appends a tag with a number in it.
-    pub fn numbered(&mut self, alloc: Global, tag: NumberTag, number: u64) -> Result<(), NoMem>
-        ensures ok { OnOk result (self.new ≡ self.old ++ number_text tag number) }
-        ensures err { OnErr result (self.new ≡ self.old) }
+    pub fn numbered(&mut self, tag: NumberTag, number: u64) -> Result<(), NoMem>
+        requires { IsTrue (not (is_link tag)) }
+        ensures { OnOk result (self.new ≡ self.old) }
     {
-        let (before, after) = (tag.before(), tag.after());
-        let text = format!(in alloc; "{before}{number}{after}")?;
-        self.text.push_str(text.as_str())
+        self.push(Piece::Numbered(tag, number))
     }
 
     /// Appends a bar: how many percent of its lines have another result, and how many the same.
-    pub fn bar(&mut self, alloc: Global, changed: u64, alike: u64) -> Result<(), NoMem>
-        ensures ok { OnOk result (self.new ≡ self.old ++ bar_text changed alike) }
-        ensures err { OnErr result (self.new ≡ self.old) }
+    pub fn bar(&mut self, changed: u64, alike: u64) -> Result<(), NoMem>
+        ensures { OnOk result (self.new ≡ self.old) }
     {
-        let text = format!(in alloc; "<b class=bar style=\"--p:{changed};--q:{alike}\"></b>")?;
-        self.text.push_str(text.as_str())
+        self.push(Piece::Bar(changed, alike))
     }
 
-    /// Appends another part.
-    pub fn part(&mut self, other: &Html) -> Result<(), NoMem>
-        ensures ok { OnOk result (self.new ≡ self.old ++ other.now) }
-        ensures err { OnErr result (self.new ≡ self.old) }
+    /// Appends the start of the row of a line.
+    pub fn row(&mut self, number: u32, class: RowClass) -> Result<(), NoMem>
+        ensures { OnOk result (self.new ≡ self.old ++ pieces.Row number class ∷ []) }
     {
-        self.text.push_str(other.as_str())
+        self.push(Piece::Row(number, class))
     }
 
-    /// Appends a text that is safe to show, and escapes it.
-    fn escaped(&mut self, alloc: Global, text: &str) -> Result<(), NoMem>
-        requires { IsTrue (is_safe_text text.now) }
-        ensures ok { OnOk result (self.new ≡ self.old ++ escaped text.now) }
-        ensures err { OnErr result (self.new ≡ self.old) }
+    /// Appends the number of a line, as a link to its row.
+    pub fn link(&mut self, tag: NumberTag, number: u32) -> Result<(), NoMem>
+        requires { IsTrue (is_link tag) }
+        ensures { OnOk result (self.new ≡ self.old ++ pieces.Link tag number ∷ []) }
     {
-        let html = escape(alloc, text)?;
-        self.text.push_str(html.as_str())
+        self.push(Piece::Link(tag, number))
     }
 
-    /// Appends a line.
-    pub fn shown(&mut self, alloc: Global, line: &SafeLine) -> Result<(), NoMem>
-        ensures ok { OnOk result (self.new ≡ self.old ++ escaped line.now) }
-        ensures err { OnErr result (self.new ≡ self.old) }
+    /// Appends the start of a link to the row of a line.
+    pub fn anchor(&mut self, number: u32) -> Result<(), NoMem>
+        ensures { OnOk result (self.new ≡ self.old ++ pieces.Anchor number ∷ []) }
     {
-        self.escaped(alloc, line.as_str())
+        self.push(Piece::Anchor(number))
     }
 
-    /// Appends bytes of several lines, as `safe` shows them.
-    pub fn shown_bytes(&mut self, alloc: Global, bytes: &[u8]) -> Result<(), NoMem>
-        ensures ok { OnOk result
-            (self.new ≡ self.old ++ escaped (encode_utf8_all (safe_text Keep bytes.now))) }
-        ensures err { OnErr result (self.new ≡ self.old) }
+    /// Appends what stands before what a line printed.
+    pub fn output(&mut self, run: Run, number: u32) -> Result<(), NoMem>
+        ensures { OnOk result (self.new ≡ self.old ++ pieces.Output run number ∷ []) }
     {
-        let text = safe(alloc, bytes, Breaks::Keep)?;
-        self.escaped(alloc, text.as_str())
+        self.push(Piece::Output(run, number))
     }
 
-    /// Appends words of printable ASCII.
-    pub fn words(&mut self, alloc: Global, words: &str) -> Result<(), NoMem>
+    /// Appends words that say nothing of the repair by themselves.
+    pub fn words(&mut self, words: &'static str) -> Result<(), NoMem>
+        requires { IsTrue (is_words words.now) }
+        ensures { OnOk result (self.new ≡ self.old) }
+    {
+        self.push(Piece::Words(words))
+    }
+
+    /// Appends a number.
+    pub fn number(&mut self, number: u64) -> Result<(), NoMem>
+        ensures { OnOk result (self.new ≡ self.old ++ pieces.Number number ∷ []) }
+    {
+        self.push(Piece::Number(number))
+    }
+
+    /// Appends how many there are of something: `1 line`, `2 lines`.
+    pub fn count(&mut self, count: usize, noun: &'static str) -> Result<(), NoMem>
+        requires { IsTrue (is_words noun.now) }
+        ensures { OnOk result (self.new ≡ self.old ++ pieces.Number count ∷ []) }
+    {
+        self.number(count as u64)?;
+        self.words(" ")?;
+        self.words(noun)?;
+        if count == 1 {
+            return Ok(());
+        }
+        self.words("s")
+    }
+
+    /// Appends a text.
+    pub fn text(&mut self, text: SafeLine) -> Result<(), NoMem>
+        ensures { OnOk result (self.new ≡ self.old ++ pieces.Text text ∷ []) }
+    {
+        // The proof takes from this call that the text is safe to show.
+        let _ = text.as_str();
+        self.push(Piece::Text(text))
+    }
+
+    /// Appends words that say something of the repair.
+    pub fn said(&mut self, alloc: Global, words: &str) -> Result<(), NoMem>
         requires { IsTrue (list_all is_printable words.now) }
-        ensures ok { OnOk result (self.new ≡ self.old ++ escaped words.now) }
-        ensures err { OnErr result (self.new ≡ self.old) }
+        ensures { OnOk result (self.new ≡ self.old ++ pieces.Text words.now ∷ []) }
     {
         let mut line = SafeLine::new(alloc);
         line.push_ascii(words)?;
-        self.shown(alloc, &line)
+        self.text(line)
     }
 
-    /// Appends how many there are of something: `1 line`, `2 lines`. The noun is printable ASCII.
-    pub fn count(&mut self, alloc: Global, count: usize, noun: &str) -> Result<(), NoMem>
-        requires { IsTrue (list_all is_printable noun.now) }
-        ensures ok { OnOk result (self.new ≡ self.old ++ escaped (count_words noun.now count)) }
-        ensures err { OnErr result (self.new ≡ self.old) }
+    /// Appends a line that shows a part of a text.
+    pub fn aside(&mut self, line: SafeLine) -> Result<(), NoMem>
+        ensures { OnOk result (self.new ≡ self.old) }
     {
-        let mut line = SafeLine::new(alloc);
-        push_count(alloc, &mut line, count, noun)?;
-        self.shown(alloc, &line)
+        // The proof takes from this call that the line is safe to show.
+        let _ = line.as_str();
+        self.push(Piece::Aside(line))
     }
 
-    /// Appends a number in decimal.
-    pub fn number(&mut self, alloc: Global, number: u64) -> Result<(), NoMem>
-        ensures ok { OnOk result (self.new ≡ self.old ++ escaped (decimal number)) }
-        ensures err { OnErr result (self.new ≡ self.old) }
+    /// Appends a part of a text of several lines.
+    pub fn excerpt(&mut self, alloc: Global, bytes: &[u8]) -> Result<(), NoMem>
+        ensures { OnOk result (self.new ≡ self.old) }
     {
-        let mut line = SafeLine::new(alloc);
-        line.push_number(alloc, number)?;
-        self.shown(alloc, &line)
+        let text = Excerpt::of(alloc, bytes)?;
+        self.push(Piece::Excerpt(text))
+    }
+
+    /// Appends another part.
+    pub fn part(&mut self, mut other: Html) -> Result<(), NoMem>
+        ensures { OnOk result (self.new ≡ self.old ++ other) }
+    {
+        self.pieces.append(&mut other.pieces)
+    }
+
+    /// Returns the page of which this is all that comes after the policy.
+    pub(crate) fn page(&self, alloc: Global) -> Result<String, NoMem>
+        ensures { IfOk result (λ text. IsPage self.now (string_bytes text)) }
+    {
+        let mut text = String::from_str(alloc, Tag::Begin.as_str())?;
+        for piece in &self.pieces {
+            push_piece(&mut text, alloc, piece)?;
+        }
+        Ok(text)
     }
 }

@@ -2,7 +2,7 @@
 ghost use Rattle.std.specs.Prelude.{ℕ, List, IsTrue};
 ghost use Rattle.casebook_text.specs.Html.{escaped};
 ghost use Rattle.casebook_page.specs.Harmless.{IsHarmlessHtml};
-ghost use Rattle.casebook_page.specs.Page.{is_safe_text};
+ghost use Rattle.casebook_page.specs.Safe.{is_safe_text};
 
 /// States that a text that is safe to show is harmless in a page: escaped, it has no `<`, no `>`
 /// and no quote, no `&` but of its own escapes, and no control code but newlines and tabs, and it

@@ -1,65 +1,52 @@
 //! The overview of a page: a row of ticks for each session.
+ghost use Rattle.std.specs.Prelude.{◌≡◌, ◌++◌, IfOk, OnOk, flat_map, length, map};
+ghost use Rattle.casebook_page.specs.Told.{overview_told, session_told, sessions_of, tick_told};
+ghost use Rattle.casebook_page.specs.Views.{contents_view};
+ghost use Rattle.casebook_page.specs.inner.SessionLines.{AreBySession};
+
 use crate::NoMem;
 use crate::contents::Contents;
 use crate::html::Html;
 use crate::number_tag::NumberTag;
+use crate::session_lines::{Placed, SessionLines};
+use crate::shown::push_name;
 use crate::tag::Tag;
-use casebook_view::Fate;
+use casebook_view::{CaseLine, Fate};
 use std::alloc::Global;
-use std::collections::BTreeMap;
+use std::collections::BTreeSet;
 
-/// Returns the tick of a line.
-fn tick_of(fate: Fate) -> NumberTag {
+/// Appends the tick of a line with a fate, at a place.
+fn push_mark(html: &mut Html, fate: Fate, place: u64) -> Result<(), NoMem>
+    ensures { OnOk result (html.new ≡ html.old) }
+{
     match fate {
-        Fate::Cancelled => NumberTag::TickCancelled,
-        Fate::Changed => NumberTag::TickChanged,
-        Fate::Alike => NumberTag::TickAlike,
-        Fate::Kept => NumberTag::TickKept,
-        Fate::Untouched => NumberTag::TickUntouched,
+        Fate::Cancelled => html.numbered(NumberTag::TickCancelled, place),
+        Fate::Changed => html.numbered(NumberTag::TickChanged, place),
+        Fate::Alike => html.numbered(NumberTag::TickAlike, place),
+        Fate::Kept => html.numbered(NumberTag::TickKept, place),
+        Fate::Untouched => html.numbered(NumberTag::TickUntouched, place),
     }
 }
 
-/// Appends a tick at the place of a line. An untouched line has a short one without a link.
-fn push_tick(html: &mut Html, alloc: Global, place: u64, line: (u32, Fate)) -> Result<(), NoMem> {
-    if line.1 != Fate::Untouched {
-        html.numbered(alloc, NumberTag::Link, u64::from(line.0))?;
+/// Appends the tick of a line at its place. An untouched line has a short one without a link.
+fn push_tick(html: &mut Html, place: u64, line: &CaseLine) -> Result<(), NoMem>
+    ensures { OnOk result (html.new ≡ html.old ++ tick_told line.now) }
+{
+    if line.fate != Fate::Untouched {
+        html.anchor(line.number)?;
     }
-    html.numbered(alloc, tick_of(line.1), place)
+    push_mark(html, line.fate, place)
 }
 
-/// A line's place among all lines, from 0 on, and the line.
-type Placed = (u64, (u32, Fate));
-
-/// Adds a line to those of its session.
-fn add_line(
-    sessions: &mut BTreeMap<u32, Vec<Placed>>,
-    alloc: Global,
-    session: u32,
-    line: Placed,
-) -> Result<(), NoMem> {
-    if let Some(lines) = sessions.get_mut(&session) {
-        lines.push(line)?;
-        return Ok(());
+/// Appends the ticks of lines, each at its place.
+fn push_ticks(html: &mut Html, lines: &[Placed]) -> Result<(), NoMem>
+    ensures { OnOk result (html.new
+        ≡ html.old ++ flat_map tick_told (map (λ line. line.line) lines.now)) }
+{
+    for line in lines {
+        push_tick(html, line.place, &line.line)?;
     }
-    let mut lines = Vec::new(alloc);
-    lines.push(line)?;
-    sessions.insert(session, lines)?;
     Ok(())
-}
-
-/// Returns the lines of each session, in order.
-fn lines_by_session(
-    alloc: Global,
-    contents: Contents<'_, '_>,
-) -> Result<BTreeMap<u32, Vec<Placed>>, NoMem> {
-    let mut sessions = BTreeMap::new(alloc);
-    let mut place = 0_u64;
-    for line in &contents.summary.fates {
-        let session = contents.session_of(line.0);
-        add_line(&mut sessions, alloc, session, (place, *line))?;
-        place = place.saturating_add(1);
-    }
-    Ok(sessions)
 }
 
 /// Appends the row of a session: its name, and a tick for each of its lines.
@@ -67,36 +54,39 @@ fn push_session(
     html: &mut Html,
     alloc: Global,
     contents: Contents<'_, '_>,
+    lines: &SessionLines,
     session: u32,
-    lines: &[Placed],
-) -> Result<(), NoMem> {
-    let name = contents.labels.name_of(alloc, session)?;
+) -> Result<(), NoMem>
+    ensures { AreBySession contents.entry.summary.now.lines lines.now → OnOk result
+        (html.new ≡ html.old ++ session_told (contents_view contents.entry) session) }
+{
+    let count = contents.summary.lines.as_slice().len();
     html.fixed(Tag::Span)?;
-    html.shown(alloc, &name)?;
-    html.numbered(alloc, NumberTag::Map, contents.summary.fates.len() as u64)?;
-    html.shown(alloc, &name)?;
+    push_name(html, alloc, contents.labels, session)?;
+    html.numbered(NumberTag::Map, count as u64)?;
+    push_name(html, alloc, contents.labels, session)?;
     html.fixed(Tag::MapName)?;
-    for (place, line) in lines {
-        push_tick(html, alloc, *place, *line)?;
-    }
+    push_ticks(html, lines.at(session))?;
     html.fixed(Tag::MapEnd)
 }
 
-/// Returns the sessions that ran lines, each with its column, from 0 on.
-pub(crate) fn columns(
-    alloc: Global,
-    contents: Contents<'_, '_>,
-) -> Result<BTreeMap<u32, u32>, NoMem> {
-    let mut columns = BTreeMap::new(alloc);
-    for line in contents.lines {
-        columns.insert(line.session, 0_u32)?;
+/// Returns the sessions that ran lines.
+pub(crate) fn sessions_of(alloc: Global, lines: &[CaseLine]) -> Result<BTreeSet<u32>, NoMem>
+    ensures { IfOk result (λ sessions. sessions.keys ≡ sessions_of lines.now) }
+{
+    let mut sessions = BTreeSet::new(alloc);
+    for line in lines {
+        sessions.insert(line.session)?;
     }
-    let mut next = 0_u32;
-    for (_, column) in columns.iter_mut() {
-        *column = next;
-        next = next.saturating_add(1);
-    }
-    Ok(columns)
+    Ok(sessions)
+}
+
+/// Returns how many sessions ran lines.
+pub(crate) fn count_sessions(alloc: Global, lines: &[CaseLine]) -> Result<usize, NoMem>
+    ensures { IfOk result (λ count. count ≡ length (sessions_of lines.now)) }
+{
+    let sessions = sessions_of(alloc, lines)?;
+    Ok(sessions.len())
 }
 
 /// Appends the overview.
@@ -104,11 +94,15 @@ pub(crate) fn push_overview(
     html: &mut Html,
     alloc: Global,
     contents: Contents<'_, '_>,
-) -> Result<(), NoMem> {
-    let sessions = lines_by_session(alloc, contents)?;
+) -> Result<(), NoMem>
+    ensures { OnOk result (html.new ≡ html.old ++ overview_told (contents_view contents.entry)) }
+{
+    let all = contents.summary.lines.as_slice();
+    let lines = SessionLines::of(alloc, all)?;
+    let sessions = sessions_of(alloc, all)?;
     html.fixed(Tag::Map)?;
-    for (session, lines) in &sessions {
-        push_session(html, alloc, contents, *session, lines.as_slice())?;
+    for session in &sessions {
+        push_session(html, alloc, contents, &lines, *session)?;
     }
     html.fixed(Tag::BlockEnd)
 }

@@ -1,4 +1,11 @@
 //! The section of paths to restore.
+ghost use Rattle.std.specs.Prelude.{◌≡◌, ◌++◌, ◌∷◌, [], OnOk, flat_map};
+ghost use Rattle.casebook_view.specs.Sources.{source_view};
+ghost use Rattle.casebook_page.specs.Told.{changes_told, count_changed, doubt_told, extent_told};
+ghost use Rattle.casebook_page.specs.Told.{restoration_told, restore_told, row_of, undecided_told};
+ghost use Rattle.casebook_page.specs.Told.{writer_told};
+ghost use Rattle.casebook_page.specs.declared.piece.Piece.TheVariants.{Fixed};
+
 use crate::NoMem;
 use crate::contents::Contents;
 use crate::html::Html;
@@ -9,30 +16,36 @@ use crate::tag::Tag;
 use casebook_changes::PathChange;
 use casebook_summary::{Extent, Restoration};
 use casebook_view::Source;
-use retro_tree::{Ask, Entry, Path, Tree};
+use retro_tree::{Entry, Path, Tree};
 use std::alloc::Global;
 
 /// Returns how many paths differ in a way.
-fn count(paths: &[Restoration], change: PathChange) -> usize {
+fn count_changed(paths: &[Restoration], change: PathChange) -> usize
+    ensures { result ≡ count_changed paths.now change }
+{
     paths.iter().filter(|path| path.change == change).count()
 }
 
 /// Appends how many paths change, come back and go.
-fn push_counts(html: &mut Html, alloc: Global, paths: &[Restoration]) -> Result<(), NoMem> {
-    html.number(alloc, count(paths, PathChange::Modified) as u64)?;
-    html.words(alloc, " change, ")?;
-    html.number(alloc, count(paths, PathChange::Added) as u64)?;
-    html.words(alloc, " come back, ")?;
-    html.number(alloc, count(paths, PathChange::Removed) as u64)?;
-    html.words(alloc, " go")
+fn push_counts(html: &mut Html, paths: &[Restoration]) -> Result<(), NoMem>
+    ensures { OnOk result (html.new ≡ html.old ++ changes_told paths.now) }
+{
+    html.number(count_changed(paths, PathChange::Modified) as u64)?;
+    html.words(" change, ")?;
+    html.number(count_changed(paths, PathChange::Added) as u64)?;
+    html.words(" come back, ")?;
+    html.number(count_changed(paths, PathChange::Removed) as u64)?;
+    html.words(" go")
 }
 
-/// Returns the start of a path's row.
-fn row_of(change: PathChange) -> Tag {
+/// Appends the start of a path's row.
+fn push_start(html: &mut Html, change: PathChange) -> Result<(), NoMem>
+    ensures { OnOk result (html.new ≡ html.old ++ Fixed (row_of change) ∷ []) }
+{
     match change {
-        PathChange::Modified => Tag::Modified,
-        PathChange::Added => Tag::Added,
-        PathChange::Removed => Tag::Removed,
+        PathChange::Modified => html.sign(Tag::Modified),
+        PathChange::Added => html.sign(Tag::Added),
+        PathChange::Removed => html.sign(Tag::Removed),
     }
 }
 
@@ -45,39 +58,43 @@ fn file_at<'a>(tree: &'a Tree, path: &Path) -> &'a [u8] {
 }
 
 /// Appends what comes, goes or becomes another kind at a path, unless lines say it.
-fn push_kind(html: &mut Html, alloc: Global, extent: Extent) -> Result<(), NoMem> {
+fn push_kind(html: &mut Html, alloc: Global, extent: Extent) -> Result<(), NoMem>
+    ensures { OnOk result (html.new ≡ html.old ++ extent_told extent) }
+{
     match extent {
-        Extent::NotKept => html.words(alloc, "not kept, restore by hand "),
-        Extent::Directory => html.words(alloc, "directory"),
-        Extent::ToFile => html.words(alloc, "becomes a file "),
-        Extent::ToDirectory => html.words(alloc, "becomes a directory "),
-        Extent::EmptyFile => html.words(alloc, "empty file"),
+        Extent::NotKept => html.said(alloc, "not kept, restore by hand "),
+        Extent::Directory => html.said(alloc, "directory"),
+        Extent::ToFile => html.said(alloc, "becomes a file "),
+        Extent::ToDirectory => html.said(alloc, "becomes a directory "),
+        Extent::EmptyFile => html.said(alloc, "empty file"),
         Extent::Lines(_) => Ok(()),
     }
 }
 
 /// Appends a link to the last line that writes differently to a path, if there is one.
-fn push_writer(
-    html: &mut Html,
-    alloc: Global,
-    contents: Contents<'_, '_>,
-    path: &Path,
-) -> Result<(), NoMem> {
-    let ask = Ask::Bytes(path.copy()?);
-    if let Some(number) = contents.case.cause_of(alloc, u32::MAX, &ask)? {
-        html.fixed(Tag::Small)?;
-        html.words(alloc, "last written differently by ")?;
-        push_link(html, alloc, number)?;
-        html.fixed(Tag::ParagraphEnd)?;
-    }
-    Ok(())
+fn push_writer(html: &mut Html, writer: Option<u32>) -> Result<(), NoMem>
+    ensures { OnOk result (html.new ≡ html.old ++ writer_told writer) }
+{
+    let Some(number) = writer else {
+        return Ok(());
+    };
+    html.fixed(Tag::Small)?;
+    html.words("last written differently by ")?;
+    push_link(html, number)?;
+    html.fixed(Tag::ParagraphEnd)
 }
 
-/// Returns the sign of a doubtful path.
-fn doubt_of(source: Source<'_>) -> Tag {
+/// Appends the sign of a doubtful path.
+fn push_doubt(html: &mut Html, source: Source<'_>, is_doubtful: bool) -> Result<(), NoMem>
+    ensures { OnOk result (html.new
+        ≡ html.old ++ doubt_told (source_view source.entry) is_doubtful) }
+{
+    if !is_doubtful {
+        return Ok(());
+    }
     match source {
-        Source::Played => Tag::SignDoubtful,
-        Source::Seen(_) => Tag::SignDoubtfulNeed,
+        Source::Played => html.sign(Tag::SignDoubtful),
+        Source::Seen(_) => html.sign(Tag::SignDoubtfulNeed),
     }
 }
 
@@ -87,21 +104,22 @@ fn push_row(
     alloc: Global,
     contents: Contents<'_, '_>,
     restoration: &Restoration,
-) -> Result<(), NoMem> {
+) -> Result<(), NoMem>
+    ensures { OnOk result (html.new ≡ html.old
+        ++ restoration_told contents.entry.case.now.source restoration.now) }
+{
     let before = contents.case.recording().last().tree();
     let after = contents.case.repair().state().tree();
     let path = &restoration.path;
     let merged = MergedTexts::of(alloc, file_at(before, path), file_at(after, path))?;
-    html.fixed(row_of(restoration.change))?;
+    push_start(html, restoration.change)?;
     push_shown_path(html, alloc, path)?;
     html.fixed(Tag::RowDetail)?;
     push_kind(html, alloc, restoration.extent)?;
     push_preview(html, alloc, &merged)?;
-    if restoration.is_doubtful {
-        html.fixed(doubt_of(contents.case.source()))?;
-    }
+    push_doubt(html, contents.case.source(), restoration.is_doubtful)?;
     html.fixed(Tag::RowBody)?;
-    push_writer(html, alloc, contents, path)?;
+    push_writer(html, restoration.writer)?;
     push_diff(html, alloc, &merged)?;
     html.fixed(Tag::DetailsEnd)
 }
@@ -112,7 +130,10 @@ fn push_rows(
     alloc: Global,
     contents: Contents<'_, '_>,
     paths: &[Restoration],
-) -> Result<(), NoMem> {
+) -> Result<(), NoMem>
+    ensures { OnOk result (html.new ≡ html.old
+        ++ flat_map (restoration_told contents.entry.case.now.source) paths.now) }
+{
     for path in paths {
         push_row(html, alloc, contents, path)?;
     }
@@ -120,22 +141,23 @@ fn push_rows(
 }
 
 /// Appends the row of a path of which it isn't known what it would be.
-fn push_undecided(html: &mut Html, alloc: Global, path: &Path) -> Result<(), NoMem> {
-    html.fixed(Tag::Undecided)?;
+fn push_undecided(html: &mut Html, alloc: Global, path: &Path) -> Result<(), NoMem>
+    ensures { OnOk result (html.new ≡ html.old ++ undecided_told path.now) }
+{
+    html.sign(Tag::Undecided)?;
     push_shown_path(html, alloc, path)?;
     html.fixed(Tag::RowDetail)?;
     html.fixed(Tag::RowBody)?;
     html.fixed(Tag::Small)?;
-    html.words(
-        alloc,
-        "as it was recorded, until the lines that wrote it are run for real",
-    )?;
+    html.words("as it was recorded, until the lines that wrote it are run for real")?;
     html.fixed(Tag::ParagraphEnd)?;
     html.fixed(Tag::DetailsEnd)
 }
 
 /// Appends the rows of all paths of which it isn't known what they would be.
-fn push_all_undecided(html: &mut Html, alloc: Global, paths: &[Path]) -> Result<(), NoMem> {
+fn push_all_undecided(html: &mut Html, alloc: Global, paths: &[Path]) -> Result<(), NoMem>
+    ensures { OnOk result (html.new ≡ html.old ++ flat_map undecided_told paths.now) }
+{
     for path in paths {
         push_undecided(html, alloc, path)?;
     }
@@ -148,14 +170,17 @@ pub(crate) fn push_restore(
     html: &mut Html,
     alloc: Global,
     contents: Contents<'_, '_>,
-) -> Result<(), NoMem> {
+) -> Result<(), NoMem>
+    ensures { OnOk result (html.new ≡ html.old
+        ++ restore_told contents.entry.case.now.source contents.entry.summary.now) }
+{
     let paths = contents.summary.restorations.as_slice();
     let undecided = contents.summary.undecided.as_slice();
-    html.fixed(Tag::Restore)?;
-    push_counts(html, alloc, paths)?;
+    html.sign(Tag::Restore)?;
+    push_counts(html, paths)?;
     html.fixed(Tag::HeadEnd)?;
     push_rows(html, alloc, contents, paths)?;
     push_all_undecided(html, alloc, undecided)?;
-    push_none(html, alloc, paths.len().max(undecided.len()))?;
+    push_none(html, paths.len().max(undecided.len()))?;
     html.fixed(Tag::SectionEnd)
 }

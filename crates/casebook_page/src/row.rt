@@ -1,16 +1,26 @@
 //! Rows of lines: what one shows, and has inside.
+ghost use Rattle.std.specs.Prelude.{◌≡◌, ◌++◌, ◌∷◌, [], OnOk, flat_map, map};
+ghost use Rattle.std.specs.Option.{option_copied};
+ghost use Rattle.casebook_page.specs.Told.{body_told, both_told, closed_told, did_told};
+ghost use Rattle.casebook_page.specs.Told.{mark_told, notes_told, outputs_told, owner_head, path_told};
+ghost use Rattle.casebook_page.specs.Told.{remark_told, row_told, write_said, write_told};
+ghost use Rattle.casebook_page.specs.Views.{contents_view};
+ghost use Rattle.casebook_page.specs.declared.piece.Piece.TheVariants.{Text};
+
 use crate::NoMem;
-use crate::contents::Contents;
+use crate::contents::{Contents, remark_of};
 use crate::html::Html;
 use crate::merged_texts::MergedTexts;
 use crate::number_tag::NumberTag;
 use crate::pair::{push_output, push_pair};
-use crate::shown::{command_of, push_link, push_name, push_paths, push_shown_path, sign_of};
+use crate::row_class::RowClass;
+use crate::shown::{push_command, push_name, push_paths, push_shown_path, push_sign};
 use crate::tag::Tag;
-use crate::tell::outputs_of;
-use casebook_text::SafeLine;
-use casebook_view::{Fate, LineRow, Obstacle, PathWrite, WriteKind, chain};
+use crate::why::push_why;
+use casebook_view::{CaseLine, Fate, Obstacle, PathWrite, WriteKind, read_paths, writes_of};
 use casebook_words::obstacle_text;
+use retro_keep::Noted;
+use retro_tree::Path;
 use std::alloc::Global;
 use std::collections::BTreeMap;
 
@@ -19,52 +29,89 @@ use std::collections::BTreeMap;
 pub(crate) struct Rows<'a, 'r> {
     /// The allocator.
     pub(crate) alloc: Global,
-    /// What the page shows.
+    /// What the page is about.
     pub(crate) contents: Contents<'a, 'r>,
     /// The column of each session, from 0 on.
     pub(crate) columns: &'a BTreeMap<u32, u32>,
-    /// Why lines are run again.
-    pub(crate) whys: &'a BTreeMap<u32, SafeLine>,
-    /// Whether untouched lines have rows.
-    pub(crate) shows_untouched: bool,
 }
 
-/// Returns the column and the sign of a line with a fate.
-fn code_of(fate: Fate) -> NumberTag {
+/// Appends the column and the sign of a line with a fate.
+fn push_code(html: &mut Html, fate: Fate, column: u64) -> Result<(), NoMem>
+    ensures { OnOk result (html.new ≡ html.old) }
+{
     match fate {
-        Fate::Cancelled => NumberTag::CodeCancelled,
-        Fate::Changed => NumberTag::CodeChanged,
-        Fate::Alike => NumberTag::CodeAlike,
-        Fate::Kept => NumberTag::CodeKept,
-        Fate::Untouched => NumberTag::CodeUntouched,
+        Fate::Cancelled => html.numbered(NumberTag::CodeCancelled, column),
+        Fate::Changed => html.numbered(NumberTag::CodeChanged, column),
+        Fate::Alike => html.numbered(NumberTag::CodeAlike, column),
+        Fate::Kept => html.numbered(NumberTag::CodeKept, column),
+        Fate::Untouched => html.numbered(NumberTag::CodeUntouched, column),
     }
 }
 
-/// Returns the start of what is said of a line that isn't understood, has to be run for real, or
+/// Appends the start of what is said of a line that isn't understood, has to be run for real, or
 /// was observed. The last is in small type.
-fn paragraph_of(obstacle: Obstacle) -> Tag {
+fn push_paragraph(html: &mut Html, obstacle: Obstacle) -> Result<(), NoMem>
+    ensures { OnOk result (html.new ≡ html.old) }
+{
     match obstacle {
-        Obstacle::Observed => Tag::Small,
-        _ => Tag::Paragraph,
+        Obstacle::Observed => html.fixed(Tag::Small),
+        _ => html.fixed(Tag::Paragraph),
     }
 }
 
 /// Appends whether a line isn't understood, has to be run for real, or was observed.
-fn push_standing(html: &mut Html, alloc: Global, obstacle: Obstacle) -> Result<(), NoMem> {
+fn push_standing(html: &mut Html, obstacle: Obstacle) -> Result<(), NoMem>
+    ensures { OnOk result (html.new ≡ html.old) }
+{
     match obstacle {
-        Obstacle::Need => html.words(alloc, "has to be run for real: "),
-        Obstacle::Observed => html.words(alloc, "as it was observed: "),
-        _ => html.words(alloc, "not understood: "),
+        Obstacle::Need => html.words("has to be run for real: "),
+        Obstacle::Observed => html.words("as it was observed: "),
+        _ => html.words("not understood: "),
+    }
+}
+
+/// Appends why a line isn't understood or has to be run for real, or that it stands as it was
+/// observed and why, if one of these is so.
+fn push_remark(html: &mut Html, alloc: Global, remark: Option<Obstacle>) -> Result<(), NoMem>
+    ensures { OnOk result (html.new ≡ html.old ++ remark_told remark) }
+{
+    let Some(obstacle) = remark else {
+        return Ok(());
+    };
+    push_paragraph(html, obstacle)?;
+    push_sign(html, obstacle)?;
+    push_standing(html, obstacle)?;
+    html.said(alloc, obstacle_text(obstacle))?;
+    html.fixed(Tag::ParagraphEnd)
+}
+
+/// Appends the sign of a line that isn't understood, has to be run for real, or was observed.
+fn push_mark(html: &mut Html, remark: Option<Obstacle>) -> Result<(), NoMem>
+    ensures { OnOk result (html.new ≡ html.old ++ mark_told remark) }
+{
+    match remark {
+        Some(obstacle) => push_sign(html, obstacle),
+        None => Ok(()),
+    }
+}
+
+/// Appends how a line wrote to a path.
+#[tactic(auto, unfolding(crate::specs::Told::write_said))]
+fn push_verb(html: &mut Html, alloc: Global, kind: WriteKind) -> Result<(), NoMem>
+    ensures { OnOk result (html.new ≡ html.old ++ Text (write_said kind) ∷ []) }
+{
+    match kind {
+        WriteKind::Put => html.said(alloc, "wrote "),
+        WriteKind::Append => html.said(alloc, "appended to "),
+        WriteKind::Remove => html.said(alloc, "removed "),
     }
 }
 
 /// Appends what a line did to a path.
-fn push_done(html: &mut Html, alloc: Global, write: &PathWrite) -> Result<(), NoMem> {
-    match write.kind {
-        WriteKind::Put => html.words(alloc, "wrote ")?,
-        WriteKind::Append => html.words(alloc, "appended to ")?,
-        WriteKind::Remove => html.words(alloc, "removed ")?,
-    }
+fn push_write(html: &mut Html, alloc: Global, write: &PathWrite) -> Result<(), NoMem>
+    ensures { OnOk result (html.new ≡ html.old ++ write_told write.now) }
+{
+    push_verb(html, alloc, write.kind)?;
     push_shown_path(html, alloc, &write.path)
 }
 
@@ -74,139 +121,149 @@ fn push_writes(
     alloc: Global,
     has_read: bool,
     writes: &[PathWrite],
-) -> Result<(), NoMem> {
+) -> Result<(), NoMem>
+    ensures { OnOk result (html.new ≡ html.old ++ flat_map write_told writes.now) }
+{
     let mut is_first = !has_read;
     for write in writes {
         if !is_first {
-            html.words(alloc, "; ")?;
+            html.words("; ")?;
         }
-        push_done(html, alloc, write)?;
+        push_write(html, alloc, write)?;
         is_first = false;
     }
     Ok(())
 }
 
+/// Appends the paths that a line read, unless it read none.
+fn push_reads(html: &mut Html, alloc: Global, paths: &[Path]) -> Result<(), NoMem>
+    ensures { OnOk result (html.new ≡ html.old ++ map path_told paths.now) }
+{
+    if paths.is_empty() {
+        return Ok(());
+    }
+    html.words("read ")?;
+    push_paths(html, alloc, paths)
+}
+
+/// Appends which paths a line read and wrote, unless there are none.
+fn push_notes(html: &mut Html, alloc: Global, is_observed: bool, noted: &Noted) -> Result<(), NoMem>
+    ensures { OnOk result (html.new ≡ html.old ++ notes_told is_observed noted.now) }
+{
+    let read = read_paths(alloc, noted.notes.as_slice(), is_observed)?;
+    let wrote = writes_of(alloc, noted.notes.as_slice())?;
+    if read.is_empty() && wrote.is_empty() {
+        return Ok(());
+    }
+    html.fixed(Tag::Small)?;
+    push_reads(html, alloc, read.as_slice())?;
+    push_writes(html, alloc, !read.is_empty(), wrote.as_slice())?;
+    html.fixed(Tag::ParagraphEnd)
+}
+
+/// Appends which paths a line read and wrote, if there is such a line.
+fn push_did(
+    html: &mut Html,
+    alloc: Global,
+    is_observed: bool,
+    noted: Option<&Noted>,
+) -> Result<(), NoMem>
+    ensures { OnOk result (html.new
+        ≡ html.old ++ did_told is_observed (option_copied noted.entry)) }
+{
+    match noted {
+        Some(noted) => push_notes(html, alloc, is_observed, noted),
+        None => Ok(()),
+    }
+}
+
 impl Rows<'_, '_> {
-    /// Returns the column of a line.
-    fn column_of(&self, number: u32) -> u32 {
-        let session = self.contents.session_of(number);
-        self.columns.get(&session).copied().unwrap_or(0)
-    }
-
-    /// Appends the chain of lines that a line comes from, unless it is empty.
-    fn push_chain(&self, html: &mut Html, number: u32) -> Result<(), NoMem> {
-        let causes = chain(self.alloc, self.contents.summary.reasons.as_slice(), number)?;
-        let mut is_first = true;
-        for cause in &causes {
-            if is_first {
-                html.words(self.alloc, ", because of ")?;
-            } else {
-                html.fixed(Tag::Arrow)?;
-            }
-            push_link(html, self.alloc, *cause)?;
-            is_first = false;
-        }
-        Ok(())
-    }
-
-    /// Appends why a line is run again, and the chain of lines that it comes from, if it is.
-    fn push_why(&self, html: &mut Html, number: u32) -> Result<(), NoMem> {
-        let Some(why) = self.whys.get(&number) else {
-            return Ok(());
-        };
-        html.fixed(Tag::Paragraph)?;
-        html.shown(self.alloc, why)?;
-        self.push_chain(html, number)?;
-        html.fixed(Tag::ParagraphEnd)
-    }
-
-    /// Appends which paths a line read and wrote, unless there are none.
-    fn push_notes(&self, html: &mut Html, line: &LineRow<'_>) -> Result<(), NoMem> {
-        if line.read.is_empty() && line.wrote.is_empty() {
-            return Ok(());
-        }
-        html.fixed(Tag::Small)?;
-        if !line.read.is_empty() {
-            html.words(self.alloc, "read ")?;
-            push_paths(html, self.alloc, line.read.as_slice())?;
-        }
-        let has_read = !line.read.is_empty();
-        push_writes(html, self.alloc, has_read, line.wrote.as_slice())?;
-        html.fixed(Tag::ParagraphEnd)
+    /// Appends both outputs of a line.
+    fn push_both(self, html: &mut Html, number: u32) -> Result<(), NoMem>
+        ensures { OnOk result (html.new ≡ html.old ++ outputs_told number) }
+    {
+        let old = self.contents.recorded_output(number);
+        let new = self.contents.repaired_output(number);
+        let merged = MergedTexts::of(self.alloc, old, new)?;
+        push_pair(html, self.alloc, number, &merged)
     }
 
     /// Appends what a line printed: both outputs if it prints something else in the repaired run.
-    fn push_outputs(&self, html: &mut Html, line: &LineRow<'_>) -> Result<(), NoMem> {
-        if !self.contents.is_told(line.number) {
-            return push_output(html, self.alloc, line.output.as_slice());
+    fn push_outputs(self, html: &mut Html, line: &CaseLine) -> Result<(), NoMem>
+        ensures { OnOk result (html.new ≡ html.old
+            ++ both_told (contents_view self.entry.contents) line.now) }
+    {
+        if self.contents.has_other_output(line) {
+            return self.push_both(html, line.number);
         }
-        let (old, new) = outputs_of(self.contents, line.number);
-        let merged = MergedTexts::of(self.alloc, old, new)?;
-        push_pair(html, self.alloc, &merged)
+        let output = self.contents.recorded_output(line.number);
+        push_output(html, self.alloc, output)
     }
 
-    /// Appends which line an open row shows, and whose it is.
-    fn push_owner(&self, html: &mut Html, number: u32) -> Result<(), NoMem> {
+    /// Appends which line an open row shows, whose it is, and the line.
+    fn push_owner(self, html: &mut Html, line: &CaseLine) -> Result<(), NoMem>
+        ensures { OnOk result (html.new ≡ html.old
+            ++ owner_head (contents_view self.entry.contents) line.now) }
+    {
         html.fixed(Tag::Body)?;
-        html.number(self.alloc, u64::from(number))?;
+        html.number(u64::from(line.number))?;
         html.fixed(Tag::BodyName)?;
-        push_name(html, self.alloc, self.contents, number)?;
-        html.fixed(Tag::BodyNameEnd)
-    }
-
-    /// Appends why a line isn't understood or has to be run for real, or that it stands as it was
-    /// observed and why, if one of these is so.
-    fn push_remark(&self, html: &mut Html, number: u32) -> Result<(), NoMem> {
-        let Some(obstacle) = self.contents.remark_of(number) else {
-            return Ok(());
-        };
-        html.fixed(paragraph_of(obstacle))?;
-        html.fixed(sign_of(obstacle))?;
-        push_standing(html, self.alloc, obstacle)?;
-        html.words(self.alloc, obstacle_text(obstacle))?;
-        html.fixed(Tag::ParagraphEnd)
+        push_name(html, self.alloc, self.contents.labels, line.session)?;
+        html.fixed(Tag::BodyNameEnd)?;
+        html.fixed(Tag::Command)?;
+        push_command(html, self.alloc, self.contents.case, line.number)?;
+        html.fixed(Tag::PreEnd)
     }
 
     /// Appends what the row of a line has inside.
-    fn push_body(&self, html: &mut Html, number: u32, command: &Html) -> Result<(), NoMem> {
-        self.push_owner(html, number)?;
-        html.fixed(Tag::Command)?;
-        html.part(command)?;
-        html.fixed(Tag::PreEnd)?;
-        self.push_remark(html, number)?;
-        self.push_why(html, number)?;
-        if let Some(row) = self.contents.line(number) {
-            self.push_notes(html, row)?;
-            self.push_outputs(html, row)?;
-        }
+    fn push_body(self, html: &mut Html, line: &CaseLine) -> Result<(), NoMem>
+        ensures { OnOk result (html.new ≡ html.old
+            ++ body_told (contents_view self.entry.contents) line.now) }
+    {
+        let noted = self.contents.case.recorded(line.number);
+        self.push_owner(html, line)?;
+        push_remark(html, self.alloc, remark_of(line))?;
+        push_why(html, self.alloc, self.contents, line)?;
+        push_did(html, self.alloc, line.is_observed, noted)?;
+        self.push_outputs(html, line)?;
         html.fixed(Tag::BlockEnd)
+    }
+
+    /// Appends the column of a line, and the sign of what becomes of it.
+    fn push_column(self, html: &mut Html, line: &CaseLine) -> Result<(), NoMem>
+        ensures { OnOk result (html.new ≡ html.old) }
+    {
+        let column = self.columns.get(&line.session).copied().unwrap_or(0);
+        push_code(html, line.fate, u64::from(column))
     }
 
     /// Appends what the closed row of a line shows: the line's number, its time, what its session
     /// is called, and the command in that session's column.
-    fn push_closed(&self, html: &mut Html, line: (u32, Fate), command: &Html) -> Result<(), NoMem> {
-        html.number(self.alloc, u64::from(line.0))?;
+    fn push_closed(self, html: &mut Html, line: &CaseLine) -> Result<(), NoMem>
+        ensures { OnOk result (html.new ≡ html.old
+            ++ closed_told (contents_view self.entry.contents) line.now) }
+    {
+        let labels = self.contents.labels;
+        html.number(u64::from(line.number))?;
         html.fixed(Tag::LineTime)?;
-        let time = self.contents.labels.time_of(self.alloc, line.0)?;
-        html.shown(self.alloc, &time)?;
+        html.text(labels.time_of(self.alloc, line.number)?)?;
         html.fixed(Tag::LineName)?;
-        push_name(html, self.alloc, self.contents, line.0)?;
-        let column = u64::from(self.column_of(line.0));
-        html.numbered(self.alloc, code_of(line.1), column)?;
-        if let Some(obstacle) = self.contents.remark_of(line.0) {
-            html.fixed(sign_of(obstacle))?;
-        }
-        html.part(command)?;
+        push_name(html, self.alloc, labels, line.session)?;
+        self.push_column(html, line)?;
+        push_mark(html, remark_of(line))?;
+        push_command(html, self.alloc, self.contents.case, line.number)?;
         html.fixed(Tag::LineEnd)
     }
 
-    /// Returns the row of a line but for its start.
-    pub(crate) fn rest_of_row(&self, line: (u32, Fate)) -> Result<Html, NoMem> {
-        let command = command_of(self.alloc, self.contents, line.0)?;
-        let mut html = Html::new(self.alloc);
-        self.push_closed(&mut html, line, &command)?;
-        self.push_body(&mut html, line.0, &command)?;
-        html.fixed(Tag::DetailsEnd)?;
-        Ok(html)
+    /// Appends the row of a line.
+    pub(crate) fn push_row(self, html: &mut Html, line: &CaseLine) -> Result<(), NoMem>
+        ensures { OnOk result (html.new ≡ html.old
+            ++ row_told (contents_view self.entry.contents) line.now) }
+    {
+        let class = RowClass::of(line.fate, self.contents.has_other_output(line));
+        html.row(line.number, class)?;
+        self.push_closed(html, line)?;
+        self.push_body(html, line)?;
+        html.fixed(Tag::DetailsEnd)
     }
 }

@@ -1,6 +1,7 @@
 //! The classes of rows.
 ghost use Rattle.std.specs.Prelude.{◌≡◌};
 ghost use Rattle.casebook_page.specs.Template.{class_text};
+ghost use Rattle.casebook_page.specs.Told.{class_by};
 
 use casebook_view::Fate;
 
@@ -24,7 +25,9 @@ pub enum RowClass {
 impl RowClass {
     /// Returns the class of a line with a fate. `is_told` says whether somebody saw another output
     /// than the repaired one.
-    pub(crate) fn of(fate: Fate, is_told: bool) -> RowClass {
+    pub(crate) fn of(fate: Fate, is_told: bool) -> RowClass
+        ensures { result ≡ class_by fate is_told }
+    {
         match fate {
             Fate::Changed if is_told => RowClass::Told,
             Fate::Cancelled => RowClass::Cancelled,

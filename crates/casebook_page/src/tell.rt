@@ -1,46 +1,56 @@
 //! The section of whom to tell.
+ghost use Rattle.std.specs.Prelude.{◌≡◌, ◌++◌, IfOk, None, OnOk, false};
+ghost use Rattle.casebook_page.specs.Told.{first_of, group_told, groups_told, is_session};
+ghost use Rattle.casebook_page.specs.Told.{lines_of_group, outputs_told, person_told};
+ghost use Rattle.casebook_page.specs.Told.{subject_head, subject_told, tell_told, variable_said};
+ghost use Rattle.casebook_page.specs.inner.Screens.{is_known};
+ghost use Rattle.casebook_page.specs.Views.{contents_view};
+
 use crate::NoMem;
 use crate::contents::Contents;
 use crate::html::Html;
 use crate::merged_texts::MergedTexts;
 use crate::pair::{push_pair, push_preview};
-use crate::shown::{push_command, push_links, push_none, push_shown_path};
+use crate::shown::{push_command, push_links, push_name, push_none, push_shown_path};
 use crate::tag::Tag;
 use casebook_summary::{Group, Subject};
 use casebook_text::SafeLine;
+use casebook_words::Labels;
+use retro_tree::VarName;
 use std::alloc::Global;
 
-/// Appends what a group of lines is about.
-fn push_subject(html: &mut Html, alloc: Global, subject: &Subject) -> Result<(), NoMem> {
-    match subject {
-        Subject::At(path) => push_shown_path(html, alloc, path),
-        Subject::Directory => html.words(alloc, "the directory"),
-        Subject::Variable(name) => {
-            let mut line = SafeLine::new(alloc);
-            line.push_ascii("the variable ")?;
-            line.push_word(alloc, name.as_str().as_bytes())?;
-            html.shown(alloc, &line)
-        }
-        Subject::Status => html.words(alloc, "the status"),
-        Subject::Text => html.words(alloc, "a replaced line"),
-        Subject::Again => html.words(alloc, "run again with all others"),
-    }
+/// Returns that lines are about a variable.
+fn variable_line(alloc: Global, name: &VarName) -> Result<SafeLine, NoMem>
+    ensures { IfOk result (λ line. line ≡ variable_said name.now) }
+{
+    let mut line = SafeLine::new(alloc);
+    line.push_ascii("the variable ")?;
+    line.push_word(alloc, name.as_str().as_bytes())?;
+    Ok(line)
 }
 
-/// Returns what a line printed, and what it prints in the repaired run.
-pub(crate) fn outputs_of<'r>(contents: Contents<'_, 'r>, number: u32) -> (&'r [u8], &'r [u8]) {
-    match (
-        contents.case.recording().run_of(number),
-        contents.case.repair().recording.run_of(number),
-    ) {
-        (Some(old), Some(new)) => (old.output.as_slice(), new.output.as_slice()),
-        _ => (&[], &[]),
+/// Appends what a group of lines is about.
+fn push_subject(html: &mut Html, alloc: Global, subject: &Subject) -> Result<(), NoMem>
+    ensures { OnOk result (html.new ≡ html.old ++ subject_told subject.now) }
+{
+    match subject {
+        Subject::At(path) => push_shown_path(html, alloc, path),
+        Subject::Directory => html.said(alloc, "the directory"),
+        Subject::Variable(name) => html.text(variable_line(alloc, name)?),
+        Subject::Status => html.said(alloc, "the status"),
+        Subject::Text => html.said(alloc, "a replaced line"),
+        Subject::Again => html.said(alloc, "run again with all others"),
     }
 }
 
 /// Returns the number of the first line of a group, or 0 if it has no lines.
-fn first_of(group: &Group) -> u32 {
-    group.lines.as_slice().first().copied().unwrap_or(0)
+fn first_of(group: &Group) -> u32
+    ensures { result ≡ first_of group.now.lines.items }
+{
+    match group.lines.as_slice() {
+        [first, ..] => *first,
+        [] => 0,
+    }
 }
 
 /// What is known of what lines printed.
@@ -53,12 +63,25 @@ enum Screens {
 }
 
 /// Appends how many lines a group has, and what it is about.
-fn push_head(html: &mut Html, alloc: Global, group: &Group) -> Result<(), NoMem> {
+fn push_head(html: &mut Html, alloc: Global, group: &Group) -> Result<(), NoMem>
+    ensures { OnOk result (html.new ≡ html.old ++ subject_head group.now) }
+{
     html.fixed(Tag::Subject)?;
-    html.number(alloc, group.lines.len() as u64)?;
+    html.number(group.lines.len() as u64)?;
     html.fixed(Tag::Times)?;
     push_subject(html, alloc, &group.subject)?;
     html.fixed(Tag::RowDetail)
+}
+
+/// Appends a noun for so many lines.
+fn push_noun(html: &mut Html, count: usize) -> Result<(), NoMem>
+    ensures { OnOk result (html.new ≡ html.old) }
+{
+    if count == 1 {
+        html.words("line")
+    } else {
+        html.words("lines")
+    }
 }
 
 /// Appends the lines of a group, and the text of the first one.
@@ -67,17 +90,16 @@ fn push_lines(
     alloc: Global,
     contents: Contents<'_, '_>,
     group: &Group,
-) -> Result<(), NoMem> {
+) -> Result<(), NoMem>
+    ensures { OnOk result (html.new ≡ html.old
+        ++ lines_of_group contents.entry.case.now.recording group.now) }
+{
     html.fixed(Tag::Small)?;
-    if group.lines.len() == 1 {
-        html.words(alloc, "line")?;
-    } else {
-        html.words(alloc, "lines")?;
-    }
-    push_links(html, alloc, group.lines.as_slice())?;
+    push_noun(html, group.lines.len())?;
+    push_links(html, group.lines.as_slice())?;
     html.fixed(Tag::ParagraphEnd)?;
     html.fixed(Tag::Command)?;
-    push_command(html, alloc, contents, first_of(group))?;
+    push_command(html, alloc, contents.case, first_of(group))?;
     html.fixed(Tag::PreEnd)
 }
 
@@ -87,13 +109,35 @@ fn push_outputs(
     alloc: Global,
     contents: Contents<'_, '_>,
     group: &Group,
-) -> Result<(), NoMem> {
-    let (old, new) = outputs_of(contents, first_of(group));
+) -> Result<(), NoMem>
+    ensures { OnOk result (html.new ≡ html.old
+        ++ lines_of_group contents.entry.case.now.recording group.now
+        ++ outputs_told (first_of group.now.lines.items)) }
+{
+    let first = first_of(group);
+    let (old, new) = (
+        contents.recorded_output(first),
+        contents.repaired_output(first),
+    );
     let merged = MergedTexts::of(alloc, old, new)?;
     push_preview(html, alloc, &merged)?;
     html.fixed(Tag::RowBody)?;
     push_lines(html, alloc, contents, group)?;
-    push_pair(html, alloc, &merged)
+    push_pair(html, alloc, first, &merged)
+}
+
+/// Appends the lines of a group without their outputs.
+fn push_unknown(
+    html: &mut Html,
+    alloc: Global,
+    contents: Contents<'_, '_>,
+    group: &Group,
+) -> Result<(), NoMem>
+    ensures { OnOk result (html.new ≡ html.old
+        ++ lines_of_group contents.entry.case.now.recording group.now) }
+{
+    html.fixed(Tag::RowBody)?;
+    push_lines(html, alloc, contents, group)
 }
 
 /// Appends the row of a group: how many lines it has, what it is about, and, if that is known, how
@@ -104,28 +148,43 @@ fn push_group(
     contents: Contents<'_, '_>,
     group: &Group,
     screens: Screens,
-) -> Result<(), NoMem> {
+) -> Result<(), NoMem>
+    ensures { OnOk result (html.new ≡ html.old
+        ++ group_told (contents_view contents.entry) (is_known screens) group.now) }
+{
     push_head(html, alloc, group)?;
     match screens {
         Screens::Known => push_outputs(html, alloc, contents, group)?,
-        Screens::Unknown => {
-            html.fixed(Tag::RowBody)?;
-            push_lines(html, alloc, contents, group)?;
-        }
+        Screens::Unknown => push_unknown(html, alloc, contents, group)?,
     }
     html.fixed(Tag::DetailsEnd)
 }
 
-/// Appends the name of a session.
-fn push_session(
+/// Returns whether a session is the last one.
+fn is_session(last: Option<u32>, session: u32) -> bool
+    ensures { result ≡ is_session last session }
+{
+    match last {
+        Some(number) => number == session,
+        None => false,
+    }
+}
+
+/// Appends the name of a session, unless it is that of the group before.
+fn push_person(
     html: &mut Html,
     alloc: Global,
-    contents: Contents<'_, '_>,
+    labels: &Labels,
+    last: Option<u32>,
     session: u32,
-) -> Result<(), NoMem> {
+) -> Result<(), NoMem>
+    ensures { OnOk result (html.new ≡ html.old ++ person_told labels.now last session) }
+{
+    if is_session(last, session) {
+        return Ok(());
+    }
     html.fixed(Tag::Person)?;
-    let name = contents.labels.name_of(alloc, session)?;
-    html.shown(alloc, &name)?;
+    push_name(html, alloc, labels, session)?;
     html.fixed(Tag::PersonEnd)
 }
 
@@ -136,29 +195,30 @@ fn push_groups(
     contents: Contents<'_, '_>,
     groups: &[Group],
     screens: Screens,
-) -> Result<(), NoMem> {
+) -> Result<(), NoMem>
+    ensures { OnOk result (html.new ≡ html.old ++ groups_told (contents_view contents.entry)
+        (is_known screens) None groups.now) }
+{
     let mut last = None;
     for group in groups {
-        if last != Some(group.session) {
-            push_session(html, alloc, contents, group.session)?;
-        }
-        last = Some(group.session);
+        push_person(html, alloc, contents.labels, last, group.session)?;
         push_group(html, alloc, contents, group, screens)?;
+        last = Some(group.session);
     }
     Ok(())
 }
 
 /// Appends who looked at what by lines that have to be run for real, or nothing if nobody did.
-fn push_looks(html: &mut Html, alloc: Global, contents: Contents<'_, '_>) -> Result<(), NoMem> {
+fn push_looks(html: &mut Html, alloc: Global, contents: Contents<'_, '_>) -> Result<(), NoMem>
+    ensures { OnOk result (html.new ≡ html.old ++ groups_told (contents_view contents.entry)
+        false None contents.entry.summary.now.looked.items) }
+{
     let groups = contents.summary.looked.as_slice();
     if groups.is_empty() {
         return Ok(());
     }
     html.fixed(Tag::Paragraph)?;
-    html.words(
-        alloc,
-        "Who looked by observed lines, at what would be another:",
-    )?;
+    html.words("Who looked by observed lines, at what would be another:")?;
     html.fixed(Tag::ParagraphEnd)?;
     push_groups(html, alloc, contents, groups, Screens::Unknown)
 }
@@ -169,11 +229,13 @@ pub(crate) fn push_tell(
     html: &mut Html,
     alloc: Global,
     contents: Contents<'_, '_>,
-) -> Result<(), NoMem> {
+) -> Result<(), NoMem>
+    ensures { OnOk result (html.new ≡ html.old ++ tell_told (contents_view contents.entry)) }
+{
     let groups = contents.summary.told.as_slice();
-    html.fixed(Tag::Tell)?;
+    html.sign(Tag::Tell)?;
     push_groups(html, alloc, contents, groups, Screens::Known)?;
-    push_none(html, alloc, groups.len())?;
+    push_none(html, groups.len())?;
     push_looks(html, alloc, contents)?;
     html.fixed(Tag::SectionEnd)
 }

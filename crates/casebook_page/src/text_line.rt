@@ -1,8 +1,10 @@
 //! Lines of texts, as a page shows them.
+ghost use Rattle.std.specs.Prelude.{◌≡◌, OnOk};
+
 use crate::NoMem;
 use crate::html::Html;
 use crate::tag::Tag;
-use casebook_text::{Hunk, Mark, Span};
+use casebook_text::{Hunk, Mark, SafeLine, Span};
 use std::alloc::Global;
 
 /// The byte that ends a line.
@@ -83,44 +85,52 @@ fn cut_end(bytes: &[u8], limit: usize) -> usize {
 
 /// Appends bytes. If there are more than `limit`, they are cut, and it is said how many are left
 /// out.
-fn push_cut_bytes(html: &mut Html, alloc: Global, bytes: &[u8], limit: usize) -> Result<(), NoMem> {
+fn push_cut_bytes(html: &mut Html, alloc: Global, bytes: &[u8], limit: usize) -> Result<(), NoMem>
+    ensures { OnOk result (html.new ≡ html.old) }
+{
     if bytes.len() <= limit {
-        return html.shown_bytes(alloc, bytes);
+        return html.excerpt(alloc, bytes);
     }
     let end = cut_end(bytes, limit).min(bytes.len());
     let (front, rest) = bytes.split_at(end);
-    html.shown_bytes(alloc, front)?;
+    html.excerpt(alloc, front)?;
+    let mut line = SafeLine::new(alloc);
+    line.push_ascii(" .. ")?;
+    line.push_number(alloc, rest.len() as u64)?;
+    line.push_ascii(" more bytes in this line")?;
     html.fixed(Tag::Cut)?;
-    html.words(alloc, " .. ")?;
-    html.number(alloc, rest.len() as u64)?;
-    html.words(alloc, " more bytes in this line")?;
+    html.aside(line)?;
     html.fixed(Tag::CutEnd)
 }
 
 /// Appends which lines of a text a part of a diff is about, as a unified diff says it: the number
 /// of the first one, and how many there are unless it is one.
-fn push_span(html: &mut Html, alloc: Global, span: Span) -> Result<(), NoMem> {
+fn push_span(alloc: Global, line: &mut SafeLine, span: Span) -> Result<(), NoMem> {
     let first = if span.count == 0 {
         span.before
     } else {
         span.before.saturating_add(1)
     };
-    html.number(alloc, first as u64)?;
+    line.push_number(alloc, first as u64)?;
     if span.count == 1 {
         return Ok(());
     }
-    html.words(alloc, ",")?;
-    html.number(alloc, span.count as u64)
+    line.push_ascii(",")?;
+    line.push_number(alloc, span.count as u64)
 }
 
 /// Appends the head of a part of a diff.
-fn push_hunk(html: &mut Html, alloc: Global, hunk: &Hunk) -> Result<(), NoMem> {
+fn push_hunk(html: &mut Html, alloc: Global, hunk: &Hunk) -> Result<(), NoMem>
+    ensures { OnOk result (html.new ≡ html.old) }
+{
+    let mut line = SafeLine::new(alloc);
+    line.push_ascii("@@ -")?;
+    push_span(alloc, &mut line, hunk.old)?;
+    line.push_ascii(" +")?;
+    push_span(alloc, &mut line, hunk.new)?;
+    line.push_ascii(" @@")?;
     html.fixed(Tag::Cut)?;
-    html.words(alloc, "@@ -")?;
-    push_span(html, alloc, hunk.old)?;
-    html.words(alloc, " +")?;
-    push_span(html, alloc, hunk.new)?;
-    html.words(alloc, " @@")?;
+    html.aside(line)?;
     html.fixed(Tag::CutEnd)?;
     html.fixed(Tag::Newline)
 }
@@ -147,14 +157,16 @@ impl<'a> TextLine<'a> {
     }
 
     /// Appends the sign of the line's mark in a diff, and nothing in other texts.
-    fn push_sign(&self, html: &mut Html, alloc: Global, form: Form) -> Result<(), NoMem> {
+    fn push_sign(&self, html: &mut Html, form: Form) -> Result<(), NoMem>
+        ensures { OnOk result (html.new ≡ html.old) }
+    {
         if form != Form::Diff {
             return Ok(());
         }
         match self.mark {
-            Mark::Same => html.words(alloc, " "),
-            Mark::Removed => html.words(alloc, "-"),
-            Mark::Added => html.words(alloc, "+"),
+            Mark::Same => html.words(" "),
+            Mark::Removed => html.words("-"),
+            Mark::Added => html.words("+"),
         }
     }
 
@@ -166,15 +178,42 @@ impl<'a> TextLine<'a> {
         alloc: Global,
         form: Form,
         limit: usize,
-    ) -> Result<(), NoMem> {
-        self.push_sign(html, alloc, form)?;
+    ) -> Result<(), NoMem>
+        ensures { OnOk result (html.new ≡ html.old) }
+    {
+        self.push_sign(html, form)?;
         push_cut_bytes(html, alloc, self.text, limit)?;
         if self.is_ended || form == Form::Alone {
             return Ok(());
         }
         html.fixed(Tag::Cut)?;
-        html.words(alloc, " no newline")?;
+        html.words(" no newline")?;
         html.fixed(Tag::CutEnd)
+    }
+
+    /// Appends the line, cut to a limit, between the tags of its mark.
+    fn push_marked(
+        &self,
+        html: &mut Html,
+        alloc: Global,
+        form: Form,
+        limit: usize,
+    ) -> Result<(), NoMem>
+        ensures { OnOk result (html.new ≡ html.old) }
+    {
+        match self.mark {
+            Mark::Same => self.push_text(html, alloc, form, limit),
+            Mark::Removed => {
+                html.fixed(Tag::Delete)?;
+                self.push_text(html, alloc, form, limit)?;
+                html.fixed(Tag::DeleteEnd)
+            }
+            Mark::Added => {
+                html.fixed(Tag::Insert)?;
+                self.push_text(html, alloc, form, limit)?;
+                html.fixed(Tag::InsertEnd)
+            }
+        }
     }
 
     /// Appends the line, cut to a limit, between the tags of its mark, and a newline.
@@ -184,23 +223,13 @@ impl<'a> TextLine<'a> {
         alloc: Global,
         form: Form,
         limit: usize,
-    ) -> Result<(), NoMem> {
+    ) -> Result<(), NoMem>
+        ensures { OnOk result (html.new ≡ html.old) }
+    {
         if let Some(hunk) = &self.hunk {
             push_hunk(html, alloc, hunk)?;
         }
-        match self.mark {
-            Mark::Same => self.push_text(html, alloc, form, limit)?,
-            Mark::Removed => {
-                html.fixed(Tag::Delete)?;
-                self.push_text(html, alloc, form, limit)?;
-                html.fixed(Tag::DeleteEnd)?;
-            }
-            Mark::Added => {
-                html.fixed(Tag::Insert)?;
-                self.push_text(html, alloc, form, limit)?;
-                html.fixed(Tag::InsertEnd)?;
-            }
-        }
+        self.push_marked(html, alloc, form, limit)?;
         html.fixed(Tag::Newline)
     }
 }

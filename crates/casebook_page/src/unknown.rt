@@ -1,68 +1,81 @@
 //! What a page rests on: the lines that weren't understood, or have to be run for real.
+ghost use Rattle.std.specs.Prelude.{◌≡◌, ◌++◌, ◌∷◌, [], IfOk, OnOk, count_by, map};
+ghost use Rattle.casebook_view.specs.Sources.{source_view};
+ghost use Rattle.casebook_page.specs.Told.{has_row, is_unknown_cancelled, missing_told, number_told};
+ghost use Rattle.casebook_page.specs.Told.{numbered_told, numbers_with, obstacle_said, unknown_count};
+ghost use Rattle.casebook_page.specs.Told.{unknown_list, unknown_told, with_told};
+ghost use Rattle.casebook_page.specs.Views.{contents_view};
+ghost use Rattle.casebook_page.specs.declared.piece.Piece.TheVariants.{Number, Text};
+
 use crate::NoMem;
 use crate::contents::Contents;
 use crate::html::Html;
 use crate::shown::push_link;
 use crate::tag::Tag;
-use casebook_view::{Fate, Obstacle, Source};
+use casebook_view::{CaseLine, Fate, Obstacle, Source, UnknownLine};
 use casebook_words::{obstacle_text, obstacles_text};
 use std::alloc::Global;
 
 /// Returns how many cancelled lines weren't understood.
-fn count_cancelled(contents: Contents<'_, '_>) -> usize {
-    let unknown = &contents.summary.unknown;
-    unknown
+fn count_cancelled(lines: &[CaseLine]) -> usize
+    ensures { result ≡ count_by is_unknown_cancelled lines.now }
+{
+    lines
         .iter()
-        .filter(|line| contents.summary.fate_of(line.number) == Some(Fate::Cancelled))
+        .filter(|line| line.fate == Fate::Cancelled && line.obstacle.is_some())
         .count()
 }
 
 /// Appends how many lines of a log that was played weren't understood, or how many of a machine's
 /// have to be run for real: `1 line wasn't understood`.
-fn push_count(
-    html: &mut Html,
-    alloc: Global,
-    source: Source<'_>,
-    count: usize,
-) -> Result<(), NoMem> {
-    html.count(alloc, count, "line")?;
+fn push_count(html: &mut Html, source: Source<'_>, count: usize) -> Result<(), NoMem>
+    ensures { OnOk result (html.new ≡ html.old ++ Number count ∷ []) }
+{
+    html.count(count, "line")?;
     match source {
-        Source::Played if count == 1 => html.words(alloc, " wasn't understood"),
-        Source::Played => html.words(alloc, " weren't understood"),
-        Source::Seen(_) if count == 1 => html.words(alloc, " has to be run for real"),
-        Source::Seen(_) => html.words(alloc, " have to be run for real"),
+        Source::Played if count == 1 => html.words(" wasn't understood"),
+        Source::Played => html.words(" weren't understood"),
+        Source::Seen(_) if count == 1 => html.words(" has to be run for real"),
+        Source::Seen(_) => html.words(" have to be run for real"),
+    }
+}
+
+/// Returns whether a line with a fate has a row.
+fn has_row(shows_untouched: bool, fate: Option<Fate>) -> bool
+    ensures { result ≡ has_row shows_untouched fate }
+{
+    match fate {
+        None => true,
+        Some(fate) => shows_untouched || fate != Fate::Untouched,
     }
 }
 
 /// Appends the number of a line, as a link if the page has a row of it.
-fn push_number(
-    html: &mut Html,
-    alloc: Global,
-    contents: Contents<'_, '_>,
-    shows_untouched: bool,
-    number: u32,
-) -> Result<(), NoMem> {
-    html.words(alloc, " ")?;
-    if shows_untouched || contents.summary.fate_of(number) != Some(Fate::Untouched) {
-        push_link(html, alloc, number)
+fn push_number(html: &mut Html, contents: Contents<'_, '_>, number: u32) -> Result<(), NoMem>
+    ensures { OnOk result (html.new ≡ html.old
+        ++ number_told (contents_view contents.entry) number ∷ []) }
+{
+    html.words(" ")?;
+    if has_row(contents.shows_untouched(), contents.fate_of(number)) {
+        push_link(html, number)
     } else {
-        html.number(alloc, u64::from(number))
+        html.number(u64::from(number))
     }
 }
 
 /// Returns the numbers of the lines with an obstacle, in order.
 fn numbers_with(
     alloc: Global,
-    contents: Contents<'_, '_>,
+    unknown: &[UnknownLine],
     obstacle: Obstacle,
-) -> Result<Vec<u32>, NoMem> {
-    let mut numbers = Vec::new(alloc);
-    for line in &contents.summary.unknown {
-        if line.obstacle == obstacle {
-            numbers.push(line.number)?;
-        }
-    }
-    Ok(numbers)
+) -> Result<Vec<u32>, NoMem>
+    ensures { IfOk result (λ numbers. numbers.items ≡ numbers_with obstacle unknown.now) }
+{
+    unknown
+        .iter()
+        .filter(|line| line.obstacle == obstacle)
+        .map(|line| line.number)
+        .collect(alloc)
 }
 
 /// Appends how many lines have an obstacle.
@@ -71,14 +84,49 @@ fn push_obstacle(
     alloc: Global,
     obstacle: Obstacle,
     count: usize,
-) -> Result<(), NoMem> {
-    html.number(alloc, count as u64)?;
-    html.words(alloc, " ")?;
+) -> Result<(), NoMem>
+    ensures { OnOk result (html.new
+        ≡ html.old ++ Number count ∷ Text (obstacle_said obstacle count) ∷ []) }
+{
+    html.number(count as u64)?;
+    html.words(" ")?;
     if count == 1 {
-        html.words(alloc, obstacle_text(obstacle))
+        html.said(alloc, obstacle_text(obstacle))
     } else {
-        html.words(alloc, obstacles_text(obstacle))
+        html.said(alloc, obstacles_text(obstacle))
     }
+}
+
+/// Appends the numbers of lines.
+fn push_numbers(html: &mut Html, contents: Contents<'_, '_>, numbers: &[u32]) -> Result<(), NoMem>
+    ensures { OnOk result (html.new ≡ html.old
+        ++ map (number_told (contents_view contents.entry)) numbers.now) }
+{
+    for number in numbers {
+        push_number(html, contents, *number)?;
+    }
+    Ok(())
+}
+
+/// Appends the lines with an obstacle, unless there are none.
+fn push_numbered(
+    html: &mut Html,
+    alloc: Global,
+    contents: Contents<'_, '_>,
+    obstacle: Obstacle,
+    numbers: &[u32],
+) -> Result<(), NoMem>
+    ensures { OnOk result (html.new ≡ html.old ++ numbered_told
+        (contents_view contents.entry) obstacle numbers.now) }
+{
+    if numbers.is_empty() {
+        return Ok(());
+    }
+    html.fixed(Tag::UnknownRow)?;
+    push_obstacle(html, alloc, obstacle, numbers.len())?;
+    html.words(":")?;
+    push_numbers(html, contents, numbers)?;
+    html.fixed(Tag::UnknownRowEnd)
 }
 
 /// Appends the lines with an obstacle, unless there are none.
@@ -86,112 +134,119 @@ fn push_with(
     html: &mut Html,
     alloc: Global,
     contents: Contents<'_, '_>,
-    shows_untouched: bool,
     obstacle: Obstacle,
-) -> Result<(), NoMem> {
-    let numbers = numbers_with(alloc, contents, obstacle)?;
-    if numbers.is_empty() {
-        return Ok(());
-    }
-    html.fixed(Tag::UnknownRow)?;
-    push_obstacle(html, alloc, obstacle, numbers.len())?;
-    html.words(alloc, ":")?;
-    for number in &numbers {
-        push_number(html, alloc, contents, shows_untouched, *number)?;
-    }
-    html.fixed(Tag::UnknownRowEnd)
+) -> Result<(), NoMem>
+    ensures { OnOk result (html.new ≡ html.old
+        ++ with_told (contents_view contents.entry) obstacle) }
+{
+    let numbers = numbers_with(alloc, contents.summary.unknown.as_slice(), obstacle)?;
+    push_numbered(html, alloc, contents, obstacle, numbers.as_slice())
 }
 
 /// Appends how many lines weren't understood or have to be run for real, as a link to the block
 /// that names them, unless there are none.
 pub(crate) fn push_unknown_link(
     html: &mut Html,
-    alloc: Global,
-    contents: Contents<'_, '_>,
-) -> Result<(), NoMem> {
-    let count = contents.summary.unknown.len();
-    if count == 0 {
+    source: Source<'_>,
+    unknown: &[UnknownLine],
+) -> Result<(), NoMem>
+    ensures { OnOk result (html.new ≡ html.old ++ unknown_count unknown.now) }
+{
+    if unknown.is_empty() {
         return Ok(());
     }
     html.fixed(Tag::UnknownLink)?;
-    push_count(html, alloc, contents.case.source(), count)?;
-    html.words(alloc, ".")?;
+    push_count(html, source, unknown.len())?;
+    html.words(".")?;
     html.fixed(Tag::LinkEnd)
 }
 
 /// Appends that every line was understood, or that none has to be run for real.
-fn push_no_unknown(html: &mut Html, alloc: Global, source: Source<'_>) -> Result<(), NoMem> {
+fn push_no_unknown(html: &mut Html, source: Source<'_>) -> Result<(), NoMem>
+    ensures { OnOk result (html.new ≡ html.old) }
+{
     html.fixed(Tag::Small)?;
     match source {
-        Source::Played => html.words(alloc, "Every line was understood.")?,
-        Source::Seen(_) => html.words(alloc, "No line has to be run for real.")?,
+        Source::Played => html.words("Every line was understood.")?,
+        Source::Seen(_) => html.words("No line has to be run for real.")?,
     }
     html.fixed(Tag::ParagraphEnd)
 }
 
 /// Appends how many of the lines that weren't understood are cancelled, and what isn't in the
 /// answer.
-fn push_missing(
-    html: &mut Html,
-    alloc: Global,
-    count: usize,
-    cancelled: usize,
-) -> Result<(), NoMem> {
-    html.words(alloc, ", ")?;
-    html.number(alloc, cancelled as u64)?;
+fn push_missing(html: &mut Html, count: usize, cancelled: usize) -> Result<(), NoMem>
+    ensures { OnOk result (html.new ≡ html.old ++ Number cancelled ∷ []) }
+{
+    html.words(", ")?;
+    html.number(cancelled as u64)?;
     if count == 1 {
-        html.words(alloc, " cancelled. What it did isn't in this answer.")
+        html.words(" cancelled. What it did isn't in this answer.")
     } else {
-        html.words(
-            alloc,
-            " of them cancelled. What they did isn't in this answer.",
-        )
+        html.words(" of them cancelled. What they did isn't in this answer.")
     }
 }
 
 /// Appends what the lines that have to be run for real are until then.
-fn push_until(html: &mut Html, alloc: Global, count: usize) -> Result<(), NoMem> {
-    html.words(alloc, " before this answer is whole. Until then ")?;
+fn push_until(html: &mut Html, count: usize) -> Result<(), NoMem>
+    ensures { OnOk result (html.new ≡ html.old) }
+{
+    html.words(" before this answer is whole. Until then ")?;
     if count == 1 {
-        html.words(alloc, "it stands as it was observed.")
+        html.words("it stands as it was observed.")
     } else {
-        html.words(alloc, "they stand as they were observed.")
+        html.words("they stand as they were observed.")
     }
 }
 
-/// Appends the head of the block: how many lines it has, and what that means for the answer.
-fn push_block_head(
+/// Appends what so many lines mean for the answer that weren't understood or have to be run for
+/// real.
+fn push_meaning(
     html: &mut Html,
-    alloc: Global,
-    contents: Contents<'_, '_>,
-) -> Result<(), NoMem> {
-    let count = contents.summary.unknown.len();
-    let source = contents.case.source();
-    push_count(html, alloc, source, count)?;
+    source: Source<'_>,
+    lines: &[CaseLine],
+    count: usize,
+) -> Result<(), NoMem>
+    ensures { OnOk result (html.new
+        ≡ html.old ++ missing_told (source_view source.entry) lines.now) }
+{
     match source {
-        Source::Played => push_missing(html, alloc, count, count_cancelled(contents)),
-        Source::Seen(_) => push_until(html, alloc, count),
+        Source::Played => push_missing(html, count, count_cancelled(lines)),
+        Source::Seen(_) => push_until(html, count),
     }
+}
+
+/// Appends the lines by their obstacles.
+fn push_list(html: &mut Html, alloc: Global, contents: Contents<'_, '_>) -> Result<(), NoMem>
+    ensures { OnOk result (html.new ≡ html.old
+        ++ unknown_list (contents_view contents.entry)) }
+{
+    html.fixed(Tag::UnknownList)?;
+    push_with(html, alloc, contents, Obstacle::Command)?;
+    push_with(html, alloc, contents, Obstacle::Form)?;
+    push_with(html, alloc, contents, Obstacle::Expansion)?;
+    push_with(html, alloc, contents, Obstacle::Terminal)?;
+    push_with(html, alloc, contents, Obstacle::Need)?;
+    html.fixed(Tag::UnknownEnd)
 }
 
 /// Appends which lines weren't understood or have to be run for real, by their obstacles, or that
-/// there are none. No line is left out. `shows_untouched` says whether untouched lines have rows.
+/// there are none. No line is left out.
 pub(crate) fn push_unknown(
     html: &mut Html,
     alloc: Global,
     contents: Contents<'_, '_>,
-    shows_untouched: bool,
-) -> Result<(), NoMem> {
+) -> Result<(), NoMem>
+    ensures { OnOk result (html.new ≡ html.old
+        ++ unknown_told (contents_view contents.entry)) }
+{
+    let count = contents.summary.unknown.len();
+    let source = contents.case.source();
     if contents.summary.unknown.is_empty() {
-        return push_no_unknown(html, alloc, contents.case.source());
+        return push_no_unknown(html, source);
     }
-    html.fixed(Tag::Unknown)?;
-    push_block_head(html, alloc, contents)?;
-    html.fixed(Tag::UnknownList)?;
-    push_with(html, alloc, contents, shows_untouched, Obstacle::Command)?;
-    push_with(html, alloc, contents, shows_untouched, Obstacle::Form)?;
-    push_with(html, alloc, contents, shows_untouched, Obstacle::Expansion)?;
-    push_with(html, alloc, contents, shows_untouched, Obstacle::Terminal)?;
-    push_with(html, alloc, contents, shows_untouched, Obstacle::Need)?;
-    html.fixed(Tag::UnknownEnd)
+    html.sign(Tag::Unknown)?;
+    push_count(html, source, count)?;
+    push_meaning(html, source, contents.summary.lines.as_slice(), count)?;
+    push_list(html, alloc, contents)
 }

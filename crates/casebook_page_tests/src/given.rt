@@ -1,7 +1,7 @@
 //! Pages of scripts with cancelled lines.
 use casebook_page::{Contents, page};
 use casebook_summary::Summary;
-use casebook_view::{Case, Filters, Source, rows};
+use casebook_view::{Case, Source};
 use casebook_words::Labels;
 use retro_keep::{Edit, Recording, keep_alone};
 use retro_log::read_script;
@@ -66,18 +66,10 @@ fn labels_of(alloc: Global, names: &[(u32, &str)]) -> Result<Labels, Fail> {
 /// Returns the page of a repair.
 fn page_of_case(alloc: Global, case: &Case<'_>, given: Given<'_>) -> Result<String, Fail> {
     let summary = Summary::of(alloc, case, given.is_recording)?;
-    let mut filters = Filters {
-        tests: Vec::new(alloc),
-        text: None,
-        shown: None,
-        is_unknown: false,
-    };
-    let lines = rows(alloc, case.recording(), given.source, &mut filters)?;
     let labels = labels_of(alloc, given.names)?;
     let contents = Contents {
         case,
         summary: &summary,
-        lines: lines.as_slice(),
         labels: &labels,
         title: given.title,
         shows_all: given.shows_all,

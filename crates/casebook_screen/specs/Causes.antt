@@ -1,14 +1,14 @@
 -- What cancelled and replaced lines led to, as a summary shows it.
 use Rattle.std.specs.Prelude.{ℕ, Bool, true, false, List, [], ◌∷◌, ◌++◌, codes, decimal, encode_utf8, flat_map, length, map}
-use Rattle.std.specs.Prelude.{if◌then◌else◌, nat_le, take}
+use Rattle.std.specs.Prelude.{if◌then◌else◌, is_some, nat_le, take}
 use Rattle.retro_keep.specs.Recording.{RecordingValue}
 use Rattle.retro_tree.specs.Path.{PathValue}
 use Rattle.casebook_text.specs.SafeLine.{ellipsis}
-use Rattle.casebook_profile.specs.declared.unknown_line.UnknownLine.{UnknownLine}
+use Rattle.casebook_view.specs.CaseLines.{obstacle_at}
+use Rattle.casebook_view.specs.declared.case_line.CaseLine.{CaseLine}
 use Rattle.casebook_view.specs.declared.fate.Fate.TheVariants.{Alike, Changed}
 use Rattle.casebook_summary.specs.Counts.{count_of}
 use Rattle.casebook_summary.specs.Effects.{EffectValue}
-use Rattle.casebook_view.specs.Unknown.{is_unknown}
 use Rattle.casebook_screen.specs.Layout.{count_width, left_aligned, right_aligned}
 use Rattle.casebook_screen.specs.LineTexts.{text_limit, text_of_line}
 use Rattle.casebook_screen.specs.RowTexts.{read_piece}
@@ -53,10 +53,10 @@ effects_head =
     codes "CAUSES  what each edited line led to: lines with another result, "
     ++ codes "run again alike, paths it wrote"
 
--- the same, given the lines that aren't understood
-abbrev pub effect_among : RecordingValue → List UnknownLine → EffectValue → List ℕ
-effect_among r unknown effect = effect_text r (is_unknown unknown effect.number) effect
+-- the same, given all lines
+abbrev pub effect_among : RecordingValue → List CaseLine → EffectValue → List ℕ
+effect_among r lines effect = effect_text r (is_some (obstacle_at effect.number lines)) effect
 
 -- an empty line, a head, and each of the lines
-abbrev pub effect_lines : RecordingValue → List UnknownLine → List EffectValue → List (List ℕ)
-effect_lines r unknown effects = [] ∷ effects_head ∷ map (effect_among r unknown) effects
+abbrev pub effect_lines : RecordingValue → List CaseLine → List EffectValue → List (List ℕ)
+effect_lines r lines effects = [] ∷ effects_head ∷ map (effect_among r lines) effects

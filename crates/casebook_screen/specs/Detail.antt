@@ -1,14 +1,12 @@
 -- One line in full, as a terminal shows it.
-use Rattle.std.specs.Prelude.{ℕ, ◌==◌, List, [], ◌∷◌, ◌++◌, Option, Some, None, codes, decimal, map, replicate}
-use Rattle.std.specs.Prelude.{option_map}
-use Rattle.std.specs.List.{find}
-use Rattle.casebook_usage.specs.declared.obstacle.Obstacle.{Obstacle}
+use Rattle.std.specs.Prelude.{ℕ, List, [], ◌∷◌, ◌++◌, Option, Some, None, codes, decimal, map, replicate}
 use Rattle.retro_keep.specs.Recording.{RecordingValue, noted_at}
 use Rattle.retro_keep.specs.declared.noted.Noted.{Noted}
 use Rattle.retro_redo.specs.declared.repair.Repair.{Repair}
 use Rattle.retro_tree.specs.declared.note.Note.{Note}
 use Rattle.casebook_text.specs.SafeLine.{safe_bytes}
-use Rattle.casebook_view.specs.declared.fate.Fate.{Fate}
+use Rattle.casebook_view.specs.CaseLines.{line_at}
+use Rattle.casebook_view.specs.declared.case_line.CaseLine.{CaseLine}
 use Rattle.casebook_view.specs.declared.reason.Reason.{Reason}
 use Rattle.casebook_summary.specs.declared.summary.Summary.{Summary}
 use Rattle.casebook_words.specs.FileLines.{shown_lines}
@@ -41,22 +39,14 @@ lines_of_run title noted =
 
 -- ---- what a repair does with the line
 
-abbrev pub fate_lines : Option (ℕ × Fate) → List (List ℕ)
-fate_lines None = []
-fate_lines (Some fate) = (indent ++ fate_words fate.1) ∷ []
+abbrev pub reason_lines : RecordingValue → Repair → List CaseLine → ℕ → Option Reason → List (List ℕ)
+reason_lines r repair lines n None = []
+reason_lines r repair lines n (Some reason) = reason_text r repair lines n reason ∷ []
 
-abbrev pub reason_lines : RecordingValue → Repair → List Reason → Option Reason → List (List ℕ)
-reason_lines r repair reasons None = []
-reason_lines r repair reasons (Some reason) = reason_text r repair reasons reason ∷ []
-
--- what becomes of the line with a number, and why it is run again if it is
-abbrev pub reason_found : Summary → ℕ → Option Reason
-reason_found summary n = find (λ reason. reason.number == n) summary.reasons.items
-
-abbrev pub outcome_lines : RecordingValue → Repair → Summary → ℕ → List (List ℕ)
-outcome_lines r repair summary n =
-    fate_lines (find (λ f. f.0 == n) summary.fates.items)
-    ++ reason_lines r repair summary.reasons.items (reason_found summary n)
+-- what becomes of a line, and why it is run again if it is
+abbrev pub outcome_lines : RecordingValue → Repair → List CaseLine → CaseLine → List (List ℕ)
+outcome_lines r repair lines line =
+    (indent ++ fate_words line.fate) ∷ reason_lines r repair lines line.number line.reason
 
 -- the recorded run of a line, and the repaired one if it is run again
 abbrev pub repaired_lines : Option Reason → Option Noted → List (List ℕ)
@@ -70,22 +60,21 @@ lines_of_runs repair reason n noted =
 
 -- ---- the line
 
--- why the line with a number isn't understood, or None if it is
-abbrev pub obstacle_found : Summary → ℕ → Option Obstacle
-obstacle_found summary n =
-    option_map (λ line. line.obstacle) (find (λ line. line.number == n) summary.unknown.items)
+abbrev pub lines_of_detail : RecordingValue → Repair → List CaseLine → Labels → ℕ → CaseLine → Noted → List (List ℕ)
+lines_of_detail r repair lines labels width line noted =
+    detail_head labels width line.number noted
+    ∷ (obstacle_lines line.obstacle ++ outcome_lines r repair lines line
+    ++ lines_of_runs repair line.reason line.number noted)
 
-abbrev pub lines_of_detail : RecordingValue → Repair → Summary → Labels → ℕ → ℕ → Noted → List (List ℕ)
-lines_of_detail r repair summary labels width n noted =
-    detail_head labels width n noted
-    ∷ (obstacle_lines (obstacle_found summary n)
-    ++ outcome_lines r repair summary n ++ lines_of_runs repair (reason_found summary n) n noted)
+-- a line, or nothing if there is none
+abbrev pub detail_if : RecordingValue → Repair → List CaseLine → Labels → ℕ → Option CaseLine → Option Noted
+    → List (List ℕ)
+detail_if r repair lines labels width None run = []
+detail_if r repair lines labels width (Some line) None = []
+detail_if r repair lines labels width (Some line) (Some noted) =
+    lines_of_detail r repair lines labels width line noted
 
--- the line with a number, or nothing if there is none
-abbrev pub detail_if : RecordingValue → Repair → Summary → Labels → ℕ → ℕ → Option Noted → List (List ℕ)
-detail_if r repair summary labels width n None = []
-detail_if r repair summary labels width n (Some noted) = lines_of_detail r repair summary labels width n noted
-
+-- the line with a number
 abbrev pub detail_lines : RecordingValue → Repair → Summary → Labels → ℕ → ℕ → List (List ℕ)
 detail_lines r repair summary labels width n =
-    detail_if r repair summary labels width n (noted_at n r.lines)
+    detail_if r repair summary.lines labels width (line_at n summary.lines) (noted_at n r.lines)

@@ -2,9 +2,10 @@
 use Rattle.std.specs.Prelude.{ℕ, ◌==◌, ◌&&◌, Bool, List, [], ◌∷◌, ◌++◌, codes, length, map}
 use Rattle.std.specs.List.{filter, list_any}
 use Rattle.retro_keep.specs.Recording.{RecordingValue}
+use Rattle.casebook_view.specs.CaseLines.{line_number}
 use Rattle.casebook_view.specs.Fates.{fate_eq}
 use Rattle.casebook_view.specs.Sources.{SourceValue, Played, Seen}
-use Rattle.casebook_view.specs.declared.fate.Fate.{Fate}
+use Rattle.casebook_view.specs.declared.case_line.CaseLine.{CaseLine}
 use Rattle.casebook_view.specs.declared.fate.Fate.TheVariants.{Cancelled}
 use Rattle.casebook_summary.specs.declared.leak.Leak.{Leak}
 use Rattle.casebook_words.specs.Words.{count_words}
@@ -21,16 +22,16 @@ leak_text r labels width leak =
 unfoldable pub leaks_head : ℕ → List ℕ
 leaks_head n = codes "LEAKED  " ++ count_words (codes "cancelled line") n ++ codes " showed something"
 
--- the cancelled lines that stand as they were observed, by what becomes of all lines
-abbrev pub is_unshown : List ℕ → ℕ × Fate → Bool
-is_unshown observed line = fate_eq line.1 Cancelled && list_any (λ n. n == line.0) observed
+-- the cancelled lines that stand as they were observed
+abbrev pub is_unshown : List ℕ → CaseLine → Bool
+is_unshown observed line = fate_eq line.fate Cancelled && list_any (λ n. n == line.number) observed
 
-abbrev pub unshown_among : List ℕ → List (ℕ × Fate) → List ℕ
-unshown_among observed fates = map (λ line. line.0) (filter (is_unshown observed) fates)
+abbrev pub unshown_among : List ℕ → List CaseLine → List ℕ
+unshown_among observed lines = map line_number (filter (is_unshown observed) lines)
 
-abbrev pub unshown_in : SourceValue → List (ℕ × Fate) → List ℕ
-unshown_in Played fates = []
-unshown_in (Seen seen) fates = unshown_among seen.observed fates
+abbrev pub unshown_in : SourceValue → List CaseLine → List ℕ
+unshown_in Played lines = []
+unshown_in (Seen seen) lines = unshown_among seen.observed lines
 
 -- what these lines showed isn't known
 unfoldable pub unshown_text : List ℕ → List ℕ

@@ -8,7 +8,7 @@ use Rattle.retro_keep.specs.Recording.{RecordingValue}
 use Rattle.retro_keep.specs.declared.noted.Noted.{Noted}
 use Rattle.casebook_summary.specs.Effects.{effect_value}
 use Rattle.casebook_view.specs.Sources.{SourceValue}
-use Rattle.casebook_view.specs.declared.fate.Fate.{Fate}
+use Rattle.casebook_view.specs.declared.case_line.CaseLine.{CaseLine}
 use Rattle.casebook_view.specs.declared.fate.Fate.TheVariants.{Cancelled}
 use Rattle.casebook_summary.specs.declared.summary.Summary.{Summary}
 use Rattle.casebook_words.specs.Labels.{time_words}
@@ -46,25 +46,25 @@ abbrev pub period_words : Labels → List (ℕ × Noted) → List ℕ
 period_words labels lines = times_words labels (slice_get lines 0) (slice_get lines (length lines - 1))
 
 -- how many lines and sessions the log has, from when to when, and how many lines are cancelled
-unfoldable pub head_text : RecordingValue → Labels → List (ℕ × Fate) → List ℕ
-head_text r labels fates =
+unfoldable pub head_text : RecordingValue → Labels → List CaseLine → List ℕ
+head_text r labels lines =
     count_words (codes "line") (length r.lines) ++ codes " of "
     ++ count_words (codes "session") (length (sessions_in r.lines)) ++ period_words labels r.lines
-    ++ codes ". " ++ decimal (count_of fates Cancelled) ++ codes " cancelled."
+    ++ codes ". " ++ decimal (count_of lines Cancelled) ++ codes " cancelled."
 
 -- what the log holds, what it rests on, and an empty line
-abbrev pub head_lines : RecordingValue → Labels → List (ℕ × Fate) → List (List ℕ) → List (List ℕ)
-head_lines r labels fates basis = head_text r labels fates ∷ basis ++ [] ∷ []
+abbrev pub head_lines : RecordingValue → Labels → List CaseLine → List (List ℕ) → List (List ℕ)
+head_lines r labels lines basis = head_text r labels lines ∷ basis ++ [] ∷ []
 
 -- the head, which lines aren't understood, how many lines have which fate, what is to be restored,
 -- whom to tell, who looked at what, what cancelled lines showed, and what they led to
 abbrev pub summary_lines : SourceValue → RecordingValue → Summary → Labels → ℕ → List (List ℕ)
 summary_lines source r summary labels width =
-    head_lines r labels summary.fates.items (basis_lines source summary.is_recording)
-    ++ unknown_lines source summary.unknown.items summary.fates.items
-    ++ [] ∷ count_lines summary.fates.items
+    head_lines r labels summary.lines (basis_lines source summary.is_recording)
+    ++ unknown_lines source summary.unknown.items summary.lines
+    ++ [] ∷ count_lines summary.lines
     ++ restoration_lines summary.undecided.items summary.restorations.items
     ++ notice_lines labels width (length summary.notices.items) summary.told.items
     ++ look_lines labels width (length summary.looks.items) summary.looked.items
-    ++ leak_lines r labels width summary.leaks.items (unshown_in source summary.fates.items)
-    ++ effect_lines r summary.unknown.items (map effect_value summary.effects.items)
+    ++ leak_lines r labels width summary.leaks.items (unshown_in source summary.lines)
+    ++ effect_lines r summary.lines (map effect_value summary.effects.items)

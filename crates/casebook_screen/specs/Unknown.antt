@@ -1,11 +1,10 @@
 -- Lines that aren't understood or have to be run for real, as a summary shows them.
 use Rattle.std.specs.Prelude.{ℕ, zero, suc, ◌==◌, Bool, true, false, ◌&&◌, List, [], ◌∷◌, ◌++◌, codes, decimal}
-use Rattle.std.specs.Prelude.{count_by, drop, flat_map, if◌then◌else◌, length, map, replicate, take}
+use Rattle.std.specs.Prelude.{count_by, drop, flat_map, if◌then◌else◌, is_some, length, map, replicate, take}
 use Rattle.std.specs.List.{filter}
 use Rattle.casebook_view.specs.Fates.{fate_eq}
 use Rattle.casebook_view.specs.Sources.{SourceValue, Played, Seen}
-use Rattle.casebook_view.specs.Unknown.{is_unknown}
-use Rattle.casebook_view.specs.declared.fate.Fate.{Fate}
+use Rattle.casebook_view.specs.declared.case_line.CaseLine.{CaseLine}
 use Rattle.casebook_view.specs.declared.fate.Fate.TheVariants.{Cancelled}
 use Rattle.casebook_usage.specs.declared.obstacle.Obstacle.{Obstacle}
 use Rattle.casebook_usage.specs.declared.obstacle.Obstacle.TheVariants.{Command, Form, Expansion, Terminal, Observed, Need}
@@ -28,11 +27,11 @@ row_indent = 48
 -- ---- the head
 
 -- the lines that aren't understood and are cancelled
-abbrev pub is_unknown_cancelled : List UnknownLine → ℕ × Fate → Bool
-is_unknown_cancelled unknown line = fate_eq line.1 Cancelled && is_unknown unknown line.0
+abbrev pub is_unknown_cancelled : CaseLine → Bool
+is_unknown_cancelled line = fate_eq line.fate Cancelled && is_some line.obstacle
 
-abbrev pub count_cancelled : List UnknownLine → List (ℕ × Fate) → ℕ
-count_cancelled unknown fates = count_by (is_unknown_cancelled unknown) fates
+abbrev pub count_cancelled : List CaseLine → ℕ
+count_cancelled lines = count_by is_unknown_cancelled lines
 
 -- how many lines aren't understood, and how many of them are cancelled
 unfoldable pub one_head : ℕ → List ℕ
@@ -112,15 +111,15 @@ lines_by_obstacle unknown =
     ++ lines_with unknown Terminal ++ lines_with unknown Need
 
 -- how many lines aren't understood, all of them, and which command shows them
-abbrev pub lines_of_unknown : List UnknownLine → List (ℕ × Fate) → List (List ℕ)
-lines_of_unknown unknown fates =
-    unknown_head (length unknown) (count_cancelled unknown fates)
+abbrev pub lines_of_unknown : List UnknownLine → List CaseLine → List (List ℕ)
+lines_of_unknown unknown lines =
+    unknown_head (length unknown) (count_cancelled lines)
     ∷ (lines_by_obstacle unknown ++ hint_text ∷ [])
 
 -- which lines aren't understood, of lines that were played
-abbrev pub played_lines : List UnknownLine → List (ℕ × Fate) → List (List ℕ)
-played_lines [] fates = understood_text ∷ []
-played_lines (line ∷ unknown) fates = lines_of_unknown (line ∷ unknown) fates
+abbrev pub played_lines : List UnknownLine → List CaseLine → List (List ℕ)
+played_lines [] lines = understood_text ∷ []
+played_lines (line ∷ unknown) lines = lines_of_unknown (line ∷ unknown) lines
 
 -- ---- lines that a recorder saw
 
@@ -156,6 +155,6 @@ seen_lines (line ∷ unknown) = lines_to_run (line ∷ unknown)
 
 -- ---- both
 
-abbrev pub unknown_lines : SourceValue → List UnknownLine → List (ℕ × Fate) → List (List ℕ)
-unknown_lines Played unknown fates = played_lines unknown fates
-unknown_lines (Seen seen) unknown fates = seen_lines unknown
+abbrev pub unknown_lines : SourceValue → List UnknownLine → List CaseLine → List (List ℕ)
+unknown_lines Played unknown lines = played_lines unknown lines
+unknown_lines (Seen seen) unknown lines = seen_lines unknown

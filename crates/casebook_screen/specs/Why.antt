@@ -1,13 +1,12 @@
 -- Why lines are run again, as a terminal shows it.
-use Rattle.std.specs.Prelude.{ℕ, Bool, false, List, [], ◌∷◌, ◌++◌, Option, Some, None}
-use Rattle.std.specs.Prelude.{codes, decimal, flat_map, length}
-use Rattle.std.specs.List.{filter}
-use Rattle.retro_keep.specs.Recording.{RecordingValue, noted_at}
+use Rattle.std.specs.Prelude.{ℕ, Bool, List, [], ◌∷◌, ◌++◌, Option, Some, None}
+use Rattle.std.specs.Prelude.{codes, decimal, flat_map, if◌then◌else◌}
+use Rattle.retro_keep.specs.Recording.{RecordingValue}
 use Rattle.retro_redo.specs.declared.repair.Repair.{Repair}
-use Rattle.casebook_view.specs.Fates.{fate_at, fate_eq, session_in}
+use Rattle.casebook_view.specs.Fates.{fate_eq}
 use Rattle.casebook_view.specs.OtherAnswers.{AnswersValue, answers_of}
-use Rattle.casebook_view.specs.Reasons.{chain_from}
-use Rattle.casebook_view.specs.declared.fate.Fate.{Fate}
+use Rattle.casebook_view.specs.Reasons.{chain_of}
+use Rattle.casebook_view.specs.declared.case_line.CaseLine.{CaseLine}
 use Rattle.casebook_view.specs.declared.fate.Fate.TheVariants.{Changed}
 use Rattle.casebook_view.specs.declared.reason.Reason.{Reason}
 use Rattle.casebook_summary.specs.declared.summary.Summary.{Summary}
@@ -52,29 +51,31 @@ why_words (Query i) found = failing_words found
 why_words RunAgain found = again_words
 
 -- why a line is run again, and the chain of lines that it comes from
-unfoldable pub reason_text : RecordingValue → Repair → List Reason → Reason → List ℕ
-reason_text r repair reasons reason =
-    indent ++ why_words reason.why (answers_of r repair reason)
-    ++ chain_words (chain_from (length reasons) reasons reason.number)
+unfoldable pub reason_text : RecordingValue → Repair → List CaseLine → ℕ → Reason → List ℕ
+reason_text r repair lines n reason =
+    indent ++ why_words reason.why (answers_of r repair n reason) ++ chain_words (chain_of lines n)
 
 -- ---- lines
 
 -- the number, the session and the text of a line
-unfoldable pub why_head : RecordingValue → Labels → ℕ → ℕ → List ℕ
-why_head r labels width n =
-    line_head labels width n (session_in (noted_at n r.lines)) ++ text_of_line why_limit r n
+unfoldable pub why_head : RecordingValue → Labels → ℕ → CaseLine → List ℕ
+why_head r labels width line =
+    line_head labels width line.number line.session ++ text_of_line why_limit r line.number
 
-abbrev pub lines_of_why : RecordingValue → Repair → List Reason → Labels → ℕ → Reason → List (List ℕ)
-lines_of_why r repair reasons labels width reason =
-    why_head r labels width reason.number ∷ reason_text r repair reasons reason ∷ []
+-- a line that is run again, and why
+abbrev pub lines_of_why : RecordingValue → Repair → List CaseLine → Labels → ℕ → CaseLine → Option Reason → List (List ℕ)
+lines_of_why r repair lines labels width line None = []
+lines_of_why r repair lines labels width line (Some reason) =
+    why_head r labels width line ∷ reason_text r repair lines line.number reason ∷ []
 
-abbrev pub is_changed : Option Fate → Bool
-is_changed None = false
-is_changed (Some fate) = fate_eq fate Changed
+-- whether a line is run again and has another result
+abbrev pub has_other_result : CaseLine → Bool
+has_other_result line = fate_eq line.fate Changed
 
--- whether the line of a reason has another result
-abbrev pub has_other_result : List (ℕ × Fate) → Reason → Bool
-has_other_result fates reason = is_changed (fate_at reason.number fates)
+-- the same, if it has another result
+abbrev pub changed_why : RecordingValue → Repair → List CaseLine → Labels → ℕ → CaseLine → List (List ℕ)
+changed_why r repair lines labels width line =
+    if has_other_result line then lines_of_why r repair lines labels width line line.reason else []
 
 abbrev pub why_title : List ℕ
 why_title = codes "WHY  lines run again with another result"
@@ -83,5 +84,4 @@ why_title = codes "WHY  lines run again with another result"
 abbrev pub why_lines : RecordingValue → Repair → Summary → Labels → ℕ → List (List ℕ)
 why_lines r repair summary labels width =
     [] ∷ why_title
-    ∷ flat_map (lines_of_why r repair summary.reasons.items labels width)
-    (filter (has_other_result summary.fates.items) summary.reasons.items)
+    ∷ flat_map (changed_why r repair summary.lines labels width) summary.lines

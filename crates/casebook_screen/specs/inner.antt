@@ -1,3 +1,2 @@
 -- Definitions that only private contracts, invariants and proofs name.
 pub mod Parts
-pub mod Numbers

@@ -1,5 +1,6 @@
 //! What cancelled and replaced lines led to, as a terminal shows it.
-ghost use Rattle.std.specs.Prelude.{◌≡◌, ◌++◌, IfOk, OnOk, map};
+ghost use Rattle.std.specs.Prelude.{◌≡◌, ◌++◌, IfOk, OnOk, is_some, map};
+ghost use Rattle.casebook_view.specs.CaseLines.{obstacle_at};
 ghost use Rattle.casebook_summary.specs.Effects.{effect_value};
 ghost use Rattle.casebook_screen.specs.Causes.{done_text, effect_among, effect_lines, effect_text};
 ghost use Rattle.casebook_screen.specs.Causes.{effects_head, first_paths, led_width, led_words};
@@ -9,10 +10,9 @@ use crate::NoMem;
 use crate::layout::{COUNT_WIDTH, column, number_column, number_line, push_padded};
 use crate::line_text::{TEXT_LIMIT, push_text};
 use crate::row_text::push_paths;
-use crate::unknown_numbers::UnknownNumbers;
-use casebook_summary::Effect;
+use casebook_summary::{Effect, Summary};
 use casebook_text::SafeLine;
-use casebook_view::{Fate, UnknownLine};
+use casebook_view::{CaseLines, Fate};
 use retro_keep::Recording;
 use retro_tree::Path;
 use std::alloc::Global;
@@ -108,21 +108,29 @@ fn effects_head(alloc: Global) -> Result<SafeLine, NoMem>
     Ok(line)
 }
 
+/// Returns whether the line with a number isn't understood or has to be run for real.
+fn is_unknown(lines: &CaseLines, number: u32) -> bool
+    ensures { result ≡ is_some (obstacle_at number lines.now) }
+{
+    match lines.at(number) {
+        Some(line) => line.obstacle.is_some(),
+        None => false,
+    }
+}
+
 /// Appends a line for each edited line.
 fn push_effects(
     alloc: Global,
     lines: &mut Vec<SafeLine>,
     recording: &Recording,
-    unknown: &[UnknownLine],
-    effects: &[Effect],
+    summary: &Summary,
 ) -> Result<(), NoMem>
     ensures { OnOk result (lines.new.items ≡ lines.old.items
-        ++ map (λ effect. effect_among recording.now unknown.now (effect_value effect))
-        effects.now) }
+        ++ map (λ effect. effect_among recording.now summary.now.lines (effect_value effect))
+        summary.now.effects.items) }
 {
-    let numbers = UnknownNumbers::of(alloc, unknown)?;
-    for effect in effects {
-        let is_unknown = numbers.contains(effect.number);
+    for effect in &summary.effects {
+        let is_unknown = is_unknown(&summary.lines, effect.number);
         lines.push(effect_line(alloc, recording, is_unknown, effect)?)?;
     }
     Ok(())
@@ -132,15 +140,14 @@ fn push_effects(
 pub(crate) fn effect_lines(
     alloc: Global,
     recording: &Recording,
-    unknown: &[UnknownLine],
-    effects: &[Effect],
+    summary: &Summary,
 ) -> Result<Vec<SafeLine>, NoMem>
-    ensures { IfOk result (λ lines. lines.items
-        ≡ effect_lines recording.now unknown.now (map effect_value effects.now)) }
+    ensures { IfOk result (λ lines. lines.items ≡ effect_lines recording.now summary.now.lines
+        (map effect_value summary.now.effects.items)) }
 {
     let mut lines = Vec::new(alloc);
     lines.push(SafeLine::new(alloc))?;
     lines.push(effects_head(alloc)?)?;
-    push_effects(alloc, &mut lines, recording, unknown, effects)?;
+    push_effects(alloc, &mut lines, recording, summary)?;
     Ok(lines)
 }

@@ -1,10 +1,10 @@
 //! How many lines have which fate.
 ghost use Rattle.std.specs.Prelude.{◌≡◌, ◌++◌, IfOk, OnOk};
 ghost use Rattle.casebook_screen.specs.Counts.{count_lines, count_text, fate_words};
-ghost use Rattle.casebook_summary.specs.Counts.{count_of};
 
 use crate::NoMem;
 use crate::layout::{COUNT_WIDTH, number_column};
+use casebook_summary::Summary;
 use casebook_text::SafeLine;
 use casebook_view::Fate;
 use std::alloc::Global;
@@ -23,33 +23,26 @@ pub(crate) fn push_fate(line: &mut SafeLine, fate: Fate) -> Result<(), NoMem>
     }
 }
 
-/// Returns how many lines have a fate.
-pub(crate) fn count_of(fates: &[(u32, Fate)], fate: Fate) -> usize
-    ensures { result ≡ count_of fates.now fate }
-{
-    fates.iter().filter(|line| line.1 == fate).count()
-}
-
 /// Returns how many lines have a fate, in words.
 #[tactic(auto, unfolding(crate::specs::Counts::count_text))]
-fn count_line(alloc: Global, fates: &[(u32, Fate)], fate: Fate) -> Result<SafeLine, NoMem>
-    ensures { IfOk result (λ line. line ≡ count_text fates.now fate) }
+fn count_line(alloc: Global, summary: &Summary, fate: Fate) -> Result<SafeLine, NoMem>
+    ensures { IfOk result (λ line. line ≡ count_text summary.now.lines fate) }
 {
-    let mut line = number_column(alloc, count_of(fates, fate) as u64, COUNT_WIDTH)?;
+    let mut line = number_column(alloc, summary.count(fate) as u64, COUNT_WIDTH)?;
     line.push_ascii(" ")?;
     push_fate(&mut line, fate)?;
     Ok(line)
 }
 
 /// Returns how many lines have which fate, one line for each fate.
-pub(crate) fn count_lines(alloc: Global, fates: &[(u32, Fate)]) -> Result<Vec<SafeLine>, NoMem>
-    ensures { IfOk result (λ lines. lines.items ≡ count_lines fates.now) }
+pub(crate) fn count_lines(alloc: Global, summary: &Summary) -> Result<Vec<SafeLine>, NoMem>
+    ensures { IfOk result (λ lines. lines.items ≡ count_lines summary.now.lines) }
 {
     let mut lines = Vec::new(alloc);
-    lines.push(count_line(alloc, fates, Fate::Cancelled)?)?;
-    lines.push(count_line(alloc, fates, Fate::Changed)?)?;
-    lines.push(count_line(alloc, fates, Fate::Alike)?)?;
-    lines.push(count_line(alloc, fates, Fate::Kept)?)?;
-    lines.push(count_line(alloc, fates, Fate::Untouched)?)?;
+    lines.push(count_line(alloc, summary, Fate::Cancelled)?)?;
+    lines.push(count_line(alloc, summary, Fate::Changed)?)?;
+    lines.push(count_line(alloc, summary, Fate::Alike)?)?;
+    lines.push(count_line(alloc, summary, Fate::Kept)?)?;
+    lines.push(count_line(alloc, summary, Fate::Untouched)?)?;
     Ok(lines)
 }

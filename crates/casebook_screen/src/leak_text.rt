@@ -11,7 +11,7 @@ use crate::names::Names;
 use crate::notice_text::push_first_numbers;
 use casebook_summary::Leak;
 use casebook_text::SafeLine;
-use casebook_view::{Fate, Source};
+use casebook_view::{CaseLine, Fate, Source};
 use casebook_words::push_count;
 use retro_keep::Recording;
 use std::alloc::Global;
@@ -65,21 +65,21 @@ fn push_leaks(
 }
 
 /// Returns whether a line is cancelled and stands as it was observed.
-fn is_unshown(observed: &[u32], line: &(u32, Fate)) -> bool
+fn is_unshown(observed: &[u32], line: &CaseLine) -> bool
     ensures { result ≡ is_unshown observed.now line.now }
 {
-    line.1 == Fate::Cancelled && observed.contains(&line.0)
+    line.fate == Fate::Cancelled && observed.contains(&line.number)
 }
 
-/// Returns the cancelled lines that stand as they were observed, by what becomes of all lines.
+/// Returns the cancelled lines that stand as they were observed.
 /// Takes time in proportion to the number of cancelled lines times that of observed ones.
-fn unshown_among(alloc: Global, observed: &[u32], fates: &[(u32, Fate)]) -> Result<Vec<u32>, NoMem>
-    ensures { IfOk result (λ numbers. numbers.items ≡ unshown_among observed.now fates.now) }
+fn unshown_among(alloc: Global, observed: &[u32], lines: &[CaseLine]) -> Result<Vec<u32>, NoMem>
+    ensures { IfOk result (λ numbers. numbers.items ≡ unshown_among observed.now lines.now) }
 {
     let mut numbers = Vec::new(alloc);
-    for line in fates {
+    for line in lines {
         if is_unshown(observed, line) {
-            numbers.push(line.0)?;
+            numbers.push(line.number)?;
         }
     }
     Ok(numbers)
@@ -89,14 +89,14 @@ fn unshown_among(alloc: Global, observed: &[u32], fates: &[(u32, Fate)]) -> Resu
 pub(crate) fn unshown_in(
     alloc: Global,
     source: Source<'_>,
-    fates: &[(u32, Fate)],
+    lines: &[CaseLine],
 ) -> Result<Vec<u32>, NoMem>
     ensures { IfOk result (λ numbers.
-        numbers.items ≡ unshown_in (source_view source.entry) fates.now) }
+        numbers.items ≡ unshown_in (source_view source.entry) lines.now) }
 {
     match source {
         Source::Played => Ok(Vec::new(alloc)),
-        Source::Seen(seen) => unshown_among(alloc, seen.observed, fates),
+        Source::Seen(seen) => unshown_among(alloc, seen.observed, lines),
     }
 }
 

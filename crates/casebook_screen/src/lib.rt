@@ -26,15 +26,14 @@
 //!   equation.
 //! - `why_lines` returns the lines that `specs/Why.antt` defines: two for each line that is run
 //!   again with another result, with the chain of causes, and with the query that fails and both
-//!   its answers, or that its text is replaced, or that it is run again with all others. It is an
-//!   equation if the fates and the reasons of the summary are in order of lines.
+//!   its answers, or that its text is replaced, or that it is run again with all others: an equation.
 //! - `diff_lines` returns a unified diff for each path with a file before or after, and one for
 //!   each output that differs, in order [by `AreDiffs`]. The lines marked ` ` and `-` are the old
 //!   text, and those marked ` ` and `+` the new one; each head counts the lines of its part;
 //!   exactly the lines at most three from one that differs are shown [by `IsUnified`]. Texts are
 //!   compared as they are shown, with a remark after a last line without a newline.
-//! - `detail_lines` returns the lines that `specs/Detail.antt` defines for the line with a number,
-//!   an equation if the reasons are in order of lines.
+//! - `detail_lines` returns the lines that `specs/Detail.antt` defines for the line with a number: an
+//!   equation.
 //! - What all these return are `SafeLine`s, so their characters are harmless.
 #![tactic(auto)]
 
@@ -55,7 +54,6 @@ mod summary_text;
 mod table;
 mod to_run_text;
 mod unified;
-mod unknown_numbers;
 mod unknown_text;
 mod why_text;
 

@@ -7,7 +7,6 @@ ghost use Rattle.casebook_screen.specs.Summary.{sessions_in, span_words, times_w
 
 use crate::NoMem;
 use crate::basis_text::push_basis;
-use crate::fate_counts::count_of;
 use casebook_summary::Summary;
 use casebook_text::SafeLine;
 use casebook_view::{Case, Fate};
@@ -92,9 +91,10 @@ fn head_line(
     alloc: Global,
     recording: &Recording,
     labels: &Labels,
-    fates: &[(u32, Fate)],
+    summary: &Summary,
 ) -> Result<SafeLine, NoMem>
-    ensures { IfOk result (λ line. line ≡ head_text recording.now labels.now fates.now) }
+    ensures { IfOk result (λ line.
+        line ≡ head_text recording.now labels.now summary.now.lines) }
 {
     let lines = recording.lines();
     let mut line = SafeLine::new(alloc);
@@ -103,7 +103,7 @@ fn head_line(
     push_count(alloc, &mut line, count_sessions(alloc, lines)?, "session")?;
     push_period(alloc, &mut line, labels, lines)?;
     line.push_ascii(". ")?;
-    line.push_number(alloc, count_of(fates, Fate::Cancelled) as u64)?;
+    line.push_number(alloc, summary.count(Fate::Cancelled) as u64)?;
     line.push_ascii(" cancelled.")?;
     Ok(line)
 }
@@ -116,11 +116,10 @@ pub(crate) fn head_lines(
     labels: &Labels,
 ) -> Result<Vec<SafeLine>, NoMem>
     ensures { IfOk result (λ lines. lines.items ≡ head_lines case.now.recording labels.now
-        summary.now.fates.items (basis_lines case.now.source summary.now.is_recording)) }
+        summary.now.lines (basis_lines case.now.source summary.now.is_recording)) }
 {
-    let fates = summary.fates.as_slice();
     let mut lines = Vec::new(alloc);
-    lines.push(head_line(alloc, case.recording(), labels, fates)?)?;
+    lines.push(head_line(alloc, case.recording(), labels, summary)?)?;
     push_basis(alloc, &mut lines, case.source(), summary.is_recording)?;
     lines.push(SafeLine::new(alloc))?;
     Ok(lines)

@@ -31,18 +31,18 @@ pub fn summary_lines(
 {
     let recording = case.recording();
     let unknown = summary.unknown.as_slice();
-    let fates = summary.fates.as_slice();
+    let all = summary.lines.as_slice();
     let screens = summary.notices.len();
     let mut lines = head_lines(alloc, case, summary, names.labels)?;
-    lines.append(&mut unknown_lines(alloc, case.source(), unknown, fates)?)?;
+    lines.append(&mut unknown_lines(alloc, case.source(), unknown, all)?)?;
     lines.push(SafeLine::new(alloc))?;
-    lines.append(&mut count_lines(alloc, fates)?)?;
+    lines.append(&mut count_lines(alloc, summary)?)?;
     lines.append(&mut restoration_lines(alloc, summary)?)?;
     lines.append(&mut notice_lines(alloc, names, screens, summary.told.as_slice())?)?;
     lines.append(&mut look_lines(alloc, names, summary.looks.len(), summary.looked.as_slice())?)?;
-    let unshown = unshown_in(alloc, case.source(), fates)?;
+    let unshown = unshown_in(alloc, case.source(), all)?;
     let leaks = summary.leaks.as_slice();
     lines.append(&mut leak_lines(alloc, recording, names, leaks, unshown.as_slice())?)?;
-    lines.append(&mut effect_lines(alloc, recording, unknown, summary.effects.as_slice())?)?;
+    lines.append(&mut effect_lines(alloc, recording, summary)?)?;
     Ok(lines)
 }

@@ -11,9 +11,8 @@ use crate::NoMem;
 use crate::layout::{COUNT_WIDTH, indented, number_column, push_padded};
 use crate::notice_text::push_numbers;
 use crate::to_run_text::seen_lines;
-use crate::unknown_numbers::UnknownNumbers;
 use casebook_text::SafeLine;
-use casebook_view::{Fate, Obstacle, Source, UnknownLine};
+use casebook_view::{CaseLine, Fate, Obstacle, Source, UnknownLine};
 use casebook_words::{obstacle_text, obstacles_text};
 use std::alloc::Global;
 
@@ -27,20 +26,13 @@ const OBSTACLE_WIDTH: usize = 39;
 const ROW_INDENT: usize = 48;
 
 /// Returns how many cancelled lines aren't understood.
-fn count_cancelled(
-    alloc: Global,
-    unknown: &[UnknownLine],
-    fates: &[(u32, Fate)],
-) -> Result<usize, NoMem>
-    ensures { IfOk result (λ count. count ≡ count_cancelled unknown.now fates.now) }
+fn count_cancelled(lines: &[CaseLine]) -> usize
+    ensures { result ≡ count_cancelled lines.now }
 {
-    let numbers = UnknownNumbers::of(alloc, unknown)?;
-    Ok(
-        fates
-            .iter()
-            .filter(|line| line.1 == Fate::Cancelled && numbers.contains(line.0))
-            .count(),
-    )
+    lines
+        .iter()
+        .filter(|line| line.fate == Fate::Cancelled && line.obstacle.is_some())
+        .count()
 }
 
 /// Returns that one line isn't understood, and whether it is cancelled.
@@ -229,32 +221,31 @@ fn hint_line(alloc: Global) -> Result<SafeLine, NoMem>
 fn lines_of_unknown(
     alloc: Global,
     unknown: &[UnknownLine],
-    fates: &[(u32, Fate)],
+    lines: &[CaseLine],
 ) -> Result<Vec<SafeLine>, NoMem>
-    ensures { IfOk result (λ lines. lines.items ≡ lines_of_unknown unknown.now fates.now) }
+    ensures { IfOk result (λ found. found.items ≡ lines_of_unknown unknown.now lines.now) }
 {
-    let cancelled = count_cancelled(alloc, unknown, fates)?;
-    let mut lines = Vec::new(alloc);
-    lines.push(unknown_head(alloc, unknown.len(), cancelled)?)?;
-    lines.append(&mut lines_by_obstacle(alloc, unknown)?)?;
-    lines.push(hint_line(alloc)?)?;
-    Ok(lines)
+    let mut found = Vec::new(alloc);
+    found.push(unknown_head(alloc, unknown.len(), count_cancelled(lines))?)?;
+    found.append(&mut lines_by_obstacle(alloc, unknown)?)?;
+    found.push(hint_line(alloc)?)?;
+    Ok(found)
 }
 
 /// Returns which lines aren't understood, or that every line is understood.
 fn played_lines(
     alloc: Global,
     unknown: &[UnknownLine],
-    fates: &[(u32, Fate)],
+    lines: &[CaseLine],
 ) -> Result<Vec<SafeLine>, NoMem>
-    ensures { IfOk result (λ lines. lines.items ≡ played_lines unknown.now fates.now) }
+    ensures { IfOk result (λ found. found.items ≡ played_lines unknown.now lines.now) }
 {
     if !unknown.is_empty() {
-        return lines_of_unknown(alloc, unknown, fates);
+        return lines_of_unknown(alloc, unknown, lines);
     }
-    let mut lines = Vec::new(alloc);
-    lines.push(understood_line(alloc)?)?;
-    Ok(lines)
+    let mut found = Vec::new(alloc);
+    found.push(understood_line(alloc)?)?;
+    Ok(found)
 }
 
 /// Returns which lines aren't understood if they were played, or which ones have to be run for real
@@ -263,13 +254,13 @@ pub(crate) fn unknown_lines(
     alloc: Global,
     source: Source<'_>,
     unknown: &[UnknownLine],
-    fates: &[(u32, Fate)],
+    lines: &[CaseLine],
 ) -> Result<Vec<SafeLine>, NoMem>
-    ensures { IfOk result (λ lines.
-        lines.items ≡ unknown_lines (source_view source.entry) unknown.now fates.now) }
+    ensures { IfOk result (λ found.
+        found.items ≡ unknown_lines (source_view source.entry) unknown.now lines.now) }
 {
     match source {
-        Source::Played => played_lines(alloc, unknown, fates),
+        Source::Played => played_lines(alloc, unknown, lines),
         Source::Seen(_) => seen_lines(alloc, unknown),
     }
 }

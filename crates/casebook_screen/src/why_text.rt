@@ -1,14 +1,9 @@
 //! Why lines are run again, as a terminal shows it.
-ghost use Rattle.std.specs.Prelude.{◌≡◌, ◌++◌, IfOk, IsTrue, OnOk, flat_map, map, option_map};
-ghost use Rattle.std.specs.List.{filter};
-ghost use Rattle.retro_keep.specs.Recording.{noted_at};
-ghost use Rattle.retro_keep.specs.Script.{rises_from};
-ghost use Rattle.casebook_view.specs.Fates.{session_in};
+ghost use Rattle.std.specs.Prelude.{◌≡◌, ◌++◌, IfOk, OnOk, flat_map, option_map};
 ghost use Rattle.casebook_view.specs.OtherAnswers.{answers_of};
-ghost use Rattle.casebook_view.specs.Reasons.{number_in};
 ghost use Rattle.casebook_screen.specs.Why.{causes_words, chain_words, earlier_words, failing_words};
 ghost use Rattle.casebook_screen.specs.Why.{reason_text, why_head, why_lines, why_title, why_words};
-ghost use Rattle.casebook_screen.specs.Why.{has_other_result, lines_of_why};
+ghost use Rattle.casebook_screen.specs.Why.{changed_why, lines_of_why};
 
 use crate::NoMem;
 use crate::layout::indented;
@@ -17,7 +12,7 @@ use crate::names::Names;
 use crate::row_text::INDENT;
 use casebook_summary::Summary;
 use casebook_text::SafeLine;
-use casebook_view::{Case, Fate, Reason, Why, answers_of, chain};
+use casebook_view::{Case, CaseLine, Fate, Reason, Why, answers_of};
 use casebook_words::{push_difference, push_query};
 use retro_keep::Recording;
 use std::alloc::Global;
@@ -70,13 +65,14 @@ fn push_chain(alloc: Global, line: &mut SafeLine, numbers: &[u32]) -> Result<(),
 fn push_failing(
     alloc: Global,
     line: &mut SafeLine,
-    explainer: Explainer<'_, '_>,
+    case: &Case<'_>,
+    number: u32,
     reason: &Reason,
 ) -> Result<(), NoMem>
     ensures { OnOk result (line.new ≡ line.old ++ failing_words (answers_of
-        explainer.entry.case.now.recording explainer.entry.case.now.repair reason.now)) }
+        case.now.recording case.now.repair number reason.now)) }
 {
-    match answers_of(alloc, explainer.case, reason)? {
+    match answers_of(alloc, case, number, reason)? {
         Some(found) => {
             push_query(alloc, line, found.ask)?;
             push_difference(alloc, line, found.recorded, &found.repaired)
@@ -90,15 +86,16 @@ fn push_failing(
 fn push_reason(
     alloc: Global,
     line: &mut SafeLine,
-    explainer: Explainer<'_, '_>,
+    case: &Case<'_>,
+    number: u32,
     reason: &Reason,
 ) -> Result<(), NoMem>
     ensures { OnOk result (line.new ≡ line.old ++ why_words reason.now.why (answers_of
-        explainer.entry.case.now.recording explainer.entry.case.now.repair reason.now)) }
+        case.now.recording case.now.repair number reason.now)) }
 {
     match reason.why {
         Why::Replaced => line.push_ascii("its text is replaced"),
-        Why::Query(_) => push_failing(alloc, line, explainer, reason),
+        Why::Query(_) => push_failing(alloc, line, case, number, reason),
         Why::RunAgain => line.push_ascii("run again with all others"),
     }
 }
@@ -108,27 +105,17 @@ fn push_reason(
 pub(crate) fn reason_line(
     alloc: Global,
     explainer: Explainer<'_, '_>,
+    number: u32,
     reason: &Reason,
 ) -> Result<SafeLine, NoMem>
-    ensures { IsTrue (rises_from 0 (map number_in explainer.entry.summary.now.reasons.items))
-        → IfOk result (λ line. line ≡ reason_text explainer.entry.case.now.recording
-        explainer.entry.case.now.repair explainer.entry.summary.now.reasons.items reason.now) }
+    ensures { IfOk result (λ line. line ≡ reason_text explainer.entry.case.now.recording
+        explainer.entry.case.now.repair explainer.entry.summary.now.lines number reason.now) }
 {
-    let causes = chain(alloc, explainer.summary.reasons.as_slice(), reason.number)?;
+    let causes = explainer.summary.lines.chain(alloc, number)?;
     let mut line = indented(alloc, INDENT)?;
-    push_reason(alloc, &mut line, explainer, reason)?;
+    push_reason(alloc, &mut line, explainer.case, number, reason)?;
     push_chain(alloc, &mut line, causes.as_slice())?;
     Ok(line)
-}
-
-/// Returns the session that ran a line, or 0 if there is no such line.
-fn session_of(recording: &Recording, number: u32) -> u32
-    ensures { result ≡ session_in (noted_at number recording.now.lines) }
-{
-    match recording.run_of(number) {
-        Some(noted) => noted.sid,
-        None => 0,
-    }
 }
 
 /// Returns the number, the session and the text of a line.
@@ -137,42 +124,52 @@ fn why_head(
     alloc: Global,
     recording: &Recording,
     names: Names<'_>,
-    number: u32,
+    line: &CaseLine,
 ) -> Result<SafeLine, NoMem>
-    ensures { IfOk result (λ line. line
-        ≡ why_head recording.now names.entry.labels.now names.entry.width number) }
+    ensures { IfOk result (λ head. head
+        ≡ why_head recording.now names.entry.labels.now names.entry.width line.now) }
 {
-    let mut line = line_head(alloc, names, number, session_of(recording, number))?;
-    push_text(alloc, &mut line, recording, number, TEXT_LIMIT)?;
-    Ok(line)
+    let mut head = line_head(alloc, names, line.number, line.session)?;
+    push_text(alloc, &mut head, recording, line.number, TEXT_LIMIT)?;
+    Ok(head)
 }
 
-/// Appends a line that is run again, and why.
+/// Appends a line, and why it is run again, if it is.
 fn push_why(
     alloc: Global,
     lines: &mut Vec<SafeLine>,
     explainer: Explainer<'_, '_>,
     names: Names<'_>,
-    reason: &Reason,
+    line: &CaseLine,
 ) -> Result<(), NoMem>
-    ensures { IsTrue (rises_from 0 (map number_in explainer.entry.summary.now.reasons.items))
-        → OnOk result (lines.new.items ≡ lines.old.items ++ lines_of_why
+    ensures { OnOk result (lines.new.items ≡ lines.old.items ++ lines_of_why
         explainer.entry.case.now.recording explainer.entry.case.now.repair
-        explainer.entry.summary.now.reasons.items names.entry.labels.now names.entry.width
-        reason.now) }
+        explainer.entry.summary.now.lines names.entry.labels.now names.entry.width
+        line.now line.now.reason) }
 {
-    let recording = explainer.case.recording();
-    lines.push(why_head(alloc, recording, names, reason.number)?)?;
-    lines.push(reason_line(alloc, explainer, reason)?)?;
+    if let Some(reason) = &line.reason {
+        lines.push(why_head(alloc, explainer.case.recording(), names, line)?)?;
+        lines.push(reason_line(alloc, explainer, line.number, reason)?)?;
+    }
     Ok(())
 }
 
-/// Returns whether a line has another result.
-fn has_other_result(summary: &Summary, reason: &Reason) -> bool
-    ensures { IsTrue (rises_from 0 (map (λ f. f.0) summary.now.fates.items))
-        → result ≡ has_other_result summary.now.fates.items reason.now }
+/// Appends a line, and why it is run again, if it is and has another result.
+fn push_changed(
+    alloc: Global,
+    lines: &mut Vec<SafeLine>,
+    explainer: Explainer<'_, '_>,
+    names: Names<'_>,
+    line: &CaseLine,
+) -> Result<(), NoMem>
+    ensures { OnOk result (lines.new.items ≡ lines.old.items ++ changed_why
+        explainer.entry.case.now.recording explainer.entry.case.now.repair
+        explainer.entry.summary.now.lines names.entry.labels.now names.entry.width line.now) }
 {
-    summary.fate_of(reason.number) == Some(Fate::Changed)
+    if line.fate != Fate::Changed {
+        return Ok(());
+    }
+    push_why(alloc, lines, explainer, names, line)
 }
 
 /// Appends each line that is run again with another result, and why.
@@ -182,19 +179,13 @@ fn push_whys(
     explainer: Explainer<'_, '_>,
     names: Names<'_>,
 ) -> Result<(), NoMem>
-    ensures { IsTrue (rises_from 0 (map (λ f. f.0) explainer.entry.summary.now.fates.items))
-        → IsTrue (rises_from 0 (map number_in explainer.entry.summary.now.reasons.items))
-        → OnOk result (lines.new.items
-        ≡ lines.old.items ++ flat_map (lines_of_why explainer.entry.case.now.recording
-        explainer.entry.case.now.repair explainer.entry.summary.now.reasons.items
-        names.entry.labels.now names.entry.width)
-        (filter (has_other_result explainer.entry.summary.now.fates.items)
-        explainer.entry.summary.now.reasons.items)) }
+    ensures { OnOk result (lines.new.items
+        ≡ lines.old.items ++ flat_map (changed_why explainer.entry.case.now.recording
+        explainer.entry.case.now.repair explainer.entry.summary.now.lines
+        names.entry.labels.now names.entry.width) explainer.entry.summary.now.lines) }
 {
-    for reason in &explainer.summary.reasons {
-        if has_other_result(explainer.summary, reason) {
-            push_why(alloc, lines, explainer, names, reason)?;
-        }
+    for line in explainer.summary.lines.as_slice() {
+        push_changed(alloc, lines, explainer, names, line)?;
     }
     Ok(())
 }
@@ -211,15 +202,14 @@ fn why_title(alloc: Global) -> Result<SafeLine, NoMem>
 /// Returns why lines are run again: an empty line, a title, and two lines for each line that has
 /// another result. The first has its number, its session and its text. The second has the first
 /// query that has another answer in the repaired run, both answers, and the chain of lines that it
-/// comes from. The contract says so if the summary's lines are in order, as they are of a repair.
+/// comes from.
 pub fn why_lines(
     alloc: Global,
     case: &Case<'_>,
     summary: &Summary,
     names: Names<'_>,
 ) -> Result<Vec<SafeLine>, NoMem>
-    ensures { IsTrue (rises_from 0 (map (λ f. f.0) summary.now.fates.items))
-        → IsTrue (rises_from 0 (map number_in summary.now.reasons.items)) → IfOk result (λ lines. lines.items
+    ensures { IfOk result (λ lines. lines.items
         ≡ why_lines case.now.recording case.now.repair summary.now
         names.entry.labels.now names.entry.width) }
 {

@@ -36,7 +36,7 @@ impl<'a> Shown<'a, '_> {
     /// Returns the summary as the text that a terminal shows, or as a document.
     fn summary_text(self, alloc: Global, is_document: bool) -> Result<String, NoMem> {
         if is_document {
-            return summary_json(alloc, self.case, self.summary, self.labels);
+            return summary_json(alloc, self.case.source(), self.summary, self.labels);
         }
         let lines = summary_lines(alloc, self.case, self.summary, self.names())?;
         text_of_lines(alloc, lines.as_slice())

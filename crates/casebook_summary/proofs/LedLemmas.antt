@@ -9,15 +9,14 @@ use Rattle.std.specs.Option.{option_map, unwrap_or}
 use Rattle.std.specs.Ordering.{nat_cmp}
 use Rattle.std.proofs.lemmas.Bool.{eqb-true, true≢false}
 use Rattle.std.proofs.lemmas.List.{append-nil}
-use Rattle.casebook_view.specs.Reasons.{reason_at}
-use Rattle.casebook_view.specs.declared.fate.Fate.{Fate}
+use Rattle.casebook_view.specs.declared.case_line.CaseLine.{CaseLine}
 use Rattle.casebook_view.specs.declared.reason.Reason.{Reason}
 use Rattle.casebook_summary.specs.Effects.{ends_at, is_led_to}
 use Rattle.casebook_summary.specs.inner.LedLines.{is_from, other_origin}
 
 -- a line was added at its origin
-module _ {V : Type 0} (items : V → List (ℕ × Fate)) where
-  pub grown : (old new : BTreeMap ℕ V) (o n : ℕ) (line : ℕ × Fate) (v : V)
+module _ {V : Type 0} (items : V → List CaseLine) where
+  pub grown : (old new : BTreeMap ℕ V) (o n : ℕ) (line : CaseLine) (v : V)
       → ((q : ℕ) → get nat_cmp new q ≡ cond (is_at (nat_cmp o) q) (Some v) (get nat_cmp old q))
       → items v ≡ unwrap_or (option_map items (get nat_cmp old o)) [] ++ line ∷ []
       → unwrap_or (option_map items (get nat_cmp new n)) []
@@ -54,10 +53,9 @@ from_reason m (Some reason) o n is = by_test (m == reason.origin) refl is
     by_test false e found =
         ap (λ k. k == n) (ap (λ k. unwrap_or k o) found) ∙ from_other m reason.origin n e
 
-pub led_one : (reasons : List Reason) (line : ℕ × Fate) (o n : ℕ) → Some o ≡ other_origin line.0 (reason_at line.0 reasons)
-    → filter (is_from o n) (line ∷ []) ≡ filter (is_led_to reasons n) (line ∷ [])
-led_one reasons line o n is =
-    ap (λ b. cond b (line ∷ []) []) (from_reason line.0 (reason_at line.0 reasons) o n is)
+pub led_one : (line : CaseLine) (o n : ℕ) → Some o ≡ other_origin line.number line.reason
+    → filter (is_from o n) (line ∷ []) ≡ filter (is_led_to n) (line ∷ [])
+led_one line o n is = ap (λ b. cond b (line ∷ []) []) (from_reason line.number line.reason o n is)
 
 -- no other line led to it
 nothing : (b : Bool) → false ≡ (b && false)
@@ -79,6 +77,6 @@ from_none m (Some reason) n is = by_test (m == reason.origin) refl is
         never (m == n) ∙ ap (λ b. not (m == n) && b) (ap (λ k. k == n) (eqb-true m reason.origin e))
     by_test false e found = cc
 
-pub led_none : (reasons : List Reason) (line : ℕ × Fate) (n : ℕ) → None ≡ other_origin line.0 (reason_at line.0 reasons)
-    → [] ≡ filter (is_led_to reasons n) (line ∷ [])
-led_none reasons line n is = ap (λ b. cond b (line ∷ []) []) (from_none line.0 (reason_at line.0 reasons) n is)
+pub led_none : (line : CaseLine) (n : ℕ) → None ≡ other_origin line.number line.reason
+    → [] ≡ filter (is_led_to n) (line ∷ [])
+led_none line n is = ap (λ b. cond b (line ∷ []) []) (from_none line.number line.reason n is)

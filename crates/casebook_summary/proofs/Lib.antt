@@ -2,5 +2,3 @@ pub mod GroupLemmas
 pub mod LedLemmas
 pub mod PathSets
 pub mod Restoring
-pub mod RisingLemmas
-pub mod Whole

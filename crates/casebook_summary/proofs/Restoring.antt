@@ -51,7 +51,7 @@ all_right r repair unknown written [] [] same are = tt
 all_right r repair unknown written [] (x ∷ xs) same are = absurd are
 all_right r repair unknown written (c ∷ cs) [] same are = absurd are
 all_right r repair unknown written (c ∷ cs) (x ∷ xs) same are = (
-  record { extent = are.0.extent; doubt = are.0.doubt ∙ same x.path },
+  record { extent = are.0.extent; doubt = are.0.doubt ∙ same x.path; writer = are.0.writer },
   all_right r repair unknown written cs xs same are.1,
 )
 

@@ -6,8 +6,9 @@ use Rattle.retro_tree.specs.Path.{PathValue}
 use Rattle.retro_keep.specs.Recording.{RecordingValue}
 use Rattle.casebook_view.specs.FirstOfEach.{first_of_each}
 use Rattle.casebook_view.specs.NotePaths.{path_written}
-use Rattle.casebook_view.specs.Reasons.{notes_at, reason_at}
+use Rattle.casebook_view.specs.Reasons.{notes_at}
 use Rattle.casebook_summary.specs.declared.effect.Effect.{Effect}
+use Rattle.casebook_view.specs.declared.case_line.CaseLine.{CaseLine}
 use Rattle.casebook_view.specs.declared.fate.Fate.{Fate}
 use Rattle.casebook_view.specs.declared.fate.Fate.TheVariants.{Cancelled, Changed, Alike, Kept, Untouched}
 use Rattle.casebook_view.specs.declared.reason.Reason.{Reason}
@@ -17,7 +18,7 @@ use Rattle.casebook_view.specs.declared.why.Why.TheVariants.{Replaced, Query, Ru
 -- what an effect says
 pub record EffectValue : Type 0 where
   pub number : ℕ
-  pub led : List (ℕ × Fate)
+  pub led : List CaseLine
   pub wrote : List PathValue
 
 abbrev pub effect_value : Effect → EffectValue
@@ -29,8 +30,8 @@ ends_at n None = false
 ends_at n (Some reason) = reason.origin == n
 
 -- whether a line is another one, and its chain of causes ends at the line with a number
-abbrev pub is_led_to : List Reason → ℕ → ℕ × Fate → Bool
-is_led_to reasons n line = not (line.0 == n) && ends_at n (reason_at line.0 reasons)
+abbrev pub is_led_to : ℕ → CaseLine → Bool
+is_led_to n line = not (line.number == n) && ends_at n line.reason
 
 abbrev pub is_replacing : Why → Bool
 is_replacing Replaced = true
@@ -51,17 +52,16 @@ is_origin_by Alike replaced = replaced
 is_origin_by Kept replaced = false
 is_origin_by Untouched replaced = false
 
-abbrev pub is_origin : List Reason → ℕ × Fate → Bool
-is_origin reasons line = is_origin_by line.1 (has_replaced (reason_at line.0 reasons))
+abbrev pub is_origin : CaseLine → Bool
+is_origin line = is_origin_by line.fate (has_replaced line.reason)
 
 -- the paths that the line with a number wrote
 abbrev pub paths_written : RecordingValue → ℕ → List PathValue
 paths_written r n = first_of_each path_eq (filter_map path_written (notes_at n r))
 
-abbrev pub effect_of : RecordingValue → List Reason → List (ℕ × Fate) → ℕ → EffectValue
-effect_of r reasons fates n = record { number = n; led = filter (is_led_to reasons n) fates; wrote = paths_written r n }
+abbrev pub effect_of : RecordingValue → List CaseLine → ℕ → EffectValue
+effect_of r lines n = record { number = n; led = filter (is_led_to n) lines; wrote = paths_written r n }
 
 -- the effects of the cancelled and replaced lines, in order
-abbrev pub effects_of : RecordingValue → List Reason → List (ℕ × Fate) → List EffectValue
-effects_of r reasons fates =
-    map (λ line. effect_of r reasons fates line.0) (filter (is_origin reasons) fates)
+abbrev pub effects_of : RecordingValue → List CaseLine → List EffectValue
+effects_of r lines = map (λ line. effect_of r lines line.number) (filter is_origin lines)

@@ -14,8 +14,10 @@ use Rattle.retro_redo.specs.Repair.{repaired_state}
 use Rattle.retro_redo.specs.declared.repair.Repair.{Repair}
 use Rattle.retro_tree.specs.Path.{PathValue}
 use Rattle.retro_tree.specs.Tree.{Tree}
+use Rattle.retro_tree.specs.declared.ask.Ask.TheVariants as asks
 use Rattle.retro_tree.specs.declared.entry.Entry.{Entry}
 use Rattle.retro_tree.specs.declared.entry.Entry.TheVariants as entries
+use Rattle.casebook_view.specs.Reasons.{IsCauseOf}
 use Rattle.casebook_summary.specs.Doubts.{is_doubtful}
 use Rattle.casebook_summary.specs.declared.restoration.Extent.{Extent}
 use Rattle.casebook_summary.specs.declared.restoration.Extent.TheVariants.{Directory, EmptyFile, Lines, NotKept}
@@ -88,12 +90,18 @@ restored_path x = x.path
 abbrev pub restored_change : Restoration → ChangedPath
 restored_change x = record { path = x.path; change = x.change }
 
--- What a restoration says of its path beside how that differs: how much of it, and whether a line
--- wrote to it that isn't understood.
+-- the last line with a number below this one that writes differently to a path, or None if there is
+-- none
+abbrev pub IsWriter : RecordingValue → Repair → PathValue → Option ℕ → Type 0
+IsWriter r repair path writer = IsCauseOf r repair 4294967295 (Some (asks.Bytes path)) writer
+
+-- What a restoration says of its path beside how that differs: how much of it, whether a line wrote
+-- to it that isn't understood, and which line wrote it last otherwise.
 pub record IsRestoration (r : RecordingValue) (repair : Repair) (unknown : List UnknownLine) (x : Restoration)
     : Type 0 where
   pub extent : IsExtent (tree_before r) (tree_after repair) x.path x.extent
   pub doubt : x.is_doubtful ≡ is_doubtful r repair.recording unknown x.path
+  pub writer : IsWriter r repair x.path x.writer
 
 abbrev pub AreEach : RecordingValue → Repair → List UnknownLine → List Restoration → Type 0
 AreEach r repair unknown [] = Unit {0}

@@ -4,19 +4,18 @@ use Rattle.retro_tree.specs.declared.ask.Ask.{Ask}
 use Rattle.retro_tree.specs.declared.note.Note.{Note}
 use Rattle.retro_keep.specs.Recording.{RecordingValue, noted_at}
 use Rattle.retro_redo.specs.Moments.{CompensationValue}
+use Rattle.casebook_view.specs.CaseLines.{reason_at}
 use Rattle.casebook_view.specs.Fates.{session_in}
-use Rattle.casebook_view.specs.Reasons.{notes_at, query_at, reason_at}
+use Rattle.casebook_view.specs.Reasons.{notes_at, query_at}
 use Rattle.casebook_summary.specs.Subjects.{subject_of}
 use Rattle.casebook_summary.specs.declared.leak.Leak.{Leak}
 use Rattle.casebook_summary.specs.declared.notice.Notice.{Notice}
+use Rattle.casebook_view.specs.declared.case_line.CaseLine.{CaseLine}
 use Rattle.casebook_view.specs.declared.reason.Reason.{Reason}
 use Rattle.casebook_summary.specs.declared.subject.Subject.{Subject}
 use Rattle.casebook_summary.specs.declared.subject.Subject.TheVariants.{Text, Again}
 use Rattle.casebook_view.specs.declared.why.Why.{Why}
 use Rattle.casebook_view.specs.declared.why.Why.TheVariants.{Replaced, Query, RunAgain}
-
-abbrev pub number_of : CompensationValue → ℕ
-number_of compensation = compensation.number
 
 -- what a compensation of a cancelled line says of it
 abbrev pub leak_for : RecordingValue → CompensationValue → Leak
@@ -47,21 +46,21 @@ abbrev pub subject_by : List Note → Option Reason → Subject
 subject_by notes None = Again
 subject_by notes (Some reason) = subject_why notes reason.why
 
-abbrev pub line_subject : RecordingValue → List Reason → ℕ → Subject
-line_subject r reasons n = subject_by (notes_at n r) (reason_at n reasons)
+abbrev pub line_subject : RecordingValue → List CaseLine → ℕ → Subject
+line_subject r lines n = subject_by (notes_at n r) (reason_at n lines)
 
 -- what a line with a number is told about
-abbrev pub notice_at : RecordingValue → List Reason → ℕ → Notice
-notice_at r reasons n = record {
+abbrev pub notice_at : RecordingValue → List CaseLine → ℕ → Notice
+notice_at r lines n = record {
   number = n;
   session = session_in (noted_at n r.lines);
-  subject = line_subject r reasons n;
+  subject = line_subject r lines n;
 }
 
 -- what a compensation of a line that isn't cancelled says of it
-abbrev pub notice_for : RecordingValue → List Reason → CompensationValue → Notice
-notice_for r reasons c = notice_at r reasons c.number
+abbrev pub notice_for : RecordingValue → List CaseLine → CompensationValue → Notice
+notice_for r lines c = notice_at r lines c.number
 
 -- what the lines with these numbers are told about
-abbrev pub notices_at : RecordingValue → List Reason → List ℕ → List Notice
-notices_at r reasons numbers = map (notice_at r reasons) numbers
+abbrev pub notices_at : RecordingValue → List CaseLine → List ℕ → List Notice
+notices_at r lines numbers = map (notice_at r lines) numbers

@@ -1,18 +1,15 @@
 //! What cancelled and replaced lines led to.
-ghost use Rattle.std.specs.Prelude.{◌≡◌, ℕ, List, IfOk, IsTrue, map};
+ghost use Rattle.std.specs.Prelude.{◌≡◌, ℕ, List, IfOk, map};
 ghost use Rattle.std.specs.List.{filter};
-ghost use Rattle.retro_keep.specs.Script.{rises_from};
 ghost use Rattle.casebook_summary.specs.Counts.{count_of};
 ghost use Rattle.casebook_summary.specs.Effects.{effect_of, effect_value, effects_of, has_replaced};
 ghost use Rattle.casebook_summary.specs.Effects.{is_led_to, is_origin, paths_written};
-ghost use Rattle.casebook_view.specs.Reasons.{number_in, reason_at};
-ghost use Rattle.casebook_view.specs.declared.fate.Fate.{Fate as FateValue};
-ghost use Rattle.casebook_view.specs.declared.reason.Reason.{Reason as ReasonValue};
+ghost use Rattle.casebook_view.specs.declared.case_line.CaseLine.{CaseLine as LineValue};
 ghost use Rattle.casebook_summary.specs.inner.LedLines.{led_at};
 
 use crate::NoMem;
 use crate::led_lines::LedLines;
-use casebook_view::{Case, Fate, Reason, Why, reason_of, written_paths};
+use casebook_view::{Case, CaseLine, Fate, Reason, Why, written_paths};
 use retro_tree::Path;
 use std::alloc::Global;
 
@@ -21,9 +18,9 @@ use std::alloc::Global;
 pub struct Effect {
     /// The line's number.
     pub number: u32,
-    /// The other lines that are run again because of it, in order, each with what becomes of it.
-    /// Each line is with the one at the end of its chain of causes.
-    pub led: Vec<(u32, Fate)>,
+    /// The other lines that are run again because of it, in order. Each line is with the one at the
+    /// end of its chain of causes.
+    pub led: Vec<CaseLine>,
     /// The paths that it wrote, each once, in the order in which they first occur.
     pub wrote: Vec<Path>,
 }
@@ -33,29 +30,27 @@ impl Effect {
     pub fn count(&self, fate: Fate) -> usize
         ensures { result ≡ count_of self.now.led.items fate }
     {
-        self.led.iter().filter(|line| line.1 == fate).count()
+        self.led.iter().filter(|line| line.fate == fate).count()
     }
 }
 
-/// Returns whether a line is run again since an edit replaces its text.
-fn has_replaced(reasons: &[Reason], number: u32) -> bool
-    ensures { IsTrue (rises_from 0 (map number_in reasons.now))
-        → result ≡ has_replaced (reason_at number reasons.now) }
+/// Returns whether a reason is that an edit replaces the line's text.
+fn has_replaced(reason: Option<Reason>) -> bool
+    ensures { result ≡ has_replaced reason }
 {
-    match reason_of(reasons, number) {
+    match reason {
         Some(reason) => matches!(reason.why, Why::Replaced),
         None => false,
     }
 }
 
 /// Returns whether a line is cancelled, or run again since an edit replaces its text.
-fn is_origin(reasons: &[Reason], line: &(u32, Fate)) -> bool
-    ensures { IsTrue (rises_from 0 (map number_in reasons.now))
-        → result ≡ is_origin reasons.now line.now }
+fn is_origin(line: &CaseLine) -> bool
+    ensures { result ≡ is_origin line.now }
 {
-    match line.1 {
+    match line.fate {
         Fate::Cancelled => true,
-        Fate::Changed | Fate::Alike => has_replaced(reasons, line.0),
+        Fate::Changed | Fate::Alike => has_replaced(line.reason),
         Fate::Kept | Fate::Untouched => false,
     }
 }
@@ -71,33 +66,27 @@ fn wrote(alloc: Global, case: &Case<'_>, number: u32) -> Result<Vec<Path>, NoMem
     }
 }
 
-/// Returns what a line led to. The contract says this of all reasons and fates whose lines these are.
-fn effect_of(alloc: Global, case: &Case<'_>, lines: &LedLines, number: u32) -> Result<Effect, NoMem>
-    ensures { (reasons : List ReasonValue) (fates : List (ℕ × FateValue))
-        → ((n : ℕ) → led_at lines.now n ≡ filter (is_led_to reasons n) fates) → IfOk result (λ effect.
-        effect_value effect ≡ effect_of case.now.recording reasons fates number) }
+/// Returns what a line led to. The contract says this of all lines whose led ones these are.
+fn effect_of(alloc: Global, case: &Case<'_>, led: &LedLines, number: u32) -> Result<Effect, NoMem>
+    ensures { (lines : List LineValue)
+        → ((n : ℕ) → led_at led.now n ≡ filter (is_led_to n) lines) → IfOk result (λ effect.
+        effect_value effect ≡ effect_of case.now.recording lines number) }
 {
-    let led = lines.at(alloc, number)?;
+    let led = led.at(alloc, number)?;
     let wrote = wrote(alloc, case, number)?;
     Ok(Effect { number, led, wrote })
 }
 
 /// Returns what each cancelled or replaced line led to, in order.
-pub fn effects(
-    alloc: Global,
-    case: &Case<'_>,
-    reasons: &[Reason],
-    fates: &[(u32, Fate)],
-) -> Result<Vec<Effect>, NoMem>
-    ensures { IsTrue (rises_from 0 (map number_in reasons.now)) → IfOk result (λ found.
-        map effect_value found.items
-        ≡ effects_of case.now.recording reasons.now fates.now) }
+pub fn effects(alloc: Global, case: &Case<'_>, lines: &[CaseLine]) -> Result<Vec<Effect>, NoMem>
+    ensures { IfOk result (λ found.
+        map effect_value found.items ≡ effects_of case.now.recording lines.now) }
 {
-    let led = LedLines::of(alloc, reasons, fates)?;
+    let led = LedLines::of(alloc, lines)?;
     let mut found = Vec::new(alloc);
-    for line in fates {
-        if is_origin(reasons, line) {
-            found.push(effect_of(alloc, case, &led, line.0)?)?;
+    for line in lines {
+        if is_origin(line) {
+            found.push(effect_of(alloc, case, &led, line.number)?)?;
         }
     }
     Ok(found)

@@ -1,18 +1,17 @@
 //! Whom to tell, and about what.
-ghost use Rattle.std.specs.Prelude.{◌≡◌, IfOk, IsTrue, map};
+ghost use Rattle.std.specs.Prelude.{◌≡◌, IfOk, map};
 ghost use Rattle.std.specs.List.{filter};
-ghost use Rattle.retro_keep.specs.Script.{rises_from};
 ghost use Rattle.casebook_cause.specs.Compensations.{tellings};
 ghost use Rattle.std.specs.Option.{option_copied};
-ghost use Rattle.casebook_view.specs.Reasons.{notes_at, number_in};
-ghost use Rattle.casebook_summary.specs.Summaries.{line_subject, line_told, notice_at, notice_for};
-ghost use Rattle.casebook_summary.specs.Summaries.{notices_at, number_of, subject_asked, subject_why};
+ghost use Rattle.casebook_view.specs.Reasons.{notes_at};
+ghost use Rattle.casebook_summary.specs.Summaries.{line_subject, notice_at, notice_for};
+ghost use Rattle.casebook_summary.specs.Summaries.{notices_at, subject_asked, subject_by, subject_why};
 ghost use Rattle.casebook_view.specs.Unknown.{is_need, is_understood, numbers_to_run};
 
 use crate::NoMem;
 use crate::subject::Subject;
 use casebook_cause::tellings;
-use casebook_view::{Case, Obstacle, Obstacles, Reason, UnknownLine, Why, failing_ask, reason_of};
+use casebook_view::{Case, CaseLines, Obstacle, Obstacles, Reason, UnknownLine, Why, failing_ask};
 use retro_tree::Ask;
 use std::alloc::Global;
 
@@ -50,18 +49,34 @@ fn subject_why(alloc: Global, case: &Case<'_>, number: u32, why: Why) -> Result<
     }
 }
 
-/// Returns what a line is told about.
+/// Returns what a line is told about, by why it is run again, if it is.
+fn subject_by(
+    alloc: Global,
+    case: &Case<'_>,
+    number: u32,
+    reason: Option<Reason>,
+) -> Result<Subject, NoMem>
+    ensures { IfOk result (λ subject.
+        subject ≡ subject_by (notes_at number case.now.recording) reason) }
+{
+    match reason {
+        Some(reason) => subject_why(alloc, case, number, reason.why),
+        None => Ok(Subject::Again),
+    }
+}
+
+/// Returns what the line with a number is told about.
 fn subject_of(
     alloc: Global,
     case: &Case<'_>,
-    reasons: &[Reason],
+    lines: &CaseLines,
     number: u32,
 ) -> Result<Subject, NoMem>
-    ensures { IsTrue (rises_from 0 (map number_in reasons.now)) → IfOk result (λ subject.
-        subject ≡ line_subject case.now.recording reasons.now number) }
+    ensures { IfOk result (λ subject.
+        subject ≡ line_subject case.now.recording lines.now number) }
 {
-    match reason_of(reasons, number) {
-        Some(reason) => subject_why(alloc, case, number, reason.why),
+    match lines.at(number) {
+        Some(line) => subject_by(alloc, case, number, line.reason),
         None => Ok(Subject::Again),
     }
 }
@@ -70,17 +85,16 @@ fn subject_of(
 fn notice_of(
     alloc: Global,
     case: &Case<'_>,
-    reasons: &[Reason],
+    lines: &CaseLines,
     number: u32,
 ) -> Result<Notice, NoMem>
-    ensures line { IfOk result (λ notice. notice.number ≡ number) }
-    ensures value { IsTrue (rises_from 0 (map number_in reasons.now)) → IfOk result (λ notice.
-        notice ≡ notice_at case.now.recording reasons.now number) }
+    ensures { IfOk result (λ notice.
+        notice ≡ notice_at case.now.recording lines.now number) }
 {
     Ok(Notice {
         number,
         session: case.session_of(number),
-        subject: subject_of(alloc, case, reasons, number)?,
+        subject: subject_of(alloc, case, lines, number)?,
     })
 }
 
@@ -90,13 +104,11 @@ fn notice_of(
 pub fn notices(
     alloc: Global,
     case: &Case<'_>,
-    reasons: &[Reason],
+    lines: &CaseLines,
     unknown: &[UnknownLine],
 ) -> Result<Vec<Notice>, NoMem>
-    ensures lines { IfOk result (λ found. map line_told found.items
-        ≡ map number_of (filter (is_understood unknown.now) (tellings case.now.recording case.now.repair))) }
-    ensures values { IsTrue (rises_from 0 (map number_in reasons.now)) → IfOk result (λ found.
-        found.items ≡ map (notice_for case.now.recording reasons.now)
+    ensures { IfOk result (λ found.
+        found.items ≡ map (notice_for case.now.recording lines.now)
         (filter (is_understood unknown.now) (tellings case.now.recording case.now.repair))) }
 {
     let compensations = tellings(alloc, case.recording(), case.repair())?;
@@ -104,7 +116,7 @@ pub fn notices(
     let mut found = Vec::new(alloc);
     for compensation in &compensations {
         if obstacles.has_none(compensation.number) {
-            found.push(notice_of(alloc, case, reasons, compensation.number)?)?;
+            found.push(notice_of(alloc, case, lines, compensation.number)?)?;
         }
     }
     Ok(found)
@@ -122,18 +134,16 @@ pub(crate) fn is_need(obstacle: Obstacle) -> bool
 pub fn looks(
     alloc: Global,
     case: &Case<'_>,
-    reasons: &[Reason],
+    lines: &CaseLines,
     unknown: &[UnknownLine],
 ) -> Result<Vec<Notice>, NoMem>
-    ensures lines { IfOk result (λ found.
-        map line_told found.items ≡ numbers_to_run unknown.now) }
-    ensures values { IsTrue (rises_from 0 (map number_in reasons.now)) → IfOk result (λ found.
-        found.items ≡ notices_at case.now.recording reasons.now (numbers_to_run unknown.now)) }
+    ensures { IfOk result (λ found.
+        found.items ≡ notices_at case.now.recording lines.now (numbers_to_run unknown.now)) }
 {
     let mut found = Vec::new(alloc);
     for line in unknown {
         if is_need(line.obstacle) {
-            found.push(notice_of(alloc, case, reasons, line.number)?)?;
+            found.push(notice_of(alloc, case, lines, line.number)?)?;
         }
     }
     Ok(found)

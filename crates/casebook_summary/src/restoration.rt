@@ -2,7 +2,7 @@
 ghost use Rattle.std.specs.Prelude.{◌≡◌, IfOk};
 ghost use Rattle.std.specs.Option.{option_copied};
 ghost use Rattle.casebook_words.specs.FileLines.{lines_at};
-ghost use Rattle.casebook_summary.specs.Restorations.{AreCounts, AreRestorations, IsExtent};
+ghost use Rattle.casebook_summary.specs.Restorations.{AreCounts, AreRestorations, IsExtent, IsWriter};
 ghost use Rattle.casebook_summary.specs.Restorations.{is_unkept, kept_kind, kind_of, lone_file};
 ghost use Rattle.casebook_summary.specs.inner.Found.{AreFound, IsFound};
 
@@ -13,7 +13,7 @@ use casebook_changes::{ChangedPath, PathChange, changed_paths};
 use casebook_opaque::is_opaque;
 use casebook_view::{Case, UnknownLine};
 use casebook_words::{FileLines, count_added, count_removed};
-use retro_tree::{Bytes, Entry, Path, Tree};
+use retro_tree::{Ask, Bytes, Entry, Path, Tree};
 use std::alloc::Global;
 
 /// How many lines are in one of two texts alone.
@@ -54,6 +54,8 @@ pub struct Restoration {
     /// Whether a line wrote to the path that isn't understood or has to be run for real, as it was
     /// recorded or in the repaired recording.
     pub is_doubtful: bool,
+    /// The last line that writes differently to the path in the repaired recording, if there is one.
+    pub writer: Option<u32>,
 }
 
 /// Returns how many lines at a path are in one of two trees alone.
@@ -128,6 +130,14 @@ fn extent_of(alloc: Global, before: &Tree, after: &Tree, path: &Path) -> Result<
     }
 }
 
+/// Returns the last line that writes differently to a path in the repaired recording.
+fn writer_of(alloc: Global, case: &Case<'_>, path: &Path) -> Result<Option<u32>, NoMem>
+    ensures { IfOk result (IsWriter case.now.recording case.now.repair path.now) }
+{
+    let ask = Ask::Bytes(path.copy()?);
+    case.cause_of(alloc, u32::MAX, &ask)
+}
+
 /// Returns what is to be restored at a path.
 fn restoration_of(
     alloc: Global,
@@ -145,6 +155,7 @@ fn restoration_of(
         change: changed.change,
         extent: extent_of(alloc, before, after, &changed.path)?,
         is_doubtful: written.contains(&changed.path),
+        writer: writer_of(alloc, case, &changed.path)?,
     })
 }
 

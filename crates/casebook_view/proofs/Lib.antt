@@ -2,6 +2,7 @@ pub mod Answering
 pub mod FateLemmas
 pub mod Failing
 pub mod Finding
+pub mod LineLemmas
 pub mod FirstLemmas
 pub mod PathLemmas
 pub mod Reasoning

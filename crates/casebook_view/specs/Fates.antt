@@ -1,6 +1,5 @@
 -- What a repair does with lines.
-use Rattle.std.specs.Prelude.{◌≡◌, ℕ, Bool, true, false, List, [], ◌∷◌, Option, Some, None}
-use Rattle.std.specs.Prelude.{option_map}
+use Rattle.std.specs.Prelude.{◌≡◌, ℕ, Bool, true, false, Option, Some, None}
 use Rattle.retro_keep.specs.Recording.{RecordingValue, noted_at}
 use Rattle.retro_keep.specs.declared.noted.Noted.{Noted}
 use Rattle.retro_redo.specs.declared.repair.Repair.{Repair}
@@ -8,7 +7,6 @@ use Rattle.retro_redo.specs.declared.verdict.SettledLine.{SettledLine}
 use Rattle.retro_redo.specs.declared.verdict.Verdict.{Verdict}
 use Rattle.retro_redo.specs.declared.verdict.Verdict.TheVariants as verdicts
 use Rattle.casebook_cause.specs.LineResult.{HasSameResult}
-use Rattle.casebook_view.specs.ByNumber.{with_number}
 use Rattle.casebook_view.specs.declared.fate.Fate.{Fate}
 use Rattle.casebook_view.specs.declared.fate.Fate.TheVariants as fates
 
@@ -38,14 +36,6 @@ IsFateBy r repair l verdicts.Redone fate =
 abbrev pub IsFate : RecordingValue → Repair → SettledLine → Fate → Type 0
 IsFate r repair l fate = IsFateBy r repair l l.verdict fate
 
--- the fates of some lines, in order
-abbrev pub AreFates : RecordingValue → Repair → List SettledLine → List (ℕ × Fate) → Type 0
-AreFates r repair [] [] = Unit {0}
-AreFates r repair [] (f ∷ fs) = ⊥
-AreFates r repair (l ∷ lines) [] = ⊥
-AreFates r repair (l ∷ lines) (f ∷ fs) =
-    (f.0 ≡ l.number) × IsFate r repair l f.1 × AreFates r repair lines fs
-
 abbrev pub fate_eq : Fate → Fate → Bool
 fate_eq fates.Cancelled fates.Cancelled = true
 fate_eq fates.Changed fates.Changed = true
@@ -53,10 +43,6 @@ fate_eq fates.Alike fates.Alike = true
 fate_eq fates.Kept fates.Kept = true
 fate_eq fates.Untouched fates.Untouched = true
 fate_eq _ _ = false
-
--- the fate that a list gives the line with a number, or None if it gives none
-abbrev pub fate_at : ℕ → List (ℕ × Fate) → Option Fate
-fate_at n fates = option_map (λ f. f.1) (with_number (λ f. f.0) n fates)
 
 -- the session that ran a line, or 0 if there is no line
 abbrev pub session_in : Option Noted → ℕ

@@ -7,6 +7,8 @@ pub mod Unknown
 pub mod Obstacles
 pub mod Rows
 pub mod Fates
+pub mod CaseLines
 pub mod Reasons
+pub mod Lines
 pub mod OtherAnswers
 pub mod inner

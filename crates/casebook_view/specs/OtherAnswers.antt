@@ -45,9 +45,8 @@ abbrev pub answers_at : Option ℕ → List Note → State → Option AnswersVal
 answers_at None notes s = None
 answers_at (Some i) notes s = answers_in i notes s
 
--- the query that fails by a reason, with its noted answer and its answer in the repaired state
+-- the query of the line with a number that fails by a reason, with its noted answer and its answer in the repaired state
 -- before the line, after the changes that the line made before the query
-abbrev pub answers_of : RecordingValue → Repair → Reason → Option AnswersValue
-answers_of r repair reason =
-    answers_at (failing_by reason.why) (notes_at reason.number r)
-    (recorded_before reason.number repair.recording)
+abbrev pub answers_of : RecordingValue → Repair → ℕ → Reason → Option AnswersValue
+answers_of r repair n reason =
+    answers_at (failing_by reason.why) (notes_at n r) (recorded_before n repair.recording)

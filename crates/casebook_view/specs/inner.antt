@@ -3,4 +3,4 @@ pub mod Cases
 pub mod Names
 pub mod NewTexts
 pub mod Obstacles
-pub mod Redone
+pub mod Numbers

@@ -1,14 +1,12 @@
 //! What a repair does with lines.
-ghost use Rattle.std.specs.Prelude.{IfOk, Some};
+ghost use Rattle.std.specs.Prelude.{Some};
 ghost use Rattle.retro_keep.specs.Recording.{noted_at};
-ghost use Rattle.casebook_view.specs.Fates.{AreFates, IsFate, IsFateOfRuns, IsRedoneFate};
+ghost use Rattle.casebook_view.specs.Fates.{IsFate, IsFateOfRuns, IsRedoneFate};
 
-use crate::NoMem;
 use crate::case::Case;
 use casebook_cause::has_another_result;
 use retro_keep::Noted;
 use retro_redo::{SettledLine, Verdict};
-use std::alloc::Global;
 
 /// What a repair does with a line.
 #[derive(Clone, Copy, Debug, PartialEq, Eq)]
@@ -59,7 +57,7 @@ fn fate_of_redone(case: &Case<'_>, number: u32) -> Fate
 }
 
 /// Returns what becomes of a line, by what the repair did with it.
-fn fate_of(case: &Case<'_>, line: &SettledLine) -> Fate
+pub(crate) fn fate_of(case: &Case<'_>, line: &SettledLine) -> Fate
     ensures { IsFate case.now.recording case.now.repair line.now result }
 {
     match line.verdict {
@@ -73,16 +71,4 @@ fn fate_of(case: &Case<'_>, line: &SettledLine) -> Fate
             }
         }
     }
-}
-
-/// Returns what becomes of each line, in order.
-pub fn fates(alloc: Global, case: &Case<'_>) -> Result<Vec<(u32, Fate)>, NoMem>
-    ensures { IfOk result (λ fates. AreFates case.now.recording case.now.repair
-        case.now.repair.lines.items fates.items) }
-{
-    let mut fates = Vec::new(alloc);
-    for line in &case.repair().lines {
-        fates.push((line.number, fate_of(case, line)))?;
-    }
-    Ok(fates)
 }

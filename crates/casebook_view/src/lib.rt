@@ -8,9 +8,9 @@
 //! Retro's shell does with their texts; each other one did there what it does in Retro's shell. No
 //! recorded text is tested of such lines.
 //!
-//! A [`Case`] is a recording with its repair. [`fates`] says what becomes of each line, and
-//! [`reasons`] why each line is run again that is: [`Why`] tells three reasons apart.
-//! [`answers_of`] returns both answers to a query that is the reason.
+//! A [`Case`] is a recording with its repair. [`CaseLines`] has its lines in order of their numbers,
+//! and says of each what becomes of it, and why it is run again if it is: [`Why`] tells three reasons
+//! apart. [`answers_of`] returns both answers to a query that is the reason.
 //!
 //! [`unknown_in`] names the lines of which Retro's shell knows nothing, with why they aren't
 //! understood. Of lines that a recorder saw, an observed one counts among them only if a repair
@@ -21,7 +21,7 @@
 //!
 //! If allocation fails, calls return `NoMem`.
 //!
-//! Start reading at `case.rt`, then `fate.rt` and `reason.rt`.
+//! Start reading at `case.rt`, then `case_lines.rt`, `fate.rt` and `reason.rt`.
 //!
 //! # What is proved
 //!
@@ -34,18 +34,20 @@
 //!   them in contracts, and its type keeps that its differences and its history are theirs.
 //!   `Case::cause_of` returns the last line before another one that changes differently what a
 //!   query asks about, or says that there is none [by `IsCauseOf`].
-//! - `fates` returns one fate for each line, in order [by `AreFates`]: a line that is run again
-//!   has another result exactly if its outputs or its changes differ.
-//! - `reasons` returns one reason for each line that is run again, in order [by `AreReasons`]. It
-//!   is that an edit replaces the line's text, exactly if one does. Else it names the first
+//! - The numbers of `CaseLines` rise: its type keeps that, so `CaseLines::at` finds the line with a
+//!   number, or says that there is none.
+//! - `CaseLines::of` says of each line of a recording what a repair does with it, if the repair has a
+//!   verdict on each of them, in order, as each repair has [by `AreLines` of `specs/Lines.antt`]. A
+//!   line that is run again has another result exactly if its outputs or its changes differ. Its
+//!   reason is that an edit replaces the line's text, exactly if one does. Else it names the first
 //!   recorded note that doesn't hold in the repaired state before the line, and the last earlier
 //!   line that changes differently what that note asks about, or says that there is none. If all
-//!   notes hold, it is that the line is run again with all others. A line without a cause is its
-//!   own origin. If the numbers of the lines rise, another line's origin is that of its cause, or
-//!   the cause itself if that isn't run again.
+//!   notes hold, it is that the line is run again with all others. A line without a cause is its own
+//!   origin; another line's origin is that of its cause, or the cause itself if that isn't run again.
+//!   A line has an obstacle exactly if it is among the ones that it is told of.
+//! - `CaseLines::chain` follows causes, as many times as there are lines at most.
 //! - `answers_of` returns the query of a reason with the noted answer and with the answer in the
 //!   repaired state before the line, after the changes that the line made before the query.
-//! - `chain` follows causes, as many times as there are reasons at most.
 //! - `unknown_in` returns the lines that aren't understood, and the replaced ones whose new text
 //!   isn't, in order of numbers [by `specs/Unknown.antt`]. Of lines that a recorder saw, the former
 //!   are exactly those that stand as they were observed and that the repair ran again with their
@@ -53,6 +55,8 @@
 #![tactic(auto)]
 
 mod case;
+mod case_line;
+mod case_lines;
 mod case_obstacles;
 mod fate;
 mod filters;
@@ -61,31 +65,33 @@ mod line_rows;
 mod line_test;
 mod new_texts;
 mod note_paths;
+mod numbers;
 mod observed;
 mod obstacles;
 mod other_answer;
 mod path_test;
 mod path_write;
 mod reason;
-mod redone;
 mod source;
 mod to_run;
 mod unknown;
 mod why;
 
 pub use case::Case;
+pub use case_line::CaseLine;
+pub use case_lines::CaseLines;
 pub use casebook_profile::{Obstacle, UnknownLine};
-pub use fate::{Fate, fates};
+pub use fate::Fate;
 pub use filters::Filters;
 pub use line_row::LineRow;
 pub use line_rows::rows;
 pub use line_test::LineTest;
-pub use note_paths::{written_path, written_paths};
+pub use note_paths::{read_paths, writes_of, written_path, written_paths};
 pub use obstacles::Obstacles;
 pub use other_answer::{OtherAnswer, answers_of};
 pub use path_test::PathTest;
 pub use path_write::{PathWrite, WriteKind};
-pub use reason::{Reason, chain, failing_ask, reason_of, reasons};
+pub use reason::{Reason, failing_ask};
 pub use source::{Seen, Source};
 pub use unknown::unknown_in;
 pub use why::Why;

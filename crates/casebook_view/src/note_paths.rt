@@ -161,11 +161,7 @@ fn add_written(paths: &mut Vec<Path>, note: &Note) -> Result<(), NoMem>
 /// Returns the paths that notes show to have been read, each once, in the order in which they first
 /// occur. The notes of an observed line say where it may have looked, so they show only paths at
 /// which something was. Takes time in proportion to the number of notes times the number of paths.
-pub(crate) fn read_paths(
-    alloc: Global,
-    notes: &[Note],
-    is_observed: bool,
-) -> Result<Vec<Path>, NoMem>
+pub fn read_paths(alloc: Global, notes: &[Note], is_observed: bool) -> Result<Vec<Path>, NoMem>
     ensures { IfOk result (λ paths.
         paths.items ≡ first_of_each path_eq (filter_map (read_path is_observed) notes.now)) }
 {
@@ -178,7 +174,7 @@ pub(crate) fn read_paths(
 
 /// Returns the writes of notes to paths, each kind of write to a path once, in the order in which
 /// they first occur. Takes time in proportion to the number of notes times the number of writes.
-pub(crate) fn writes_of(alloc: Global, notes: &[Note]) -> Result<Vec<PathWrite>, NoMem>
+pub fn writes_of(alloc: Global, notes: &[Note]) -> Result<Vec<PathWrite>, NoMem>
     ensures { IfOk result (λ writes.
         writes.items ≡ first_of_each write_eq (filter_map write_in notes.now)) }
 {

@@ -94,23 +94,25 @@ fn answers_in<'a>(
     }
 }
 
-/// Returns the query that fails by a reason with both its answers, or `None` if no query fails.
+/// Returns the query of a line that fails by a reason with both its answers, or `None` if no query
+/// fails.
 pub fn answers_of<'a>(
     alloc: Global,
     case: &Case<'a>,
+    number: u32,
     reason: &Reason,
 ) -> Result<Option<OtherAnswer<'a>>, NoMem>
     ensures { IfOk result (λ found. option_map answers_value found
-        ≡ answers_of case.now.recording case.now.repair reason.now) }
+        ≡ answers_of case.now.recording case.now.repair number reason.now) }
 {
     let Some(index) = reason.why.failing() else {
         return Ok(None);
     };
-    match case.recorded(reason.number) {
+    match case.recorded(number) {
         Some(noted) => answers_in(
             alloc,
             noted.notes.as_slice(),
-            &case.repaired_before(reason.number),
+            &case.repaired_before(number),
             index,
         ),
         None => Ok(None),

@@ -31,18 +31,21 @@ fn other_text(alloc: Global, found: &OtherAnswer<'_>) -> Result<String, Fail> {
 }
 
 /// Returns the reason of a line, if it is run again.
-fn reason_of(summary: &Summary, number: u32) -> Option<&Reason> {
-    for reason in &summary.reasons {
-        if reason.number == number {
-            return Some(reason);
-        }
+fn reason_of(summary: &Summary, number: u32) -> Option<Reason> {
+    match summary.lines.at(number) {
+        Some(line) => line.reason,
+        None => None,
     }
-    None
 }
 
 /// Returns the query by a reason with its answers, or `none` if no query is the reason.
-fn answers_by(alloc: Global, case: &Case<'_>, reason: &Reason) -> Result<String, Fail> {
-    match answers_of(alloc, case, reason)? {
+fn answers_by(
+    alloc: Global,
+    case: &Case<'_>,
+    number: u32,
+    reason: &Reason,
+) -> Result<String, Fail> {
+    match answers_of(alloc, case, number, reason)? {
         Some(found) => other_text(alloc, &found),
         None => Ok(text(alloc, "none")?),
     }
@@ -56,7 +59,7 @@ pub fn answers(
     number: u32,
 ) -> Result<String, Fail> {
     match reason_of(summary, number) {
-        Some(reason) => answers_by(alloc, case, reason),
+        Some(reason) => answers_by(alloc, case, number, &reason),
         None => fail("the line isn't run again"),
     }
 }

@@ -1,7 +1,7 @@
 //! The parts of a summary as texts.
 use crate::words::{change_sign, fate_sign, obstacle_word, push_item, subject_text};
 use casebook_summary::{Effect, Notice, Summary};
-use casebook_view::{Fate, Reason, Why, chain};
+use casebook_view::{Fate, Reason, Why};
 use retro_rows::text;
 use retro_tree::{NoMem, Path};
 use std::alloc::Global;
@@ -9,8 +9,8 @@ use std::alloc::Global;
 /// Returns what becomes of each line.
 fn fates(alloc: Global, summary: &Summary) -> Result<String, NoMem> {
     let mut out = String::new(alloc);
-    for line in &summary.fates {
-        let item = format!(in alloc; "{}{}", line.0, fate_sign(line.1))?;
+    for line in summary.lines.as_slice() {
+        let item = format!(in alloc; "{}{}", line.number, fate_sign(line.fate))?;
         push_item(&mut out, " ", item.as_str())?;
     }
     Ok(out)
@@ -109,19 +109,22 @@ fn why_text(alloc: Global, why: Why) -> Result<String, NoMem> {
 
 /// Returns a reason as text: the line, why it is run again, its cause if it has one, and its
 /// origin.
-fn reason_text(alloc: Global, reason: &Reason) -> Result<String, NoMem> {
+fn reason_text(alloc: Global, number: u32, reason: &Reason) -> Result<String, NoMem> {
     let why = why_text(alloc, reason.why)?;
     match reason.cause {
-        Some(cause) => { format!(in alloc; "{} {why} of {cause} {}", reason.number, reason.origin) }
-        None => format!(in alloc; "{} {why} {}", reason.number, reason.origin),
+        Some(cause) => format!(in alloc; "{number} {why} of {cause} {}", reason.origin),
+        None => format!(in alloc; "{number} {why} {}", reason.origin),
     }
 }
 
 /// Returns why lines are run again.
 fn reasons(alloc: Global, summary: &Summary) -> Result<String, NoMem> {
     let mut out = String::new(alloc);
-    for reason in &summary.reasons {
-        push_item(&mut out, ", ", reason_text(alloc, reason)?.as_str())?;
+    for line in summary.lines.as_slice() {
+        if let Some(reason) = &line.reason {
+            let item = reason_text(alloc, line.number, reason)?;
+            push_item(&mut out, ", ", item.as_str())?;
+        }
     }
     Ok(out)
 }
@@ -138,10 +141,12 @@ fn chain_text(alloc: Global, first: u32, causes: &[u32]) -> Result<String, NoMem
 /// Returns the chains of causes of the lines that are run again.
 fn chains(alloc: Global, summary: &Summary) -> Result<String, NoMem> {
     let mut out = String::new(alloc);
-    for reason in &summary.reasons {
-        let causes = chain(alloc, summary.reasons.as_slice(), reason.number)?;
-        let item = chain_text(alloc, reason.number, causes.as_slice())?;
-        push_item(&mut out, ", ", item.as_str())?;
+    for line in summary.lines.as_slice() {
+        if line.reason.is_some() {
+            let causes = summary.lines.chain(alloc, line.number)?;
+            let item = chain_text(alloc, line.number, causes.as_slice())?;
+            push_item(&mut out, ", ", item.as_str())?;
+        }
     }
     Ok(out)
 }

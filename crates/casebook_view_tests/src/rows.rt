@@ -17,8 +17,8 @@ use std::test::Fail;
 
 /// Returns the sign of a line's fate, or `none` if there is no such line.
 fn fate(summary: &Summary, number: u32) -> &'static str {
-    match summary.fate_of(number) {
-        Some(fate) => fate_sign(fate),
+    match summary.lines.at(number) {
+        Some(line) => fate_sign(line.fate),
         None => "none",
     }
 }

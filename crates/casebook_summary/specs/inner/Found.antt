@@ -4,7 +4,7 @@ use Rattle.casebook_changes.specs.declared.changed_path.ChangedPath.{ChangedPath
 use Rattle.retro_keep.specs.Recording.{RecordingValue}
 use Rattle.retro_redo.specs.declared.repair.Repair.{Repair}
 use Rattle.retro_tree.specs.Path.{PathValue}
-use Rattle.casebook_summary.specs.Restorations.{IsExtent, restored_change, tree_after, tree_before}
+use Rattle.casebook_summary.specs.Restorations.{IsExtent, IsWriter, restored_change, tree_after, tree_before}
 use Rattle.casebook_summary.specs.declared.restoration.Restoration.{Restoration}
 use Rattle.casebook_summary.specs.inner.PathSets.{has_path}
 
@@ -14,6 +14,7 @@ pub record IsFound (r : RecordingValue) (repair : Repair) (written : List PathVa
   pub changes : restored_change x ≡ changed
   pub extent : IsExtent (tree_before r) (tree_after repair) x.path x.extent
   pub doubt : x.is_doubtful ≡ has_path x.path written
+  pub writer : IsWriter r repair x.path x.writer
 
 -- what was found of each path, in order
 abbrev pub AreFound : RecordingValue → Repair → List PathValue → List ChangedPath → List Restoration → Type 0

@@ -3,8 +3,7 @@ use Rattle.std.specs.Prelude.{ℕ, ◌==◌, Bool, List, [], Option, Some, None,
 use Rattle.std.specs.BTreeMap.{get}
 use Rattle.std.specs.Option.{option_map, unwrap_or}
 use Rattle.std.specs.Ordering.{nat_cmp}
-use Rattle.casebook_view.specs.Reasons.{reason_at}
-use Rattle.casebook_view.specs.declared.fate.Fate.{Fate}
+use Rattle.casebook_view.specs.declared.case_line.CaseLine.{CaseLine}
 use Rattle.casebook_view.specs.declared.reason.Reason.{Reason}
 use Rattle.casebook_summary.specs.declared.led_lines.LedLines.{LedLines}
 
@@ -13,14 +12,10 @@ abbrev pub other_origin : ℕ → Option Reason → Option ℕ
 other_origin n None = None
 other_origin n (Some reason) = if n == reason.origin then None else Some reason.origin
 
--- the other line that led to a line, or None if there is none
-abbrev pub led_by : List Reason → ℕ → Option ℕ
-led_by reasons n = other_origin n (reason_at n reasons)
-
 -- whether a line that led to another one is the one with a number
-abbrev pub is_from : ℕ → ℕ → ℕ × Fate → Bool
+abbrev pub is_from : ℕ → ℕ → CaseLine → Bool
 is_from origin n line = origin == n
 
 -- the lines to which the one with a number led
-abbrev pub led_at : LedLines → ℕ → List (ℕ × Fate)
+abbrev pub led_at : LedLines → ℕ → List CaseLine
 led_at led n = unwrap_or (option_map (λ v. v.items) (get nat_cmp led.by_origin n)) []

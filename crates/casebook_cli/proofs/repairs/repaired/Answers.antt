@@ -1,16 +1,16 @@
-use Rattle.std.proofs.Common.{◌≡◌, ◌∙◌, IsTrue, Ok, ap, map, option_map, string_bytes, subst, sym}
-use Rattle.retro_keep.specs.Script.{rises_from}
+use Rattle.std.proofs.Common.{◌≡◌, ◌∙◌, Ok, ap, map, option_map, string_bytes, subst, sym}
 use Rattle.std.proofs.lemmas.Result.{err_from_is_err_and}
 use Rattle.retro_keep.specs.Edit.{edit_of}
+use Rattle.retro_keep.specs.Recording.{RecordingValue, number_in}
 use Rattle.casebook_account.specs.Edits.{HasNoText, known_lines, text_edits}
-use Rattle.casebook_account.proofs.Rising.{shown_lines_rise}
+use Rattle.casebook_account.proofs.Matching.{shown_match}
 use Rattle.casebook_request.specs.Views.{repair_view, rounds_view}
 use Rattle.casebook_cli.specs.Attributes.{attributes_by}
 use Rattle.casebook_cli.specs.Repairs.{AreEdits, IsRepairBy}
 use Rattle.casebook_cli.specs.Stops.{StopsEdits, StopsNumbers, StopsRepair, StopsRepaired}
 use Rattle.casebook_cli.specs.inner.Views.{document_view, inputs_view}
 use Rattle.casebook_cli.proofs.AccountLemmas.{not_shown}
-use Rattle.casebook_cli.proofs.RisingLemmas.{lines_rise}
+use Rattle.casebook_cli.proofs.MatchLemmas.{lines_match}
 use Rattle.casebook_cli.proofs.repairs.repaired.Goals as goal
 
 pub returns-in_err-edits-clause-err : goal.returns-in_err-edits-clause-err
@@ -98,11 +98,12 @@ returns-clause-ok g c =
       attributes = c.attributes_by.ensures ∙ ap attributes_by c.in_ok-recording.ensures.machine;
     }
 
-pub returns-clause-rise : goal.returns-clause-rise
-returns-clause-rise g c =
+pub returns-clause-lines : goal.returns-clause-lines
+returns-clause-lines g c =
     let account = c.args.account in
     let repair = c.in_ok-repair.repair in
-    subst (λ lines. IsTrue (rises_from 0 (map (λ l. l.number) lines))) (sym c.in_ok-shown.ensures.lines)
-    (shown_lines_rise (inputs_view c.args.inputs.now).log.bytes account repair.lines.items c.requires
-    (lines_rise (edit_of c.as_slice-2.result.now) account.recording repair c.lines-count.ensures.well_formed
-    c.in_ok-repair.ensures.ok.settled))
+    ap (map (λ l. l.number)) c.in_ok-shown.ensures.lines
+    ∙ shown_match account repair.lines.items account.recording
+    (lines_match (edit_of c.as_slice-2.result.now) account.recording repair c.lines-count.ensures.well_formed
+    c.in_ok-repair.ensures.ok.settled)
+    ∙ ap (λ (r : RecordingValue). map number_in r.lines) (sym c.in_ok-recording.ensures.ok)

@@ -6,7 +6,7 @@ use Rattle.casebook_screen.proofs.effect_text.effect_lines.Goals as goal
 
 pub returns : goal.returns
 returns c =
-    let shown_as = effect_among c.args.recording.now c.args.unknown.now in
+    let shown_as = effect_among c.args.recording.now c.args.summary.now.lines in
     let shown : c.push_effects.new.lines.items
-    ≡ [] ∷ effects_head ∷ map (λ effect. shown_as (effect_value effect)) c.args.effects.now = search rules in
-    shown ∙ ap (λ t. [] ∷ effects_head ∷ t) (sym (map_map shown_as effect_value c.args.effects.now))
+    ≡ [] ∷ effects_head ∷ map (λ effect. shown_as (effect_value effect)) c.args.summary.now.effects.items = search rules in
+    shown ∙ ap (λ t. [] ∷ effects_head ∷ t) (sym (map_map shown_as effect_value c.args.summary.now.effects.items))

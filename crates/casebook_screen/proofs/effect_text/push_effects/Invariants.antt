@@ -7,4 +7,4 @@ abbrev pub invariant-loop-effect : goal.invariant-loop-effect
 invariant-loop-effect l =
     l.lines.items
     ≡ l.fn.lines.items
-    ++ map (λ effect. effect_among l.recording l.unknown (effect_value effect)) (take l.effect-index l.effects)
+    ++ map (λ effect. effect_among l.recording l.summary.lines (effect_value effect)) (take l.effect-index l.effect-items)

@@ -1,12 +1,12 @@
 use Rattle.std.proofs.Common.{ℕ, List, ap₂, ◌∙◌}
 use Rattle.retro_tree.specs.Path.{PathValue}
-use Rattle.casebook_view.specs.declared.fate.Fate.{Fate}
+use Rattle.casebook_view.specs.declared.case_line.CaseLine.{CaseLine}
 use Rattle.casebook_summary.specs.Effects.{EffectValue}
 use Rattle.casebook_summary.proofs.effect.effect_of.Goals as goal
 
-abbrev effect_with : ℕ → List (ℕ × Fate) → List PathValue → EffectValue
+abbrev effect_with : ℕ → List CaseLine → List PathValue → EffectValue
 effect_with n led wrote = record { number = n; led = led; wrote = wrote }
 
 pub returns : goal.returns
-returns c reasons fates are =
+returns c lines are =
     ap₂ (effect_with c.args.number) (c.in_ok-led.ensures ∙ are c.args.number) c.in_ok-wrote.ensures

@@ -33,7 +33,7 @@ returns c =
     (view-Array c.args.self.doubtful)
     (view-Array c.args.self.incomplete)
     (view-Array c.args.self.leaked)
-    (view-Array c.args.lines)
+    (view-Array c.args.self.lines)
     (view-Array c.args.self.looked)
     (view-Array c.args.self.observed)
     (view-Array c.args.self.outside)

@@ -16,6 +16,7 @@ returns c = record {
   doubtful = search rules;
   incomplete = search rules;
   leaked = search rules;
+  lines = search rules;
   looked = c.in_ok-group_values.ensures ∙ ap (map (data_of c.args.labels.now)) c.as_slice-4.ensures.value;
   observed = search rules;
   outside = search rules;

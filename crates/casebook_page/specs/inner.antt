@@ -1,0 +1,3 @@
+-- Definitions that only private contracts, invariants and proofs name.
+pub mod SessionLines
+pub mod Screens
