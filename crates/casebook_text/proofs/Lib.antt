@@ -11,6 +11,7 @@ pub mod HtmlLemmas
 pub mod NumberLists
 pub mod ItemLemmas
 pub mod ListLemmas
+pub mod LineSetLemmas
 pub mod FileLemmas
 pub mod DiffLemmas
 pub mod HunkLemmas

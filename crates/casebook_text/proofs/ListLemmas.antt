@@ -1,16 +1,35 @@
 -- The items of a list, one after another.
 use Rattle.std.proofs.Common.{◌≡◌, ℕ, ◌+◌, ◌<◌, ◌≤◌, List, [], ◌∷◌, ◌++◌, length, map, drop, get_or}
 use Rattle.std.proofs.Common.{refl, sym, ap, ◌∙◌}
-use Rattle.std.proofs.Common.{append_assoc, Result, Ok, Err}
+use Rattle.std.proofs.Common.{append_assoc, Bool, true, false, Option, Some, Result, Ok, Err}
+use Rattle.std.specs.Prelude.{if◌then◌else◌}
+use Rattle.std.specs.List.{list_any}
 use Rattle.std.proofs.lemmas.List.{append-nil, drop_more}
 use Rattle.std.proofs.Math.ListN.{drop_of_length-le}
 use denote.Ref.{Bor}
-use Rattle.casebook_text.specs.Item.{Line}
-use Rattle.casebook_text.specs.Lists.{checked_item, checked_items, then_items}
+use Rattle.casebook_text.specs.Item.{Line, is_in, item_in}
+use Rattle.casebook_text.specs.Lists.{checked, checked_item, checked_items, no_lines, then_items}
 use Rattle.casebook_text.specs.declared.item.Item.{Item}
 use Rattle.casebook_text.specs.declared.list_fault.ItemFault.{ItemFault}
 use Rattle.casebook_text.specs.declared.list_fault.ListFault.{ListFault}
 use Rattle.casebook_text.specs.declared.list_fault.ListFault.TheVariants.{BadItem}
+
+-- ---- one item
+
+pub accepted : (lines : List Line) (text : List ℕ) (item : Item) → Some item ≡ item_in text
+    → list_any (is_in item.lines) lines ≡ true → Ok item ≡ checked_item lines text
+unfolding checked_item
+accepted lines text item is has =
+    sym (ap (λ (b : Bool). if b then Ok item else Err (no_lines item.lines)) has)
+    ∙ ap (λ (o : Option Item). checked lines o) is
+
+pub not_accepted : (lines : List Line) (text : List ℕ) (item : Item) (fault : ItemFault) → Some item ≡ item_in text
+    → list_any (is_in item.lines) lines ≡ false → fault ≡ no_lines item.lines → Err fault ≡ checked_item lines text
+unfolding checked_item
+not_accepted lines text item fault is none why =
+    ap (λ (f : ItemFault). Err f) why
+    ∙ sym (ap (λ (b : Bool). if b then Ok item else Err (no_lines item.lines)) none)
+    ∙ ap (λ (o : Option Item). checked lines o) is
 
 -- ---- the items that are read
 

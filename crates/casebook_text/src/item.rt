@@ -1,6 +1,6 @@
 //! Items of lists of lines.
 ghost use Rattle.std.specs.Prelude.{◌≡◌, option_map};
-ghost use Rattle.casebook_text.specs.Item.{after_dash, item_in, is_in, lines_in, numbers_in};
+ghost use Rattle.casebook_text.specs.Item.{after_dash, item_in, lines_in, numbers_in};
 
 use crate::splitting::cut_at;
 use retro_text::number_of;
@@ -71,19 +71,6 @@ impl Item {
                 adds: true,
                 lines: lines_of(text)?,
             }),
-        }
-    }
-}
-
-impl Lines {
-    /// Returns whether a line, by its number and its session, is one of these.
-    pub(crate) fn contains(self, number: u32, session: u32) -> bool
-        ensures { result ≡ is_in self (number, session) }
-    {
-        match self {
-            Lines::One(n) => number == n,
-            Lines::Range(first, last) => first <= number && number <= last,
-            Lines::Session(s) => session == s,
         }
     }
 }

@@ -37,11 +37,13 @@
 //!   `Same` [`equal`]. Nothing says how short a diff is.
 #![tactic(auto)]
 
+mod chosen_lines;
 mod common_lines;
 mod html;
 mod hunk;
 mod item;
 mod line_diff;
+mod line_set;
 mod list;
 mod list_fault;
 mod list_file;
