@@ -4,3 +4,4 @@ pub mod Fronts
 pub mod FirstDifference
 pub mod Saying
 pub mod WholeLines
+pub mod NameSets

@@ -1,5 +1,5 @@
 //! Differences of answers, in words.
-ghost use Rattle.std.specs.Prelude.{◌≡◌, ◌++◌, OnOk, ◌||◌, is_some, option_map};
+ghost use Rattle.std.specs.Prelude.{◌≡◌, ◌++◌, IfOk, OnOk, ◌||◌, is_some, option_map};
 ghost use Rattle.casebook_words.specs.Lines.{texts_in};
 ghost use Rattle.casebook_words.specs.Difference.{both_words, difference_words, file_in};
 ghost use Rattle.casebook_words.specs.Difference.{first_difference, has_last_newline, kept};
@@ -100,12 +100,18 @@ fn line_difference<'a>(old: &'a Answer, new: &'a Answer) -> Option<LineDifferenc
 
 /// Returns the first name in which two answers differ, if both are listings and a name differs.
 #[tactic(auto, unfolding(crate::specs::Difference::name_difference))]
-fn name_difference<'a>(old: &'a Answer, new: &'a Answer) -> Option<OtherName<'a>>
-    ensures { option_map name_value result ≡ name_difference old.entry.now new.entry.now }
+fn name_difference<'a>(
+    alloc: Global,
+    old: &'a Answer,
+    new: &'a Answer,
+) -> Result<Option<OtherName<'a>>, NoMem>
+    ensures { IfOk result (λ found. option_map name_value found
+        ≡ name_difference old.entry.now new.entry.now) }
 {
-    let one = listing_in(old)?;
-    let two = listing_in(new)?;
-    first_other_name(one, two)
+    match (listing_in(old), listing_in(new)) {
+        (Some(one), Some(two)) => first_other_name(alloc, one, two),
+        _ => Ok(None),
+    }
 }
 
 /// Appends a line of a text, or that the text ends before it.
@@ -225,7 +231,7 @@ fn push_other(alloc: Global, line: &mut SafeLine, old: &Answer, new: &Answer) ->
     if let Some(is_old) = newline_difference(old, new) {
         return push_newline(line, is_old);
     }
-    match name_difference(old, new) {
+    match name_difference(alloc, old, new)? {
         Some(found) => push_name_difference(alloc, line, &found),
         None => push_both(alloc, line, old, new),
     }
