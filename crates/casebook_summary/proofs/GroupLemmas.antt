@@ -1,18 +1,19 @@
 -- Lines by group: their keys, their lines and their order.
-use Rattle.std.proofs.Common.{◌≡◌, ◌∙◌, ◌+◌, ◌≤◌, ◌<◌, ◌==◌, ℕ, zero, suc, Bool, true, false, not, ◌&&◌, ◌||◌, cond}
+use Rattle.std.proofs.Common.{◌≡◌, ◌∙◌, ◌+◌, ◌<◌, ◌==◌, ℕ, zero, suc, Bool, true, false, not, ◌&&◌, ◌||◌, cond}
 use Rattle.std.proofs.Common.{List, [], ◌∷◌, ◌++◌, drop, get_or, length, map, nat_lt, take, Some, None}
 use Rattle.std.proofs.Common.{arith, refl, sym, ap, subst}
-use Rattle.std.specs.BTreeMap.{BTreeMap, get, is_at}
+use Rattle.std.specs.BTreeMap.{BTreeMap, get, insert_entry, is_at}
+use Rattle.std.specs.Map.{values_of}
 use Rattle.std.specs.Bool.{if◌then◌else◌}
 use Rattle.std.specs.Cmp.{nat_cmp_total, on_total, then_total, IsTotalOrder}
 use Rattle.std.specs.FinMap.{IsAntisymmetric, nat_cmp-IsAntisymmetric}
 use Rattle.std.specs.List.{filter, fold, list_any}
-use Rattle.std.specs.List.Sorted.{IsPartitionPoint, IsPartitionedBy}
 use Rattle.std.specs.Option.{is_some, option_map, unwrap_or}
-use Rattle.std.specs.Ordering.{is_eq, nat_cmp, ordering_then}
+use Rattle.std.specs.Ordering.{MatchOrdering, is_eq, match_ordering, nat_cmp, ordering_then}
 use Rattle.std.specs.declared.cmp.Ordering.{Ordering}
 use Rattle.std.specs.declared.cmp.Ordering.TheVariants as orders
-use Rattle.std.proofs.lemmas.Bool.{ltb-false, ltb-true, true≢false}
+use Rattle.std.proofs.lemmas.Bool.{le-ltb, lt-ltb, true≢false}
+use Rattle.std.proofs.lemmas.Cmp.{ranked}
 use Rattle.std.proofs.lemmas.Bool.Decides.{nat_tests}
 use Rattle.std.proofs.lemmas.Grind.{common_steps}
 use Rattle.std.proofs.lemmas.List.{append-nil, drop_more, map-append, take_more}
@@ -25,7 +26,7 @@ use Rattle.casebook_summary.specs.declared.group_lines.GroupLines.{GroupLines}
 use Rattle.casebook_summary.specs.declared.notice.Notice.{Notice}
 use Rattle.casebook_summary.specs.declared.subject.Subject.{Subject}
 use Rattle.casebook_summary.specs.declared.subject.Subject.TheVariants.{At, Directory, Variable, Status, Text, Again}
-use Rattle.casebook_summary.specs.inner.GroupLines.{AddsOne, AreGathered, Key, RiseFrom, key_cmp, key_of, lines_of, subject_cmp}
+use Rattle.casebook_summary.specs.inner.GroupLines.{AddsOne, AreGathered, ArePlaced, Key, key_cmp, key_of, lines_of, subject_cmp}
 use Rattle.casebook_summary.specs.inner.GroupLines.{subject_total}
 
 -- ---- keys
@@ -168,70 +169,100 @@ any_placed test n (x ∷ xs) = by_test (nat_lt n.session x.session) refl (any_pl
         ap (list_any test) (placed_before n x xs false e) ∙ ap (λ b. test x || b) rest
         ∙ sym (swapped (test n) (test x) (list_any test xs))
 
-pub rising_placed : (low : ℕ) (n : Notice) (xs : List Notice) → low ≤ n.session → RiseFrom low xs
-    → RiseFrom low (placed n xs)
-rising_placed low n [] under rise = (under, tt)
-rising_placed low n (x ∷ xs) under rise =
-    by_test (nat_lt n.session x.session) refl (λ below. rising_placed x.session n xs below rise.1)
-  where
-    by_test : (b : Bool) → nat_lt n.session x.session ≡ b
-        → (x.session ≤ n.session → RiseFrom x.session (placed n xs)) → RiseFrom low (placed n (x ∷ xs))
-    by_test true e rest =
-        let less = ltb-true n.session x.session e in
-        subst (RiseFrom low) (sym (placed_before n x xs true e)) (under, (omega (arith, less), rise.1))
-    by_test false e rest =
-        let over = ltb-false n.session x.session e in
-        subst (RiseFrom low) (sym (placed_before n x xs false e)) (rise.0, rest (omega (arith, over)))
+abbrev pub place_cmp : ℕ × ℕ → ℕ × ℕ → Ordering
+place_cmp x y = ordering_then (nat_cmp x.0 y.0) (nat_cmp x.1 y.1)
 
-at_least : (low : ℕ) (xs : List Notice) → RiseFrom low xs → (i : ℕ) (d : Notice) → i < length xs
-    → low ≤ (get_or xs i d).session
-at_least low [] rise i d lt = absurd (omega (arith, lt))
-at_least low (x ∷ xs) rise zero d lt = rise.0
-at_least low (x ∷ xs) rise (suc i) d lt =
-    let rest = at_least x.session xs rise.1 i d (omega (arith, lt)) in
-    omega (arith, rest, rise.0)
+-- a line whose place is above all others is the last of its session
+module _ (n : ℕ) (line : Notice) where
+  abbrev pub with_line : List ((ℕ × ℕ) × Notice) → List ((ℕ × ℕ) × Notice)
+  with_line es = insert_entry place_cmp es (line.session, n) line
 
-ordered : (low : ℕ) (xs : List Notice) → RiseFrom low xs → (i j : ℕ) (d : Notice) → i ≤ j → j < length xs
-    → (get_or xs i d).session ≤ (get_or xs j d).session
-ordered low [] rise i j d le lt = absurd (omega (arith, lt))
-ordered low (x ∷ xs) rise zero zero d le lt = omega arith
-ordered low (x ∷ xs) rise zero (suc j) d le lt = at_least x.session xs rise.1 j d (omega (arith, lt))
-ordered low (x ∷ xs) rise (suc i) zero d le lt = absurd (omega (arith, le))
-ordered low (x ∷ xs) rise (suc i) (suc j) d le lt =
-    ordered x.session xs rise.1 i j d (omega (arith, le)) (omega (arith, lt))
+  cases : (e : (ℕ × ℕ) × Notice) (es : List ((ℕ × ℕ) × Notice)) → e.0.0 ≡ e.1.session → e.0.1 < n
+      → with_line (e ∷ es)
+      ≡ (if nat_lt line.session e.1.session then ((line.session, n), line) ∷ e ∷ es else e ∷ with_line es)
+  cases e es same below = by_session (nat_cmp line.session e.0.0) (ranked line.session e.0.0 _ refl)
+    where
+      by_place : (o : Ordering) → MatchOrdering o (n < e.0.1) (n ≡ e.0.1) (e.0.1 < n) → nat_lt line.session e.1.session ≡ false
+          → match_ordering o (((line.session, n), line) ∷ e ∷ es) ((e.0, line) ∷ es) (e ∷ with_line es)
+          ≡ (if nat_lt line.session e.1.session then ((line.session, n), line) ∷ e ∷ es else e ∷ with_line es)
+      by_place orders.Less less is = absurd (omega (arith, less, below))
+      by_place orders.Equal equal is = absurd (omega (arith, equal, below))
+      by_place orders.Greater more is =
+          sym (ap (λ (b : Bool). if b then ((line.session, n), line) ∷ e ∷ es else e ∷ with_line es) is)
 
-module _ (session : ℕ) where
-  abbrev pub is_before : Notice → Bool
-  is_before x = not (nat_lt session x.session)
+      by_session : (o : Ordering) → MatchOrdering o (line.session < e.0.0) (line.session ≡ e.0.0) (e.0.0 < line.session)
+          → match_ordering (ordering_then o (nat_cmp n e.0.1)) (((line.session, n), line) ∷ e ∷ es) ((e.0, line) ∷ es)
+          (e ∷ with_line es)
+          ≡ (if nat_lt line.session e.1.session then ((line.session, n), line) ∷ e ∷ es else e ∷ with_line es)
+      by_session orders.Less less =
+          sym (ap (λ (b : Bool). if b then ((line.session, n), line) ∷ e ∷ es else e ∷ with_line es)
+          (lt-ltb line.session e.1.session (omega (arith, less, same))))
+      by_session orders.Equal equal =
+          by_place (nat_cmp n e.0.1) (ranked n e.0.1 _ refl)
+          (le-ltb line.session e.1.session (omega (arith, equal, same)))
+      by_session orders.Greater more =
+          sym (ap (λ (b : Bool). if b then ((line.session, n), line) ∷ e ∷ es else e ∷ with_line es)
+          (le-ltb line.session e.1.session (omega (arith, more, same))))
 
-  -- the lines of this session and of earlier ones come first
-  pub partitioned : (xs : List Notice) → RiseFrom 0 xs → IsPartitionedBy is_before xs
-  partitioned xs rise i j d le lt is =
-      let up = ordered 0 xs rise i j d le lt in
-      grind (arith, nat_tests)
+  pub values_placed : (es : List ((ℕ × ℕ) × Notice)) → ArePlaced n es
+      → values_of (with_line es) ≡ placed line (values_of es)
+  values_placed [] are = refl
+  values_placed (e ∷ es) are =
+      ap (λ (ys : List ((ℕ × ℕ) × Notice)). values_of ys) (cases e es are.0 are.1)
+      ∙ by_test (nat_lt line.session e.1.session) refl (values_placed es are.2)
+    where
+      by_test : (b : Bool) → nat_lt line.session e.1.session ≡ b
+          → values_of (with_line es) ≡ placed line (values_of es)
+          → values_of (if b then ((line.session, n), line) ∷ e ∷ es else e ∷ with_line es)
+          ≡ placed line (e.1 ∷ values_of es)
+      by_test true is rest = sym (placed_before line e.1 (values_of es) true is)
+      by_test false is rest =
+          ap (λ (ys : List Notice). e.1 ∷ ys) rest ∙ sym (placed_before line e.1 (values_of es) false is)
 
-  not_true : (b : Bool) → not b ≡ true → b ≡ false
-  not_true true e = absurd (true≢false (sym e))
-  not_true false e = refl
+  -- one more is placed
+  pub one_placed : (m : ℕ) (es : List ((ℕ × ℕ) × Notice)) → n < m → ArePlaced n es → ArePlaced m (with_line es)
+  one_placed m [] below are = (refl, below, tt)
+  one_placed m (e ∷ es) below are =
+      subst (ArePlaced m) (sym (cases e es are.0 are.1))
+      (by_test (nat_lt line.session e.1.session) (one_placed m es below are.2))
+    where
+      higher : (ys : List ((ℕ × ℕ) × Notice)) → ArePlaced n ys → ArePlaced m ys
+      higher [] are = tt
+      higher (y ∷ ys) are = (are.0, omega (arith, are.1, below), higher ys are.2)
 
-  not_false : (b : Bool) → not b ≡ false → b ≡ true
-  not_false true e = refl
-  not_false false e = absurd (true≢false e)
+      by_test : (b : Bool) → ArePlaced m (with_line es)
+          → ArePlaced m (if b then ((line.session, n), line) ∷ e ∷ es else e ∷ with_line es)
+      by_test true rest = (refl, below, (are.0, omega (arith, are.1, below), higher es are.2))
+      by_test false rest = (are.0, omega (arith, are.1, below), rest)
 
-  pub point_is_place : (xs : List Notice) (i : ℕ) → i ≤ length xs
-      → IsPartitionPoint (λ x. is_before x ≡ true) (λ x. is_before x ≡ false) xs i → i ≡ place_of session xs
-  point_is_place [] zero le point = refl
-  point_is_place [] (suc i) le point = absurd (omega (arith, le))
-  point_is_place (x ∷ xs) zero le point =
-      sym (ap (λ (b : Bool). if b then zero else suc (place_of session xs))
-      (not_false _ (point.1 0 x (omega arith) (omega arith))))
-  point_is_place (x ∷ xs) (suc i) le point =
-      ap suc (point_is_place xs i (omega (arith, le)) (
-        λ k e low high. point.0 (suc k) e (omega arith) (omega (arith, high)),
-        λ k e low high. point.1 (suc k) e (omega (arith, low)) (omega (arith, high)),
-      ))
-      ∙ sym (ap (λ (b : Bool). if b then zero else suc (place_of session xs))
-      (not_true _ (point.0 0 x (omega arith) (omega arith))))
+  pub length_placed : (es : List ((ℕ × ℕ) × Notice)) → ArePlaced n es → length (with_line es) ≡ length es + 1
+  length_placed [] are = refl
+  length_placed (e ∷ es) are =
+      ap (λ (ys : List ((ℕ × ℕ) × Notice)). length ys) (cases e es are.0 are.1)
+      ∙ by_test (nat_lt line.session e.1.session) (length_placed es are.2)
+    where
+      by_test : (b : Bool) → length (with_line es) ≡ length es + 1
+          → length (if b then ((line.session, n), line) ∷ e ∷ es else e ∷ with_line es) ≡ length (e ∷ es) + 1
+      by_test true rest = omega arith
+      by_test false rest = omega (arith, rest)
+
+module _ (old new : List ((ℕ × ℕ) × Notice)) (place : ℕ) (line copy : Notice) (last : place ≡ length old)
+    (same : copy ≡ line) (inserted : new ≡ insert_entry place_cmp old (line.session, place) copy)
+    (are : ArePlaced (length old) old) where
+  is_with : new ≡ with_line (length old) line old
+  is_with =
+      inserted ∙ ap (λ n. insert_entry place_cmp old (line.session, n) copy) last
+      ∙ ap (λ (n : Notice). insert_entry place_cmp old (line.session, length old) n) same
+
+  pub placed_values : values_of new ≡ placed line (values_of old)
+  placed_values =
+      ap (λ (es : List ((ℕ × ℕ) × Notice)). values_of es) is_with ∙ values_placed (length old) line old are
+
+  pub placed_all : ArePlaced (length new) new
+  placed_all =
+      let more = length_placed (length old) line old are in
+      subst (λ (es : List ((ℕ × ℕ) × Notice)). ArePlaced (length es) es) (sym is_with)
+      (one_placed (length old) line (length (with_line (length old) line old)) old (omega (arith, more)) are)
 
 -- ---- one group changes
 
@@ -268,7 +299,6 @@ pub gathered_none : (groups : GroupLines) → ((n : Notice) → lines_of groups 
 gathered_none groups none = record {
   lines = λ n. ap (λ o. unwrap_or o []) (none n);
   first = λ n. ap is_some (none n);
-  rising = tt;
 }
 
 module _ (done : List Notice) (x : Notice) (old new : GroupLines) (found : List Notice)
@@ -301,7 +331,6 @@ module _ (done : List Notice) (x : Notice) (old new : GroupLines) (found : List 
   gathered_first = record {
     lines = one_more;
     first = λ n. is_there n ∙ sym (any_placed (λ y. same_group y n) x found);
-    rising = rising_placed 0 x found (omega arith) before.rising;
   }
 
   -- a line of a group that has others
@@ -309,7 +338,6 @@ module _ (done : List Notice) (x : Notice) (old new : GroupLines) (found : List 
   gathered_more has = record {
     lines = one_more;
     first = λ n. is_there n ∙ by_test n (same_group x n) refl;
-    rising = before.rising;
   }
     where
       by_test : (n : Notice) (b : Bool) → same_group x n ≡ b

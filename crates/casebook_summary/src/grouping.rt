@@ -1,37 +1,24 @@
 //! How lines to tell about are put into groups.
-ghost use Rattle.std.specs.Prelude.{◌≡◌, ◌≤◌, List, IfOk, OnOk, length, map, nat_lt, not};
-ghost use Rattle.casebook_summary.specs.Groups.{firsts, group_of, group_value, grouped, place_of};
-ghost use Rattle.casebook_summary.specs.Groups.{placed};
+ghost use Rattle.std.specs.Prelude.{◌≡◌, List, IfOk, OnOk, length, map};
+ghost use Rattle.std.specs.BTreeMap.{values};
+ghost use Rattle.casebook_summary.specs.Groups.{firsts, group_of, group_value, grouped, placed};
 ghost use Rattle.casebook_summary.specs.declared.notice.Notice.{Notice as NoticeValue};
-ghost use Rattle.casebook_summary.specs.inner.GroupLines.{AddsOne, AreGathered, RiseFrom};
+ghost use Rattle.casebook_summary.specs.inner.GroupLines.{AddsOne, AreGathered, ArePlaced};
 
 use crate::NoMem;
 use crate::group::Group;
 use crate::group_lines::GroupLines;
 use crate::notice::Notice;
 use std::alloc::Global;
+use std::collections::BTreeMap;
 
 /// Lines to tell about, gathered by group.
 #[derive(Drop)]
 struct Gathered {
     /// The lines of each group.
     lines: GroupLines,
-    /// The first line of each group, in order of sessions.
-    firsts: Vec<Notice>,
-}
-
-/// Returns how many lines come before the first one of a later session. The lines are in order of
-/// sessions.
-fn place_of(session: u32, notices: &[Notice]) -> usize
-    requires { RiseFrom 0 notices.now }
-    ensures value { result ≡ place_of session notices.now }
-    ensures within { result ≤ length notices.now }
-{
-    notices.partition_point(
-        |notice: &Notice| -> bool
-            ensures { result ≡ not (nat_lt session notice.now.session) }
-        { !(session < notice.session) },
-    )
+    /// The first line of each group, by its session and by how many groups came before it.
+    firsts: BTreeMap<(u32, usize), Notice>,
 }
 
 /// Returns a copy of a line to tell about.
@@ -46,23 +33,26 @@ fn copy_notice(notice: &Notice) -> Result<Notice, NoMem>
 }
 
 /// Adds a line before those of later sessions.
-fn place(notices: &mut Vec<Notice>, notice: &Notice) -> Result<(), NoMem>
-    requires { RiseFrom 0 notices.old.items }
-    ensures { OnOk result (notices.new.items ≡ placed notice.now notices.old.items) }
+fn place(firsts: &mut BTreeMap<(u32, usize), Notice>, notice: &Notice) -> Result<(), NoMem>
+    requires { ArePlaced (length firsts.old.entries) firsts.old.entries }
+    ensures placed { OnOk result (ArePlaced (length firsts.new.entries) firsts.new.entries) }
+    ensures values { OnOk result (values firsts.new ≡ placed notice.now (values firsts.old)) }
 {
-    let place = place_of(notice.session, notices.as_slice());
-    notices.insert(place, copy_notice(notice)?)?;
+    let place = firsts.len();
+    firsts.insert((notice.session, place), copy_notice(notice)?)?;
     Ok(())
 }
 
 impl Gathered {
     /// Adds a line.
     fn add(&mut self, alloc: Global, notice: &Notice) -> Result<(), NoMem>
-        requires { RiseFrom 0 self.old.firsts.items }
-        ensures { OnOk result ((notices : List NoticeValue)
-            → AreGathered notices self.old.lines self.old.firsts.items
-            → AddsOne notices notice.now self.old.firsts.items self.new.lines
-            self.new.firsts.items) }
+        requires { ArePlaced (length self.old.firsts.entries) self.old.firsts.entries }
+        ensures placed { OnOk result
+            (ArePlaced (length self.new.firsts.entries) self.new.firsts.entries) }
+        ensures one { OnOk result ((notices : List NoticeValue)
+            → AreGathered notices self.old.lines (values self.old.firsts)
+            → AddsOne notices notice.now (values self.old.firsts) self.new.lines
+            (values self.new.firsts)) }
     {
         if self.lines.add(alloc, notice)? {
             return place(&mut self.firsts, notice);
@@ -73,18 +63,25 @@ impl Gathered {
 
 /// Gathers lines by group.
 fn gather(alloc: Global, notices: &[Notice]) -> Result<Gathered, NoMem>
-    ensures firsts { IfOk result (λ found. found.firsts.items ≡ firsts notices.now) }
+    ensures firsts { IfOk result (λ found. values found.firsts ≡ firsts notices.now) }
     ensures lines { IfOk result (λ found.
-        AreGathered notices.now found.lines found.firsts.items) }
+        AreGathered notices.now found.lines (values found.firsts)) }
 {
     let mut gathered = Gathered {
         lines: GroupLines::new(alloc),
-        firsts: Vec::new(alloc),
+        firsts: BTreeMap::new(alloc),
     };
     for notice in notices {
         gathered.add(alloc, notice)?;
     }
     Ok(gathered)
+}
+
+/// Returns the first lines of groups, in order of sessions, and of each session in order.
+fn in_order(alloc: Global, firsts: BTreeMap<(u32, usize), Notice>) -> Result<Vec<Notice>, NoMem>
+    ensures { IfOk result (λ found. found.items ≡ values firsts) }
+{
+    firsts.into_values().collect(alloc)
 }
 
 /// Returns the group of a line.
@@ -113,11 +110,11 @@ fn groups_of(alloc: Global, lines: &GroupLines, firsts: &[Notice]) -> Result<Vec
 }
 
 /// Returns lines to tell about by session, and of each session by subject, in the order in which
-/// the subjects first occur. Takes a look-up for each line. Groups of earlier sessions that come
-/// later are inserted before others.
+/// the subjects first occur. Takes a look-up for each line and one for each group.
 pub fn grouped(alloc: Global, notices: &[Notice]) -> Result<Vec<Group>, NoMem>
     ensures { IfOk result (λ groups. map group_value groups.items ≡ grouped notices.now) }
 {
-    let gathered = gather(alloc, notices)?;
-    groups_of(alloc, &gathered.lines, gathered.firsts.as_slice())
+    let Gathered { lines, firsts } = gather(alloc, notices)?;
+    let firsts = in_order(alloc, firsts)?;
+    groups_of(alloc, &lines, firsts.as_slice())
 }

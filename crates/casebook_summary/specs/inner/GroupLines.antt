@@ -1,5 +1,5 @@
 -- The lines of groups, as they are gathered.
-use Rattle.std.specs.Prelude.{◌≡◌, ◌≤◌, ℕ, ⊤, List, [], ◌∷◌, ◌++◌, Option, map}
+use Rattle.std.specs.Prelude.{◌≡◌, ◌<◌, ℕ, ⊤, List, [], ◌∷◌, ◌++◌, Option, map}
 use Rattle.std.specs.BTreeMap.{get}
 use Rattle.std.specs.Cmp.{IsTotalOrder}
 use Rattle.std.specs.List.{filter, list_any}
@@ -35,16 +35,15 @@ key_of n = (n.session, n.subject)
 abbrev pub lines_of : GroupLines → Notice → Option (List ℕ)
 lines_of groups n = option_map (λ v. v.items) (get key_cmp groups.lines (key_of n))
 
--- the sessions of lines don't fall, from some number on
-abbrev pub RiseFrom : ℕ → List Notice → Type 0
-RiseFrom low [] = ⊤
-RiseFrom low (x ∷ xs) = (low ≤ x.session) × RiseFrom x.session xs
+-- lines by session and place: each at its session, and at a place below a number
+abbrev pub ArePlaced : ℕ → List ((ℕ × ℕ) × Notice) → Type 0
+ArePlaced n [] = ⊤
+ArePlaced n (e ∷ es) = (e.0.0 ≡ e.1.session) × (e.0.1 < n) × ArePlaced n es
 
 -- Some lines were gathered: each group has its lines, and there is a first line of each.
 pub record AreGathered (done : List Notice) (groups : GroupLines) (firsts : List Notice) : Type 0 where
   pub lines : (n : Notice) → unwrap_or (lines_of groups n) [] ≡ map line_told (filter (λ x. same_group x n) done)
   pub first : (n : Notice) → is_some (lines_of groups n) ≡ list_any (λ x. same_group x n) firsts
-  pub rising : RiseFrom 0 firsts
 
 -- one more line was gathered
 abbrev pub AddsOne : List Notice → Notice → List Notice → GroupLines → List Notice → Type 0
