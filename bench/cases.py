@@ -91,8 +91,9 @@ def fan(size):
     return tree, [1], lines
 
 
-# Of these an answer has the more to show, the longer the log is: sessions, causes, leaks, paths of
-# which it isn't known what they hold, and rows of a text.
+# Of these an answer has the more to look for or to show, the longer the log is: sessions, causes,
+# leaks, paths of which it isn't known what they hold, rows of a text, items of a list, and names of
+# a directory.
 
 
 def crowd(size):
@@ -126,6 +127,17 @@ def long_text(size):
     """A tenth of the rows of a long text go, and the text is shown."""
     text = "".join(f"{at:06} {'abcdefghij'[at % 10]}\n" for at in range(size))
     return [["/f", text.encode().hex()]], [1], [(1, "grep -Fv h f > g; mv g f"), (1, "cat f")]
+
+
+def listed(size):
+    """The lines write one of two files in turn, so that no line meets the one before it."""
+    return [], [1, 2], [(at % 2 + 1, f"echo -n a > f{at % 2}") for at in range(size)]
+
+
+def listing(size):
+    """A line makes the last name of a directory with many, and the next line asks for the names."""
+    tree = [["/d"], ["/d/e"], *([f"/d/e/f{at:06}", "61"] for at in range(size)), ["/e"]]
+    return tree, [1], [(1, "echo a > d/e/last"), (1, "mv e d")]
 
 
 CASES = {"growing": growing, "spread": spread, "tree": tree_of, "mix": mix, "moving": moving}
