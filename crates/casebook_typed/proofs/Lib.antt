@@ -1,6 +1,7 @@
 pub mod ActiveSoFar
 pub mod AllLines
 pub mod Few
+pub mod FirstRecords
 pub mod Found
 pub mod Keys
 pub mod Lines

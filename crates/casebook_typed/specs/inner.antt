@@ -2,3 +2,4 @@
 pub mod Places
 pub mod Lists
 pub mod Few
+pub mod FirstRecords

@@ -45,6 +45,7 @@
 #![tactic(auto)]
 
 mod active;
+mod first_records;
 mod key;
 mod laws;
 mod line;

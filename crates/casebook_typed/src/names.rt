@@ -30,7 +30,7 @@ impl Places {
     }
 
     /// Returns the place of a session, counted from 1, or 0 if it has none.
-    fn at(&self, key: &Key) -> usize
+    pub(crate) fn at(&self, key: &Key) -> usize
         ensures { result ≡ place_named self.now key.now }
     {
         match self.places.get(key) {

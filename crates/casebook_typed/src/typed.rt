@@ -1,22 +1,24 @@
 //! What a spool says.
-ghost use Rattle.std.specs.Prelude.{◌≡◌, ◌<◌, ℕ, Err, IfOk, None, OnOk, Some, length, map};
-ghost use Rattle.std.specs.Prelude.{option_map};
+ghost use Rattle.std.specs.Prelude.{◌≡◌, ◌<◌, ℕ, List, Err, IfOk, None, OnOk, Some, length, map};
 ghost use Rattle.std.specs.FinMap as finmap;
+ghost use Rattle.casebook_record.specs.declared.record.Record.{Record as RecordValue};
 ghost use Rattle.casebook_spool.specs.After.{after_notes};
 ghost use Rattle.casebook_typed.specs.Lines.{active_in, lines_after, records_of};
 ghost use Rattle.casebook_typed.specs.Observations.{observations};
 ghost use Rattle.casebook_typed.specs.Missing.{missing_in};
 ghost use Rattle.casebook_typed.specs.Seeing.{observed, said};
-ghost use Rattle.casebook_typed.specs.Sessions.{first_record, first_start, session_in};
-ghost use Rattle.casebook_typed.specs.Sessions.{sessions_of, start_if, steps_of};
+ghost use Rattle.casebook_typed.specs.Sessions.{session_in, sessions_of, steps_of};
 ghost use Rattle.casebook_typed.specs.Spans.{contradiction};
 ghost use Rattle.casebook_typed.specs.Values.{line_value, session_value};
+ghost use Rattle.casebook_typed.specs.inner.FirstRecords.{AreFirsts};
 ghost use Rattle.casebook_typed.specs.inner.Lists.{list_at};
 ghost use Rattle.casebook_typed.specs.inner.Places.{AreNames, names_in, number_at};
 ghost use Rattle.casebook_typed.specs.declared.typed_error.TypedError.TheVariants as errors;
 
 use crate::NoMem;
 use crate::active::active;
+use crate::first_records::FirstRecords;
+use crate::key::Key;
 use crate::line::TypedLine;
 use crate::marks::Marks;
 use crate::missing::{LineCounts, missing};
@@ -26,7 +28,7 @@ use crate::observation::{Observation, observations};
 use crate::seen::seen_by;
 use crate::span::{Span, spans};
 use crate::typed_error::TypedError;
-use casebook_record::{Event, Record, SessionName, Start};
+use casebook_record::{Record, SessionName, Start};
 use casebook_spool::{Lines, Listing, after_items, after_notes};
 use casebook_watch::Sights;
 use std::alloc::Global;
@@ -55,77 +57,34 @@ pub struct Typed<'a> {
     pub lines: Vec<TypedLine<'a>>,
 }
 
-/// Returns the first record of a session, if it has one.
-fn first_record<'a>(observations: &[Observation<'a>], name: &SessionName) -> Option<&'a Record>
-    ensures { option_map (λ found. found.now) result
-        ≡ first_record name.now (map said observations.now) }
-{
-    for observation in observations {
-        if name.as_slice() == observation.record.session.as_slice() {
-            return Some(observation.record);
-        }
-    }
-    None
-}
-
-/// Returns how a record says that a session started, if it does.
-fn start_if<'a>(name: &SessionName, one: &'a Record) -> Option<&'a Start>
-    ensures { option_map (λ start. start.now) result
-        ≡ start_if name.now one.now.session one.now.event }
-{
-    if name.as_slice() != one.session.as_slice() {
-        return None;
-    }
-    match &one.event {
-        Event::Start(start) => Some(start),
-        Event::Begin(_) => None,
-        Event::End(_) => None,
-        Event::Exit(_) => None,
-    }
-}
-
-/// Returns how a session started, by the first record that says so.
-fn first_start<'a>(observations: &[Observation<'a>], name: &SessionName) -> Option<&'a Start>
-    ensures { option_map (λ start. start.now) result
-        ≡ first_start name.now (map said observations.now) }
-{
-    for observation in observations {
-        let start = start_if(name, observation.record);
-        if start.is_some() {
-            return start;
-        }
-    }
-    None
-}
-
 /// Returns a session.
 fn session_of<'a>(
     alloc: Global,
     names: &Names<'a>,
-    observations: &[Observation<'a>],
+    firsts: &FirstRecords<'a>,
     missing: &LineCounts,
     name: &'a SessionName,
 ) -> Result<Session<'a>, NoMem>
-    requires names { AreNames names.now }
-    requires missing { (s : ℕ) → number_at missing.now s
-        ≡ missing_in (steps_of (map said observations.now)) s }
-    ensures { IfOk result (λ session. session_value session
-        ≡ session_in (names_in names.now) (map said observations.now) name.now) }
+    requires { AreNames names.now }
+    ensures { IfOk result (λ session. (records : List RecordValue)
+        → AreFirsts firsts.now records
+        → ((s : ℕ) → number_at missing.now s ≡ missing_in (steps_of records) s)
+        → session_value session ≡ session_in (names_in names.now) records name.now) }
 {
-    let first = first_record(observations, name);
-    let start = first_start(observations, name);
+    let key = Key::of(alloc, name)?;
+    let start = firsts.start(&key);
     let parent = names.parent(alloc, start)?;
-    let place = names.places.of(alloc, name)?;
+    let place = names.places.at(&key);
     Ok(Session {
         name,
-        first,
+        first: firsts.record(&key),
         start,
         parent,
         missing: missing.at(place),
     })
 }
 
-/// Returns the sessions.
+/// Returns the sessions. Takes a few look-ups for each record and each session.
 fn sessions<'a>(
     alloc: Global,
     names: &Names<'a>,
@@ -138,9 +97,10 @@ fn sessions<'a>(
     ensures { IfOk result (λ sessions. map session_value sessions.items
         ≡ map (session_in (names_in names.now) (map said observations.now)) (names_in names.now)) }
 {
+    let firsts = FirstRecords::of(alloc, observations)?;
     let mut sessions = Vec::new(alloc);
     for name in &names.all {
-        sessions.push(session_of(alloc, names, observations, missing, *name)?)?;
+        sessions.push(session_of(alloc, names, &firsts, missing, *name)?)?;
     }
     Ok(sessions)
 }

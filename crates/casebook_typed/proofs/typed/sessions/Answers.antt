@@ -16,9 +16,11 @@ loop-name-preserved c =
     ∙ take_more c.deref-name-items.result.now here c.name-item.result c.loop-name-test.true
     ∙ ap (λ name. take here c.deref-name-items.result.now ++ name ∷ []) (sym c.name-item.is)
     ∙ ap (λ ns. take here ns ++ c.name-item.result ∷ []) c.deref-name-items.ensures.value in
+    let said_of : session_value c.in_ok-session_of.field-0 ≡ session c.name-item.result.now =
+    c.in_ok-session_of.ensures (map said c.args.observations.now) c.in_ok-firsts.ensures c.requires.missing in
     ap (map session_value) c.in_ok-push.ensures.items
     ∙ map-append session_value c.loop-name.sessions.items (c.in_ok-session_of.field-0 ∷ [])
-    ∙ (λ i. c.loop-name.invariant i ++ c.in_ok-session_of.ensures i ∷ [])
+    ∙ (λ i. c.loop-name.invariant i ++ said_of i ∷ [])
     ∙ sym (map-append session (map (λ name. name.now) (take here names)) (c.name-item.result.now ∷ []))
     ∙ ap (map session) (sym (map-append (λ name. name.now) (take here names) (c.name-item.result ∷ [])))
     ∙ ap (λ ns. map session (map (λ name. name.now) ns)) (sym more)
