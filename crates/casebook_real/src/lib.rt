@@ -1,0 +1,36 @@
+//! Lines that a real shell ran: what a repair of their recording comes to.
+//!
+//! A recording of a real machine has texts of Retro's shell for each line that was typed
+//! (`casebook_explain`). Those of an observed line do what it did, whatever the line itself would
+//! do in another state. What it depends on, its needs, are notes of its first text. So a repair
+//! keeps the texts of an observed line while all that they noted is as it was. If it runs one of
+//! them again, though no edit names it, the line has to be run for real, in the repaired state
+//! before it. What it leaves there becomes its new text, and so on, line by line.
+//!
+//! The laws say what a repair comes to in which no text is run again so, and what is so in the state
+//! before the first one. They are about any function `real` from typed lines and states to states:
+//! nothing is known of a real shell.
+//!
+//! Start reading at `specs/World.antt` and `laws.rt`.
+//!
+//! # What is proved
+//!
+//! - If no text has to be run for real, the repaired state is that of really running all lines but
+//!   those that are left out, one by one, from the first state (`repairs_hold_for_real_lines`). If
+//!   none before a number has to be, the state before the number in the repaired recording is that
+//!   of really running the lines before it (`states_before_the_next_hold_for_real_lines`). The
+//!   repair has to be exact (`IsRepair`). The premises on the world are `World` in
+//!   `specs/World.antt`: an unedited line really does what its texts do, wherever all that they
+//!   noted is as it was, or, if it is modelled, its own notes hold; and what runs in the place of a
+//!   replaced line does what the line really does there. The lines are given, with the texts of
+//!   each (`AreLinesOf`).
+//! - The repaired state before a line, of which the premises speak, is that before its number in the
+//!   repaired recording (`lines_are_placed_in_the_repaired_recording`).
+#![tactic(auto)]
+
+mod laws;
+
+pub use laws::{
+    lines_are_placed_in_the_repaired_recording, repairs_hold_for_real_lines,
+    states_before_the_next_hold_for_real_lines,
+};
