@@ -1,3 +1,5 @@
 pub mod Lines
 pub mod World
 pub mod Next
+pub mod Based
+pub mod inner
