@@ -6,3 +6,4 @@ pub mod Verdicts
 pub mod Lines
 pub mod Law
 pub mod Placing
+pub mod Played

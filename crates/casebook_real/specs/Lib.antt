@@ -2,4 +2,5 @@ pub mod Lines
 pub mod World
 pub mod Next
 pub mod Based
+pub mod Played
 pub mod inner

@@ -1,6 +1,6 @@
 //! The law of lines that are run for real. A law is a function without a body whose contract is the
 //! law.
-ghost use Rattle.std.specs.Prelude.{◌≡◌, ◌∷◌, ◌++◌, ℕ, Bool, List, None, Option, Some, length};
+ghost use Rattle.std.specs.Prelude.{◌≡◌, ◌∷◌, ◌++◌, ℕ, Bool, List, None, Option, Some, length, map};
 ghost use Rattle.std.specs.List.{slice_get};
 ghost use Rattle.retro_keep.specs.Edit.{edit_of};
 ghost use Rattle.retro_keep.specs.Recorded.{recorded_before};
@@ -11,6 +11,7 @@ ghost use Rattle.retro_redo.specs.declared.repair.Repair.{Repair};
 ghost use Rattle.casebook_real.specs.Lines.{AreLinesOf, Parts, TypedLine, placed, remaining_lines};
 ghost use Rattle.casebook_real.specs.Lines.{texts_of};
 ghost use Rattle.casebook_real.specs.Next.{IsUpTo, next_to_run};
+ghost use Rattle.casebook_real.specs.Played.{played, shell};
 ghost use Rattle.casebook_real.specs.World.{Meaning, World, run_all};
 
 /// States that a repair with nothing left to be run for real has the state of really running all
@@ -48,4 +49,14 @@ pub fn lines_are_placed_in_the_repaired_recording()
         → texts_of (lines ++ l ∷ rest) ≡ r.lines → Parts n lines (l ∷ rest)
         → slice_get (placed edit (lines ++ l ∷ rest) r.first) (length lines)
         ≡ Some (record { line = l; before = recorded_before n repair.recording }) }
+{}
+
+/// States that Retro's shell itself meets the premises on the world: for a recording of it, with
+/// each line as a modelled one, and any edits. So they can be met, and what the law then says is
+/// that an exact repair runs the edited lines.
+pub fn retro_shell_meets_the_premises()
+    ensures lines { (edit : ℕ → Option Edit) (observed : ℕ → Bool) (r : RecordingValue)
+        → IsWellFormed r → AreLinesOf r observed (map (played edit) r.lines) }
+    ensures world { (edit : ℕ → Option Edit) (r : RecordingValue)
+        → World shell edit (map (played edit) r.lines) r.first }
 {}

@@ -31,7 +31,8 @@
 //!   `specs/World.antt`: an unedited line really does what its texts do, wherever all that they
 //!   noted is as it was, or, if it is modelled, its own notes hold; and what runs in the place of a
 //!   replaced line does what the line really does there. The lines are given, with the texts of
-//!   each (`AreLinesOf`).
+//!   each (`AreLinesOf`). Retro's shell itself meets these premises, for any edits
+//!   (`retro_shell_meets_the_premises`).
 //! - [`next_to_run`] returns the number of the first text of an observed line that a repair ran
 //!   again though no edit names it, or `None` if there is none [`verdicts`]. In an exact repair one
 //!   of its notes doesn't hold in the repaired state before it, and those of all observed texts
@@ -50,7 +51,7 @@ mod numbers;
 pub use based::{BasedText, first_without_basis};
 pub use laws::{
     lines_are_placed_in_the_repaired_recording, repairs_hold_for_real_lines,
-    states_before_the_next_hold_for_real_lines,
+    retro_shell_meets_the_premises, states_before_the_next_hold_for_real_lines,
 };
 pub use next::next_to_run;
 
