@@ -27,7 +27,7 @@
 //! - [`Account::text_edits`], [`Account::known_lines`] and [`Account::shown_lines`] are equations
 //!   (`specs/Edits.antt`, `specs/Shown.antt`). A repair that says of each
 //!   text what it did with it says so of each line that is shown, in order, and of no other
-//!   (`shown_match` of `proofs/Matching.antt`).
+//!   (`proofs/Matching.antt`).
 //! - [`Account::shown`] returns the recording that `specs/Shown.antt` defines [`ok`]. It fails only
 //!   if that has no such recording's form [`err`], which isn't known to be possible.
 //! - What no line touches can be left out of the first state: it changes no note and no output

@@ -1,1 +1,4 @@
+pub mod First
+pub mod Lists
+pub mod Lookups
 pub mod NoteLists

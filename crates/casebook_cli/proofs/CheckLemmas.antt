@@ -1,7 +1,7 @@
 -- A document that is refused, and where.
 use Rattle.std.proofs.Common.{◌≡◌, ◌∷◌, [], ℕ, true, List, Result, Ok, Err, IfOk}
 use Rattle.retro_json.specs.declared.fault.Refusal.{Refusal}
-use Rattle.casebook_place.specs.declared.place.Place.{Place}
+use Rattle.casebook_check.specs.declared.place.Place.{Place}
 use Rattle.casebook_text.specs.SafeLine.{text_of_lines}
 use Rattle.casebook_cli.specs.Checks.{SaysWhere, refused_line}
 use Rattle.casebook_cli.specs.declared.answer.Answer.{Answer}

@@ -1,9 +1,7 @@
-pub mod AccountLemmas
 pub mod CheckLemmas
 pub mod HarmlessLemmas
 pub mod KindLemmas
 pub mod Known
-pub mod MatchLemmas
 pub mod RowLemmas
 pub mod ScreenLemmas
 pub mod StatusStops

@@ -4,30 +4,10 @@ use Rattle.retro_keep.specs.Recording.{RecordingValue}
 use Rattle.retro_keep.specs.declared.edit.Edit.{Edit}
 use Rattle.retro_redo.specs.declared.repair.Repair.{Repair}
 use Rattle.casebook_view.specs.Sources.{SourceValue}
-use Rattle.casebook_summary.specs.declared.summary.Summary.{Summary}
 use Rattle.casebook_words.specs.declared.labels.Labels.{Labels}
 use Rattle.casebook_request.specs.declared.shown.ShownPart.{ShownPart}
-use Rattle.casebook_cli.specs.Lines.{widest_name}
 use Rattle.casebook_cli.specs.Pages.{IsPageOf}
-use Rattle.casebook_cli.specs.Screens.{IsShownOf, IsTextOf, ScreenValue}
-
-abbrev pub wide : SourceValue → RecordingValue → Repair → Summary → Labels → Bool → ℕ → ScreenValue
-wide source r repair summary labels colours width = record {
-  source = source;
-  recording = r;
-  repair = repair;
-  summary = summary;
-  labels = labels;
-  width = width;
-  colours = colours;
-}
-
-pub at_width : (shown : ShownPart) (source : SourceValue) (r : RecordingValue) (repair : Repair) (summary : Summary) (labels : Labels)
-    (colours : Bool) (width : ℕ) (text : List ℕ) → width ≡ widest_name labels r.lines
-    → IsTextOf shown (wide source r repair summary labels colours width) text
-    → IsTextOf shown (wide source r repair summary labels colours (widest_name labels r.lines)) text
-at_width shown source r repair summary labels colours width text is h =
-    subst (λ w. IsTextOf shown (wide source r repair summary labels colours w) text) is h
+use Rattle.casebook_cli.specs.Screens.{IsShownOf}
 
 module _ {edits those : List Edit} {r s : RecordingValue} {repair other : Repair} {source from : SourceValue}
     (is_source : source ≡ from) (are_edits : edits ≡ those) (is_recording : r ≡ s) (is_repair : repair ≡ other) where

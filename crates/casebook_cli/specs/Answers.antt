@@ -27,17 +27,17 @@ use Rattle.casebook_request.specs.Request.{Query, Request, ask, case_log, check,
 use Rattle.casebook_request.specs.Request.{CompareValue, FolderRepair, RepairRequest, compare, restore, script}
 use Rattle.casebook_request.specs.Request.{import, snapshot, observe, start, status, undo}
 use Rattle.casebook_cli.specs.Checks.{IsChecked}
-use Rattle.casebook_cli.specs.Attributes.{AreKnown}
-use Rattle.casebook_cli.specs.Documents.{AllDocuments}
+use Rattle.casebook_repairs.specs.Attributes.{AreKnown}
+use Rattle.casebook_repairs.specs.Documents.{AllDocuments}
 use Rattle.casebook_cli.specs.Harmless.{IsHarmless, is_plain}
-use Rattle.casebook_cli.specs.Inputs.{AreInputs, DocumentValue, InputsValue, IsDocument, IsDocumentIf}
+use Rattle.casebook_repairs.specs.Inputs.{AreInputs, DocumentValue, InputsValue, IsDocument, IsDocumentIf}
 use Rattle.casebook_cli.specs.Lines.{AreLines}
 use Rattle.casebook_cli.specs.Pages.{IsPage}
-use Rattle.casebook_cli.specs.Repairs.{IsAsked}
+use Rattle.casebook_repairs.specs.Repairs.{IsAsked}
 use Rattle.casebook_cli.specs.Screens.{IsShown}
 use Rattle.casebook_cli.specs.Scripts.{IsScriptOf}
 use Rattle.casebook_cli.specs.Status.{TablesValue, host_of, mounts_name}
-use Rattle.casebook_cli.specs.declared.repairs.AskedRepair.{AskedRepair}
+use Rattle.casebook_repairs.specs.declared.repairs.AskedRepair.{AskedRepair}
 
 -- an answer: its text, and whether it says that what was asked about isn't in order
 pub record AnswerValue : Type 0 where

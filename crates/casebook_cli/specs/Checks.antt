@@ -19,12 +19,12 @@ use Rattle.casebook_check.specs.Texts.{AreUnlikeLines}
 use Rattle.casebook_recording.specs.Refusals.{fault_words}
 use Rattle.retro_keep.specs.Unlike.{IsFirstUnlike}
 use Rattle.retro_keep.specs.declared.unlike.Unlike.{Unlike}
-use Rattle.casebook_place.specs.Place.{IsPlaceInLog, IsPlaceInScript}
-use Rattle.casebook_place.specs.Words.{place_words}
-use Rattle.casebook_place.specs.declared.place.Place.{Place}
+use Rattle.casebook_check.specs.Place.{IsPlaceInLog, IsPlaceInScript}
+use Rattle.casebook_check.specs.Words.{place_words}
+use Rattle.casebook_check.specs.declared.place.Place.{Place}
 use Rattle.casebook_text.specs.SafeLine.{text_of_lines}
 use Rattle.casebook_words.specs.Labels.{no_labels}
-use Rattle.casebook_cli.specs.Inputs.{DocumentValue}
+use Rattle.casebook_repairs.specs.Inputs.{DocumentValue}
 use Rattle.casebook_cli.specs.Messages.{about, numbered_words}
 
 -- a document is refused, after words of what it isn't, and where

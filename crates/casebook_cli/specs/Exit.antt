@@ -3,8 +3,8 @@ use Rattle.std.specs.Prelude.{ℕ, Bool, true, false, if◌then◌else◌}
 use Rattle.casebook_recorder_cli.specs.Faults.{is_refusal}
 use Rattle.casebook_cli.specs.declared.exit.Exit.{Exit}
 use Rattle.casebook_cli.specs.declared.exit.Exit.TheVariants as exits
-use Rattle.casebook_cli.specs.declared.stop.Stop.{Stop}
-use Rattle.casebook_cli.specs.declared.stop.Stop.TheVariants as stops
+use Rattle.casebook_repairs.specs.declared.stop.Stop.{Stop}
+use Rattle.casebook_repairs.specs.declared.stop.Stop.TheVariants as stops
 
 abbrev pub stop_status : Stop → ℕ
 stop_status stops.OutOfMemory = 2

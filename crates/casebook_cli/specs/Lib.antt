@@ -1,17 +1,12 @@
 pub mod Answers
-pub mod Attributes
 pub mod Checks
 pub mod Colours
-pub mod Documents
 pub mod Exit
 pub mod Harmless
-pub mod Inputs
-pub mod Labels
 pub mod Lines
 pub mod Messages
 pub mod Pages
 pub mod Program
-pub mod Repairs
 pub mod Screens
 pub mod Scripts
 pub mod Status

@@ -1,7 +1,7 @@
 -- What text answers a request for rows of lines.
 use Rattle.std.specs.Cmp.Lexicographic.{pointwise}
-use Rattle.std.specs.Prelude.{◌≡◌, ◌≢◌, ℕ, ◌==◌, if◌then◌else◌, Bool, true, false, List, [], ◌∷◌, ◌++◌, nat_eq, Option, Some, None, chars, decimal}
-use Rattle.std.specs.Prelude.{fold, length, map, max}
+use Rattle.std.specs.Prelude.{◌≡◌, ◌≢◌, ℕ, ◌==◌, if◌then◌else◌, Bool, true, false, List, [], ◌∷◌, ◌++◌, nat_eq, Option, Some, None, decimal}
+use Rattle.std.specs.Prelude.{fold, map}
 use Rattle.std.specs.List.{filter, join_with_byte, list_any}
 use Rattle.regex.specs.Bytes.{IsReadFromSource, regex_config, regex_pattern, regex_source}
 use Rattle.regex.specs.Patterns.{Re}
@@ -15,15 +15,16 @@ use Rattle.casebook_text.specs.Lists.{comma}
 use Rattle.casebook_text.specs.SafeLine.{text_of_lines, text_of_rows}
 use Rattle.casebook_view.specs.Filters.{FiltersValue}
 use Rattle.casebook_view.specs.Rows.{RowValue, rows_of}
-use Rattle.casebook_words.specs.Labels.{name_in, name_words}
+use Rattle.casebook_words.specs.Labels.{name_in}
 use Rattle.casebook_words.specs.declared.labels.Labels.{Labels}
 use Rattle.casebook_screen.specs.Fields.{fields_of}
-use Rattle.casebook_screen.specs.RowTexts.{lines_of_rows}
+use Rattle.casebook_screen.specs.Rows.{rows_told}
+use Rattle.casebook_screen.specs.Screen.{IsScreen}
 use Rattle.casebook_request.specs.Request.{LinesRequest}
 use Rattle.casebook_request.specs.declared.format.Format.{Format}
 use Rattle.casebook_request.specs.declared.format.Format.TheVariants as formats
-use Rattle.casebook_cli.specs.Inputs.{InputsValue}
-use Rattle.casebook_cli.specs.Labels.{AreLabels, seen_by, source_by, times_in}
+use Rattle.casebook_repairs.specs.Inputs.{InputsValue}
+use Rattle.casebook_repairs.specs.Labels.{AreLabels, seen_by, source_by, times_in}
 use Rattle.casebook_cli.specs.Tests.{Test, of_sessions, test_view, tests_of}
 use Rattle.casebook_cli.specs.Typed.{lacks_times, typed}
 
@@ -90,16 +91,11 @@ pub record AreFilters (request : LinesRequest) (labels : Labels) (lines : List (
 
 -- ---- rows as text
 
--- the width of the widest name of a session of some lines
-abbrev pub wider : Labels → ℕ → ℕ × Noted → ℕ
-wider labels width line = max width (length (chars (name_words line.1.sid labels)))
-
-abbrev pub widest_name : Labels → List (ℕ × Noted) → ℕ
-widest_name labels lines = fold (wider labels) 0 lines
-
 -- rows as the lines that a terminal shows, as a table, and as a list of numbers in one line
-abbrev pub shown_text : Labels → ℕ → List RowValue → List ℕ
-shown_text labels width rows = text_of_lines (lines_of_rows labels width rows)
+pub record IsShownText (labels : Labels) (rows : List RowValue) (text : List ℕ) : Type 0 where
+  pub lines : List (List ℕ)
+  pub are_lines : IsScreen (rows_told labels rows) lines
+  pub is_text : text ≡ text_of_lines lines
 
 abbrev pub table_text : Labels → List RowValue → List ℕ
 table_text labels rows = text_of_rows (map (fields_of labels) rows)
@@ -111,10 +107,10 @@ abbrev pub numbers_text : List RowValue → List ℕ
 numbers_text rows = text_of_lines (join_with_byte comma (map decimal (map row_number rows)) ∷ [])
 
 -- rows in a format
-abbrev pub rows_text : Format → Labels → ℕ → List RowValue → List ℕ
-rows_text formats.Text labels width rows = shown_text labels width rows
-rows_text formats.Tsv labels width rows = table_text labels rows
-rows_text formats.Numbers labels width rows = numbers_text rows
+abbrev pub IsRowsText : Format → Labels → List RowValue → List ℕ → Type 0
+IsRowsText formats.Text labels rows text = IsShownText labels rows text
+IsRowsText formats.Tsv labels rows text = text ≡ table_text labels rows
+IsRowsText formats.Numbers labels rows text = text ≡ numbers_text rows
 
 -- ---- the answer
 
@@ -132,5 +128,5 @@ pub record AreLines (inputs : InputsValue) (request : LinesRequest) (text : List
   pub timed : lacks_times request.bounds (times_in account.machine inputs.about) ≡ false
   pub filters : FiltersValue
   pub are_filters : AreFilters request labels account.recording.lines filters
-  pub shown : text ≡ rows_text request.format labels (widest_name labels account.recording.lines)
-      (typed request.bounds (times_in account.machine inputs.about) (account_rows account filters))
+  pub shown : IsRowsText request.format labels
+      (typed request.bounds (times_in account.machine inputs.about) (account_rows account filters)) text

@@ -19,10 +19,10 @@ use Rattle.casebook_cli.specs.declared.exit.Exit.TheVariants as exits
 use Rattle.casebook_folder_cli.specs.FileFaults.{fault_line}
 use Rattle.casebook_recorder_cli.specs.Faults.{fault_line as recorder_line}
 use Rattle.casebook_recording.specs.Refusals.{refusal_words as case_words}
-use Rattle.casebook_cli.specs.declared.searched.SearchedPart.{SearchedPart}
-use Rattle.casebook_cli.specs.declared.searched.SearchedPart.TheVariants.{Text, Outputs}
-use Rattle.casebook_cli.specs.declared.stop.Stop.{Stop}
-use Rattle.casebook_cli.specs.declared.stop.Stop.TheVariants as stops
+use Rattle.casebook_repairs.specs.declared.searched.SearchedPart.{SearchedPart}
+use Rattle.casebook_repairs.specs.declared.searched.SearchedPart.TheVariants.{Text, Outputs}
+use Rattle.casebook_repairs.specs.declared.stop.Stop.{Stop}
+use Rattle.casebook_repairs.specs.declared.stop.Stop.TheVariants as stops
 
 -- ---- in words
 

@@ -4,16 +4,17 @@ use Rattle.std.specs.Option.{unwrap_or}
 use Rattle.retro_keep.specs.Recording.{RecordingValue}
 use Rattle.retro_keep.specs.declared.edit.Edit.{Edit}
 use Rattle.retro_redo.specs.declared.repair.Repair.{Repair}
-use Rattle.casebook_page.specs.Page as pages
+use Rattle.casebook_html.specs.Page as pages
 use Rattle.casebook_page.specs.Told.{page_told}
 use Rattle.casebook_words.specs.declared.labels.Labels.{Labels}
 use Rattle.casebook_view.specs.Sources.{SourceValue}
 use Rattle.casebook_summary.specs.declared.summary.Summary.{Summary}
 use Rattle.casebook_request.specs.Request.{PageRequest}
-use Rattle.casebook_cli.specs.Inputs.{InputsValue}
-use Rattle.casebook_cli.specs.Repairs.{IsAsked}
-use Rattle.casebook_cli.specs.Screens.{IsSummaryOf, asked_source}
-use Rattle.casebook_cli.specs.declared.repairs.AskedRepair.{AskedRepair}
+use Rattle.casebook_repairs.specs.Inputs.{InputsValue}
+use Rattle.casebook_repairs.specs.Repairs.{IsAsked}
+use Rattle.casebook_repairs.specs.Repairs.{asked_source}
+use Rattle.casebook_cli.specs.Screens.{IsSummaryOf}
+use Rattle.casebook_repairs.specs.declared.repairs.AskedRepair.{AskedRepair}
 
 -- The text is a page of a repair by edits of lines from a source, with these names, times and title.
 -- It tells what such a repair would do, and has a row for each line of the recording, but for

@@ -5,7 +5,7 @@ use Rattle.casebook_folder_cli.specs.Folders.{AllFolders}
 use Rattle.casebook_recorder_cli.specs.Spools.{AllSpools}
 use Rattle.casebook_request.specs.Request.{Request, request_in}
 use Rattle.casebook_cli.specs.Answers.{AnswerValue, Answers}
-use Rattle.casebook_cli.specs.Documents.{AllDocuments}
+use Rattle.casebook_repairs.specs.Documents.{AllDocuments}
 use Rattle.retro_edge.specs.Output.{AppendsPart}
 use Rattle.casebook_cli.specs.Stops.{StopsWords}
 use Rattle.casebook_cli.specs.declared.exit.Exit.{Exit}

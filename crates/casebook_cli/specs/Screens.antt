@@ -1,5 +1,5 @@
 -- What a terminal shows of a repair.
-use Rattle.std.specs.Prelude.{◌≡◌, ◌≢◌, None, ℕ, Bool, true, false, List, [], ◌++◌, option_map}
+use Rattle.std.specs.Prelude.{◌≡◌, ◌≢◌, None, ℕ, Bool, true, false, List, [], ◌++◌}
 use Rattle.retro_keep.specs.Recording.{RecordingValue, IsRecordingOf, noted_at}
 use Rattle.retro_keep.specs.Recording as recordings
 use Rattle.retro_keep.specs.declared.edit.Edit.{Edit}
@@ -7,20 +7,18 @@ use Rattle.retro_redo.specs.declared.repair.Repair.{Repair}
 use Rattle.casebook_view.specs.Sources.{SourceValue}
 use Rattle.casebook_summary.specs.Summary.{IsSummary}
 use Rattle.casebook_summary.specs.declared.summary.Summary.{Summary}
-use Rattle.casebook_screen.specs.Detail.{detail_lines}
 use Rattle.casebook_screen.specs.Diffs.{AreDiffs}
-use Rattle.casebook_screen.specs.Summary.{summary_lines}
-use Rattle.casebook_screen.specs.Why.{why_lines}
+use Rattle.casebook_screen.specs.Screen.{IsScreen}
+use Rattle.casebook_screen.specs.Told.{summary_told}
+use Rattle.casebook_screen.specs.Why.{detail_told, whys_told}
 use Rattle.casebook_words.specs.declared.labels.Labels.{Labels}
 use Rattle.casebook_request.specs.Request.{ShowRequest}
 use Rattle.casebook_request.specs.declared.shown.Extras.{Extras}
 use Rattle.casebook_request.specs.declared.shown.ShownPart.{ShownPart}
 use Rattle.casebook_request.specs.declared.shown.ShownPart.TheVariants as parts
-use Rattle.casebook_cli.specs.Inputs.{InputsValue}
-use Rattle.casebook_cli.specs.Labels.{lines_view, source_by}
-use Rattle.casebook_cli.specs.Lines.{widest_name}
-use Rattle.casebook_cli.specs.Repairs.{IsAsked}
-use Rattle.casebook_cli.specs.declared.repairs.AskedRepair.{AskedRepair}
+use Rattle.casebook_repairs.specs.Inputs.{InputsValue}
+use Rattle.casebook_repairs.specs.Repairs.{IsAsked, asked_source}
+use Rattle.casebook_repairs.specs.declared.repairs.AskedRepair.{AskedRepair}
 use Rattle.casebook_cli.specs.Colours.{shown_lines}
 use Rattle.casebook_json.specs.Summary.{summary_text}
 
@@ -34,19 +32,17 @@ pub record IsSummaryOf (source : SourceValue) (edits : List Edit) (r : Recording
   pub checked : summary.is_recording ≡ true → IsRecordingOf (recordings.script_in r) r
 
 -- what is shown of a repair, and how: where the recording's lines come from, the recording, its
--- repair, what that would do, names and times, the width of the column of names, and whether the
--- terminal has colours
+-- repair, what that would do, names and times, and whether the terminal has colours
 pub record ScreenValue : Type 0 where
   pub source : SourceValue
   pub recording : RecordingValue
   pub repair : Repair
   pub summary : Summary
   pub labels : Labels
-  pub width : ℕ
   pub colours : Bool
 
 abbrev pub AreSummaryLines : ScreenValue → List (List ℕ) → Type 0
-AreSummaryLines s lines = lines ≡ summary_lines s.source s.recording s.summary s.labels s.width
+AreSummaryLines s lines = IsScreen (summary_told s.source s.recording s.summary s.labels) lines
 
 -- the same for programs
 abbrev pub IsJson : ScreenValue → List ℕ → Type 0
@@ -57,7 +53,7 @@ IsJson s text = text ≡ summary_text s.summary s.source s.labels
 -- why lines are run again, if that is asked for
 abbrev pub AreWhyLines : Bool → ScreenValue → List (List ℕ) → Type 0
 AreWhyLines false s lines = lines ≡ []
-AreWhyLines true s lines = lines ≡ why_lines s.recording s.repair s.summary s.labels s.width
+AreWhyLines true s lines = IsScreen (whys_told s.recording s.repair s.summary s.labels) lines
 
 -- how files and outputs differ, if that is asked for
 abbrev pub AreDiffLines : Bool → ScreenValue → List (List ℕ) → Type 0
@@ -79,7 +75,9 @@ pub record IsScreenText (extras : Extras) (s : ScreenValue) (text : List ℕ) : 
 -- The text is one line in full, which there is.
 pub record IsLineText (number : ℕ) (s : ScreenValue) (text : List ℕ) : Type 0 where
   pub exists : noted_at number s.recording.lines ≢ None
-  pub is_text : text ≡ shown_lines s.colours (detail_lines s.recording s.repair s.summary s.labels s.width number)
+  pub lines : List (List ℕ)
+  pub are_lines : IsScreen (detail_told s.recording s.repair s.summary s.labels number) lines
+  pub is_text : text ≡ shown_lines s.colours lines
 
 abbrev pub IsTextOf : ShownPart → ScreenValue → List ℕ → Type 0
 IsTextOf (parts.Summary extras) s text = IsScreenText extras s text
@@ -97,13 +95,8 @@ pub record IsShownOf (source : SourceValue) (edits : List Edit) (r : RecordingVa
     repair = repair;
     summary = summary;
     labels = labels;
-    width = widest_name labels r.lines;
     colours = colours;
   }) text
-
--- where the lines of a repair come from that is asked for
-abbrev pub asked_source : AskedRepair → SourceValue
-asked_source asked = source_by (option_map lines_view asked.seen)
 
 -- The text shows the repair of the log or of the case that is asked for.
 pub record IsShown (colours : Bool) (inputs : InputsValue) (request : ShowRequest) (text : List ℕ) : Type 0 where

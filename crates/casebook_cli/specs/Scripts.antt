@@ -6,8 +6,8 @@ use Rattle.casebook_script.specs.declared.fault.Table.{Table}
 use Rattle.casebook_script.specs.declared.fault.Table.TheVariants as tables
 use Rattle.casebook_script.specs.declared.fault.TableFault.{TableFault}
 use Rattle.casebook_script.specs.declared.fault.TableFault.TheVariants as faults
-use Rattle.casebook_cli.specs.Documents.{AllDocuments}
-use Rattle.casebook_cli.specs.Inputs.{DocumentValue, IsDocument}
+use Rattle.casebook_repairs.specs.Documents.{AllDocuments}
+use Rattle.casebook_repairs.specs.Inputs.{DocumentValue, IsDocument}
 
 -- the files of which a script is made
 pub record ScriptInputs : Type 0 where

@@ -4,7 +4,7 @@ use Rattle.retro_path.specs.Path.{PathValue}
 use Rattle.casebook_host.specs.Logins.{LoginValue, logins_in}
 use Rattle.casebook_host.specs.Mounts.{unseen}
 use Rattle.casebook_status.specs.Status.{HostValue}
-use Rattle.casebook_cli.specs.Inputs.{DocumentValue}
+use Rattle.casebook_repairs.specs.Inputs.{DocumentValue}
 
 -- where Linux says what is mounted where, and how
 unfoldable pub mounts_name : List ℕ

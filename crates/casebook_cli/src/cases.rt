@@ -3,24 +3,15 @@ ghost use Rattle.std.specs.Prelude.{IfErr, IfOk};
 ghost use Rattle.casebook_recording.specs.Logs.{IsLogOf};
 ghost use Rattle.casebook_recording.specs.Refusals.{refusal_of};
 ghost use Rattle.casebook_cli.specs.Answers.{Says};
-ghost use Rattle.casebook_cli.specs.Stops.{NamesCase, StopsCase};
-ghost use Rattle.casebook_cli.specs.inner.Views.{answer_view, document_view};
+ghost use Rattle.casebook_repairs.specs.Stops.{NamesCase};
+ghost use Rattle.casebook_cli.specs.Stops.{StopsCase};
+ghost use Rattle.casebook_repairs.specs.Views.{document_view};
+ghost use Rattle.casebook_cli.specs.inner.Views.{answer_view};
 
 use crate::answer::Answer;
-use crate::document::Document;
-use crate::stop::Stop;
 use casebook_recording::{RecordingFault, case_log};
+use casebook_repairs::{Document, Stop, case_stop};
 use std::alloc::Global;
-
-/// Returns why a case has no log.
-pub(crate) fn case_stop<'a>(name: &'a str, fault: &RecordingFault) -> Stop<'a>
-    ensures { NamesCase name.entry.now (refusal_of fault.now) result }
-{
-    match fault.refusal() {
-        Some(refusal) => Stop::BadCase(name, refusal),
-        None => Stop::OutOfMemory,
-    }
-}
 
 /// Returns the log of a case.
 pub(crate) fn case_answer<'a>(alloc: Global, document: &Document<'a>) -> Result<Answer, Stop<'a>>

@@ -11,19 +11,18 @@ ghost use Rattle.casebook_cli.specs.Checks.{IsCheckedScript, IsRefusedAs, IsUnli
 ghost use Rattle.casebook_recording.specs.Refusals.{fault_words};
 ghost use Rattle.casebook_cli.specs.Checks.{SaysNoCase, SaysOf, SaysWhere, counted_text};
 ghost use Rattle.casebook_cli.specs.Checks.{is_for_script, refused_line};
-ghost use Rattle.casebook_place.specs.Place.{IsPlaceInLog, IsPlaceInScript};
+ghost use Rattle.casebook_check.specs.Place.{IsPlaceInLog, IsPlaceInScript};
 ghost use Rattle.casebook_cli.specs.Harmless.{IsHarmless};
-ghost use Rattle.casebook_cli.specs.inner.Views.{document_view};
+ghost use Rattle.casebook_repairs.specs.Views.{document_view};
 
 use crate::NoMem;
 use crate::answer::Answer;
-use crate::document::Document;
 use crate::messages::{about, push_refusal};
 use crate::plain::{plain_line, plain_lines};
 use casebook_account::{Account, AccountFault, Machine, read_account};
-use casebook_check::unlike_lines;
-use casebook_place::{Place, place_in_log, place_in_script, push_place};
+use casebook_check::{Place, place_in_log, place_in_script, push_place, unlike_lines};
 use casebook_recording::RecordingFault;
+use casebook_repairs::Document;
 use casebook_text::SafeLine;
 use casebook_words::Labels;
 use retro_keep::{Recording, Unlike, first_unlike};

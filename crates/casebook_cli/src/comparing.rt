@@ -8,15 +8,11 @@ ghost use Rattle.casebook_cli.specs.Stops.{StopsCompare};
 ghost use Rattle.casebook_cli.specs.inner.Views.{answer_view};
 
 use crate::NoMem;
-use crate::accounts::shown_account;
 use crate::answer::Answer;
-use crate::documents::Documents;
 use crate::plain::plain_lines;
-use crate::progress::{Progress, Step};
-use crate::reading::read_document;
 use crate::snapshots::snapshot_stop;
-use crate::stop::Stop;
 use casebook_folder_cli::{CompareAnswer, Folders, compare_answer};
+use casebook_repairs::{Documents, Progress, Step, Stop, read_document, shown_account};
 use casebook_request::CompareRequest;
 use std::alloc::Global;
 

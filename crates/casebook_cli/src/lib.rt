@@ -8,8 +8,8 @@
 //!
 //! If allocation fails, calls return `NoMem` or [`Stop::OutOfMemory`].
 //!
-//! Start reading at `program.rt`, then `reading.rt` and `answers.rt`. Requests are those of
-//! `request.rt` in `casebook_request`.
+//! Start reading at `program.rt`, then `answers.rt`. Requests are those of `request.rt` in
+//! `casebook_request`, and the repairs that they ask for those of `casebook_repairs`.
 //!
 //! # What is proved
 //!
@@ -17,9 +17,9 @@
 //!   documents that they name [`runs`, by `Answers` of `specs/Answers.antt`]. What words ask for is
 //!   an equation (`request_in` of `casebook_request`).
 //! - `lines` is answered by the rows of exactly those lines of the log that pass the filters and
-//!   were typed between the bounds, in order, as text, as a table or as a list of numbers: an
-//!   equation [by `AreLines`]. A pattern is one that the text of its option is read as, with `^`
-//!   and `$` as the ends of a line. A line was typed between bounds if the last row that the
+//!   were typed between the bounds, in order: as text that tells each row's values, or as a table or
+//!   a list of numbers, an equation each [by `AreLines`]. A pattern is one that the text of its
+//!   option is read as, with `^` and `$` as the ends of a line. A line was typed between bounds if the last row that the
 //!   document with times has of it says so; a last bound without seconds is the last second of its
 //!   minute or of its day. A name that is of no line's session is refused [`no_user`], and so is a
 //!   time where no line has one [`no_times`].
@@ -62,21 +62,13 @@
 //!   characters are harmless, as it is a `SafeLine`. What `help` says is a constant.
 #![tactic(auto)]
 
-mod accounts;
 mod answer;
 mod answers;
-mod attributes;
 mod cases;
 mod checks;
 mod colours;
 mod comparing;
-mod document;
-mod documents;
 mod exit;
-mod inputs;
-mod knowledge;
-mod labels;
-mod line_lists;
 mod line_tests;
 mod lines_answer;
 mod messages;
@@ -84,28 +76,24 @@ mod pages;
 mod patterns;
 mod plain;
 mod program;
-mod progress;
-mod reading;
 mod recorder;
-mod repairs;
 mod restores;
 mod rows_text;
 mod screens;
 mod scripts;
-mod searched;
 mod snapshots;
 mod status;
-mod stop;
 mod style;
+mod summaries;
 mod typed;
 
-pub use documents::{Documents, ReadFault};
 pub use exit::Exit;
 pub use program::run_with;
-pub use progress::{Progress, Step};
-pub use searched::SearchedPart;
-pub use stop::Stop;
 
+/// What the program reads, and whom it tells how far it is.
+pub use casebook_repairs::{Documents, Progress, ReadFault, Step};
+/// Why there is no answer.
+pub use casebook_repairs::{SearchedPart, Stop};
 /// What is wrong with a command line.
 pub use casebook_request::Problem;
 /// What the answer is written to.

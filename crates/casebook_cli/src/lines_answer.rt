@@ -5,27 +5,25 @@ ghost use Rattle.casebook_about.specs.Rows.{time_view};
 ghost use Rattle.casebook_view.specs.Rows.{row_value};
 ghost use Rattle.casebook_request.specs.Views.{lines_view};
 ghost use Rattle.casebook_cli.specs.Harmless.{IsHarmless};
-ghost use Rattle.casebook_cli.specs.Labels.{seen_by, source_by};
+ghost use Rattle.casebook_repairs.specs.Labels.{seen_by, source_by};
 ghost use Rattle.casebook_cli.specs.Lines.{AreLines, HasUser, is_named};
 ghost use Rattle.casebook_cli.specs.Lines.{sessions_named, user_tests, with_number};
 ghost use Rattle.casebook_cli.specs.Tests.{of_sessions, test_view};
 ghost use Rattle.casebook_cli.specs.Stops.{StopsLines, StopsUser};
 ghost use Rattle.casebook_cli.specs.Typed.{lacks_times};
-ghost use Rattle.casebook_cli.specs.inner.Views.{AreAskedRows, inputs_view};
+ghost use Rattle.casebook_repairs.specs.Views.{inputs_view};
+ghost use Rattle.casebook_cli.specs.inner.Views.{AreAskedRows};
 
 use crate::NoMem;
-use crate::accounts::{seen_by, shown_account, source_by};
-use crate::inputs::Inputs;
-use crate::knowledge::Knowledge;
-use crate::labels::known_of;
 use crate::line_tests::tests_of;
 use crate::patterns::Patterns;
 use crate::rows_text::{rows_text, widest_name};
-use crate::stop::Stop;
 use crate::typed::typed_rows;
 use casebook_about::LineTime;
 use casebook_account::Account;
+use casebook_repairs::{Inputs, Knowledge, Stop, known_of, seen_by, shown_account, source_by};
 use casebook_request::{Bounds, LinesRequest, Problem};
+use casebook_screen::Names;
 use casebook_view::{LineRow, LineTest, rows};
 use casebook_words::Labels;
 use retro_keep::Noted;
@@ -163,6 +161,9 @@ pub(crate) fn lines_text<'a>(
     }
     let format = request.format;
     let found = asked_rows(alloc, &account, &known, &patterns, request)?;
-    let width = widest_name(alloc, &known.labels, account.recording.lines())?;
-    Ok(rows_text(alloc, found.as_slice(), &known.labels, width, format)?)
+    let names = Names {
+        labels: &known.labels,
+        width: widest_name(alloc, &known.labels, account.recording.lines())?,
+    };
+    Ok(rows_text(alloc, found.as_slice(), names, format)?)
 }

@@ -11,9 +11,8 @@ ghost use Rattle.casebook_cli.specs.Messages.{said_of, searched_words, stop_mess
 
 use crate::NoMem;
 use crate::exit::Exit;
-use crate::searched::SearchedPart;
-use crate::stop::Stop;
 use casebook_about::{AboutFault, Part as AboutPart};
+use casebook_repairs::{SearchedPart, Stop};
 use casebook_text::{ItemFault, ListFault, SafeLine};
 use retro_log::{Part, Refusal};
 use std::alloc::Global;

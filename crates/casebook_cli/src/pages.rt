@@ -1,12 +1,13 @@
 //! Pages of repairs.
 ghost use Rattle.std.specs.Prelude.{IfOk, string_bytes};
 ghost use Rattle.casebook_cli.specs.Pages.{IsPageOf};
-ghost use Rattle.casebook_cli.specs.Screens.{asked_source};
+ghost use Rattle.casebook_repairs.specs.Repairs.{asked_source};
 ghost use Rattle.casebook_view.specs.Lines.{LinesMatch};
 
 use crate::NoMem;
-use crate::repairs::{AskedRepair, summary_of};
+use crate::summaries::summary_of;
 use casebook_page::{Contents, page};
+use casebook_repairs::AskedRepair;
 use casebook_view::Case;
 use casebook_words::Labels;
 use std::alloc::Global;

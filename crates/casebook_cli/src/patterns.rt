@@ -8,8 +8,7 @@ ghost use Rattle.casebook_cli.specs.Stops.{StopsPattern, StopsPatterns};
 ghost use Rattle.casebook_cli.specs.inner.Views.{filters_by};
 
 use crate::NoMem;
-use crate::searched::SearchedPart;
-use crate::stop::Stop;
+use casebook_repairs::{SearchedPart, Stop};
 use casebook_request::LinesRequest;
 use casebook_view::{Filters, LineTest};
 use regex::bytes::{Matcher, Regex};

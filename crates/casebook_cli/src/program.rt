@@ -11,12 +11,10 @@ ghost use Rattle.casebook_cli.specs.declared.exit.Exit.TheVariants as exits;
 
 use crate::answer::Answer;
 use crate::answers::answer;
-use crate::documents::Documents;
 use crate::exit::Exit;
-use crate::progress::{Progress, Step};
-use crate::stop::Stop;
 use casebook_folder_cli::Folders;
 use casebook_recorder_cli::Spools;
+use casebook_repairs::{Documents, Progress, Step, Stop};
 use casebook_request::{Request, WordsFault, read_words};
 use retro_edge::Output;
 use std::alloc::{AllocGlobal, Global};

@@ -6,11 +6,11 @@ ghost use Rattle.casebook_cli.specs.Stops.{NamesSpool, StopsImport, StopsObserve
 ghost use Rattle.casebook_cli.specs.inner.Views.{answer_view};
 
 use crate::answer::Answer;
-use crate::stop::Stop;
 use casebook_recorder_cli::{
     ImportRequest, ObserveRequest, RecorderFault, Spools, StartRequest, import_in, observe_in,
     start_in,
 };
+use casebook_repairs::Stop;
 use std::alloc::Global;
 
 /// Returns why there is no spool with a name, why it didn't take a record, or why it has no case.

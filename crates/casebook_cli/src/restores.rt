@@ -11,16 +11,13 @@ ghost use Rattle.casebook_cli.specs.inner.Views.{answer_view};
 
 use crate::NoMem;
 use crate::answer::Answer;
-use crate::attributes::known_attributes;
-use crate::documents::Documents;
 use crate::plain::plain_lines;
-use crate::progress::Progress;
-use crate::reading::read_inputs;
-use crate::repairs::{AskedRepair, asked_repair};
-use crate::stop::Stop;
 use casebook_folder_cli::{
     Folders, RepairedTree, RestoreAnswer, RestoreFault, RestoreRequest, UndoRequest,
     restore_answer, undo_answer,
+};
+use casebook_repairs::{
+    AskedRepair, Documents, Progress, Stop, asked_repair, known_attributes, read_inputs,
 };
 use casebook_request::{FolderRepair, RepairRequest, repair_sources};
 use casebook_text::SafeLine;

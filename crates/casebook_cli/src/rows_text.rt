@@ -2,13 +2,12 @@
 ghost use Rattle.std.specs.Prelude.{◌≡◌, IfOk, map, string_bytes};
 ghost use Rattle.casebook_view.specs.Rows.{row_value};
 ghost use Rattle.casebook_cli.specs.Harmless.{IsHarmless};
-ghost use Rattle.casebook_cli.specs.Lines.{numbers_text, rows_text, shown_text, table_text};
-ghost use Rattle.casebook_cli.specs.Lines.{widest_name};
+ghost use Rattle.casebook_cli.specs.Lines.{IsRowsText, IsShownText, numbers_text, table_text};
 
 use crate::NoMem;
 use crate::plain::{plain_line, plain_lines, plain_rows};
 use casebook_request::Format;
-use casebook_screen::{row_lines, row_numbers, row_table};
+use casebook_screen::{Names, row_lines, row_numbers, row_table};
 use casebook_text::list_of_numbers;
 use casebook_view::LineRow;
 use casebook_words::Labels;
@@ -20,9 +19,7 @@ pub(crate) fn widest_name(
     alloc: Global,
     labels: &Labels,
     lines: &[(u32, Noted)],
-) -> Result<usize, NoMem>
-    ensures { IfOk result (λ width. width ≡ widest_name labels.now lines.now) }
-{
+) -> Result<usize, NoMem> {
     let mut width = 0_usize;
     for line in lines {
         width = width.max(labels.name_of(alloc, line.1.sid)?.width());
@@ -31,17 +28,12 @@ pub(crate) fn widest_name(
 }
 
 /// Returns rows as the lines that a terminal shows.
-fn shown_text(
-    alloc: Global,
-    rows: &[LineRow<'_>],
-    labels: &Labels,
-    width: usize,
-) -> Result<String, NoMem>
-    ensures value { IfOk result (λ text. string_bytes text
-        ≡ shown_text labels.now width (map row_value rows.now)) }
+fn shown_text(alloc: Global, rows: &[LineRow<'_>], names: Names<'_>) -> Result<String, NoMem>
+    ensures value { IfOk result (λ text. IsShownText names.entry.labels.now
+        (map row_value rows.now) (string_bytes text)) }
     ensures harmless { IfOk result (λ text. IsHarmless (string_bytes text)) }
 {
-    let lines = row_lines(alloc, rows, labels, width)?;
+    let lines = row_lines(alloc, rows, names)?;
     plain_lines(alloc, lines.as_slice())
 }
 
@@ -66,21 +58,20 @@ fn numbers_text(alloc: Global, rows: &[LineRow<'_>]) -> Result<String, NoMem>
     plain_line(alloc, list_of_numbers(alloc, numbers.as_slice())?)
 }
 
-/// Returns rows in a format. `width` is that of the column of names.
+/// Returns rows in a format.
 pub(crate) fn rows_text(
     alloc: Global,
     rows: &[LineRow<'_>],
-    labels: &Labels,
-    width: usize,
+    names: Names<'_>,
     format: Format,
 ) -> Result<String, NoMem>
-    ensures value { IfOk result (λ text. string_bytes text
-        ≡ rows_text format labels.now width (map row_value rows.now)) }
+    ensures value { IfOk result (λ text. IsRowsText format names.entry.labels.now
+        (map row_value rows.now) (string_bytes text)) }
     ensures harmless { IfOk result (λ text. IsHarmless (string_bytes text)) }
 {
     match format {
-        Format::Text => shown_text(alloc, rows, labels, width),
-        Format::Tsv => table_text(alloc, rows, labels),
+        Format::Text => shown_text(alloc, rows, names),
+        Format::Tsv => table_text(alloc, rows, names.labels),
         Format::Numbers => numbers_text(alloc, rows),
     }
 }

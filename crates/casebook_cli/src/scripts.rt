@@ -9,13 +9,10 @@ ghost use Rattle.casebook_cli.specs.Stops.{NamesFault, StopsScript};
 ghost use Rattle.casebook_cli.specs.inner.Views.{answer_view, files_view};
 
 use crate::answer::Answer;
-use crate::document::Document;
-use crate::documents::Documents;
-use crate::reading::read_document;
-use crate::stop::Stop;
 use casebook_folder_cli::{
     FileFault, Folders, ScriptFault, ScriptParts, ScriptRequest, script_answer,
 };
+use casebook_repairs::{Document, Documents, Stop, read_document};
 use casebook_script::{Table, TableFault};
 use std::alloc::Global;
 

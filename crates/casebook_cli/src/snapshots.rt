@@ -8,10 +8,8 @@ ghost use Rattle.casebook_cli.specs.Stops.{NamesSource, StopsSnapshot};
 ghost use Rattle.casebook_cli.specs.inner.Views.{answer_view};
 
 use crate::answer::Answer;
-use crate::documents::Documents;
-use crate::progress::Progress;
-use crate::stop::Stop;
 use casebook_folder_cli::{Folders, SnapshotRequest, SourceFault, snapshot_answer};
+use casebook_repairs::{Documents, Progress, Stop};
 use std::alloc::Global;
 
 /// Returns why there is no snapshot of the folder or the file with a name.

@@ -1,3 +1,1 @@
-pub mod SafeTexts
 pub mod SessionLemmas
-pub mod Harmless

@@ -1,7 +1,3 @@
-pub mod Template
-pub mod Safe
-pub mod Page
 pub mod Told
 pub mod Views
-pub mod Harmless
 pub mod inner

@@ -1,9 +1,7 @@
 -- What a page tells of a repair: its pieces that say something, in order.
-use Rattle.std.specs.Prelude.{ℕ, zero, ◌==◌, Bool, true, false, not, ◌&&◌, ◌||◌, List, [], ◌∷◌, ◌++◌, codes, count_by}
-use Rattle.std.specs.Prelude.{Option, Some, None, flat_map, if◌then◌else◌, is_none, is_some, length, map, nat_le}
-use Rattle.std.specs.BTreeSet.{insert_key}
-use Rattle.std.specs.List.{filter, filter_map, fold}
-use Rattle.std.specs.Ordering.{nat_cmp}
+use Rattle.std.specs.Prelude.{ℕ, ◌==◌, Bool, true, false, not, ◌&&◌, ◌||◌, List, [], ◌∷◌, ◌++◌, codes}
+use Rattle.std.specs.Prelude.{Option, Some, None, flat_map, if◌then◌else◌, is_none, length, map, nat_le}
+use Rattle.std.specs.List.{filter, filter_map}
 use Rattle.retro_tree.specs.Order.{path_eq, text_eq}
 use Rattle.retro_tree.specs.Path.{PathValue}
 use Rattle.retro_keep.specs.Recording.{RecordingValue, noted_at}
@@ -15,11 +13,11 @@ use Rattle.casebook_profile.specs.declared.unknown_line.UnknownLine.{UnknownLine
 use Rattle.casebook_text.specs.SafeLine.{safe_bytes, word_bytes}
 use Rattle.casebook_usage.specs.declared.obstacle.Obstacle.{Obstacle}
 use Rattle.casebook_usage.specs.declared.obstacle.Obstacle.TheVariants as obstacles
-use Rattle.casebook_view.specs.CaseLines.{fate_at, line_at, line_number, obstacle_in}
+use Rattle.casebook_view.specs.CaseLines.{fate_at, line_at, obstacle_in}
 use Rattle.casebook_view.specs.Fates.{fate_eq, session_in}
 use Rattle.casebook_view.specs.FirstOfEach.{first_of_each}
 use Rattle.casebook_view.specs.NotePaths.{read_path, write_eq, write_in}
-use Rattle.casebook_view.specs.OtherAnswers.{AnswersValue, answers_of}
+use Rattle.casebook_view.specs.OtherAnswers.{answers_of}
 use Rattle.casebook_view.specs.Reasons.{chain_of}
 use Rattle.casebook_view.specs.Sources.{SeenValue, SourceValue, Played, Seen}
 use Rattle.casebook_view.specs.declared.case_line.CaseLine.{CaseLine}
@@ -29,32 +27,27 @@ use Rattle.casebook_view.specs.declared.path_write.PathWrite.{PathWrite}
 use Rattle.casebook_view.specs.declared.path_write.WriteKind.{WriteKind}
 use Rattle.casebook_view.specs.declared.path_write.WriteKind.TheVariants as writes
 use Rattle.casebook_view.specs.declared.reason.Reason.{Reason}
-use Rattle.casebook_view.specs.declared.why.Why.{Why}
-use Rattle.casebook_view.specs.declared.why.Why.TheVariants.{Query, Replaced, RunAgain}
-use Rattle.casebook_summary.specs.Counts.{count_of}
+use Rattle.casebook_summary.specs.Counts.{count_changed, count_of, numbers_with, sessions_of, sessions_told, unknown_cancelled}
 use Rattle.casebook_summary.specs.Effects.{EffectValue, effect_value}
+use Rattle.casebook_summary.specs.Words.{obstacle_words, played_words, subject_words, why_words}
 use Rattle.casebook_summary.specs.declared.group.Group.{Group}
-use Rattle.casebook_summary.specs.declared.notice.Notice.{Notice}
 use Rattle.casebook_summary.specs.declared.restoration.Extent.{Extent}
 use Rattle.casebook_summary.specs.declared.restoration.Extent.TheVariants as extents
 use Rattle.casebook_summary.specs.declared.restoration.Restoration.{Restoration}
-use Rattle.casebook_summary.specs.declared.subject.Subject.{Subject}
-use Rattle.casebook_summary.specs.declared.subject.Subject.TheVariants as subjects
 use Rattle.casebook_summary.specs.declared.summary.Summary.{Summary}
-use Rattle.casebook_words.specs.Difference.{difference_words}
 use Rattle.casebook_words.specs.Labels.{name_words, time_words}
-use Rattle.casebook_words.specs.Obstacles.{obstacle_text, obstacles_text}
-use Rattle.casebook_words.specs.Words.{path_words, query_words}
+use Rattle.casebook_words.specs.Obstacles.{obstacle_text}
+use Rattle.casebook_words.specs.Words.{path_words}
 use Rattle.casebook_words.specs.declared.labels.Labels.{Labels}
-use Rattle.casebook_page.specs.declared.number_tag.NumberTag.{NumberTag}
-use Rattle.casebook_page.specs.declared.number_tag.NumberTag.TheVariants as numbered
-use Rattle.casebook_page.specs.declared.piece.Piece.{Piece}
-use Rattle.casebook_page.specs.declared.piece.Piece.TheVariants.{Anchor, Fixed, Link, Number, Output, Row, Text}
-use Rattle.casebook_page.specs.declared.row_class.RowClass.{RowClass}
-use Rattle.casebook_page.specs.declared.row_class.RowClass.TheVariants as classes
-use Rattle.casebook_page.specs.declared.run.Run.TheVariants.{Recorded, Repaired}
-use Rattle.casebook_page.specs.declared.tag.Tag.{Tag}
-use Rattle.casebook_page.specs.declared.tag.Tag.TheVariants as tags
+use Rattle.casebook_html.specs.declared.number_tag.NumberTag.{NumberTag}
+use Rattle.casebook_html.specs.declared.number_tag.NumberTag.TheVariants as numbered
+use Rattle.casebook_html.specs.declared.piece.Piece.{Piece}
+use Rattle.casebook_html.specs.declared.piece.Piece.TheVariants.{Anchor, Fixed, Link, Number, Output, Row, Text}
+use Rattle.casebook_html.specs.declared.row_class.RowClass.{RowClass}
+use Rattle.casebook_html.specs.declared.row_class.RowClass.TheVariants as classes
+use Rattle.casebook_html.specs.declared.run.Run.TheVariants.{Recorded, Repaired}
+use Rattle.casebook_html.specs.declared.tag.Tag.{Tag}
+use Rattle.casebook_html.specs.declared.tag.Tag.TheVariants as tags
 
 -- what a page is about
 pub record ContentsValue : Type 0 where
@@ -115,18 +108,6 @@ sign_of _ = tags.SignUnknown
 abbrev pub title_told : List ℕ → List Piece
 title_told title = Text (safe_bytes title) ∷ Text (safe_bytes title) ∷ []
 
--- the sessions that ran lines, and those that are told something, each once
-abbrev pub sessions_of : List CaseLine → List ℕ
-sessions_of lines = fold (λ sessions line. insert_key nat_cmp sessions line.session) [] lines
-
-abbrev pub sessions_told : List Notice → List ℕ
-sessions_told notices = fold (λ sessions notice. insert_key nat_cmp sessions notice.session) [] notices
-
--- of lines that were played: whether the log is as its lines run
-abbrev pub played_told : Bool → List Piece
-played_told true = said (codes "Played in Retro's shell. Whether the machine did the same isn't known.")
-played_told false = said (codes "The log isn't as its lines run: what was recorded is only what its notes say.")
-
 -- of lines that a recorder saw: how many stand as they were observed, which ones are in doubt, and
 -- what isn't known
 abbrev pub observed_told : ℕ → List Piece
@@ -139,7 +120,7 @@ seen_told seen =
     ++ map Number seen.incomplete ++ map (λ folder. Text (word_bytes folder)) seen.unseen
 
 abbrev pub basis_told : SourceValue → Bool → List Piece
-basis_told Played is_recording = played_told is_recording
+basis_told Played is_recording = said (played_words is_recording)
 basis_told (Seen seen) is_recording = seen_told seen
 
 -- how many lines aren't understood or have to be run for real, if some do
@@ -164,27 +145,10 @@ lead_told c = counts_told c.summary ++ rests_told c
 
 -- ---- lines that aren't understood or have to be run for real
 
-abbrev pub is_unknown_cancelled : CaseLine → Bool
-is_unknown_cancelled line = fate_eq line.fate fates.Cancelled && is_some line.obstacle
-
 -- how many of them are cancelled, of lines that were played
 abbrev pub missing_told : SourceValue → List CaseLine → List Piece
-missing_told Played lines = Number (count_by is_unknown_cancelled lines) ∷ []
+missing_told Played lines = Number (unknown_cancelled lines) ∷ []
 missing_told (Seen seen) lines = []
-
-abbrev pub obstacle_eq : Obstacle → Obstacle → Bool
-obstacle_eq obstacles.Command obstacles.Command = true
-obstacle_eq obstacles.Form obstacles.Form = true
-obstacle_eq obstacles.Expansion obstacles.Expansion = true
-obstacle_eq obstacles.Terminal obstacles.Terminal = true
-obstacle_eq obstacles.Observed obstacles.Observed = true
-obstacle_eq obstacles.Need obstacles.Need = true
-obstacle_eq _ _ = false
-
--- the numbers of the lines with an obstacle, in order
-abbrev pub numbers_with : Obstacle → List UnknownLine → List ℕ
-numbers_with obstacle unknown =
-    map (λ line. line.number) (filter (λ line. obstacle_eq line.obstacle obstacle) unknown)
 
 -- whether a line with a fate has a row
 abbrev pub has_row : Bool → Option Fate → Bool
@@ -195,14 +159,11 @@ has_row untouched (Some fate) = untouched || not (fate_eq fate fates.Untouched)
 abbrev pub number_told : ContentsValue → ℕ → Piece
 number_told c n = if has_row (shows_untouched c) (fate_at n c.summary.lines) then link_told n else Number n
 
-abbrev pub obstacle_said : Obstacle → ℕ → List ℕ
-obstacle_said obstacle count = if count == 1 then obstacle_text obstacle else obstacles_text obstacle
-
 -- how many lines have an obstacle, the obstacle, and all these lines; nothing if there are none
 abbrev pub numbered_told : ContentsValue → Obstacle → List ℕ → List Piece
 numbered_told c obstacle [] = []
 numbered_told c obstacle (n ∷ numbers) =
-    Number (length (n ∷ numbers)) ∷ Text (obstacle_said obstacle (length (n ∷ numbers)))
+    Number (length (n ∷ numbers)) ∷ Text (obstacle_words obstacle (length (n ∷ numbers)))
     ∷ map (number_told c) (n ∷ numbers)
 
 abbrev pub with_told : ContentsValue → Obstacle → List Piece
@@ -301,15 +262,6 @@ effects_told c =
 
 -- ---- paths to restore
 
-abbrev pub change_eq : PathChange → PathChange → Bool
-change_eq changes.Added changes.Added = true
-change_eq changes.Removed changes.Removed = true
-change_eq changes.Modified changes.Modified = true
-change_eq _ _ = false
-
-abbrev pub count_changed : List Restoration → PathChange → ℕ
-count_changed rs change = count_by (λ r. change_eq r.change change) rs
-
 abbrev pub row_of : PathChange → Tag
 row_of changes.Modified = tags.Modified
 row_of changes.Added = tags.Added
@@ -361,24 +313,13 @@ restore_told source summary =
 
 -- ---- whom to tell
 
-abbrev pub variable_said : List ℕ → List ℕ
-variable_said name = codes "the variable " ++ word_bytes name
-
-abbrev pub subject_told : Subject → List Piece
-subject_told (subjects.At path) = path_told path ∷ []
-subject_told subjects.Directory = said (codes "the directory")
-subject_told (subjects.Variable name) = said (variable_said name)
-subject_told subjects.Status = said (codes "the status")
-subject_told subjects.Text = said (codes "a replaced line")
-subject_told subjects.Again = said (codes "run again with all others")
-
 abbrev pub first_of : List ℕ → ℕ
 first_of [] = 0
 first_of (n ∷ numbers) = n
 
 -- how many lines, and what they are about
 abbrev pub subject_head : Group → List Piece
-subject_head g = Number (length g.lines.items) ∷ subject_told g.subject
+subject_head g = Number (length g.lines.items) ∷ Text (subject_words g.subject) ∷ []
 
 -- which lines, and the text of the first
 abbrev pub lines_of_group : RecordingValue → Group → List Piece
@@ -450,17 +391,6 @@ mark_told (Some obstacle) = Fixed (sign_of obstacle) ∷ []
 abbrev pub remark_told : Option Obstacle → List Piece
 remark_told None = []
 remark_told (Some obstacle) = Fixed (sign_of obstacle) ∷ Text (obstacle_text obstacle) ∷ []
-
--- why a line is run again: its text is replaced; a query has another answer; or all lines are run
--- again
-abbrev pub failing_words : Option AnswersValue → List ℕ
-failing_words None = []
-failing_words (Some found) = query_words found.ask ++ difference_words found.recorded found.repaired
-
-abbrev pub why_words : Why → Option AnswersValue → List ℕ
-why_words Replaced found = codes "its text is replaced"
-why_words (Query i) found = failing_words found
-why_words RunAgain found = codes "run again with all others"
 
 -- why a line is run again, and the chain of lines that it comes from
 abbrev pub why_told : ContentsValue → ℕ → Option Reason → List Piece

@@ -2,9 +2,8 @@
 ghost use Rattle.std.specs.Prelude.{◌≡◌, OnOk};
 
 use crate::NoMem;
-use crate::html::Html;
-use crate::tag::Tag;
 use crate::text_line::{Form, TextLine};
+use casebook_html::{Html, Tag};
 use casebook_text::SafeLine;
 use casebook_words::push_count;
 use std::alloc::Global;

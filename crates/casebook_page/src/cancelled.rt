@@ -4,17 +4,16 @@ ghost use Rattle.std.specs.Option.{option_copied};
 ghost use Rattle.casebook_summary.specs.Effects.{effect_value};
 ghost use Rattle.casebook_page.specs.Told.{detail_told, effect_told, effects_told, inside_told, leak_told};
 ghost use Rattle.casebook_page.specs.Told.{leaked_told, led_count, led_told, link_of, path_told};
-ghost use Rattle.casebook_page.specs.declared.piece.Piece.TheVariants.{Link};
+ghost use Rattle.casebook_html.specs.declared.piece.Piece.TheVariants.{Link};
 ghost use Rattle.casebook_page.specs.Views.{contents_view};
 
 use crate::NoMem;
 use crate::contents::Contents;
-use crate::html::Html;
 use crate::pair::push_output;
 use crate::shown::{
     push_command, push_fated_links, push_link, push_none, push_owner, push_paths, push_sign,
 };
-use crate::tag::Tag;
+use casebook_html::{Html, Tag};
 use casebook_summary::Effect;
 use casebook_view::{CaseLine, Fate, Obstacle, Source};
 use retro_keep::Noted;

@@ -1,6 +1,6 @@
 //! Pages of repairs.
 ghost use Rattle.std.specs.Prelude.{◌≡◌, ◌++◌, IfOk, OnOk, string_bytes};
-ghost use Rattle.casebook_page.specs.Page.{IsPage};
+ghost use Rattle.casebook_html.specs.Page.{IsPage};
 ghost use Rattle.casebook_page.specs.Told.{front_told, page_told, rows_told};
 ghost use Rattle.casebook_page.specs.Views.{contents_view};
 
@@ -8,13 +8,13 @@ use crate::NoMem;
 use crate::cancelled::push_cancelled;
 use crate::contents::Contents;
 use crate::head::{push_head, push_key, push_lead};
-use crate::html::Html;
-use crate::overview::{push_overview, sessions_of};
+use crate::overview::push_overview;
 use crate::restore::push_restore;
 use crate::row::Rows;
-use crate::tag::Tag;
 use crate::tell::push_tell;
 use crate::unknown::push_unknown;
+use casebook_html::{Html, Tag};
+use casebook_summary::sessions_of;
 use std::alloc::Global;
 use std::collections::{BTreeMap, BTreeSet};
 

@@ -2,27 +2,25 @@
 ghost use Rattle.std.specs.Prelude.{◌≡◌, ◌++◌, ◌∷◌, [], IfOk, IsTrue, OnOk, length, map};
 ghost use Rattle.casebook_text.specs.SafeLine.{safe_bytes, word_bytes};
 ghost use Rattle.casebook_view.specs.Sources.{seen_view, source_view};
-ghost use Rattle.casebook_page.specs.Page.{is_words};
+ghost use Rattle.casebook_summary.specs.Counts.{sessions_told};
+ghost use Rattle.casebook_summary.specs.Words.{played_words};
+ghost use Rattle.casebook_html.specs.Page.{is_words};
 ghost use Rattle.casebook_page.specs.Told.{basis_told, box_of, box_told, counts_told, key_told, lead_told};
-ghost use Rattle.casebook_page.specs.Told.{link_told, observed_told, played_told, seen_told};
-ghost use Rattle.casebook_page.specs.Told.{rests_told, sessions_told, title_told};
+ghost use Rattle.casebook_page.specs.Told.{link_told, observed_told, said, seen_told};
+ghost use Rattle.casebook_page.specs.Told.{rests_told, title_told};
 ghost use Rattle.casebook_page.specs.Views.{contents_view};
-ghost use Rattle.casebook_page.specs.declared.piece.Piece.TheVariants.{Fixed, Number, Text as Told};
+ghost use Rattle.casebook_html.specs.declared.piece.Piece.TheVariants.{Fixed, Number, Text as Told};
 
 use crate::NoMem;
 use crate::contents::Contents;
-use crate::html::Html;
-use crate::number_tag::NumberTag;
-use crate::overview::count_sessions;
 use crate::shown::push_links;
-use crate::tag::Tag;
 use crate::unknown::push_unknown_link;
-use casebook_summary::{Notice, Summary};
+use casebook_html::{Html, NumberTag, Tag};
+use casebook_summary::{Notice, Summary, played_words, sessions_of, sessions_told};
 use casebook_text::SafeLine;
 use casebook_view::{Fate, Seen, Source};
 use retro_tree::Text;
 use std::alloc::Global;
-use std::collections::BTreeSet;
 
 /// Returns the title as a line.
 fn title_line(alloc: Global, title: &str) -> Result<SafeLine, NoMem>
@@ -50,25 +48,14 @@ pub(crate) fn push_head(
     html.fixed(Tag::Header)
 }
 
-/// Returns how many sessions ran lines that are told about.
-fn count_told(alloc: Global, notices: &[Notice]) -> Result<usize, NoMem>
-    ensures { IfOk result (λ count. count ≡ length (sessions_told notices.now)) }
-{
-    let mut sessions = BTreeSet::new(alloc);
-    for notice in notices {
-        sessions.insert(notice.session)?;
-    }
-    Ok(sessions.len())
-}
-
 /// Appends how many sessions would have seen something else, on how many screens.
 fn push_told(html: &mut Html, alloc: Global, notices: &[Notice]) -> Result<(), NoMem>
     ensures { OnOk result (html.new ≡ html.old
         ++ Number (length (sessions_told notices.now)) ∷ Number (length notices.now) ∷ []) }
 {
-    let sessions = count_told(alloc, notices)?;
+    let sessions = sessions_told(alloc, notices)?;
     html.fixed(Tag::Strong)?;
-    html.count(sessions, "session")?;
+    html.count(sessions.len(), "session")?;
     html.fixed(Tag::StrongEnd)?;
     html.words(" would have seen something else on ")?;
     html.fixed(Tag::Strong)?;
@@ -182,22 +169,12 @@ fn push_seen(html: &mut Html, alloc: Global, seen: Seen<'_>) -> Result<(), NoMem
     push_unseen(html, alloc, seen.unseen)
 }
 
-/// Appends whether a log of lines that were played is as its lines run.
+/// Appends what an answer about lines rests on that were played.
 fn push_played(html: &mut Html, alloc: Global, is_recording: bool) -> Result<(), NoMem>
-    ensures { OnOk result (html.new ≡ html.old ++ played_told is_recording) }
+    ensures { OnOk result (html.new ≡ html.old ++ said (played_words is_recording)) }
 {
     html.words(". ")?;
-    if is_recording {
-        html.said(
-            alloc,
-            "Played in Retro's shell. Whether the machine did the same isn't known.",
-        )
-    } else {
-        html.said(
-            alloc,
-            "The log isn't as its lines run: what was recorded is only what its notes say.",
-        )
-    }
+    html.said(alloc, played_words(is_recording))
 }
 
 /// Appends how the log came about: from a machine, by playing its lines, or otherwise.
@@ -225,7 +202,7 @@ fn push_rests(html: &mut Html, alloc: Global, contents: Contents<'_, '_>) -> Res
     let source = contents.case.source();
     html.count(lines.len(), "line")?;
     html.words(" of ")?;
-    html.count(count_sessions(alloc, lines)?, "session")?;
+    html.count(sessions_of(alloc, lines)?.len(), "session")?;
     push_basis(html, alloc, source, contents.summary.is_recording)?;
     push_unknown_link(html, source, contents.summary.unknown.as_slice())
 }

@@ -4,11 +4,9 @@ ghost use Rattle.casebook_page.specs.Told.{heads_told, is_written, lines_told, n
 ghost use Rattle.casebook_page.specs.Views.{contents_view};
 
 use crate::NoMem;
-use crate::html::Html;
-use crate::number_tag::NumberTag;
 use crate::row::Rows;
 use crate::shown::push_name;
-use crate::tag::Tag;
+use casebook_html::{Html, NumberTag, Tag};
 use casebook_text::SafeLine;
 use casebook_view::{CaseLine, Fate};
 use std::collections::BTreeSet;

@@ -1,19 +1,17 @@
 //! The overview of a page: a row of ticks for each session.
-ghost use Rattle.std.specs.Prelude.{◌≡◌, ◌++◌, IfOk, OnOk, flat_map, length, map};
-ghost use Rattle.casebook_page.specs.Told.{overview_told, session_told, sessions_of, tick_told};
+ghost use Rattle.std.specs.Prelude.{◌≡◌, ◌++◌, OnOk, flat_map, map};
+ghost use Rattle.casebook_page.specs.Told.{overview_told, session_told, tick_told};
 ghost use Rattle.casebook_page.specs.Views.{contents_view};
 ghost use Rattle.casebook_page.specs.inner.SessionLines.{AreBySession};
 
 use crate::NoMem;
 use crate::contents::Contents;
-use crate::html::Html;
-use crate::number_tag::NumberTag;
 use crate::session_lines::{Placed, SessionLines};
 use crate::shown::push_name;
-use crate::tag::Tag;
+use casebook_html::{Html, NumberTag, Tag};
+use casebook_summary::sessions_of;
 use casebook_view::{CaseLine, Fate};
 use std::alloc::Global;
-use std::collections::BTreeSet;
 
 /// Appends the tick of a line with a fate, at a place.
 fn push_mark(html: &mut Html, fate: Fate, place: u64) -> Result<(), NoMem>
@@ -68,25 +66,6 @@ fn push_session(
     html.fixed(Tag::MapName)?;
     push_ticks(html, lines.at(session))?;
     html.fixed(Tag::MapEnd)
-}
-
-/// Returns the sessions that ran lines.
-pub(crate) fn sessions_of(alloc: Global, lines: &[CaseLine]) -> Result<BTreeSet<u32>, NoMem>
-    ensures { IfOk result (λ sessions. sessions.keys ≡ sessions_of lines.now) }
-{
-    let mut sessions = BTreeSet::new(alloc);
-    for line in lines {
-        sessions.insert(line.session)?;
-    }
-    Ok(sessions)
-}
-
-/// Returns how many sessions ran lines.
-pub(crate) fn count_sessions(alloc: Global, lines: &[CaseLine]) -> Result<usize, NoMem>
-    ensures { IfOk result (λ count. count ≡ length (sessions_of lines.now)) }
-{
-    let sessions = sessions_of(alloc, lines)?;
-    Ok(sessions.len())
 }
 
 /// Appends the overview.

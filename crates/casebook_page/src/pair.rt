@@ -5,11 +5,9 @@ ghost use Rattle.casebook_page.specs.Told.{outputs_told};
 
 use crate::NoMem;
 use crate::block::push_block;
-use crate::html::Html;
 use crate::merged_texts::MergedTexts;
-use crate::run::Run;
-use crate::tag::Tag;
 use crate::text_line::{Form, TextLine, text_lines};
+use casebook_html::{Html, Run, Tag};
 use casebook_text::{Mark, SafeLine};
 use casebook_words::push_cut;
 use std::alloc::Global;

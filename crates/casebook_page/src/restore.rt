@@ -1,40 +1,33 @@
 //! The section of paths to restore.
 ghost use Rattle.std.specs.Prelude.{◌≡◌, ◌++◌, ◌∷◌, [], OnOk, flat_map};
 ghost use Rattle.casebook_view.specs.Sources.{source_view};
-ghost use Rattle.casebook_page.specs.Told.{changes_told, count_changed, doubt_told, extent_told};
+ghost use Rattle.casebook_page.specs.Told.{changes_told, doubt_told, extent_told};
 ghost use Rattle.casebook_page.specs.Told.{restoration_told, restore_told, row_of, undecided_told};
 ghost use Rattle.casebook_page.specs.Told.{writer_told};
-ghost use Rattle.casebook_page.specs.declared.piece.Piece.TheVariants.{Fixed};
+ghost use Rattle.casebook_html.specs.declared.piece.Piece.TheVariants.{Fixed};
 
 use crate::NoMem;
 use crate::contents::Contents;
-use crate::html::Html;
 use crate::merged_texts::MergedTexts;
 use crate::pair::{push_diff, push_preview};
 use crate::shown::{push_link, push_none, push_shown_path};
-use crate::tag::Tag;
 use casebook_changes::PathChange;
-use casebook_summary::{Extent, Restoration};
+use casebook_html::{Html, Tag};
+use casebook_summary::{Extent, Restoration, Summary};
 use casebook_view::Source;
 use retro_tree::{Entry, Path, Tree};
 use std::alloc::Global;
 
-/// Returns how many paths differ in a way.
-fn count_changed(paths: &[Restoration], change: PathChange) -> usize
-    ensures { result ≡ count_changed paths.now change }
-{
-    paths.iter().filter(|path| path.change == change).count()
-}
-
 /// Appends how many paths change, come back and go.
-fn push_counts(html: &mut Html, paths: &[Restoration]) -> Result<(), NoMem>
-    ensures { OnOk result (html.new ≡ html.old ++ changes_told paths.now) }
+fn push_counts(html: &mut Html, summary: &Summary) -> Result<(), NoMem>
+    ensures { OnOk result (html.new
+        ≡ html.old ++ changes_told summary.now.restorations.items) }
 {
-    html.number(count_changed(paths, PathChange::Modified) as u64)?;
+    html.number(summary.count_changed(PathChange::Modified) as u64)?;
     html.words(" change, ")?;
-    html.number(count_changed(paths, PathChange::Added) as u64)?;
+    html.number(summary.count_changed(PathChange::Added) as u64)?;
     html.words(" come back, ")?;
-    html.number(count_changed(paths, PathChange::Removed) as u64)?;
+    html.number(summary.count_changed(PathChange::Removed) as u64)?;
     html.words(" go")
 }
 
@@ -177,7 +170,7 @@ pub(crate) fn push_restore(
     let paths = contents.summary.restorations.as_slice();
     let undecided = contents.summary.undecided.as_slice();
     html.sign(Tag::Restore)?;
-    push_counts(html, paths)?;
+    push_counts(html, contents.summary)?;
     html.fixed(Tag::HeadEnd)?;
     push_rows(html, alloc, contents, paths)?;
     push_all_undecided(html, alloc, undecided)?;

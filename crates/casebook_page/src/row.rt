@@ -1,22 +1,19 @@
 //! Rows of lines: what one shows, and has inside.
 ghost use Rattle.std.specs.Prelude.{◌≡◌, ◌++◌, ◌∷◌, [], OnOk, flat_map, map};
 ghost use Rattle.std.specs.Option.{option_copied};
-ghost use Rattle.casebook_page.specs.Told.{body_told, both_told, closed_told, did_told};
+ghost use Rattle.casebook_page.specs.Told.{body_told, both_told, class_by, closed_told, did_told};
 ghost use Rattle.casebook_page.specs.Told.{mark_told, notes_told, outputs_told, owner_head, path_told};
 ghost use Rattle.casebook_page.specs.Told.{remark_told, row_told, write_said, write_told};
 ghost use Rattle.casebook_page.specs.Views.{contents_view};
-ghost use Rattle.casebook_page.specs.declared.piece.Piece.TheVariants.{Text};
+ghost use Rattle.casebook_html.specs.declared.piece.Piece.TheVariants.{Text};
 
 use crate::NoMem;
 use crate::contents::{Contents, remark_of};
-use crate::html::Html;
 use crate::merged_texts::MergedTexts;
-use crate::number_tag::NumberTag;
 use crate::pair::{push_output, push_pair};
-use crate::row_class::RowClass;
 use crate::shown::{push_command, push_name, push_paths, push_shown_path, push_sign};
-use crate::tag::Tag;
 use crate::why::push_why;
+use casebook_html::{Html, NumberTag, RowClass, Tag};
 use casebook_view::{CaseLine, Fate, Obstacle, PathWrite, WriteKind, read_paths, writes_of};
 use casebook_words::obstacle_text;
 use retro_keep::Noted;
@@ -33,6 +30,21 @@ pub(crate) struct Rows<'a, 'r> {
     pub(crate) contents: Contents<'a, 'r>,
     /// The column of each session, from 0 on.
     pub(crate) columns: &'a BTreeMap<u32, u32>,
+}
+
+/// Returns the class of the row of a line with a fate. `is_told` says whether somebody saw another
+/// output than the repaired one.
+fn class_of(fate: Fate, is_told: bool) -> RowClass
+    ensures { result ≡ class_by fate is_told }
+{
+    match fate {
+        Fate::Changed if is_told => RowClass::Told,
+        Fate::Cancelled => RowClass::Cancelled,
+        Fate::Changed => RowClass::Changed,
+        Fate::Alike => RowClass::Alike,
+        Fate::Kept => RowClass::Kept,
+        Fate::Untouched => RowClass::Untouched,
+    }
 }
 
 /// Appends the column and the sign of a line with a fate.
@@ -260,7 +272,7 @@ impl Rows<'_, '_> {
         ensures { OnOk result (html.new ≡ html.old
             ++ row_told (contents_view self.entry.contents) line.now) }
     {
-        let class = RowClass::of(line.fate, self.contents.has_other_output(line));
+        let class = class_of(line.fate, self.contents.has_other_output(line));
         html.row(line.number, class)?;
         self.push_closed(html, line)?;
         self.push_body(html, line)?;

@@ -4,13 +4,11 @@ ghost use Rattle.std.specs.Option.{option_copied};
 ghost use Rattle.casebook_page.specs.Told.{command_told, link_of, link_told, name_told};
 ghost use Rattle.casebook_page.specs.Told.{owner_told, path_told, sign_of, text_of};
 ghost use Rattle.casebook_page.specs.Views.{contents_view};
-ghost use Rattle.casebook_page.specs.declared.piece.Piece.TheVariants.{Fixed, Link};
+ghost use Rattle.casebook_html.specs.declared.piece.Piece.TheVariants.{Fixed, Link};
 
 use crate::NoMem;
 use crate::contents::Contents;
-use crate::html::Html;
-use crate::number_tag::NumberTag;
-use crate::tag::Tag;
+use casebook_html::{Html, NumberTag, Tag};
 use casebook_text::SafeLine;
 use casebook_view::{Case, CaseLine, Fate, Obstacle};
 use casebook_words::{Labels, push_path};

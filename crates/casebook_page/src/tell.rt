@@ -1,47 +1,20 @@
 //! The section of whom to tell.
-ghost use Rattle.std.specs.Prelude.{◌≡◌, ◌++◌, IfOk, None, OnOk, false};
+ghost use Rattle.std.specs.Prelude.{◌≡◌, ◌++◌, None, OnOk, false};
 ghost use Rattle.casebook_page.specs.Told.{first_of, group_told, groups_told, is_session};
 ghost use Rattle.casebook_page.specs.Told.{lines_of_group, outputs_told, person_told};
-ghost use Rattle.casebook_page.specs.Told.{subject_head, subject_told, tell_told, variable_said};
+ghost use Rattle.casebook_page.specs.Told.{subject_head, tell_told};
 ghost use Rattle.casebook_page.specs.inner.Screens.{is_known};
 ghost use Rattle.casebook_page.specs.Views.{contents_view};
 
 use crate::NoMem;
 use crate::contents::Contents;
-use crate::html::Html;
 use crate::merged_texts::MergedTexts;
 use crate::pair::{push_pair, push_preview};
-use crate::shown::{push_command, push_links, push_name, push_none, push_shown_path};
-use crate::tag::Tag;
-use casebook_summary::{Group, Subject};
-use casebook_text::SafeLine;
+use crate::shown::{push_command, push_links, push_name, push_none};
+use casebook_html::{Html, Tag};
+use casebook_summary::{Group, subject_line};
 use casebook_words::Labels;
-use retro_tree::VarName;
 use std::alloc::Global;
-
-/// Returns that lines are about a variable.
-fn variable_line(alloc: Global, name: &VarName) -> Result<SafeLine, NoMem>
-    ensures { IfOk result (λ line. line ≡ variable_said name.now) }
-{
-    let mut line = SafeLine::new(alloc);
-    line.push_ascii("the variable ")?;
-    line.push_word(alloc, name.as_str().as_bytes())?;
-    Ok(line)
-}
-
-/// Appends what a group of lines is about.
-fn push_subject(html: &mut Html, alloc: Global, subject: &Subject) -> Result<(), NoMem>
-    ensures { OnOk result (html.new ≡ html.old ++ subject_told subject.now) }
-{
-    match subject {
-        Subject::At(path) => push_shown_path(html, alloc, path),
-        Subject::Directory => html.said(alloc, "the directory"),
-        Subject::Variable(name) => html.text(variable_line(alloc, name)?),
-        Subject::Status => html.said(alloc, "the status"),
-        Subject::Text => html.said(alloc, "a replaced line"),
-        Subject::Again => html.said(alloc, "run again with all others"),
-    }
-}
 
 /// Returns the number of the first line of a group, or 0 if it has no lines.
 fn first_of(group: &Group) -> u32
@@ -69,7 +42,7 @@ fn push_head(html: &mut Html, alloc: Global, group: &Group) -> Result<(), NoMem>
     html.fixed(Tag::Subject)?;
     html.number(group.lines.len() as u64)?;
     html.fixed(Tag::Times)?;
-    push_subject(html, alloc, &group.subject)?;
+    html.text(subject_line(alloc, &group.subject)?)?;
     html.fixed(Tag::RowDetail)
 }
 

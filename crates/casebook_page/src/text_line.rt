@@ -2,8 +2,7 @@
 ghost use Rattle.std.specs.Prelude.{◌≡◌, OnOk};
 
 use crate::NoMem;
-use crate::html::Html;
-use crate::tag::Tag;
+use casebook_html::{Html, Tag};
 use casebook_text::{Hunk, Mark, SafeLine, Span};
 use std::alloc::Global;
 

@@ -1,30 +1,19 @@
 //! What a page rests on: the lines that weren't understood, or have to be run for real.
-ghost use Rattle.std.specs.Prelude.{◌≡◌, ◌++◌, ◌∷◌, [], IfOk, OnOk, count_by, map};
+ghost use Rattle.std.specs.Prelude.{◌≡◌, ◌++◌, ◌∷◌, [], OnOk, map};
 ghost use Rattle.casebook_view.specs.Sources.{source_view};
-ghost use Rattle.casebook_page.specs.Told.{has_row, is_unknown_cancelled, missing_told, number_told};
-ghost use Rattle.casebook_page.specs.Told.{numbered_told, numbers_with, obstacle_said, unknown_count};
-ghost use Rattle.casebook_page.specs.Told.{unknown_list, unknown_told, with_told};
+ghost use Rattle.casebook_summary.specs.Words.{obstacle_words};
+ghost use Rattle.casebook_page.specs.Told.{has_row, missing_told, number_told, numbered_told};
+ghost use Rattle.casebook_page.specs.Told.{unknown_count, unknown_list, unknown_told, with_told};
 ghost use Rattle.casebook_page.specs.Views.{contents_view};
-ghost use Rattle.casebook_page.specs.declared.piece.Piece.TheVariants.{Number, Text};
+ghost use Rattle.casebook_html.specs.declared.piece.Piece.TheVariants.{Number, Text};
 
 use crate::NoMem;
 use crate::contents::Contents;
-use crate::html::Html;
 use crate::shown::push_link;
-use crate::tag::Tag;
-use casebook_view::{CaseLine, Fate, Obstacle, Source, UnknownLine};
-use casebook_words::{obstacle_text, obstacles_text};
+use casebook_html::{Html, Tag};
+use casebook_summary::{Summary, obstacle_words};
+use casebook_view::{Fate, Obstacle, Source, UnknownLine};
 use std::alloc::Global;
-
-/// Returns how many cancelled lines weren't understood.
-fn count_cancelled(lines: &[CaseLine]) -> usize
-    ensures { result ≡ count_by is_unknown_cancelled lines.now }
-{
-    lines
-        .iter()
-        .filter(|line| line.fate == Fate::Cancelled && line.obstacle.is_some())
-        .count()
-}
 
 /// Appends how many lines of a log that was played weren't understood, or how many of a machine's
 /// have to be run for real: `1 line wasn't understood`.
@@ -63,21 +52,6 @@ fn push_number(html: &mut Html, contents: Contents<'_, '_>, number: u32) -> Resu
     }
 }
 
-/// Returns the numbers of the lines with an obstacle, in order.
-fn numbers_with(
-    alloc: Global,
-    unknown: &[UnknownLine],
-    obstacle: Obstacle,
-) -> Result<Vec<u32>, NoMem>
-    ensures { IfOk result (λ numbers. numbers.items ≡ numbers_with obstacle unknown.now) }
-{
-    unknown
-        .iter()
-        .filter(|line| line.obstacle == obstacle)
-        .map(|line| line.number)
-        .collect(alloc)
-}
-
 /// Appends how many lines have an obstacle.
 fn push_obstacle(
     html: &mut Html,
@@ -86,15 +60,11 @@ fn push_obstacle(
     count: usize,
 ) -> Result<(), NoMem>
     ensures { OnOk result (html.new
-        ≡ html.old ++ Number count ∷ Text (obstacle_said obstacle count) ∷ []) }
+        ≡ html.old ++ Number count ∷ Text (obstacle_words obstacle count) ∷ []) }
 {
     html.number(count as u64)?;
     html.words(" ")?;
-    if count == 1 {
-        html.said(alloc, obstacle_text(obstacle))
-    } else {
-        html.said(alloc, obstacles_text(obstacle))
-    }
+    html.said(alloc, obstacle_words(obstacle, count))
 }
 
 /// Appends the numbers of lines.
@@ -139,7 +109,7 @@ fn push_with(
     ensures { OnOk result (html.new ≡ html.old
         ++ with_told (contents_view contents.entry) obstacle) }
 {
-    let numbers = numbers_with(alloc, contents.summary.unknown.as_slice(), obstacle)?;
+    let numbers = contents.summary.numbers_with(alloc, obstacle)?;
     push_numbered(html, alloc, contents, obstacle, numbers.as_slice())
 }
 
@@ -204,14 +174,14 @@ fn push_until(html: &mut Html, count: usize) -> Result<(), NoMem>
 fn push_meaning(
     html: &mut Html,
     source: Source<'_>,
-    lines: &[CaseLine],
+    summary: &Summary,
     count: usize,
 ) -> Result<(), NoMem>
     ensures { OnOk result (html.new
-        ≡ html.old ++ missing_told (source_view source.entry) lines.now) }
+        ≡ html.old ++ missing_told (source_view source.entry) summary.now.lines) }
 {
     match source {
-        Source::Played => push_missing(html, count, count_cancelled(lines)),
+        Source::Played => push_missing(html, count, summary.unknown_cancelled()),
         Source::Seen(_) => push_until(html, count),
     }
 }
@@ -247,6 +217,6 @@ pub(crate) fn push_unknown(
     }
     html.sign(Tag::Unknown)?;
     push_count(html, source, count)?;
-    push_meaning(html, source, contents.summary.lines.as_slice(), count)?;
+    push_meaning(html, source, contents.summary, count)?;
     push_list(html, alloc, contents)
 }

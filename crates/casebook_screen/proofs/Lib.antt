@@ -1,4 +1,3 @@
-pub mod NumberRows
+pub mod Showing
 pub mod Parting
 pub mod PartLemmas
-pub mod RowParts

@@ -1,2 +1,3 @@
 -- Definitions that only private contracts, invariants and proofs name.
 pub mod Parts
+pub mod Written

@@ -8,7 +8,7 @@ ghost use Rattle.casebook_view.specs.Rows.{row_value};
 ghost use Rattle.casebook_words.specs.Words.{path_words};
 
 use crate::NoMem;
-use crate::layout::{bytes_line, number_line};
+use crate::lines::{bytes_line, number_line};
 use casebook_text::SafeLine;
 use casebook_view::{LineRow, PathWrite, WriteKind};
 use casebook_words::{Labels, push_path};

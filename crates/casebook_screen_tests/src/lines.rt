@@ -1,5 +1,5 @@
 //! What is shown of lines.
-use casebook_screen::{NoMem, row_lines, row_numbers, row_table};
+use casebook_screen::{Names, NoMem, row_lines, row_numbers, row_table};
 use casebook_text::{list_of_numbers, text_of_lines, text_of_rows};
 use casebook_view::{Filters, LineRow, LineTest, Source, rows};
 use casebook_words::Labels;
@@ -42,7 +42,8 @@ fn table_text(alloc: Global, found: &[LineRow<'_>], labels: &Labels) -> Result<S
 
 /// Returns rows as the text that a terminal shows.
 fn screen_text(alloc: Global, found: &[LineRow<'_>], labels: &Labels) -> Result<String, NoMem> {
-    let lines = row_lines(alloc, found, labels, WIDTH)?;
+    let width = WIDTH;
+    let lines = row_lines(alloc, found, Names { labels, width })?;
     text_of_lines(alloc, lines.as_slice())
 }
 

@@ -3,6 +3,7 @@ pub mod Doubts
 pub mod Restorations
 pub mod Subjects
 pub mod Summaries
+pub mod Words
 pub mod Effects
 pub mod Groups
 pub mod Summary

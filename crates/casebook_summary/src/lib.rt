@@ -16,8 +16,10 @@
 //! # What is proved
 //!
 //! - `Summary::of` returns what a repair would do, if the lines of the repair are in order
-//!   [`summary`, by `IsSummary`]: the results of the calls below for this repair. `fate_of` finds
-//!   the fate of a line in it.
+//!   [`summary`, by `IsSummary`]: the results of the calls below for this repair. What else it
+//!   counts is in `specs/Counts.antt`.
+//! - `subject_line`, `why_line`, `obstacle_words` and `played_words` return the words of
+//!   `specs/Words.antt`, which all writers for people use.
 //! - `restorations` returns exactly the paths in which the final trees of the recording and of the
 //!   repair differ, each once, with how it differs and how much: a directory or an empty file that
 //!   comes or goes, a file that becomes a directory or the other way, or how many lines a diff of the
@@ -47,6 +49,8 @@ mod led_lines;
 mod notice;
 mod path_set;
 mod restoration;
+mod saying;
+mod sessions;
 mod subject;
 mod summary;
 
@@ -56,6 +60,8 @@ pub use grouping::grouped;
 pub use leak::{Leak, leaks_of};
 pub use notice::{Notice, looks, notices};
 pub use restoration::{Extent, LineCounts, Restoration, restorations};
+pub use saying::{obstacle_words, played_words, subject_line, why_line};
+pub use sessions::{sessions_of, sessions_told};
 pub use subject::Subject;
 pub use summary::Summary;
 

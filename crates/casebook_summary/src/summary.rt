@@ -1,7 +1,8 @@
 //! Summaries of repairs.
 ghost use Rattle.std.specs.Prelude.{◌≡◌, IfOk};
 ghost use Rattle.casebook_view.specs.Lines.{LinesMatch};
-ghost use Rattle.casebook_summary.specs.Counts.{count_of};
+ghost use Rattle.casebook_summary.specs.Counts.{count_changed, count_of, numbers_with};
+ghost use Rattle.casebook_summary.specs.Counts.{unknown_cancelled};
 ghost use Rattle.casebook_summary.specs.Summary.{IsSummary};
 
 use crate::NoMem;
@@ -12,7 +13,8 @@ use crate::grouping::grouped;
 use crate::leak::{Leak, leaks_of};
 use crate::notice::{Notice, looks, notices};
 use crate::restoration::{Restoration, restorations};
-use casebook_view::{Case, CaseLines, Fate, UnknownLine, unknown_in};
+use casebook_changes::PathChange;
+use casebook_view::{Case, CaseLines, Fate, Obstacle, UnknownLine, unknown_in};
 use retro_tree::Path;
 use std::alloc::Global;
 
@@ -85,5 +87,37 @@ impl Summary {
     {
         let lines = self.lines.as_slice();
         lines.iter().filter(|line| line.fate == fate).count()
+    }
+    /// Returns how many paths are restored in a way.
+    pub fn count_changed(&self, change: PathChange) -> usize
+        ensures { result ≡ count_changed self.now.restorations.items change }
+    {
+        self.restorations
+            .iter()
+            .filter(|path| path.change == change)
+            .count()
+    }
+
+    /// Returns how many cancelled lines aren't understood.
+    pub fn unknown_cancelled(&self) -> usize
+        ensures { result ≡ unknown_cancelled self.now.lines }
+    {
+        let lines = self.lines.as_slice();
+        lines
+            .iter()
+            .filter(|line| line.fate == Fate::Cancelled && line.obstacle.is_some())
+            .count()
+    }
+
+    /// Returns the numbers of the lines with an obstacle, in order.
+    pub fn numbers_with(&self, alloc: Global, obstacle: Obstacle) -> Result<Vec<u32>, NoMem>
+        ensures { IfOk result (λ numbers.
+            numbers.items ≡ numbers_with obstacle self.now.unknown.items) }
+    {
+        self.unknown
+            .iter()
+            .filter(|line| line.obstacle == obstacle)
+            .map(|line| line.number)
+            .collect(alloc)
     }
 }

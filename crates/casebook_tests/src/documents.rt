@@ -1,6 +1,6 @@
 //! About documents, and the places for which documents are refused.
 use casebook_about::{About, AboutFault, read_about, time_text};
-use casebook_place::{Place, place_in_log, place_in_script, push_place};
+use casebook_check::{Place, place_in_log, place_in_script, push_place};
 use casebook_text::SafeLine;
 use hex::decode;
 use retro_log::{LogFault, Refusal, read_log, read_script};

@@ -5,7 +5,7 @@ use Rattle.casebook_recorder_cli.specs.Spools.{AllSpools}
 use Rattle.casebook_cli.specs.Status.{TablesValue}
 use Rattle.casebook_cli.specs.declared.status.KeptSpool.{KeptSpool}
 use Rattle.casebook_cli.specs.declared.status.MachineTables.{MachineTables}
-use Rattle.casebook_cli.specs.inner.Views.{document_view}
+use Rattle.casebook_repairs.specs.Views.{document_view}
 
 abbrev pub tables_view : MachineTables → TablesValue
 tables_view tables = record {

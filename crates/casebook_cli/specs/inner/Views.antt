@@ -9,31 +9,19 @@ use Rattle.casebook_view.specs.Sources.{SourceValue}
 use Rattle.casebook_view.specs.declared.line_test.LineTest.{LineTest}
 use Rattle.casebook_words.specs.declared.labels.Labels.{Labels}
 use Rattle.casebook_request.specs.Request.{LinesRequest}
+use Rattle.casebook_repairs.specs.Views.{document_view}
 use Rattle.casebook_cli.specs.Answers.{AnswerValue}
 use Rattle.casebook_cli.specs.Typed.{typed}
-use Rattle.casebook_cli.specs.Inputs.{DocumentValue, InputsValue}
 use Rattle.casebook_cli.specs.Lines.{HasUser, user_tests}
 use Rattle.casebook_cli.specs.Tests.{test_view, tests_of}
 use Rattle.casebook_cli.specs.Screens.{ScreenValue}
 use Rattle.casebook_cli.specs.Scripts.{ScriptInputs}
 use Rattle.casebook_cli.specs.declared.answer.Answer.{Answer}
-use Rattle.casebook_cli.specs.declared.document.Document.{Document}
 use Rattle.casebook_cli.specs.declared.patterns.Patterns.{Patterns}
 use Rattle.casebook_cli.specs.declared.screens.Screen.{Screen}
 use Rattle.casebook_cli.specs.declared.scripts.ScriptFiles.{ScriptFiles}
-use Rattle.casebook_cli.specs.declared.inputs.Inputs.{Inputs}
 
 -- ---- documents
-
-abbrev pub document_view : Document → DocumentValue
-document_view document = record { name = document.name.now; bytes = document.bytes.items }
-
-abbrev pub inputs_view : Inputs → InputsValue
-inputs_view inputs = record {
-  log = document_view inputs.log;
-  list = option_map document_view inputs.list;
-  about = option_map document_view inputs.about;
-}
 
 abbrev pub files_view : ScriptFiles → ScriptInputs
 files_view files = record {
@@ -72,7 +60,6 @@ screen_view screen = record {
   repair = screen.case.now.repair;
   summary = screen.summary.now;
   labels = screen.names.labels.now;
-  width = screen.names.width;
   colours = screen.colours;
 }
 

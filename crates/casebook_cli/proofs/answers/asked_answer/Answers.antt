@@ -2,9 +2,11 @@ use Rattle.std.proofs.Common.{subst}
 use Rattle.std.proofs.lemmas.Result.{IfErr-weaker, err_from_is_err_and}
 use Rattle.casebook_request.specs.Views.{query_view}
 use Rattle.casebook_cli.specs.Answers.{AnswersQuery}
-use Rattle.casebook_cli.specs.Inputs.{AreInputs}
-use Rattle.casebook_cli.specs.Stops.{StopsReading, refused, unread}
-use Rattle.casebook_cli.specs.inner.Views.{answer_view, inputs_view}
+use Rattle.casebook_repairs.specs.Inputs.{AreInputs}
+use Rattle.casebook_repairs.specs.Stops.{StopsReading}
+use Rattle.casebook_cli.specs.Stops.{refused, unread}
+use Rattle.casebook_repairs.specs.Views.{inputs_view}
+use Rattle.casebook_cli.specs.inner.Views.{answer_view}
 use Rattle.casebook_cli.proofs.HarmlessLemmas.{both_ok}
 use Rattle.casebook_cli.proofs.Known.{from_first, of_first, one}
 use Rattle.casebook_cli.proofs.answers.asked_answer.Goals as goal

@@ -4,8 +4,8 @@ use Rattle.std.proofs.lemmas.Result.{err_from_is_err_and}
 use Rattle.casebook_account.specs.Accounts.{IsNotShown}
 use Rattle.casebook_account.specs.declared.account_fault.AccountFault.TheVariants as accounts
 use Rattle.casebook_cli.specs.Pages.{IsPageOf}
-use Rattle.casebook_cli.specs.Screens.{asked_source}
-use Rattle.casebook_cli.specs.Stops.{StopsAsked}
+use Rattle.casebook_repairs.specs.Repairs.{asked_source}
+use Rattle.casebook_repairs.specs.Stops.{StopsAsked}
 use Rattle.casebook_cli.proofs.answers.repair_page.Goals as goal
 
 -- what a title is, or else another one

@@ -1,5 +1,5 @@
 use Rattle.std.proofs.Common.{codes, subst}
-use Rattle.casebook_place.specs.Place.{IsPlaceInLog}
+use Rattle.casebook_check.specs.Place.{IsPlaceInLog}
 use Rattle.casebook_cli.proofs.CheckLemmas.{says_where}
 use Rattle.casebook_cli.proofs.checks.refused_log.Goals as goal
 

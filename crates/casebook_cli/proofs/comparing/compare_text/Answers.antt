@@ -1,7 +1,7 @@
 use Rattle.std.proofs.Common.{subst}
 use Rattle.std.proofs.lemmas.Result.{err_from_is_err_and}
 use Rattle.casebook_cli.specs.Stops.{NamesSource, StopsCompare}
-use Rattle.casebook_cli.specs.inner.Views.{document_view}
+use Rattle.casebook_repairs.specs.Views.{document_view}
 use Rattle.casebook_cli.proofs.Known.{both, from_first, from_second}
 use Rattle.casebook_cli.proofs.comparing.compare_text.Goals as goal
 

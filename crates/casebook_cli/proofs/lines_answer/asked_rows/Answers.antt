@@ -3,7 +3,7 @@ use Rattle.casebook_about.specs.Rows.{time_view}
 use Rattle.casebook_view.specs.Filters.{FiltersValue, filters_of}
 use Rattle.casebook_view.specs.Rows.{row_value, rows_of}
 use Rattle.casebook_view.specs.Sources.{SourceValue}
-use Rattle.casebook_cli.specs.Labels.{seen_by, source_by}
+use Rattle.casebook_repairs.specs.Labels.{seen_by, source_by}
 use Rattle.casebook_cli.specs.Typed.{typed}
 use Rattle.casebook_cli.specs.Lines.{HasUser, user_tests}
 use Rattle.casebook_cli.specs.Tests.{test_view}

@@ -1,9 +1,9 @@
-use Rattle.std.proofs.Common.{ap, map, refl, sym, ◌∙◌}
+use Rattle.std.proofs.Common.{ap, map, refl, string_bytes, subst, sym, ◌∙◌}
 use Rattle.std.proofs.lemmas.Result.{err_from_is_err_and}
 use Rattle.casebook_view.specs.Rows.{row_value}
 use Rattle.casebook_about.specs.Rows.{time_view}
 use Rattle.casebook_cli.specs.Typed.{lacks_times, typed}
-use Rattle.casebook_cli.specs.Lines.{account_rows, rows_text, widest_name}
+use Rattle.casebook_cli.specs.Lines.{IsRowsText, account_rows}
 use Rattle.casebook_cli.specs.Stops.{no_labels, no_memory, no_times, no_user}
 use Rattle.casebook_cli.specs.inner.Views.{filters_by}
 use Rattle.casebook_cli.proofs.lines_answer.lines_text.Goals as goal
@@ -29,9 +29,9 @@ returns-then-lacks_times-clause-err c =
     ∙ ap (lacks_times bounds) c.in_ok-known.ensures.times)
     ∙ c.if-lacks_times.true) refl
 
-pub returns-in_err-width-clause-err : goal.returns-in_err-width-clause-err
-returns-in_err-width-clause-err c =
-    let p = err_from_is_err_and c.from_residual-in_err-width.result c.from_residual-in_err-width.ensures.1 in
+pub returns-in_err-widest_name-clause-err : goal.returns-in_err-widest_name-clause-err
+returns-in_err-widest_name-clause-err c =
+    let p = err_from_is_err_and c.from_residual-in_err-widest_name.result c.from_residual-in_err-widest_name.ensures.1 in
     rw (p.1) (no_memory p.2)
 
 pub returns-in_err-rows_text-clause-err : goal.returns-in_err-rows_text-clause-err
@@ -64,12 +64,10 @@ returns-clause-ok c =
         shown = c.in_ok-patterns.ensures.shown;
         unknown = refl;
       };
-      shown = c.in_ok-rows_text.ensures.value
-          ∙ ap (λ rs. rows_text request.format labels c.in_ok-width.width (map row_value rs)) c.as_slice-2.ensures.value
-          ∙ ap (λ w. rows_text request.format labels w (map row_value found))
-          (c.in_ok-width.ensures ∙ ap (widest_name labels) c.lines.ensures.value)
-          ∙ ap (rows_text request.format labels (widest_name labels lines))
-          (c.in_ok-found.ensures.ok.are_rows
+      shown = subst (λ rs. IsRowsText request.format labels rs (string_bytes c.in_ok-rows_text.field-0))
+          (ap (map row_value) c.as_slice-2.ensures.value
+          ∙ c.in_ok-found.ensures.ok.are_rows
           ∙ ap (λ times. typed request.bounds times (account_rows account filters))
-          c.in_ok-known.ensures.times);
+          c.in_ok-known.ensures.times)
+          c.in_ok-rows_text.ensures.value;
     }

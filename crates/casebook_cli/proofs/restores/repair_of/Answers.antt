@@ -1,8 +1,9 @@
 use Rattle.std.proofs.Common.{subst}
 use Rattle.std.proofs.lemmas.Result.{IfErr-weaker, IfOk-weaker, err_from_is_err_and}
-use Rattle.casebook_cli.specs.Inputs.{AreInputs}
-use Rattle.casebook_cli.specs.Stops.{StopsReading, StopsRepairOf}
-use Rattle.casebook_cli.specs.inner.Views.{inputs_view}
+use Rattle.casebook_repairs.specs.Inputs.{AreInputs}
+use Rattle.casebook_repairs.specs.Stops.{StopsReading}
+use Rattle.casebook_cli.specs.Stops.{StopsRepairOf}
+use Rattle.casebook_repairs.specs.Views.{inputs_view}
 use Rattle.casebook_cli.proofs.Known.{one}
 use Rattle.casebook_cli.proofs.restores.repair_of.Goals as goal
 

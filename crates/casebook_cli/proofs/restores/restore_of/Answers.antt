@@ -1,6 +1,6 @@
 use Rattle.std.proofs.Common.{◌∙◌, ap, subst}
 use Rattle.std.proofs.lemmas.Result.{IfOk-weaker}
-use Rattle.casebook_cli.specs.Attributes.{AreKnown}
+use Rattle.casebook_repairs.specs.Attributes.{AreKnown}
 use Rattle.casebook_cli.proofs.Known.{one}
 use Rattle.casebook_cli.proofs.restores.restore_of.Goals as goal
 

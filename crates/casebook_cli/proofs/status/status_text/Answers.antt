@@ -1,7 +1,7 @@
 use Rattle.std.specs.Prelude.{option_map}
 use Rattle.std.proofs.lemmas.Result.{err_from_is_err_and}
 use Rattle.casebook_cli.specs.Stops.{StopsStatus}
-use Rattle.casebook_cli.specs.inner.Views.{document_view}
+use Rattle.casebook_repairs.specs.Views.{document_view}
 use Rattle.casebook_cli.proofs.Known.{known, two}
 use Rattle.casebook_cli.proofs.status.status_text.Goals as goal
 

@@ -1,5 +1,5 @@
 use Rattle.std.proofs.Common.{◌≡◌, ◌++◌, map, take}
-use Rattle.casebook_page.specs.declared.piece.Piece.TheVariants.{Number}
+use Rattle.casebook_html.specs.declared.piece.Piece.TheVariants.{Number}
 use Rattle.casebook_page.proofs.head.push_numbers.Given as goal
 
 abbrev pub invariant-loop-number : goal.invariant-loop-number

@@ -1,6 +1,6 @@
 use Rattle.std.proofs.Common.{◌≡◌, ◌++◌, map, take}
 use Rattle.casebook_page.specs.Told.{link_of}
-use Rattle.casebook_page.specs.declared.piece.Piece.TheVariants.{Link}
+use Rattle.casebook_html.specs.declared.piece.Piece.TheVariants.{Link}
 use Rattle.casebook_page.proofs.shown.push_fated_links.Given as goal
 
 abbrev pub invariant-loop-line : goal.invariant-loop-line

@@ -1,7 +1,0 @@
-use Rattle.std.proofs.Common.{◌≡◌, map, take}
-use Rattle.casebook_about.specs.Rows.{user_view}
-use Rattle.casebook_cli.specs.Labels.{with_users}
-use Rattle.casebook_cli.proofs.labels.add_own_users.Given as goal
-
-abbrev pub invariant-loop-user : goal.invariant-loop-user
-invariant-loop-user l = l.labels ≡ with_users (map user_view (take l.user-index l.users)) l.fn.labels

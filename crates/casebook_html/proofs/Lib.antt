@@ -1,0 +1,2 @@
+pub mod SafeTexts
+pub mod Harmless

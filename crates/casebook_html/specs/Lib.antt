@@ -1,0 +1,4 @@
+pub mod Template
+pub mod Safe
+pub mod Page
+pub mod Harmless

@@ -1,5 +1,0 @@
-use Rattle.casebook_place.specs.Place.{anywhere}
-use Rattle.casebook_place.proofs.finding.place_in_value.Goals as goal
-
-pub returns-in-NotJson : goal.returns-in-NotJson
-returns-in-NotJson c = anywhere

@@ -1,4 +1,0 @@
-use Rattle.casebook_place.proofs.members.other_key.Given as goal
-
-abbrev pub invariant-loop-member : goal.invariant-loop-member
-invariant-loop-member l = Unit {0}

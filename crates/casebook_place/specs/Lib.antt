@@ -1,4 +1,0 @@
-pub mod Keys
-pub mod Items
-pub mod Place
-pub mod Words

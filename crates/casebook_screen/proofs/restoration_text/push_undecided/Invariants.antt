@@ -1,7 +1,0 @@
-use Rattle.std.proofs.Common.{◌≡◌, ◌++◌, map, take}
-use Rattle.casebook_screen.specs.Restorations.{undecided_text}
-use Rattle.casebook_screen.proofs.restoration_text.push_undecided.Given as goal
-
-abbrev pub invariant-loop-path : goal.invariant-loop-path
-invariant-loop-path l =
-    l.lines.items ≡ l.fn.lines.items ++ map undecided_text (take l.path-index l.undecided)
