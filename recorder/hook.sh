@@ -26,6 +26,7 @@ unset -v "${!__retro_@}"
 # The command has to end by itself. `timeout` is run by root, since nobody else can end what sudo runs.
 __retro_command=(/usr/bin/sudo -n /usr/bin/timeout -k 0.1 1.8
     /usr/bin/casebook observe /var/lib/retro/spool)
+__retro_limit=2         # seconds that a prompt waits for it, should it hang nevertheless
 # shellcheck source=/dev/null
 [ ! -r /etc/retro/recorder.conf ] || . /etc/retro/recorder.conf
 
@@ -70,7 +71,7 @@ __retro_put() { # KIND FIELD..
     if ((__retro_now < __retro_resume)); then builtin printf 3 >&3; return; fi
     # If the command hangs nevertheless, `read` has a limit. What may hang gets no other descriptors:
     # the shell waits until nobody has the pipe in which results go, or a copy of it.
-    IFS='' builtin read -r -t 2 __retro_done < <(
+    IFS='' builtin read -r -t "$__retro_limit" __retro_done < <(
         for __retro_at_fd in /proc/self/fd/*; do
             case ${__retro_at_fd##*/} in [012] | *[!0-9]*) ;; *) eval "exec ${__retro_at_fd##*/}>&-" ;; esac
         done
