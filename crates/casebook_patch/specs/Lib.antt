@@ -1,0 +1,9 @@
+pub mod Lines
+pub mod Parts
+pub mod Changes
+pub mod Quoted
+pub mod Binary
+pub mod Written
+pub mod Trees
+pub mod Directories
+pub mod inner
