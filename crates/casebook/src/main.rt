@@ -3,7 +3,9 @@
 
 ghost use Rattle.std.specs.Prelude.{None};
 
-use casebook_cli::{Documents, Exit, Output, Problem, Progress, ReadFault, Step, Stop, run_with};
+use casebook_cli::{
+    Documents, Exit, Hindrance, Output, Problem, Progress, ReadFault, Step, Stop, run_with,
+};
 use casebook_disk::{
     Disk, DiskListing, DiskSource, DiskSpool, DiskWatched, unseen_rows, watched_folders,
     write_new_file,
@@ -71,7 +73,10 @@ fn is_plain(rt: &HostRuntime) -> bool {
 fn fault_of(error: std::io::Error) -> ReadFault {
     match error.kind() {
         ErrorKind::OutOfMemory => ReadFault::NoMem,
-        _ => ReadFault::Unreadable,
+        ErrorKind::NotFound => ReadFault::Unreadable(Hindrance::Missing),
+        ErrorKind::IsADirectory => ReadFault::Unreadable(Hindrance::Directory),
+        ErrorKind::PermissionDenied => ReadFault::Unreadable(Hindrance::NotPermitted),
+        _ => ReadFault::Unreadable(Hindrance::Other),
     }
 }
 
@@ -134,7 +139,7 @@ impl<'a> Folders for Files<'a> {
         match self.read(alloc, name) {
             Ok(bytes) => Ok(bytes),
             Err(ReadFault::NoMem) => Err(SnapshotError::NoMem),
-            Err(ReadFault::Unreadable) => Err(SnapshotError::Failed),
+            Err(ReadFault::Unreadable(_)) => Err(SnapshotError::Failed),
         }
     }
 

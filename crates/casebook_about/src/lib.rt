@@ -5,9 +5,10 @@
 //! `"lines"`, rows that begin with a line's number and a time in seconds since the start of 1970
 //! (UTC). Both may be missing, further cells and keys don't count. [`time_text`] shows a time
 //! to people, [`instant_text`] writes one in a document, [`second_of`] reads one, and
-//! [`last_second_of`] reads its last second.
+//! [`last_second_of`] reads its last second. [`Labels`] has the names of sessions and the times of
+//! lines, wherever they come from, and shows them.
 //!
-//! If allocation fails, calls return `OutOfMemory` as a variant of their error.
+//! If allocation fails, calls return `NoMem`, or it is a variant of their error.
 //!
 //! # What is proved
 //!
@@ -22,14 +23,23 @@
 //!   offset of its own, or in UTC, or as a date's first second in UTC (`specs/Time.antt`).
 //! - `last_second_of` returns the last second of such a time: in UTC a date lasts a day, a time of
 //!   day without minutes an hour, and one without seconds a minute (`specs/Time.antt`).
+//! - `Labels` keeps the last name of each session and the last time of each line: equations on
+//!   finite maps (`specs/Labels.antt`). `name_of` and `time_of` show them as a `SafeLine`, and
+//!   `is_named` says whether a session is called like this.
 #![tactic(auto)]
 
 mod about;
 mod fault;
+mod label_map;
+mod labels;
 mod rows;
 mod time;
 
 pub use about::{About, read_about};
 pub use fault::{AboutFault, Part};
+pub use labels::Labels;
 pub use rows::{LineTime, SessionUser};
 pub use time::{TIME_FORMAT, instant_text, last_second_of, second_of, time_text};
+
+/// Allocation failed.
+pub use casebook_text::NoMem;

@@ -12,9 +12,9 @@ use Rattle.retro_keep.specs.declared.noted.Noted.{Noted}
 use Rattle.retro_shell.specs.Runs.{RunValue}
 use Rattle.casebook_words.specs.Cut.{cut_words}
 use Rattle.casebook_words.specs.Difference.{difference_words}
-use Rattle.casebook_words.specs.Labels.{name_words}
+use Rattle.casebook_about.specs.Labels.{name_words}
 use Rattle.casebook_words.specs.Words.{note_words, query_words}
-use Rattle.casebook_words.specs.declared.labels.Labels.{Labels}
+use Rattle.casebook_about.specs.declared.labels.Labels.{Labels}
 use Rattle.casebook_check.specs.Difference.{IsFirstDifference, item_at}
 
 -- how many bytes of a line are shown

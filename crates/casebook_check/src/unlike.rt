@@ -9,8 +9,9 @@ ghost use Rattle.casebook_check.specs.Texts.{otherwise_words, outputs_words};
 
 use crate::NoMem;
 use crate::note_lists::first_difference;
+use casebook_about::Labels;
 use casebook_text::SafeLine;
-use casebook_words::{Labels, push_cut, push_difference, push_note, push_query};
+use casebook_words::{push_cut, push_difference, push_note, push_query};
 use retro_keep::{Noted, Unlike};
 use retro_shell::Run;
 use retro_tree::{Answer, Ask, Bytes, Node, Note};

@@ -4,7 +4,7 @@ use Rattle.retro_keep.specs.Recording.{RecordingValue}
 use Rattle.retro_keep.specs.declared.edit.Edit.{Edit}
 use Rattle.retro_redo.specs.declared.repair.Repair.{Repair}
 use Rattle.casebook_view.specs.Sources.{SourceValue}
-use Rattle.casebook_words.specs.declared.labels.Labels.{Labels}
+use Rattle.casebook_about.specs.declared.labels.Labels.{Labels}
 use Rattle.casebook_request.specs.declared.shown.ShownPart.{ShownPart}
 use Rattle.casebook_cli.specs.Pages.{IsPageOf}
 use Rattle.casebook_cli.specs.Screens.{IsShownOf}

@@ -23,9 +23,10 @@ use Rattle.casebook_text.specs.SafeLine.{text_of_lines}
 use Rattle.retro_keep.specs.Recording.{last_state}
 use Rattle.retro_redo.specs.Repair.{repaired_state}
 use Rattle.casebook_request.specs.Sources.{repair_sources, sources_of}
-use Rattle.casebook_request.specs.Request.{Query, Request, ask, case_log, check, help, help_text, lines, page, show}
+use Rattle.casebook_request.specs.Request.{Query, Request, ask, case_log, cat, check, help, help_text, lines, page, patch, show}
 use Rattle.casebook_request.specs.Request.{CompareValue, FolderRepair, RepairRequest, compare, restore, script}
 use Rattle.casebook_request.specs.Request.{import, snapshot, observe, start, status, undo}
+use Rattle.casebook_cli.specs.Bytes.{IsBytes}
 use Rattle.casebook_cli.specs.Checks.{IsChecked}
 use Rattle.casebook_repairs.specs.Attributes.{AreKnown}
 use Rattle.casebook_repairs.specs.Documents.{AllDocuments}
@@ -33,6 +34,7 @@ use Rattle.casebook_cli.specs.Harmless.{IsHarmless, is_plain}
 use Rattle.casebook_repairs.specs.Inputs.{AreInputs, DocumentValue, InputsValue, IsDocument, IsDocumentIf}
 use Rattle.casebook_cli.specs.Lines.{AreLines}
 use Rattle.casebook_cli.specs.Pages.{IsPage}
+use Rattle.casebook_cli.specs.Patches.{IsPatch}
 use Rattle.casebook_repairs.specs.Repairs.{IsAsked}
 use Rattle.casebook_cli.specs.Screens.{IsShown}
 use Rattle.casebook_cli.specs.Scripts.{IsScriptOf}
@@ -57,6 +59,8 @@ abbrev pub AnswersBy : Bool → InputsValue → Query → AnswerValue → Type 0
 AnswersBy colours inputs (lines request) answer = Says (AreLines inputs request) answer
 AnswersBy colours inputs (show request) answer = Says (IsShown colours inputs request) answer
 AnswersBy colours inputs (page request) answer = Says (IsPage inputs request) answer
+AnswersBy colours inputs (cat request) answer = Says (IsBytes inputs request) answer
+AnswersBy colours inputs (patch request) answer = Says (IsPatch inputs request) answer
 AnswersBy colours inputs (check log) answer = IsChecked inputs.log answer.is_no answer.text
 AnswersBy colours inputs (case_log case) answer = Says (IsLogOf inputs.log.bytes) answer
 

@@ -23,7 +23,7 @@ use Rattle.casebook_check.specs.Place.{IsPlaceInLog, IsPlaceInScript}
 use Rattle.casebook_check.specs.Words.{place_words}
 use Rattle.casebook_check.specs.declared.place.Place.{Place}
 use Rattle.casebook_text.specs.SafeLine.{text_of_lines}
-use Rattle.casebook_words.specs.Labels.{no_labels}
+use Rattle.casebook_about.specs.Labels.{no_labels}
 use Rattle.casebook_repairs.specs.Inputs.{DocumentValue}
 use Rattle.casebook_cli.specs.Messages.{about, numbered_words}
 

@@ -8,7 +8,7 @@ use Rattle.casebook_repairs.specs.declared.stop.Stop.TheVariants as stops
 
 abbrev pub stop_status : Stop → ℕ
 stop_status stops.OutOfMemory = 2
-stop_status (stops.ReadFailed name) = 3
+stop_status (stops.ReadFailed name hindrance) = 3
 stop_status (stops.UndoFailed name) = 3
 stop_status (stops.Unfinished name) = 3
 stop_status (stops.Recorder name fault) = if is_refusal fault then 1 else 3

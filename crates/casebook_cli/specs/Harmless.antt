@@ -3,7 +3,7 @@ use Rattle.std.specs.Prelude.{ℕ, Bool, true, false, not, List, chars, IsTrue}
 use Rattle.std.specs.List.{list_all}
 use Rattle.casebook_text.specs.SafeText.{is_safe, is_safe_byte}
 use Rattle.casebook_text.specs.declared.safe_text.Breaks.TheVariants.{Keep}
-use Rattle.casebook_request.specs.Request.{Query, case_log, check, lines, page, show}
+use Rattle.casebook_request.specs.Request.{Query, case_log, cat, check, lines, page, patch, show}
 use Rattle.casebook_request.specs.declared.shown.ShownPart.{ShownPart}
 use Rattle.casebook_request.specs.declared.shown.ShownPart.TheVariants as parts
 
@@ -24,5 +24,7 @@ abbrev pub is_plain : Bool → Query → Bool
 is_plain colours (lines request) = true
 is_plain colours (show request) = is_plain_shown colours request.shown
 is_plain colours (page request) = false
+is_plain colours (cat request) = false
+is_plain colours (patch request) = false
 is_plain colours (check log) = true
 is_plain colours (case_log case) = false

@@ -1,4 +1,5 @@
 pub mod Answers
+pub mod Bytes
 pub mod Checks
 pub mod Colours
 pub mod Exit
@@ -6,6 +7,7 @@ pub mod Harmless
 pub mod Lines
 pub mod Messages
 pub mod Pages
+pub mod Patches
 pub mod Program
 pub mod Screens
 pub mod Scripts

@@ -1,6 +1,5 @@
 -- What text answers a request for rows of lines.
-use Rattle.std.specs.Cmp.Lexicographic.{pointwise}
-use Rattle.std.specs.Prelude.{◌≡◌, ◌≢◌, ℕ, ◌==◌, if◌then◌else◌, Bool, true, false, List, [], ◌∷◌, ◌++◌, nat_eq, Option, Some, None, decimal}
+use Rattle.std.specs.Prelude.{◌≡◌, ◌≢◌, ℕ, ◌==◌, if◌then◌else◌, true, false, List, [], ◌∷◌, ◌++◌, Option, Some, None, decimal}
 use Rattle.std.specs.Prelude.{fold, map}
 use Rattle.std.specs.List.{filter, join_with_byte, list_any}
 use Rattle.regex.specs.Bytes.{IsReadFromSource, regex_config, regex_pattern, regex_source}
@@ -15,8 +14,8 @@ use Rattle.casebook_text.specs.Lists.{comma}
 use Rattle.casebook_text.specs.SafeLine.{text_of_lines, text_of_rows}
 use Rattle.casebook_view.specs.Filters.{FiltersValue}
 use Rattle.casebook_view.specs.Rows.{RowValue, rows_of}
-use Rattle.casebook_words.specs.Labels.{name_in}
-use Rattle.casebook_words.specs.declared.labels.Labels.{Labels}
+use Rattle.casebook_about.specs.Labels.{is_named}
+use Rattle.casebook_about.specs.declared.labels.Labels.{Labels}
 use Rattle.casebook_screen.specs.Fields.{fields_of}
 use Rattle.casebook_screen.specs.Rows.{rows_told}
 use Rattle.casebook_screen.specs.Screen.{IsScreen}
@@ -49,15 +48,6 @@ AreRead None None = Unit {0}
 AreRead None (Some pattern) = ⊥
 AreRead (Some text) None = ⊥
 AreRead (Some text) (Some pattern) = IsPattern text pattern
-
--- a name as it was given, or the number of the session if it has none
-abbrev pub name_or_number : ℕ → Option (List ℕ) → List ℕ
-name_or_number session None = decimal session
-name_or_number session (Some name) = name
-
--- whether a session has a name, or has none and this is its number
-abbrev pub is_named : Labels → List ℕ → ℕ → Bool
-is_named labels name session = pointwise nat_eq (name_or_number session (name_in session labels)) name
 
 abbrev pub session_of_line : ℕ × Noted → ℕ
 session_of_line line = line.1.sid

@@ -19,6 +19,8 @@ use Rattle.casebook_cli.specs.declared.exit.Exit.TheVariants as exits
 use Rattle.casebook_folder_cli.specs.FileFaults.{fault_line}
 use Rattle.casebook_recorder_cli.specs.Faults.{fault_line as recorder_line}
 use Rattle.casebook_recording.specs.Refusals.{refusal_words as case_words}
+use Rattle.casebook_repairs.specs.declared.documents.Hindrance.{Hindrance}
+use Rattle.casebook_repairs.specs.declared.documents.Hindrance.TheVariants as hindrances
 use Rattle.casebook_repairs.specs.declared.searched.SearchedPart.{SearchedPart}
 use Rattle.casebook_repairs.specs.declared.searched.SearchedPart.TheVariants.{Text, Outputs}
 use Rattle.casebook_repairs.specs.declared.stop.Stop.{Stop}
@@ -122,6 +124,13 @@ about_place other = []
 unfoldable pub about_message : List ℕ → AboutFault → List ℕ
 about_message name fault = said_of name (about_words fault) ++ about_place fault
 
+-- what hinders a document or a folder from being read
+unfoldable pub hindrance_words : Hindrance → List ℕ
+hindrance_words hindrances.Missing = codes "no such file"
+hindrance_words hindrances.Directory = codes "a directory, not a file"
+hindrance_words hindrances.NotPermitted = codes "reading it isn't permitted"
+hindrance_words hindrances.Other = codes "can't be read"
+
 -- why there is no answer
 unfoldable pub stop_message : Stop → List ℕ
 stop_message (stops.BadWords problem) = said (problem_words problem)
@@ -133,9 +142,15 @@ stop_message (stops.BadAbout name fault) = about_message name.now fault
 stop_message (stops.BadTime number) = said (counted (codes "--about: no such time: line ") number)
 stop_message (stops.BadList fault) = list_message fault
 stop_message (stops.NoLine number) = said (counted (codes "--line: no line has the number ") number)
+stop_message (stops.LineCancelled number) = said (counted (codes "--line: cancelled is line ") number)
+stop_message (stops.UnknownOutput number) =
+    said (counted (codes "--line: it isn't known what is printed by line ") number)
+stop_message stops.NoFile = said (codes "PATH: there would be nothing at this path")
+stop_message stops.NotAFile = said (codes "PATH: a directory would be at this path")
+stop_message stops.NotKept = said (codes "PATH: what would be there isn't kept in the case")
 stop_message (stops.BadRepair number) = repair_message number
 stop_message stops.OutOfMemory = said (codes "out of memory")
-stop_message (stops.ReadFailed name) = said_of name.now (codes "can't be read")
+stop_message (stops.ReadFailed name hindrance) = said_of name.now (hindrance_words hindrance)
 stop_message (stops.NotADirectory name) = said_of name.now (codes "not a directory")
 stop_message (stops.BadFile name fault) = said_of name.now (fault_line fault)
 stop_message (stops.UndoFailed name) = said_of name.now (codes "this undo file can't be read or written")

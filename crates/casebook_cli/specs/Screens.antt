@@ -11,7 +11,7 @@ use Rattle.casebook_screen.specs.Diffs.{AreDiffs}
 use Rattle.casebook_screen.specs.Screen.{IsScreen}
 use Rattle.casebook_screen.specs.Told.{summary_told}
 use Rattle.casebook_screen.specs.Why.{detail_told, whys_told}
-use Rattle.casebook_words.specs.declared.labels.Labels.{Labels}
+use Rattle.casebook_about.specs.declared.labels.Labels.{Labels}
 use Rattle.casebook_request.specs.Request.{ShowRequest}
 use Rattle.casebook_request.specs.declared.shown.Extras.{Extras}
 use Rattle.casebook_request.specs.declared.shown.ShownPart.{ShownPart}

@@ -10,10 +10,10 @@ use Rattle.casebook_account.specs.declared.account.Account.{Account}
 use Rattle.casebook_case.specs.Written.{IsCaseOf}
 use Rattle.casebook_status.specs.Status.{HasNoStatus}
 use Rattle.casebook_text.specs.Item.{Line}
-use Rattle.casebook_words.specs.declared.labels.Labels.{Labels}
+use Rattle.casebook_about.specs.declared.labels.Labels.{Labels}
 use Rattle.casebook_request.specs.Sources.{repair_sources, sources_of}
 use Rattle.casebook_request.specs.Request.{LinesRequest, Query, RepairRequest, Request, ShowRequest, ask}
-use Rattle.casebook_request.specs.Request.{case_log, check, help, lines, page, request_in, show}
+use Rattle.casebook_request.specs.Request.{case_log, cat, check, help, lines, page, patch, request_in, show}
 use Rattle.casebook_request.specs.Request.{CompareValue, FolderRepair}
 use Rattle.casebook_request.specs.Request.{compare, import, observe, restore, script, snapshot, start, status, undo}
 use Rattle.casebook_request.specs.declared.problem.Problem.TheVariants as problems
@@ -23,6 +23,7 @@ use Rattle.casebook_repairs.specs.Stops.{IsUnread, IsUnreadIf, NamesCase, StopsA
 use Rattle.casebook_repairs.specs.Documents.{AllDocuments}
 use Rattle.casebook_repairs.specs.Inputs.{AreInputs, DocumentValue, InputsValue, IsDocument}
 use Rattle.casebook_repairs.specs.Labels.{AreLabels, times_in}
+use Rattle.casebook_cli.specs.Bytes.{StopsBytes}
 use Rattle.casebook_cli.specs.Lines.{pattern_config, sessions_named}
 use Rattle.casebook_repairs.specs.Repairs.{IsAsked}
 use Rattle.casebook_cli.specs.Typed.{lacks_times}
@@ -124,6 +125,8 @@ abbrev pub StopsBy : InputsValue → Query → Stop → Type 0
 StopsBy inputs (lines request) stop = StopsLines inputs request stop
 StopsBy inputs (show request) stop = StopsShow inputs request stop
 StopsBy inputs (page request) stop = StopsAsked inputs request.repair stop
+StopsBy inputs (cat request) stop = StopsBytes inputs request stop
+StopsBy inputs (patch request) stop = StopsAsked inputs request stop
 StopsBy inputs (check log) stop = stop ≡ stops.OutOfMemory
 StopsBy inputs (case_log case) stop = StopsCase inputs.log stop
 
@@ -136,7 +139,7 @@ pub data StopsQuery (at : AllDocuments) (query : Query) (stop : Stop) : Type 0 w
 
 -- the folder or the file with a name can't be read
 abbrev pub IsUnreadable : List ℕ → Stop → Type 0
-IsUnreadable wanted (stops.ReadFailed name) = name.now ≡ wanted
+IsUnreadable wanted (stops.ReadFailed name hindrance) = name.now ≡ wanted
 IsUnreadable wanted other = ⊥
 
 -- what has a name is no directory
@@ -181,7 +184,7 @@ undo_name (Some name) = name
 
 -- a folder isn't restored, by its name and that of the undo file
 abbrev pub StopsFolder : List ℕ → List ℕ → Stop → Type 0
-StopsFolder root file (stops.ReadFailed name) = name.now ≡ root
+StopsFolder root file (stops.ReadFailed name hindrance) = name.now ≡ root
 StopsFolder root file (stops.NotADirectory name) = name.now ≡ root
 StopsFolder root file (stops.UndoFailed name) = name.now ≡ file
 StopsFolder root file (stops.BadUndo name) = name.now ≡ file

@@ -14,11 +14,13 @@ ghost use Rattle.casebook_cli.specs.inner.Views.{answer_view};
 
 use crate::NoMem;
 use crate::answer::Answer;
+use crate::bytes::bytes_answer;
 use crate::cases::case_answer;
 use crate::checks::check_answer;
 use crate::comparing::compare_text;
 use crate::lines_answer::lines_text;
 use crate::pages::page_text;
+use crate::patches::patch_answer;
 use crate::recorder::{import_text, observe_text, start_text};
 use crate::restores::{restore_text, undo_text};
 use crate::screens::shown_text;
@@ -27,7 +29,7 @@ use crate::snapshots::snapshot_text;
 use crate::status::status_text;
 use casebook_folder_cli::Folders;
 use casebook_recorder_cli::Spools;
-use casebook_repairs::{Documents, Inputs, Progress, Stop, asked_repair, read_inputs};
+use casebook_repairs::{Check, Documents, Inputs, Progress, Stop, asked_repair, read_inputs};
 use casebook_request::{PageRequest, Query, Request, ShowRequest, Topic, help_text};
 use std::alloc::{AllocGlobal, Global};
 use std::thread::Threads;
@@ -46,7 +48,7 @@ fn show_text<'a, R: Threads + Sync + AllocGlobal, P: Progress>(
         → IsHarmless (string_bytes text)) }
     ensures err { IfErr result (StopsShow (inputs_view inputs.now) (show_view request.entry)) }
 {
-    let asked = asked_repair(rt, progress, inputs, request.repair)?;
+    let asked = asked_repair(rt, progress, inputs, request.repair, Check::Wanted)?;
     shown_text(rt.alloc(), &asked, request.shown, colours)
 }
 
@@ -63,7 +65,7 @@ fn repair_page<'a, R: Threads + Sync + AllocGlobal, P: Progress>(
         (StopsAsked (inputs_view inputs.now) (repair_view request.entry.repair)) }
 {
     let title = request.title.unwrap_or(request.repair.log);
-    let asked = asked_repair(rt, progress, inputs, request.repair)?;
+    let asked = asked_repair(rt, progress, inputs, request.repair, Check::Wanted)?;
     Ok(page_text(rt.alloc(), &asked, title, request.all)?)
 }
 
@@ -82,9 +84,11 @@ fn answer_by<'a, R: Threads + Sync + AllocGlobal, P: Progress>(
     ensures err { IfErr result (StopsBy (inputs_view inputs.now) (query_view query.entry)) }
 {
     let text = match query {
-        Query::Lines(request) => lines_text(rt.alloc(), inputs, request)?,
+        Query::Lines(request) => lines_text(rt.alloc(), progress, inputs, request)?,
         Query::Show(request) => show_text(rt, progress, inputs, request, colours)?,
         Query::Page(request) => repair_page(rt, progress, inputs, request)?,
+        Query::Cat(request) => return bytes_answer(rt, progress, inputs, request),
+        Query::Patch(request) => return patch_answer(rt, progress, inputs, request),
         Query::Check(_) => return Ok(check_answer(rt.alloc(), &inputs.log)?),
         Query::Log(_) => return case_answer(rt.alloc(), &inputs.log),
     };

@@ -37,6 +37,11 @@ fn stop_status(stop: Stop<'_>) -> u8
         | Stop::BadTime(_)
         | Stop::BadList(_)
         | Stop::NoLine(_)
+        | Stop::LineCancelled(_)
+        | Stop::UnknownOutput(_)
+        | Stop::NoFile
+        | Stop::NotAFile
+        | Stop::NotKept
         | Stop::BadRepair(_)
         | Stop::NotADirectory(_)
         | Stop::BadFile(_, _)
@@ -46,7 +51,7 @@ fn stop_status(stop: Stop<'_>) -> u8
         | Stop::BadCase(_, _)
         | Stop::Unshown(_) => 1,
         Stop::OutOfMemory => 2,
-        Stop::ReadFailed(_) | Stop::UndoFailed(_) | Stop::Unfinished(_) => 3,
+        Stop::ReadFailed(_, _) | Stop::UndoFailed(_) | Stop::Unfinished(_) => 3,
         Stop::Recorder(_, fault) if fault.is_refusal() => 1,
         Stop::Recorder(_, _) => 3,
     }

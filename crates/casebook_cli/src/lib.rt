@@ -32,6 +32,11 @@
 //!   log is as its lines run only if it is a recording of them; that it never says no of what
 //!   `retro record` wrote is only tested. The page tells exactly what that summary
 //!   says, in order, and begins with its policy [`page` of `IsPageOf`].
+//! - `cat` is answered by exactly the bytes that a path has at the end of such a repair, or that a
+//!   line of it prints [by `IsBytes`]. There are none if no file is there, or one that stands for
+//!   what isn't kept, and if the line is cancelled or stands as it was observed [by `StopsBytes`].
+//!   `patch` is answered by the patch from the files at the end of the log to those at the end of the
+//!   repair, without those that aren't kept [by `IsPatch`].
 //! - With colours, each line of what `show` writes for people stands between two codes that its
 //!   first byte chooses (`specs/Colours.antt`), and everything else is the same. What `lines`,
 //!   `check` and, without colours, `show` write for people has no control code but newlines and
@@ -64,6 +69,7 @@
 
 mod answer;
 mod answers;
+mod bytes;
 mod cases;
 mod checks;
 mod colours;
@@ -73,6 +79,7 @@ mod line_tests;
 mod lines_answer;
 mod messages;
 mod pages;
+mod patches;
 mod patterns;
 mod plain;
 mod program;
@@ -91,7 +98,7 @@ pub use exit::Exit;
 pub use program::run_with;
 
 /// What the program reads, and whom it tells how far it is.
-pub use casebook_repairs::{Documents, Progress, ReadFault, Step};
+pub use casebook_repairs::{Documents, Hindrance, Progress, ReadFault, Step};
 /// Why there is no answer.
 pub use casebook_repairs::{SearchedPart, Stop};
 /// What is wrong with a command line.

@@ -6,7 +6,7 @@ ghost use Rattle.casebook_view.specs.Rows.{row_value};
 ghost use Rattle.casebook_request.specs.Views.{lines_view};
 ghost use Rattle.casebook_cli.specs.Harmless.{IsHarmless};
 ghost use Rattle.casebook_repairs.specs.Labels.{seen_by, source_by};
-ghost use Rattle.casebook_cli.specs.Lines.{AreLines, HasUser, is_named};
+ghost use Rattle.casebook_cli.specs.Lines.{AreLines, HasUser};
 ghost use Rattle.casebook_cli.specs.Lines.{sessions_named, user_tests, with_number};
 ghost use Rattle.casebook_cli.specs.Tests.{of_sessions, test_view};
 ghost use Rattle.casebook_cli.specs.Stops.{StopsLines, StopsUser};
@@ -19,13 +19,15 @@ use crate::line_tests::tests_of;
 use crate::patterns::Patterns;
 use crate::rows_text::{rows_text, widest_name};
 use crate::typed::typed_rows;
-use casebook_about::LineTime;
+use casebook_about::{Labels, LineTime};
 use casebook_account::Account;
-use casebook_repairs::{Inputs, Knowledge, Stop, known_of, seen_by, shown_account, source_by};
+use casebook_repairs::{
+    Inputs, Knowledge, Progress, Stop, known_of, seen_by, shown_account, source_by,
+};
 use casebook_request::{Bounds, LinesRequest, Problem};
 use casebook_screen::Names;
+use casebook_text::SafeLine;
 use casebook_view::{LineRow, LineTest, rows};
-use casebook_words::Labels;
 use retro_keep::Noted;
 use std::alloc::Global;
 
@@ -39,16 +41,6 @@ fn push_session(found: &mut Vec<u32>, session: u32) -> Result<(), NoMem>
     Ok(())
 }
 
-/// Returns whether a session has a name, or has none and this is its number.
-fn is_named(alloc: Global, labels: &Labels, name: &str, session: u32) -> Result<bool, NoMem>
-    ensures { IfOk result (λ same. same ≡ is_named labels.now name.now session) }
-{
-    match labels.name_in(session) {
-        Some(known) => Ok(known.as_str() == name),
-        None => Ok(format!(in alloc; "{session}")?.as_str() == name),
-    }
-}
-
 /// Returns the sessions of lines that have a name, or that have none and this number, each once.
 fn sessions_named(
     alloc: Global,
@@ -60,7 +52,7 @@ fn sessions_named(
 {
     let mut found = Vec::new(alloc);
     for line in lines {
-        if is_named(alloc, labels, name, line.1.sid)? {
+        if labels.is_named(alloc, name, line.1.sid)? {
             push_session(&mut found, line.1.sid)?;
         }
     }
@@ -142,9 +134,20 @@ fn lacks_times(bounds: Bounds, times: &[LineTime]) -> bool
     }
 }
 
-/// Returns the rows of lines that are asked for, as text.
-pub(crate) fn lines_text<'a>(
+/// Tells that none of so many lines is shown.
+fn tell_none<P: Progress>(alloc: Global, progress: &P, count: usize) -> Result<(), NoMem> {
+    let mut line = SafeLine::new(alloc);
+    line.push_ascii("0 of ")?;
+    line.push_number(alloc, count as u64)?;
+    line.push_ascii(" lines")?;
+    progress.remark(&line);
+    Ok(())
+}
+
+/// Returns the rows of lines that are asked for, as text. If there are none, that is told.
+pub(crate) fn lines_text<'a, P: Progress>(
     alloc: Global,
+    progress: &P,
     inputs: &Inputs<'a>,
     request: LinesRequest<'a>,
 ) -> Result<String, Stop<'a>>
@@ -161,6 +164,9 @@ pub(crate) fn lines_text<'a>(
     }
     let format = request.format;
     let found = asked_rows(alloc, &account, &known, &patterns, request)?;
+    if found.is_empty() {
+        tell_none(alloc, progress, account.recording.lines().len())?;
+    }
     let names = Names {
         labels: &known.labels,
         width: widest_name(alloc, &known.labels, account.recording.lines())?,

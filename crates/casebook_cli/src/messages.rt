@@ -7,12 +7,12 @@ ghost use Rattle.casebook_cli.specs.Messages.{item_words, list_message, log_mess
 ghost use Rattle.casebook_cli.specs.Messages.{number_words, numbered_words, part_words};
 ghost use Rattle.casebook_cli.specs.Messages.{range_words, refusal_words, repair_message};
 ghost use Rattle.casebook_cli.specs.Messages.{repair_words, said};
-ghost use Rattle.casebook_cli.specs.Messages.{said_of, searched_words, stop_message};
+ghost use Rattle.casebook_cli.specs.Messages.{hindrance_words, said_of, searched_words, stop_message};
 
 use crate::NoMem;
 use crate::exit::Exit;
 use casebook_about::{AboutFault, Part as AboutPart};
-use casebook_repairs::{SearchedPart, Stop};
+use casebook_repairs::{Hindrance, SearchedPart, Stop};
 use casebook_text::{ItemFault, ListFault, SafeLine};
 use retro_log::{Part, Refusal};
 use std::alloc::Global;
@@ -272,6 +272,20 @@ fn told_number(alloc: Global, words: &str, number: u32) -> Result<SafeLine, NoMe
     Ok(line)
 }
 
+/// Returns what hinders a document or a folder from being read.
+#[tactic(auto, unfolding(crate::specs::Messages::hindrance_words))]
+fn hindrance_words(hindrance: Hindrance) -> &'static str
+    ensures value { result.now ≡ hindrance_words hindrance }
+    ensures printable { IsTrue (list_all is_printable result.now) }
+{
+    match hindrance {
+        Hindrance::Missing => "no such file",
+        Hindrance::Directory => "a directory, not a file",
+        Hindrance::NotPermitted => "reading it isn't permitted",
+        Hindrance::Other => "can't be read",
+    }
+}
+
 /// Returns why there is no answer.
 #[tactic(auto, unfolding(crate::specs::Messages::stop_message))]
 fn stop_message(alloc: Global, stop: Stop<'_>) -> Result<SafeLine, NoMem>
@@ -287,9 +301,20 @@ fn stop_message(alloc: Global, stop: Stop<'_>) -> Result<SafeLine, NoMem>
         Stop::BadTime(number) => told_number(alloc, "--about: no such time: line ", number),
         Stop::BadList(fault) => list_message(alloc, fault),
         Stop::NoLine(number) => told_number(alloc, "--line: no line has the number ", number),
+        Stop::LineCancelled(number) => told_number(alloc, "--line: cancelled is line ", number),
+        Stop::UnknownOutput(number) => {
+            told_number(
+                alloc,
+                "--line: it isn't known what is printed by line ",
+                number,
+            )
+        }
+        Stop::NoFile => told(alloc, "PATH: there would be nothing at this path"),
+        Stop::NotAFile => told(alloc, "PATH: a directory would be at this path"),
+        Stop::NotKept => told(alloc, "PATH: what would be there isn't kept in the case"),
         Stop::BadRepair(number) => repair_message(alloc, number),
         Stop::OutOfMemory => told(alloc, "out of memory"),
-        Stop::ReadFailed(name) => told_of(alloc, name, "can't be read"),
+        Stop::ReadFailed(name, hindrance) => told_of(alloc, name, hindrance_words(hindrance)),
         Stop::NotADirectory(name) => told_of(alloc, name, "not a directory"),
         Stop::BadFile(name, fault) => told_line(alloc, name, &fault.line(alloc)?),
         Stop::UndoFailed(name) => told_of(alloc, name, "this undo file can't be read or written"),

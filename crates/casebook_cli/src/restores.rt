@@ -17,7 +17,8 @@ use casebook_folder_cli::{
     restore_answer, undo_answer,
 };
 use casebook_repairs::{
-    AskedRepair, Documents, Progress, Stop, asked_repair, known_attributes, read_inputs,
+    AskedRepair, Check, Documents, Hindrance, Progress, Stop, asked_repair, known_attributes,
+    read_inputs,
 };
 use casebook_request::{FolderRepair, RepairRequest, repair_sources};
 use casebook_text::SafeLine;
@@ -31,7 +32,7 @@ fn restore_stop<'a>(root: &'a str, undo: &'a str, fault: RestoreFault) -> Stop<'
 {
     match fault {
         RestoreFault::NoMem => Stop::OutOfMemory,
-        RestoreFault::Unreadable => Stop::ReadFailed(root),
+        RestoreFault::Unreadable => Stop::ReadFailed(root, Hindrance::Other),
         RestoreFault::NotADirectory => Stop::NotADirectory(root),
         RestoreFault::UndoFailed => Stop::UndoFailed(undo),
         RestoreFault::BadUndo(_) => Stop::BadUndo(undo),
@@ -66,7 +67,7 @@ fn repair_of<'a, R: Threads + Sync + AllocGlobal, D: Documents + Progress>(
         StopsRepairOf at (repair_view request.entry) stop)) }
 {
     let inputs = read_inputs(rt.alloc(), documents, repair_sources(&request))?;
-    asked_repair(rt, documents, &inputs, request)
+    asked_repair(rt, documents, &inputs, request, Check::Unwanted)
 }
 
 /// Tells how many lines of a case have to be run for real, if there are some: what they wrote is

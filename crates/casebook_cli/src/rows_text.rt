@@ -6,11 +6,11 @@ ghost use Rattle.casebook_cli.specs.Lines.{IsRowsText, IsShownText, numbers_text
 
 use crate::NoMem;
 use crate::plain::{plain_line, plain_lines, plain_rows};
+use casebook_about::Labels;
 use casebook_request::Format;
 use casebook_screen::{Names, row_lines, row_numbers, row_table};
 use casebook_text::list_of_numbers;
 use casebook_view::LineRow;
-use casebook_words::Labels;
 use retro_keep::Noted;
 use std::alloc::Global;
 

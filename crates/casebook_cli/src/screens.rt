@@ -1,5 +1,6 @@
 //! What is shown of repairs.
-ghost use Rattle.std.specs.Prelude.{IfOk, IfErr, IsTrue, not, string_bytes};
+ghost use Rattle.std.specs.Prelude.{◌≡◌, IfOk, IfErr, IsTrue, not, string_bytes, true};
+ghost use Rattle.retro_keep.specs.Recording.{IsRecordingOf, script_in};
 ghost use Rattle.casebook_cli.specs.Harmless.{IsHarmless, is_plain_shown};
 ghost use Rattle.casebook_view.specs.Lines.{LinesMatch};
 ghost use Rattle.casebook_cli.specs.Screens.{AreDiffLines, AreSummaryLines, AreWhyLines};
@@ -19,7 +20,6 @@ use casebook_screen::{Names, detail_lines, diff_lines, summary_lines, why_lines}
 use casebook_summary::Summary;
 use casebook_text::SafeLine;
 use casebook_view::Case;
-use casebook_words::Labels;
 use std::alloc::Global;
 
 /// What is shown of a repair, and how.
@@ -116,22 +116,26 @@ impl Screen<'_, '_> {
     }
 }
 
-/// Returns what is to be shown of a recording and its repair.
+/// Returns what is to be shown of a recording and its repair, which are those of what is asked for.
 fn text_of_case<'a>(
     alloc: Global,
+    asked: &AskedRepair,
     case: &Case<'_>,
-    labels: &Labels,
     shown: ShownPart,
     colours: bool,
 ) -> Result<String, Stop<'a>>
-    requires { LinesMatch case.now.recording case.now.repair }
+    requires lines { LinesMatch case.now.recording case.now.repair }
+    requires checked { asked.now.is_recording ≡ true
+        → IsRecordingOf (script_in case.now.recording) case.now.recording }
     ensures ok { IfOk result (λ text. IsShownOf case.now.source case.now.edits
-        case.now.recording case.now.repair labels.now shown colours (string_bytes text)) }
+        case.now.recording case.now.repair asked.now.labels shown colours
+        (string_bytes text)) }
     ensures harmless { IfOk result (λ text. IsTrue (is_plain_shown colours shown)
         → IsHarmless (string_bytes text)) }
     ensures err { IfErr result (StopsShown shown case.now.recording) }
 {
-    let summary = summary_of(alloc, case)?;
+    let summary = summary_of(alloc, case, asked.is_recording)?;
+    let labels = &asked.labels;
     let width = widest_name(alloc, labels, case.recording().lines())?;
     let screen = Screen {
         case,
@@ -149,7 +153,9 @@ pub(crate) fn shown_text<'a>(
     shown: ShownPart,
     colours: bool,
 ) -> Result<String, Stop<'a>>
-    requires { LinesMatch asked.now.recording asked.now.repair }
+    requires lines { LinesMatch asked.now.recording asked.now.repair }
+    requires checked { asked.now.is_recording ≡ true
+        → IsRecordingOf (script_in asked.now.recording) asked.now.recording }
     ensures ok { IfOk result (λ text. IsShownOf (asked_source asked.now) asked.now.edits.items
         asked.now.recording asked.now.repair asked.now.labels shown colours
         (string_bytes text)) }
@@ -158,5 +164,5 @@ pub(crate) fn shown_text<'a>(
     ensures err { IfErr result (StopsShown shown asked.now.recording) }
 {
     let case = asked.case(alloc)?;
-    text_of_case(alloc, &case, &asked.labels, shown, colours)
+    text_of_case(alloc, asked, &case, shown, colours)
 }

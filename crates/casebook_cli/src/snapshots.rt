@@ -9,7 +9,7 @@ ghost use Rattle.casebook_cli.specs.inner.Views.{answer_view};
 
 use crate::answer::Answer;
 use casebook_folder_cli::{Folders, SnapshotRequest, SourceFault, snapshot_answer};
-use casebook_repairs::{Documents, Progress, Stop};
+use casebook_repairs::{Documents, Hindrance, Progress, Stop};
 use std::alloc::Global;
 
 /// Returns why there is no snapshot of the folder or the file with a name.
@@ -18,7 +18,7 @@ pub(crate) fn snapshot_stop(name: &str, fault: SourceFault) -> Stop<'_>
 {
     match fault {
         SourceFault::NoMem => Stop::OutOfMemory,
-        SourceFault::Unreadable => Stop::ReadFailed(name),
+        SourceFault::Unreadable => Stop::ReadFailed(name, Hindrance::Other),
         SourceFault::NotADirectory => Stop::NotADirectory(name),
         SourceFault::BadFile(fault) => Stop::BadFile(name, fault),
     }

@@ -35,7 +35,7 @@ fn mounts<D: Documents>(alloc: Global, documents: &D) -> Result<Option<Vec<u8>>,
     match documents.read(alloc, MOUNTS) {
         Ok(table) => Ok(Some(table)),
         Err(ReadFault::NoMem) => Err(NoMem),
-        Err(ReadFault::Unreadable) => Ok(None),
+        Err(ReadFault::Unreadable(_)) => Ok(None),
     }
 }
 

@@ -6,27 +6,20 @@ ghost use Rattle.casebook_cli.specs.Screens.{IsSummaryOf};
 
 use crate::NoMem;
 use casebook_summary::Summary;
-use casebook_view::{Case, Source};
-use retro_log::check;
+use casebook_view::Case;
 use std::alloc::Global;
 
-/// Returns whether a log is as its lines run. Of lines that were seen on a machine that isn't said.
-fn is_recording(alloc: Global, case: &Case<'_>) -> Result<bool, NoMem>
-    ensures { IfOk result (λ yes. yes ≡ true
-        → IsRecordingOf (script_in case.now.recording) case.now.recording) }
-{
-    match case.source() {
-        Source::Played => check(alloc, case.recording()),
-        Source::Seen(_) => Ok(false),
-    }
-}
-
-/// Returns what a repair would do.
-pub(crate) fn summary_of(alloc: Global, case: &Case<'_>) -> Result<Summary, NoMem>
-    requires { LinesMatch case.now.recording case.now.repair }
+/// Returns what a repair would do. A log may be said to be as its lines run only if it is.
+pub(crate) fn summary_of(
+    alloc: Global,
+    case: &Case<'_>,
+    is_recording: bool,
+) -> Result<Summary, NoMem>
+    requires lines { LinesMatch case.now.recording case.now.repair }
+    requires checked { is_recording ≡ true
+        → IsRecordingOf (script_in case.now.recording) case.now.recording }
     ensures { IfOk result
         (IsSummaryOf case.now.source case.now.edits case.now.recording case.now.repair) }
 {
-    let is_recording = is_recording(alloc, case)?;
     Summary::of(alloc, case, is_recording)
 }

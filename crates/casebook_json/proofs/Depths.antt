@@ -19,7 +19,7 @@ use Rattle.casebook_summary.specs.declared.subject.Subject.{Subject}
 use Rattle.casebook_summary.specs.declared.subject.Subject.TheVariants.{At, Directory, Variable}
 use Rattle.casebook_summary.specs.declared.subject.Subject.TheVariants.{Status, Text, Again}
 use Rattle.casebook_summary.specs.declared.summary.Summary.{Summary}
-use Rattle.casebook_words.specs.declared.labels.Labels.{Labels}
+use Rattle.casebook_about.specs.declared.labels.Labels.{Labels}
 use Rattle.casebook_summary.specs.declared.restoration.Restoration.{Restoration}
 use Rattle.casebook_json.specs.Causes.{effect_data}
 use Rattle.casebook_json.specs.Counts.{counts_data}
@@ -30,7 +30,7 @@ use Rattle.casebook_json.specs.Source.{incomplete_in, observed_in, outside_in, o
 use Rattle.casebook_json.specs.Summary.{summary_data}
 use Rattle.casebook_json.specs.Tell.{group_data, subject_path, subject_variable}
 use Rattle.casebook_json.specs.Unknown.{unknown_data}
-use Rattle.casebook_words.specs.Labels.{name_in}
+use Rattle.casebook_about.specs.Labels.{name_in}
 use Rattle.casebook_json.specs.Values.{name_or_null, number_or_null, path_data, user_data}
 
 number_depth : (n : Option ℕ) → depth (number_or_null n) ≡ 0
@@ -90,7 +90,8 @@ effect_low : (effect : EffectValue) → depth (effect_data effect) ≤ 2
 unfolding effect_data
 effect_low effect =
     let a = items_low path_data 0 (λ p. omega arith) effect.wrote in
-    omega (arith, a)
+    let b = items_low path_data 0 (λ p. omega arith) effect.read in
+    omega (arith, a, b)
 
 why_depth : (reason : Option Reason) → depth (why_or_null reason) ≡ 0
 why_depth None = refl

@@ -18,7 +18,7 @@ use Rattle.casebook_summary.specs.declared.subject.Subject.{Subject}
 use Rattle.casebook_summary.specs.declared.subject.Subject.TheVariants.{At, Directory, Variable}
 use Rattle.casebook_summary.specs.declared.subject.Subject.TheVariants.{Status, Text, Again}
 use Rattle.casebook_summary.specs.declared.summary.Summary.{Summary}
-use Rattle.casebook_words.specs.declared.labels.Labels.{Labels}
+use Rattle.casebook_about.specs.declared.labels.Labels.{Labels}
 use Rattle.casebook_summary.specs.declared.restoration.Restoration.{Restoration}
 use Rattle.casebook_json.specs.Causes.{effect_data}
 use Rattle.casebook_json.specs.Counts.{counts_data}
@@ -29,7 +29,7 @@ use Rattle.casebook_json.specs.Source.{incomplete_in, observed_in, outside_in, o
 use Rattle.casebook_json.specs.Summary.{summary_data}
 use Rattle.casebook_json.specs.Tell.{group_data, subject_path, subject_variable}
 use Rattle.casebook_json.specs.Unknown.{unknown_data}
-use Rattle.casebook_words.specs.Labels.{name_in}
+use Rattle.casebook_about.specs.Labels.{name_in}
 use Rattle.casebook_json.specs.Values.{name_or_null, number_or_null, path_data, user_data}
 
 number_float : (n : Option ℕ) → has_float (number_or_null n) ≡ false
@@ -78,7 +78,10 @@ leak_float labels leak = rw (user_float labels leak.session) refl
 
 effect_float : (effect : EffectValue) → has_float (effect_data effect) ≡ false
 unfolding effect_data
-effect_float effect = rw (array_float path_data (λ p. refl) effect.wrote) refl
+effect_float effect = rw (
+  array_float path_data (λ p. refl) effect.wrote,
+  array_float path_data (λ p. refl) effect.read,
+) refl
 
 why_float : (reason : Option Reason) → has_float (why_or_null reason) ≡ false
 why_float None = refl

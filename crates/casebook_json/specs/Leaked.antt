@@ -3,7 +3,7 @@ use Rattle.std.specs.Prelude.{codes}
 use Rattle.serde_json.specs.Data.{Data, object, no_members, member}
 use Rattle.retro_json.specs.Values.{number_data}
 use Rattle.casebook_summary.specs.declared.leak.Leak.{Leak}
-use Rattle.casebook_words.specs.declared.labels.Labels.{Labels}
+use Rattle.casebook_about.specs.declared.labels.Labels.{Labels}
 use Rattle.casebook_json.specs.Values.{user_data}
 
 -- `{"bytes":n,"line":n,"session":n,"user":name}`

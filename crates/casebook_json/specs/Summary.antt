@@ -7,7 +7,7 @@ use Rattle.casebook_summary.specs.Effects.{effect_value}
 use Rattle.casebook_summary.specs.Groups.{group_value}
 use Rattle.casebook_view.specs.Sources.{SourceValue}
 use Rattle.casebook_summary.specs.declared.summary.Summary.{Summary}
-use Rattle.casebook_words.specs.declared.labels.Labels.{Labels}
+use Rattle.casebook_about.specs.declared.labels.Labels.{Labels}
 use Rattle.casebook_json.specs.Causes.{effect_data}
 use Rattle.casebook_json.specs.Counts.{counts_data}
 use Rattle.casebook_json.specs.Leaked.{leak_data}

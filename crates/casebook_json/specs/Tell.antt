@@ -6,7 +6,7 @@ use Rattle.casebook_summary.specs.Groups.{GroupValue}
 use Rattle.casebook_summary.specs.declared.subject.Subject.{Subject}
 use Rattle.casebook_summary.specs.declared.subject.Subject.TheVariants.{At, Directory, Variable}
 use Rattle.casebook_summary.specs.declared.subject.Subject.TheVariants.{Status, Text, Again}
-use Rattle.casebook_words.specs.declared.labels.Labels.{Labels}
+use Rattle.casebook_about.specs.declared.labels.Labels.{Labels}
 use Rattle.casebook_json.specs.Values.{path_data, user_data}
 
 abbrev pub subject_name : Subject → List ℕ

@@ -3,8 +3,8 @@ use Rattle.std.specs.Prelude.{ℕ, List, Option, Some, None, codes, if◌then◌
 use Rattle.serde_json.specs.Data.{Data, null, string}
 use Rattle.retro_json.specs.Values.{number_data}
 use Rattle.retro_tree.specs.Path.{PathValue, is_root, slashed}
-use Rattle.casebook_words.specs.Labels.{name_in}
-use Rattle.casebook_words.specs.declared.labels.Labels.{Labels}
+use Rattle.casebook_about.specs.Labels.{name_in}
+use Rattle.casebook_about.specs.declared.labels.Labels.{Labels}
 
 -- a path as it is: `/a/b`, and `/` for the root
 abbrev pub path_data : PathValue → Data

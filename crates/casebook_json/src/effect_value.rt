@@ -17,11 +17,13 @@ fn effect_value(alloc: Global, effect: &Effect) -> Result<Value, NoMem>
     ensures { IfOk result (λ v. view v ≡ effect_data (effect_value effect.now)) }
 {
     let paths = path_values(alloc, effect.wrote.as_slice())?;
+    let read = path_values(alloc, effect.read.as_slice())?;
     json!(in alloc; {
         "alike": effect.count(Fate::Alike),
         "changed": effect.count(Fate::Changed),
         "line": effect.number,
-        "paths": paths
+        "paths": paths,
+        "read": read
     })
 }
 

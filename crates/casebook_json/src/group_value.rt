@@ -7,8 +7,8 @@ ghost use Rattle.casebook_json.specs.Tell.{subject_variable};
 
 use crate::NoMem;
 use crate::value::{number_values, path_value, user_value};
+use casebook_about::Labels;
 use casebook_summary::{Group, Subject};
-use casebook_words::Labels;
 use serde_json::{Value, json};
 use std::alloc::Global;
 

@@ -5,8 +5,8 @@ ghost use Rattle.casebook_json.specs.Leaked.{leak_data};
 
 use crate::NoMem;
 use crate::value::user_value;
+use casebook_about::Labels;
 use casebook_summary::Leak;
-use casebook_words::Labels;
 use serde_json::{Value, json};
 use std::alloc::Global;
 

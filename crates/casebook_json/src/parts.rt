@@ -19,9 +19,9 @@ use crate::source_value::{
 };
 use crate::unknown_value::unknown_values;
 use crate::value::path_values;
+use casebook_about::Labels;
 use casebook_summary::Summary;
 use casebook_view::Source;
-use casebook_words::Labels;
 use serde_json::{Map, Value, put};
 use std::alloc::Global;
 

@@ -7,9 +7,9 @@ ghost use Rattle.casebook_json.specs.Summary.{summary_data, summary_text};
 
 use crate::NoMem;
 use crate::parts::Parts;
+use casebook_about::Labels;
 use casebook_summary::Summary;
 use casebook_view::Source;
-use casebook_words::Labels;
 use serde_json::Value;
 use std::alloc::Global;
 

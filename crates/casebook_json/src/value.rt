@@ -6,7 +6,7 @@ ghost use Rattle.retro_json.specs.Values.{number_data};
 ghost use Rattle.casebook_json.specs.Values.{number_or_null, path_data, user_data};
 
 use crate::NoMem;
-use casebook_words::Labels;
+use casebook_about::Labels;
 use retro_tree::{Path, Text};
 use serde_json::Value;
 use std::alloc::Global;

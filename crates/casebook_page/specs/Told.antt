@@ -35,10 +35,10 @@ use Rattle.casebook_summary.specs.declared.restoration.Extent.{Extent}
 use Rattle.casebook_summary.specs.declared.restoration.Extent.TheVariants as extents
 use Rattle.casebook_summary.specs.declared.restoration.Restoration.{Restoration}
 use Rattle.casebook_summary.specs.declared.summary.Summary.{Summary}
-use Rattle.casebook_words.specs.Labels.{name_words, time_words}
+use Rattle.casebook_about.specs.Labels.{name_words, time_words}
 use Rattle.casebook_words.specs.Obstacles.{obstacle_text}
 use Rattle.casebook_words.specs.Words.{path_words}
-use Rattle.casebook_words.specs.declared.labels.Labels.{Labels}
+use Rattle.casebook_about.specs.declared.labels.Labels.{Labels}
 use Rattle.casebook_html.specs.declared.number_tag.NumberTag.{NumberTag}
 use Rattle.casebook_html.specs.declared.number_tag.NumberTag.TheVariants as numbered
 use Rattle.casebook_html.specs.declared.piece.Piece.{Piece}
@@ -245,10 +245,11 @@ detail_told c effect =
     led_told (obstacle_in (line_at effect.number c.summary.lines)) (length effect.led)
     ++ leak_told (line_at effect.number c.summary.lines) (noted_at effect.number c.recording.lines)
 
--- the paths that it wrote, and the lines that it led to
+-- the paths that it read and that it wrote, and the lines that it led to
 abbrev pub inside_told : EffectValue → List Piece
 inside_told effect =
-    map path_told effect.wrote ++ map (λ line. Link (link_of line.fate) line.number) effect.led
+    map path_told effect.read ++ map path_told effect.wrote
+    ++ map (λ line. Link (link_of line.fate) line.number) effect.led
 
 -- the number of the line, its session, its text, and all this
 abbrev pub effect_told : ContentsValue → EffectValue → List Piece

@@ -1,9 +1,10 @@
 //! The section of cancelled and replaced lines: what each led to, and what it showed.
-ghost use Rattle.std.specs.Prelude.{◌≡◌, ◌++◌, OnOk, Some, flat_map, length, map};
+ghost use Rattle.std.specs.Prelude.{◌≡◌, ◌++◌, IsTrue, OnOk, Some, flat_map, length, map};
 ghost use Rattle.std.specs.Option.{option_copied};
 ghost use Rattle.casebook_summary.specs.Effects.{effect_value};
 ghost use Rattle.casebook_page.specs.Told.{detail_told, effect_told, effects_told, inside_told, leak_told};
 ghost use Rattle.casebook_page.specs.Told.{leaked_told, led_count, led_told, link_of, path_told};
+ghost use Rattle.casebook_html.specs.Page.{is_words};
 ghost use Rattle.casebook_html.specs.declared.piece.Piece.TheVariants.{Link};
 ghost use Rattle.casebook_page.specs.Views.{contents_view};
 
@@ -17,6 +18,7 @@ use casebook_html::{Html, Tag};
 use casebook_summary::Effect;
 use casebook_view::{CaseLine, Fate, Obstacle, Source};
 use retro_keep::Noted;
+use retro_tree::Path;
 use std::alloc::Global;
 
 /// Returns the greatest number of lines that one line led to.
@@ -118,16 +120,22 @@ fn push_leak(html: &mut Html, line: Option<&CaseLine>, noted: Option<&Noted>) ->
     push_unshown(html, line)
 }
 
-/// Appends the paths that a line wrote, unless it wrote none.
-fn push_wrote(html: &mut Html, alloc: Global, effect: &Effect) -> Result<(), NoMem>
-    ensures { OnOk result (html.new ≡ html.old ++ map path_told effect.now.wrote.items) }
+/// Appends the paths that a line read or wrote, as a word says, unless there are none.
+fn push_touched(
+    html: &mut Html,
+    alloc: Global,
+    word: &'static str,
+    paths: &[Path],
+) -> Result<(), NoMem>
+    requires { IsTrue (is_words word.now) }
+    ensures { OnOk result (html.new ≡ html.old ++ map path_told paths.now) }
 {
-    if effect.wrote.is_empty() {
+    if paths.is_empty() {
         return Ok(());
     }
     html.fixed(Tag::Small)?;
-    html.words("wrote ")?;
-    push_paths(html, alloc, effect.wrote.as_slice())?;
+    html.words(word)?;
+    push_paths(html, alloc, paths)?;
     html.fixed(Tag::ParagraphEnd)
 }
 
@@ -145,7 +153,7 @@ fn push_then(html: &mut Html, lines: &[CaseLine]) -> Result<(), NoMem>
     html.fixed(Tag::ParagraphEnd)
 }
 
-/// Appends what the row of a line has inside: what it wrote, led to and printed.
+/// Appends what the row of a line has inside: what it read, wrote, led to and printed.
 fn push_inside(
     html: &mut Html,
     alloc: Global,
@@ -154,7 +162,8 @@ fn push_inside(
 ) -> Result<(), NoMem>
     ensures { OnOk result (html.new ≡ html.old ++ inside_told (effect_value effect.now)) }
 {
-    push_wrote(html, alloc, effect)?;
+    push_touched(html, alloc, "read ", effect.read.as_slice())?;
+    push_touched(html, alloc, "wrote ", effect.wrote.as_slice())?;
     push_then(html, effect.led.as_slice())?;
     push_output(html, alloc, contents.recorded_output(effect.number))
 }

@@ -6,9 +6,9 @@ ghost use Rattle.casebook_view.specs.CaseLines.{fate_at, line_at, obstacle_in};
 ghost use Rattle.casebook_page.specs.Told.{has_other_output, output_of, remark_of, shows_untouched};
 ghost use Rattle.casebook_page.specs.Views.{contents_view};
 
+use casebook_about::Labels;
 use casebook_summary::Summary;
 use casebook_view::{Case, CaseLine, Fate, Obstacle};
-use casebook_words::Labels;
 use retro_keep::Noted;
 
 /// What a page is about.

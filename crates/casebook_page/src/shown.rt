@@ -8,10 +8,11 @@ ghost use Rattle.casebook_html.specs.declared.piece.Piece.TheVariants.{Fixed, Li
 
 use crate::NoMem;
 use crate::contents::Contents;
+use casebook_about::Labels;
 use casebook_html::{Html, NumberTag, Tag};
 use casebook_text::SafeLine;
 use casebook_view::{Case, CaseLine, Fate, Obstacle};
-use casebook_words::{Labels, push_path};
+use casebook_words::push_path;
 use retro_keep::Noted;
 use retro_tree::Path;
 use std::alloc::Global;

@@ -11,9 +11,9 @@ use crate::contents::Contents;
 use crate::merged_texts::MergedTexts;
 use crate::pair::{push_pair, push_preview};
 use crate::shown::{push_command, push_links, push_name, push_none};
+use casebook_about::Labels;
 use casebook_html::{Html, Tag};
 use casebook_summary::{Group, subject_line};
-use casebook_words::Labels;
 use std::alloc::Global;
 
 /// Returns the number of the first line of a group, or 0 if it has no lines.

@@ -1,8 +1,8 @@
 //! Pages of scripts with cancelled lines.
+use casebook_about::Labels;
 use casebook_page::{Contents, page};
 use casebook_summary::Summary;
 use casebook_view::{Case, Source};
-use casebook_words::Labels;
 use retro_keep::{Edit, Recording, keep_alone};
 use retro_log::read_script;
 use retro_redo::{Repair, repair_alone};

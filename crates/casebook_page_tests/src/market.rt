@@ -68,7 +68,7 @@ const LINE_ROWS: &str = "\
 
 /// Parts of the page, and how often each is in it. Alice has 9 lines, Bob 6 and Mallory 5, each
 /// with a name in the closed and in the open row, and Mallory's also among the cancelled ones.
-const PARTS: [(&str, usize); 30] = [
+const PARTS: [(&str, usize); 31] = [
     ("<title>The market</title>", 1),
     ("<h1>The market</h1>", 1),
     (
@@ -100,6 +100,7 @@ const PARTS: [(&str, usize); 30] = [
         "<p class=io>lines <a href=\"#l14\">14</a> <a href=\"#l15\">15</a></p>",
         1,
     ),
+    ("<p class=io>read /home/bob/report</p>", 2),
     ("<p class=io>wrote /srv/prices</p>", 1),
     (
         "<u>@@ -1,2 +1,4 @@</u>\n<del>-apple 1</del>\n<ins>+apple 3</ins>\n<ins>+pear 4</ins>\n\

@@ -144,6 +144,9 @@ writes: show account --cancel 1 =>
 | LEAKED  0 cancelled lines showed something
 |   ? what other cancelled lines showed isn't recorded: lines 1
 |
+| READ  1 edited line read what is in files or directories
+|       1  /srv/p
+|
 | CAUSES  what each edited line led to: lines with another result, run again alike, paths it wrote
 |       1    1    1  sed -i s/one/two/ /srv/p                                      /srv/p
 has: show account --cancel 4 :: %(NL)No line has to be run for real.%(NL) => yes

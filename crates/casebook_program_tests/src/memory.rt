@@ -4,7 +4,9 @@ ghost use Rattle.std.specs.Prelude.{None};
 use crate::cases::case_document;
 use crate::recorder::RECORD;
 use crate::streams::stream;
-use casebook_cli::{Documents, Exit, NoMem, Output, Progress, ReadFault, Step, run_with};
+use casebook_cli::{
+    Documents, Exit, Hindrance, NoMem, Output, Progress, ReadFault, Step, run_with,
+};
 use casebook_folder::{Attributes, Entry, FolderError, Found, Memory as MemoryFolder, Obstacle};
 use casebook_folder_cli::{Folders, Mounts, Owner};
 use casebook_restore::PlacedFolder;
@@ -131,7 +133,7 @@ impl Documents for Memory {
         match bytes_of(name) {
             Some(bytes) => Ok(Vec::from_slice(alloc, bytes)?),
             None if name == "-" => Ok(Vec::from_slice(alloc, self.input)?),
-            None => Err(ReadFault::Unreadable),
+            None => Err(ReadFault::Unreadable(Hindrance::Missing)),
         }
     }
 }

@@ -118,7 +118,7 @@ refused: restore --undo fig --root folder --cancel 1 => 1 casebook: --undo witho
   and --apply alone
 refused: restore log --cancel 9 --root folder => 1 casebook: --cancel: item 1: no line has the
   number 9
-refused: restore none --cancel 1 --root folder => 3 casebook: none: can't be read
+refused: restore none --cancel 1 --root folder => 3 casebook: none: no such file
 refused: restore log --cancel 1 --root locked => 3 casebook: locked: can't be read
 refused: restore log --cancel 1 --root file => 1 casebook: file: not a directory
 refused: restore log --cancel 1 --root folder --apply --undo locked => 3 casebook: locked: this undo

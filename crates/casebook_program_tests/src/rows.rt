@@ -10,7 +10,7 @@ use crate::restores::{REFUSED_RESTORES, RESTORES};
 use crate::scripts::{REFUSED_SCRIPTS, SCRIPTS};
 use crate::snapshots::{COMPARISONS, REFUSED_SNAPSHOTS, SNAPSHOTS};
 use crate::status::{REFUSED_STATUS, STATUS};
-use crate::tables::{LINES, OTHERS, PAGES, REFUSED, REPAIRS, TIMES};
+use crate::tables::{BYTES, LINES, OTHERS, PAGES, REFUSED, REPAIRS, TIMES};
 use retro_rows::{fail, rows, text};
 use std::alloc::AllocGlobal;
 use std::test::Fail;
@@ -111,7 +111,7 @@ fn hold<T: Threads + Sync + AllocGlobal>(rt: &T, table: &str) -> Result<(), Fail
 
 #[test]
 fn lines_and_repairs_are_shown(rt: HostRuntime) -> Result<(), Fail> {
-    for table in [LINES, TIMES, REPAIRS] {
+    for table in [LINES, TIMES, REPAIRS, BYTES] {
         hold(&rt, table)?;
     }
     Ok(())

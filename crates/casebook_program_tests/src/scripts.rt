@@ -26,9 +26,9 @@ refused: script - --sessions users --lines - => 1 casebook: - is standard input,
   once
 refused: script taken --sessions - --lines - => 1 casebook: - is standard input, which can be named
   once
-refused: script none --sessions users --lines typed => 3 casebook: none: can't be read
-refused: script taken --sessions none --lines typed => 3 casebook: none: can't be read
-refused: script taken --sessions users --lines none => 3 casebook: none: can't be read
+refused: script none --sessions users --lines typed => 3 casebook: none: no such file
+refused: script taken --sessions none --lines typed => 3 casebook: none: no such file
+refused: script taken --sessions users --lines none => 3 casebook: none: no such file
 refused: script log --sessions users --lines typed => 1 casebook: log: not a snapshot: "snapshot"
   isn't 1, or keys are wrong
 refused: script taken --sessions typed --lines typed => 1 casebook: typed: no path from the root:

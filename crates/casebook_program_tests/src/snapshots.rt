@@ -100,7 +100,7 @@ refused: snapshot folder --skip /d --skip d => 1 casebook: --skip: not a path fr
 refused: compare => 1 casebook: no LOG is given; see casebook help
 refused: compare log => 1 casebook: no FOLDER and no --tar FILE is given; see casebook help
 refused: compare log folder --at srv => 1 casebook: --at: not a path from the root
-refused: compare none folder => 3 casebook: none: can't be read
+refused: compare none folder => 3 casebook: none: no such file
 refused: compare no%(ESC)json folder => 1 casebook: no⟨U+001B⟩json: not a log: no JSON text
   (refusal 12)
 refused: compare log file => 1 casebook: file: not a directory

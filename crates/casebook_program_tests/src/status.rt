@@ -132,5 +132,5 @@ refused: status none => 3 casebook: none: there is no such spool
 refused: status busy => 3 casebook: busy: somebody else has this spool
 refused: status lost => 1 casebook: lost: row 2 of its first look: the bytes are missing or were
   altered
-refused: status spool --who none => 3 casebook: none: can't be read
+refused: status spool --who none => 3 casebook: none: no such file
 "##;

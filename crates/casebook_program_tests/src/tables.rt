@@ -31,6 +31,7 @@ writes: lines log --touches /f --format numbers => 1,2%(NL)
 writes: lines log --touches /g/ --format numbers => %(NL)
 writes: lines log --unknown --format numbers => %(NL)
 writes: lines odd --unknown --format numbers => 1%(NL)
+remarks: lines log --unknown --format numbers => 0 of 2 lines
 writes: lines log --about about --user ann --format numbers => 2%(NL)
 writes: lines log --user 1 --format numbers => 2%(NL)
 writes: lines log --about spaced --user Ann_B --format numbers => 2%(NL)
@@ -93,6 +94,8 @@ writes: show log --cancel 1 =>
 |
 | LEAKED  0 cancelled lines showed something
 |
+| READ  0 edited lines read what is in files or directories
+|
 | CAUSES  what each edited line led to: lines with another result, run again alike, paths it wrote
 |       1    1    0  echo fig > /f                                                 /f
 
@@ -128,7 +131,7 @@ writes: show log --cancel 1 --line 2 --about about =>
 |         | cat: /f: No such file or directory
 
 writes: show log --cancel 1 --format json =>
-  {"causes":[{"alike":0,"changed":1,"line":1,"paths":["/f"]}],"counts":{"alike":0,\
+  {"causes":[{"alike":0,"changed":1,"line":1,"paths":["/f"],"read":[]}],"counts":{"alike":0,\
   "cancelled":1,"changed":1,"kept":0,"untouched":0},"doubtful":[],"incomplete":[],"leaked":[],\
   "lines":[{"because_of":null,"fate":"cancelled","line":1,"note":null,"origin":null,\
   "session":2,"why":null},{"because_of":1,"fate":"changed","line":2,"note":0,"origin":1,\
@@ -154,6 +157,40 @@ coloured: show log --cancel 1 --diff :: %(NL)%(ESC)[32m+cat: /f: No such file or
   directory%(ESC)[0m%(NL) => yes
 coloured: show log --cancel 1 --diff :: %(NL)%(ESC)[36m@@ -1 +1 @@%(ESC)[0m%(NL) => yes
 plain: lines log => yes
+"##;
+
+/// Requests for bytes of repairs, and what is written.
+pub(crate) const BYTES: &str = r##"
+writes: cat log /f --cancel 2 => fig%(NL)
+writes: cat log /f/ --replace [[1,"echo_plum_>_/f"]] => plum%(NL)
+writes: cat log --line 2 --replace [[1,"echo_plum_>_/f"]] => plum%(NL)
+writes: cat log --line 2 --cancel @list => cat: /f: No such file or directory%(NL)
+writes: cat log --line 2 --replace [] => fig%(NL)
+writes: cat log --line 1 --replace [] => %(EMPTY)
+writes: cat account --line 2 --cancel 4 => two%(NL)
+writes: cat account --line 2 --cancel 1 --workers 2 => one%(NL)
+writes: cat account /srv/p --cancel 1 => one%(NL)
+writes: patch log --cancel 1 =>
+| diff --git a/f b/f
+| deleted file mode 100644
+| index e771810631f9af5acf9fcb7cbd9776eff99e3432..0000000000000000000000000000000000000000
+| --- a/f
+| +++ /dev/null
+| @@ -1 +0,0 @@
+| -fig
+
+writes: patch log --cancel 2 => %(EMPTY)
+writes: patch account --cancel 1 =>
+| diff --git a/srv/p b/srv/p
+| index f719efd430d52bcfc8566a43b2eb655688d38871..5626abf0f72e58d7a153368ba57db4c673c0e171 100644
+| --- a/srv/p
+| +++ b/srv/p
+| @@ -1 +1 @@
+| -two
+| +one
+
+writes: patch linked --cancel 1 => %(EMPTY)
+remarks: patch linked --cancel 1 => 1 file that isn't kept is left out; casebook show says which
 "##;
 
 /// Requests for pages, and a part of the page.
@@ -191,6 +228,8 @@ begins: help :: casebook -  => yes
 begins: help lines :: casebook lines LOG => yes
 begins: lines -h :: casebook lines LOG => yes
 begins: show --help :: casebook show LOG => yes
+begins: help cat :: casebook cat LOG PATH => yes
+begins: help patch :: casebook patch LOG --cancel LIST => yes
 begins: help lists :: Lists of lines => yes
 begins: help snapshot :: casebook snapshot FOLDER => yes
 begins: snapshot folder --help :: casebook snapshot FOLDER => yes
@@ -208,7 +247,8 @@ refused: lines log --sesion 2 => 1 casebook: these words are no command with its
 refused: lines log --from 1 --from 1 => 1 casebook: these words are no command with its options;
   see casebook help
 refused: line log => 1 casebook: these words are no command with its options; see casebook help
-refused: help me => 1 casebook: there is no help on this; see casebook help
+refused: help me => 1 casebook: no help on this, but on lines show page cat patch check snapshot compare
+  restore script observe import status log lists documents refusals profile
 refused: show log => 1 casebook: no --cancel LIST is given; see casebook help show
 refused: show - --cancel @- => 1 casebook: - is standard input, which can be named once
 refused: page - --replace [] --about - => 1 casebook: - is standard input, which can be named once
@@ -230,6 +270,18 @@ refused: show log --cancel 1 --line two => 1 casebook: --line: not a number of a
 refused: page log => 1 casebook: no --cancel LIST is given; see casebook help show
 refused: page log --cancel 1 --why => 1 casebook: these words are no command with its options; see
   casebook help
+refused: cat log /f --cancel 1 => 1 casebook: PATH: there would be nothing at this path
+refused: cat log / --cancel 1 => 1 casebook: PATH: a directory would be at this path
+refused: cat linked /srv/l --cancel 1 => 1 casebook: PATH: what would be there isn't kept in the
+  case
+refused: cat log --line 1 --cancel 1 => 1 casebook: --line: cancelled is line 1
+refused: cat log --line 3 --cancel 1 => 1 casebook: --line: no line has the number 3
+refused: cat account --line 1 --cancel 4 => 1 casebook: --line: it isn't known what is printed by
+  line 1
+refused: cat log f --cancel 1 => 1 casebook: PATH: not a path from the root
+refused: cat log --cancel 1 => 1 casebook: no PATH and no --line N is given; see casebook help cat
+refused: cat log /f --line 2 --cancel 1 => 1 casebook: PATH and --line N are two answers; give one
+refused: cat log /f => 1 casebook: no --cancel LIST is given; see casebook help show
 refused: show log --replace 1 => 1 casebook: --replace: not a list like [[4,"cat f"]]
 refused: show log --replace [[1,2]] => 1 casebook: --replace: not a list like [[4,"cat f"]]
 refused: show log --cancel 1 --workers two => 1 casebook: --workers: not a number
@@ -241,15 +293,15 @@ refused: check => 1 casebook: no LOG is given; see casebook help
 refused: lines log --format json => 1 casebook: --format: not text, tsv or numbers
 refused: lines log --text ( => 1 casebook: --text: not a regular expression, or too large a one
 refused: lines log --shown [ => 1 casebook: --shown: not a regular expression, or too large a one
-refused: lines none => 3 casebook: none: can't be read
-refused: lines %(ESC)[31m => 3 casebook: ⟨U+001B⟩[31m: can't be read
+refused: lines none => 3 casebook: none: no such file
+refused: lines %(ESC)[31m => 3 casebook: ⟨U+001B⟩[31m: no such file
 refused: lines no%(ESC)json => 1 casebook: no⟨U+001B⟩json: not a log: no JSON text (refusal 12)
 refused: lines script => 1 casebook: script: not a log: a key isn't one of such a document
   (refusal 14)
 refused: show shape --cancel 1 => 1 casebook: shape: not a log: a line has a wrong form (refusal
   13)
-refused: check none => 3 casebook: none: can't be read
-refused: lines log --about none => 3 casebook: none: can't be read
+refused: check none => 3 casebook: none: no such file
+refused: lines log --about none => 3 casebook: none: no such file
 refused: lines log --about list%(ESC) => 1 casebook: list⟨U+001B⟩: not UTF-8
 refused: lines log --about no%(ESC)json => 1 casebook: no⟨U+001B⟩json: no JSON text
 refused: page log --cancel 1 --about log => 1 casebook: log: no about document: "about" isn't 1
@@ -262,7 +314,7 @@ refused: show log --cancel 1 --about rows => 1 casebook: rows: sessions: not the
   session and a name: row 2
 refused: show log --cancel 1 --about late => 1 casebook: --about: no such time: line 2
 refused: show log --cancel 1 --line 3 => 1 casebook: --line: no line has the number 3
-refused: show log --cancel @none => 3 casebook: none: can't be read
+refused: show log --cancel @none => 3 casebook: none: no such file
 refused: show log --cancel @list%(ESC) => 1 casebook: list⟨U+001B⟩: not UTF-8
 refused: show log --cancel 1,%(ESC) => 1 casebook: --cancel: item 2: not N, N-M, S:all, -N or -N-M
 refused: show log --cancel 1,3 => 1 casebook: --cancel: item 2: no line has the number 3

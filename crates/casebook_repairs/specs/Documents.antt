@@ -11,4 +11,4 @@ AllDocuments = List ℕ → Option (List ℕ)
 abbrev pub IsReadAs : {X : Type 0} → (X → List ℕ) → Option (List ℕ) → Result X ReadFault → Type 0
 IsReadAs view found (Ok x) = found ≡ Some (view x)
 IsReadAs view found (Err NoMem) = Unit {0}
-IsReadAs view found (Err Unreadable) = found ≡ None
+IsReadAs view found (Err (Unreadable hindrance)) = found ≡ None

@@ -10,8 +10,8 @@ use Rattle.casebook_account.specs.Edits.{observed_numbers, outside_numbers, over
 use Rattle.casebook_account.specs.declared.account.Machine.{Machine}
 use Rattle.casebook_account.specs.declared.machine_line.MachineLine.{MachineLine}
 use Rattle.casebook_view.specs.Sources.{SeenValue, SourceValue, Played, Seen}
-use Rattle.casebook_words.specs.Labels.{named, no_labels, timed}
-use Rattle.casebook_words.specs.declared.labels.Labels.{Labels}
+use Rattle.casebook_about.specs.Labels.{named, no_labels, timed}
+use Rattle.casebook_about.specs.declared.labels.Labels.{Labels}
 use Rattle.casebook_repairs.specs.Inputs.{DocumentValue}
 use Rattle.casebook_repairs.specs.declared.accounts.SeenLines.{SeenLines}
 

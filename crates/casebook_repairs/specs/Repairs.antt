@@ -1,5 +1,5 @@
 -- The repairs that are asked for.
-use Rattle.std.specs.Prelude.{◌≡◌, List, ℕ, ◌++◌, Option, Some, None, Ok, map, option_map}
+use Rattle.std.specs.Prelude.{◌≡◌, true, List, ℕ, ◌++◌, Option, Some, None, Ok, map, option_map}
 use Rattle.std.specs.Str.{IsUtf8}
 use Rattle.retro_keep.specs.Edit.{edit_of}
 use Rattle.retro_keep.specs.Recording.{RecordingValue, IsRecordingOf}
@@ -81,7 +81,8 @@ pub record IsRepairedBy (rounds : Option RoundsValue) (account : Account) (edits
   pub is_shown : IsShownRepair account repair r repaired
 
 -- The repair of the log or of the case that is asked for, with names and times, with the numbers of
--- the lines that stand as they were observed, and with the modes and owners that were seen.
+-- the lines that stand as they were observed, and with the modes and owners that were seen. A log is
+-- said to be as its lines run only if it is.
 pub record IsAsked (inputs : InputsValue) (request : RepairRequest) (asked : AskedRepair) : Type 0 where
   pub account : Account
   pub is_account : IsAccountOf inputs.log.bytes account
@@ -92,6 +93,7 @@ pub record IsAsked (inputs : InputsValue) (request : RepairRequest) (asked : Ask
   pub labels : AreLabels account.machine inputs.about asked.labels
   pub seen : option_map lines_view asked.seen ≡ seen_by account.machine
   pub attributes : asked.attributes.items ≡ attributes_by account.machine
+  pub checked : asked.is_recording ≡ true → IsRecordingOf (recordings.script_in asked.recording) asked.recording
 
 -- where the lines of a repair come from that is asked for
 abbrev pub asked_source : AskedRepair → SourceValue

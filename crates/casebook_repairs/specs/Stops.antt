@@ -36,7 +36,7 @@ use Rattle.casebook_repairs.specs.declared.stop.Stop.TheVariants as stops
 
 -- the document with a name can't be read
 abbrev pub IsUnread : AllDocuments → List ℕ → Stop → Type 0
-IsUnread at wanted (stops.ReadFailed name) = (name.now ≡ wanted) × (at wanted ≡ None)
+IsUnread at wanted (stops.ReadFailed name hindrance) = (name.now ≡ wanted) × (at wanted ≡ None)
 IsUnread at wanted stops.OutOfMemory = Unit {0}
 IsUnread at wanted other = ⊥
 

@@ -6,13 +6,26 @@ ghost use Rattle.casebook_repairs.specs.declared.documents.ReadFault.TheVariants
 use crate::NoMem;
 use std::alloc::Global;
 
+/// What hinders a document from being read.
+#[derive(Clone, Copy, Debug, Drop, PartialEq, Eq)]
+pub enum Hindrance {
+    /// There is no such document.
+    Missing,
+    /// It is a directory.
+    Directory,
+    /// It isn't permitted.
+    NotPermitted,
+    /// Something else.
+    Other,
+}
+
 /// Why a document couldn't be read.
 #[derive(Clone, Copy, Debug, PartialEq, Eq)]
 pub enum ReadFault {
     /// Allocation failed.
     NoMem,
     /// There is no such document, or it couldn't be read to its end.
-    Unreadable,
+    Unreadable(Hindrance),
 }
 
 impl From<NoMem> for ReadFault {

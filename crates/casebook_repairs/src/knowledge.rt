@@ -1,6 +1,5 @@
 //! What is known of lines beside their recording.
-use casebook_about::LineTime;
-use casebook_words::Labels;
+use casebook_about::{Labels, LineTime};
 
 /// What is known of lines beside their recording.
 #[derive(Drop)]

@@ -13,9 +13,8 @@ use crate::NoMem;
 use crate::document::Document;
 use crate::knowledge::Knowledge;
 use crate::stop::Stop;
-use casebook_about::{About, AboutFault, LineTime, SessionUser, read_about, time_text};
+use casebook_about::{About, AboutFault, Labels, LineTime, SessionUser, read_about, time_text};
 use casebook_account::{Machine, MachineLine};
-use casebook_words::Labels;
 use jiff::Error;
 use std::alloc::Global;
 

@@ -19,9 +19,10 @@
 //! - `asked_repair` returns the repair by the edits that are asked for: the lines of the list are
 //!   left out, others are replaced, and nothing is refused of the edits, nor of how lines are run
 //!   ahead [`ok`, by `IsAsked`]. It is exact if the log is a recording of its lines, and otherwise
-//!   what choices for its lines come to, whether lines are run ahead or not [`IsRepairBy`]. Its
-//!   lines match those of the recording [`lines`]. If there is none, the fault is one that the
-//!   account, the names, the list or the edits have [`err`, by `StopsAsked`].
+//!   what choices for its lines come to, whether lines are run ahead or not [`IsRepairBy`]. It says
+//!   that a log is as its lines run only if it is [`checked`]. Its lines match those of the
+//!   recording [`lines`]. If there is none, the fault is one that the account, the names, the list
+//!   or the edits have [`err`, by `StopsAsked`].
 //! - `known_of` returns the names and times that a machine says, and then those of an about
 //!   document [by `AreLabels`].
 //! - `known_attributes` returns the modes and owners that the paths at a recording's end were last
@@ -38,6 +39,7 @@ mod labels;
 mod line_lists;
 mod progress;
 mod reading;
+mod repairing;
 mod repairs;
 mod searched;
 mod stop;
@@ -45,12 +47,13 @@ mod stop;
 pub use accounts::{SeenLines, case_stop, seen_by, shown_account, source_by};
 pub use attributes::known_attributes;
 pub use document::Document;
-pub use documents::{Documents, ReadFault};
+pub use documents::{Documents, Hindrance, ReadFault};
 pub use inputs::Inputs;
 pub use knowledge::Knowledge;
 pub use labels::known_of;
 pub use progress::{Progress, Step};
 pub use reading::{read_document, read_if_named, read_inputs};
+pub use repairing::Check;
 pub use repairs::{AskedRepair, asked_repair};
 pub use searched::SearchedPart;
 pub use stop::Stop;

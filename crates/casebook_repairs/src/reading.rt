@@ -26,7 +26,7 @@ pub fn read_document<'a, D: Documents>(
     match documents.read(alloc, name) {
         Ok(bytes) => Ok(Document { name, bytes }),
         Err(ReadFault::NoMem) => Err(Stop::OutOfMemory),
-        Err(ReadFault::Unreadable) => Err(Stop::ReadFailed(name)),
+        Err(ReadFault::Unreadable(hindrance)) => Err(Stop::ReadFailed(name, hindrance)),
     }
 }
 

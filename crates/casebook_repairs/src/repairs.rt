@@ -1,13 +1,13 @@
 //! Repairs that are asked for.
-ghost use Rattle.std.specs.Prelude.{◌≡◌, IfOk, IfErr, Ok, option_map};
+ghost use Rattle.std.specs.Prelude.{◌≡◌, IfOk, IfErr, Ok};
 ghost use Rattle.casebook_account.specs.Accounts.{IsAccountOf};
 ghost use Rattle.casebook_account.specs.Edits.{HasNoText, known_lines, text_edits};
 ghost use Rattle.casebook_account.specs.Shown.{HasNoShown, shown, shown_settled};
-ghost use Rattle.casebook_request.specs.Views.{repair_view, rounds_view};
-ghost use Rattle.casebook_repairs.specs.Repairs.{AreEdits, IsAsked, IsRepairBy, asked_source};
+ghost use Rattle.casebook_request.specs.Views.{repair_view};
+ghost use Rattle.casebook_repairs.specs.Repairs.{AreEdits, IsAsked, asked_source};
 ghost use Rattle.casebook_view.specs.Lines.{LinesMatch};
-ghost use Rattle.casebook_repairs.specs.Stops.{IsRefused, IsUnshownRepair, StopsAsked, StopsEdits};
-ghost use Rattle.casebook_repairs.specs.Stops.{StopsNumbers, StopsRepair, StopsRepaired};
+ghost use Rattle.casebook_repairs.specs.Stops.{IsUnshownRepair, StopsAsked, StopsEdits};
+ghost use Rattle.casebook_repairs.specs.Stops.{StopsNumbers, StopsRepaired};
 ghost use Rattle.casebook_repairs.specs.Views.{document_view, inputs_view};
 
 use crate::NoMem;
@@ -18,14 +18,14 @@ use crate::inputs::Inputs;
 use crate::labels::labels_of;
 use crate::line_lists::{cancellations, list_given, numbers_of};
 use crate::progress::{Progress, Step};
+use crate::repairing::{Check, Repaired, repaired_by};
 use crate::stop::Stop;
+use casebook_about::Labels;
 use casebook_account::{Account, SeenAttributes};
-use casebook_request::{RepairRequest, Rounds};
+use casebook_request::RepairRequest;
 use casebook_view::Case;
-use casebook_words::Labels;
 use retro_keep::{Edit, Recording};
-use retro_redo::{Quiet, Repair, RepairFault, repair_alone};
-use retro_rounds::repair;
+use retro_redo::Repair;
 use std::alloc::{AllocGlobal, Global};
 use std::thread::Threads;
 
@@ -45,6 +45,8 @@ pub struct AskedRepair {
     pub seen: Option<SeenLines>,
     /// Of a case the modes and owners that paths were seen to have, in order.
     pub attributes: Vec<SeenAttributes>,
+    /// Whether the log was found to be as its lines run. Of a case that isn't said.
+    pub is_recording: bool,
 }
 
 impl AskedRepair {
@@ -63,50 +65,6 @@ impl AskedRepair {
             self.edits.as_slice(),
             source,
         )
-    }
-}
-
-/// Returns why a repair is refused.
-fn refused<'a>(fault: RepairFault) -> Stop<'a>
-    ensures { IsRefused fault result }
-{
-    match fault {
-        RepairFault::OutOfMemory => Stop::OutOfMemory,
-        fault => Stop::BadRepair(fault.number()),
-    }
-}
-
-/// Returns the repair of a recording with its lines edited, and with lines run ahead in parallel if
-/// that is asked for.
-fn repair_by<'a, R: Threads + Sync + AllocGlobal>(
-    rt: &R,
-    recording: &Recording,
-    edits: &[Edit],
-    rounds: &Option<Rounds>,
-) -> Result<Repair, Stop<'a>>
-    ensures ok { IfOk result
-        (IsRepairBy (option_map rounds_view rounds.now) edits.now recording.now) }
-    ensures err { IfErr result
-        (StopsRepair (option_map rounds_view rounds.now) edits.now recording.now) }
-{
-    let alloc = rt.alloc();
-    let repaired = match rounds {
-        None => repair_alone(alloc, recording, edits),
-        Some(Rounds { workers, cuts }) => {
-            repair(
-                rt,
-                alloc,
-                recording,
-                edits,
-                *workers,
-                cuts.as_slice(),
-                &Quiet,
-            )
-        }
-    };
-    match repaired {
-        Ok(repair) => Ok(repair),
-        Err(fault) => Err(refused(fault)),
     }
 }
 
@@ -203,6 +161,13 @@ fn shown_repair<'a>(
     })
 }
 
+/// What is to be done.
+#[derive(Drop)]
+struct Task<'a> {
+    request: RepairRequest<'a>,
+    check: Check,
+}
+
 /// Returns the repair that is asked for of the account of some documents. The list of the lines to
 /// leave out may be in one of the documents.
 fn repaired<'a, R: Threads + Sync + AllocGlobal, P: Progress>(
@@ -210,15 +175,16 @@ fn repaired<'a, R: Threads + Sync + AllocGlobal, P: Progress>(
     progress: &P,
     inputs: &Inputs<'a>,
     account: Account,
-    request: RepairRequest<'a>,
+    task: Task<'a>,
 ) -> Result<AskedRepair, Stop<'a>>
     requires { IsAccountOf (inputs_view inputs.now).log.bytes account }
-    ensures ok { IfOk result (IsAsked (inputs_view inputs.now) (repair_view request.entry)) }
+    ensures ok { IfOk result (IsAsked (inputs_view inputs.now) (repair_view task.entry.request)) }
     ensures lines { IfOk result (λ asked. LinesMatch asked.recording asked.repair) }
     ensures err { IfErr result
-        (StopsRepaired (inputs_view inputs.now) (repair_view request.entry) account) }
+        (StopsRepaired (inputs_view inputs.now) (repair_view task.entry.request) account) }
 {
     let alloc = rt.alloc();
+    let Task { request, check } = task;
     let labels = labels_of(alloc, &account.machine, &inputs.about)?;
     let list = list_given(alloc, request.cancel, &inputs.list)?;
     let mut replacements = request.replacements;
@@ -226,7 +192,10 @@ fn repaired<'a, R: Threads + Sync + AllocGlobal, P: Progress>(
     let texts = texts_of(alloc, &account, &inputs.log, edits.as_slice())?;
     let count = account.recording.lines().len();
     progress.begin(Step::Repairing(count));
-    let repair = repair_by(rt, &account.recording, texts.as_slice(), &request.rounds)?;
+    let Repaired {
+        repair,
+        is_recording,
+    } = repaired_by(rt, &account, texts.as_slice(), &request.rounds, check)?;
     progress.begin(Step::Showing(count));
     let seen = seen_by(alloc, &account.machine)?;
     let shown = shown_repair(alloc, &account, &inputs.log, repair)?;
@@ -238,15 +207,18 @@ fn repaired<'a, R: Threads + Sync + AllocGlobal, P: Progress>(
         labels,
         seen,
         attributes: attributes_by(alloc, machine),
+        is_recording,
     })
 }
 
-/// Returns the repair that is asked for of the log or of the case of some documents.
+/// Returns the repair that is asked for of the log or of the case of some documents, and says, if
+/// that is wanted, whether a log is as its lines run.
 pub fn asked_repair<'a, R: Threads + Sync + AllocGlobal, P: Progress>(
     rt: &R,
     progress: &P,
     inputs: &Inputs<'a>,
     request: RepairRequest<'a>,
+    check: Check,
 ) -> Result<AskedRepair, Stop<'a>>
     ensures ok { IfOk result (IsAsked (inputs_view inputs.now) (repair_view request.entry)) }
     ensures lines { IfOk result (λ asked. LinesMatch asked.recording asked.repair) }
@@ -254,5 +226,5 @@ pub fn asked_repair<'a, R: Threads + Sync + AllocGlobal, P: Progress>(
 {
     progress.begin(Step::Reading(inputs.log.bytes.len()));
     let account = account_of(rt.alloc(), &inputs.log)?;
-    repaired(rt, progress, inputs, account, request)
+    repaired(rt, progress, inputs, account, Task { request, check })
 }

@@ -3,6 +3,7 @@ ghost use Rattle.std.specs.Prelude.{◌≡◌};
 ghost use Rattle.casebook_repairs.specs.declared.stop.Stop.TheVariants as stops;
 
 use crate::NoMem;
+use crate::documents::Hindrance;
 use crate::searched::SearchedPart;
 use casebook_about::AboutFault;
 use casebook_folder_cli::FileFault;
@@ -33,12 +34,22 @@ pub enum Stop<'a> {
     BadList(ListFault),
     /// No line has the number that is asked about.
     NoLine(u32),
+    /// The line with this number is cancelled, so it prints nothing.
+    LineCancelled(u32),
+    /// The line with this number stands as it was observed, so it isn't known what it prints.
+    UnknownOutput(u32),
+    /// There would be nothing at the path that is asked for.
+    NoFile,
+    /// There would be a directory at the path that is asked for.
+    NotAFile,
+    /// There would be a link, a device or a file at the path that is asked for which isn't kept.
+    NotKept,
     /// The repair of the log is refused, with the refusal's number.
     BadRepair(u8),
     /// Allocation failed.
     OutOfMemory,
     /// A document or a folder couldn't be read.
-    ReadFailed(&'a str),
+    ReadFailed(&'a str, Hindrance),
     /// What is named as a folder isn't one.
     NotADirectory(&'a str),
     /// A file isn't a stream of tar of which a snapshot can be taken, not the document of one, or

@@ -8,7 +8,8 @@ use Rattle.casebook_request.specs.declared.problem.Problem.TheVariants as proble
 unfoldable pub problem_words : Problem → List ℕ
 problem_words problems.NotText = codes "a word of the command line isn't UTF-8"
 problem_words problems.Words = codes "these words are no command with its options; see casebook help"
-problem_words problems.Topic = codes "there is no help on this; see casebook help"
+problem_words problems.Topic =
+    codes "no help on this, but on lines show page cat patch check snapshot compare restore script observe import status log lists documents refusals profile"
 problem_words problems.NoLog = codes "no LOG is given; see casebook help"
 problem_words problems.NoCase = codes "no CASE is given; see casebook help log"
 problem_words problems.InputTwice = codes "- is standard input, which can be named once"
@@ -23,6 +24,9 @@ problem_words problems.NoTimes = codes "--from and --to: no line has a time; giv
 problem_words problems.Reads = codes "--reads: not a path from the root"
 problem_words problems.Writes = codes "--writes: not a path from the root"
 problem_words problems.Touches = codes "--touches: not a path from the root"
+problem_words problems.Path = codes "PATH: not a path from the root"
+problem_words problems.NoPath = codes "no PATH and no --line N is given; see casebook help cat"
+problem_words problems.PathAndLine = codes "PATH and --line N are two answers; give one"
 problem_words problems.Line = codes "--line: not a number of a line"
 problem_words problems.Format = codes "--format: not text, tsv or numbers"
 problem_words problems.RepairFormat = codes "--format: not text or json"

@@ -32,12 +32,14 @@ use Rattle.casebook_request.specs.declared.format.Format.{Format}
 use Rattle.casebook_request.specs.declared.format.Format.TheVariants as formats
 use Rattle.casebook_request.specs.declared.folder_help.TheConstants.{COMPARE, RESTORE, SCRIPT, SNAPSHOT}
 use Rattle.casebook_request.specs.declared.document_help.TheConstants.{DOCUMENTS, LISTS, PROFILE, REFUSALS}
-use Rattle.casebook_request.specs.declared.help.TheConstants.{PROGRAM, LINES, SHOW, PAGE, CHECK}
+use Rattle.casebook_request.specs.declared.help.TheConstants.{PROGRAM, LINES, SHOW, PAGE, CAT, PATCH, CHECK}
 use Rattle.casebook_request.specs.declared.recorder_help.TheConstants.{IMPORT, LOG, OBSERVE, STATUS}
 use Rattle.casebook_request.specs.declared.path_filters.NamedPath.{NamedPath}
 use Rattle.casebook_request.specs.declared.path_filters.PathFilters.{PathFilters}
 use Rattle.casebook_request.specs.declared.problem.Problem.{Problem}
 use Rattle.casebook_request.specs.declared.problem.Problem.TheVariants as problems
+use Rattle.casebook_request.specs.declared.repair_request.BytesOf.{BytesOf}
+use Rattle.casebook_request.specs.declared.repair_request.BytesOf.TheVariants.{File, Output}
 use Rattle.casebook_request.specs.declared.shown.Extras.{Extras}
 use Rattle.casebook_request.specs.declared.shown.ShownPart.{ShownPart}
 use Rattle.casebook_request.specs.declared.shown.ShownPart.TheVariants as parts
@@ -88,12 +90,20 @@ pub record PageRequest : Type 0 where
   pub title : Option Text
   pub all : Bool
 
--- a question about documents: which lines are in a log, what a repair would do, that as a page,
--- whether a document is a recording of its lines, or a script, and which log explains a case
+-- the bytes of which file, or of what line's output, a repair would have
+pub record CatRequest : Type 0 where
+  pub repair : RepairRequest
+  pub bytes : BytesOf
+
+-- a question about documents: which lines are in a log, what a repair would do, that as a page, which
+-- bytes it would have, what it would do to files as a patch, whether a document is a recording of its
+-- lines, or a script, and which log explains a case
 pub data Query : Type 0 where
   lines : LinesRequest → Query
   show : ShowRequest → Query
   page : PageRequest → Query
+  cat : CatRequest → Query
+  patch : RepairRequest → Query
   check : Text → Query
   case_log : Text → Query
 
@@ -137,6 +147,8 @@ topic_in text =
     if is_text (codes "lines") text then Some topics.Lines
     else if is_text (codes "show") text then Some topics.Show
     else if is_text (codes "page") text then Some topics.Page
+    else if is_text (codes "cat") text then Some topics.Cat
+    else if is_text (codes "patch") text then Some topics.Patch
     else if is_text (codes "check") text then Some topics.Check
     else if is_text (codes "snapshot") text then Some topics.Snapshot
     else if is_text (codes "compare") text then Some topics.Compare
@@ -166,6 +178,8 @@ help_text topics.Program = PROGRAM.now
 help_text topics.Lines = LINES.now
 help_text topics.Show = SHOW.now
 help_text topics.Page = PAGE.now
+help_text topics.Cat = CAT.now
+help_text topics.Patch = PATCH.now
 help_text topics.Check = CHECK.now
 help_text topics.Snapshot = SNAPSHOT.now
 help_text topics.Compare = COMPARE.now
@@ -396,6 +410,25 @@ page_request call = do
   repair ← repair_request call
   Ok (record { repair = repair; title = given (codes "title") call; all = is_given (codes "all") call })
 
+-- of what bytes are wanted: of the file at a path, or of what a line prints
+abbrev pub bytes_with : Option NamedPath → Option ℕ → Result BytesOf Problem
+bytes_with (Some named) None = Ok (File named.path)
+bytes_with None (Some number) = Ok (Output number)
+bytes_with None None = Err problems.NoPath
+bytes_with (Some named) (Some number) = Err problems.PathAndLine
+
+abbrev pub bytes_given : Call → Result BytesOf Problem
+bytes_given call = do
+  path ← read_option problems.Path path_in (given (codes "path") call)
+  line ← read_option problems.Line number_in (given (codes "line") call)
+  bytes_with path line
+
+abbrev pub cat_request : Call → Result CatRequest Problem
+cat_request call = do
+  repair ← repair_request call
+  bytes ← bytes_given call
+  Ok (record { repair = repair; bytes = bytes })
+
 abbrev pub result_map : {A B : Type 0} → (A → B) → Result A Problem → Result B Problem
 result_map f (Ok x) = Ok (f x)
 result_map f (Err problem) = Err problem
@@ -406,6 +439,8 @@ query_in call =
     if is_text (codes "lines") call.name then result_map lines (lines_request call)
     else if is_text (codes "show") call.name then result_map show (show_request call)
     else if is_text (codes "page") call.name then result_map page (page_request call)
+    else if is_text (codes "cat") call.name then result_map cat (cat_request call)
+    else if is_text (codes "patch") call.name then result_map patch (repair_request call)
     else if is_text (codes "check") call.name then result_map check (log_given call)
     else if is_text (codes "log") call.name then result_map case_log (case_given call)
     else Err problems.Words

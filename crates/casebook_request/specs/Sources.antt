@@ -1,6 +1,6 @@
 -- The documents that a request names.
 use Rattle.std.specs.Prelude.{ℕ, ◌==◌, if◌then◌else◌, List, [], ◌∷◌, Option, Some, None}
-use Rattle.casebook_request.specs.Request.{Query, RepairRequest, case_log, check, lines, page, show}
+use Rattle.casebook_request.specs.Request.{Query, RepairRequest, case_log, cat, check, lines, page, patch, show}
 
 -- the names of the log, of the document with the list of lines to cancel, and of that with names
 -- and times
@@ -29,5 +29,7 @@ abbrev pub sources_of : Query → SourcesValue
 sources_of (lines request) = record { log = request.log; list = None; about = request.about }
 sources_of (show request) = repair_sources request.repair
 sources_of (page request) = repair_sources request.repair
+sources_of (cat request) = repair_sources request.repair
+sources_of (patch request) = repair_sources request
 sources_of (check log) = record { log = log; list = None; about = None }
 sources_of (case_log case) = record { log = case; list = None; about = None }

@@ -4,15 +4,16 @@ use Rattle.retro_tree.specs.OutOfMemory.{UnlessOutOfMemory}
 use Rattle.casebook_folder_cli.specs.Views.{compared_view, request_view as snapshot_view, restore_view, script_view}
 use Rattle.casebook_folder_cli.specs.Views.{undo_view}
 use Rattle.casebook_recorder_cli.specs.Views.{import_view, observe_view, start_view, status_view}
-use Rattle.casebook_request.specs.Request.{LinesRequest, PageRequest, Query, RepairRequest, Request}
+use Rattle.casebook_request.specs.Request.{CatRequest, LinesRequest, PageRequest, Query, RepairRequest, Request}
 use Rattle.casebook_request.specs.Request.{CompareValue, RoundsValue, ShowRequest, ask, case_log, check, compare, help, lines}
-use Rattle.casebook_request.specs.Request.{page, show}
+use Rattle.casebook_request.specs.Request.{cat, page, patch, show}
 use Rattle.casebook_request.specs.Request.{FolderRepair, import, observe, restore, script, snapshot, start, status, undo}
 use Rattle.casebook_request.specs.Sources.{SourcesValue}
 use Rattle.casebook_request.specs.declared.lines_request.LinesRequest.{LinesRequest as LinesCode}
 use Rattle.casebook_request.specs.declared.problem.Problem.{Problem}
 use Rattle.casebook_request.specs.declared.query.Query.{Query as QueryCode}
 use Rattle.casebook_request.specs.declared.query.Query.TheVariants as queries
+use Rattle.casebook_request.specs.declared.repair_request.CatRequest.{CatRequest as CatCode}
 use Rattle.casebook_request.specs.declared.repair_request.PageRequest.{PageRequest as PageCode}
 use Rattle.casebook_request.specs.declared.repair_request.RepairRequest.{RepairRequest as RepairCode}
 use Rattle.casebook_request.specs.declared.repair_request.ShowRequest.{ShowRequest as ShowCode}
@@ -61,10 +62,15 @@ page_view request = record {
   all = request.all;
 }
 
+abbrev pub cat_view : CatCode → CatRequest
+cat_view request = record { repair = repair_view request.repair; bytes = request.bytes }
+
 abbrev pub query_view : QueryCode → Query
 query_view (queries.Lines request) = lines (lines_view request)
 query_view (queries.Show request) = show (show_view request)
 query_view (queries.Page request) = page (page_view request)
+query_view (queries.Cat request) = cat (cat_view request)
+query_view (queries.Patch request) = patch (repair_view request)
 query_view (queries.Check log) = check log.now
 query_view (queries.Log case) = case_log case.now
 

@@ -46,6 +46,9 @@ show_rules =
 abbrev pub page_rules : List Rule
 page_rules = repair_rules ++ (option (codes "title") ∷ flag (codes "all") ∷ [])
 
+abbrev pub cat_rules : List Rule
+cat_rules = repair_rules ++ (word (codes "path") ∷ option (codes "line") ∷ [])
+
 abbrev pub check_rules : List Rule
 check_rules = help_flag ∷ word (codes "log") ∷ []
 
@@ -85,6 +88,10 @@ abbrev pub program : App
 program =
     with_command
     (with_command
+    (with_command
+    (with_command
     (with_command (with_command without_recorder (codes "observe") observe_rules) (codes "import") import_rules)
     (codes "status") status_rules)
-    (codes "log") log_rules
+    (codes "log") log_rules)
+    (codes "cat") cat_rules)
+    (codes "patch") repair_rules

@@ -12,7 +12,7 @@ use crate::line_options::lines_request;
 use crate::options::{case_of, is_given, log_of};
 use crate::problem::Problem;
 use crate::query::Query;
-use crate::repair_options::{page_request, repair_request, show_request};
+use crate::repair_options::{cat_request, page_request, repair_request, show_request};
 use crate::request::{CompareRequest, FolderRepair, Request};
 use crate::topic::Topic;
 use crate::words::{WordsFault, call_in};
@@ -32,6 +32,8 @@ fn topic_of(text: &str) -> Option<Topic>
         "lines" => Some(Topic::Lines),
         "show" => Some(Topic::Show),
         "page" => Some(Topic::Page),
+        "cat" => Some(Topic::Cat),
+        "patch" => Some(Topic::Patch),
         "check" => Some(Topic::Check),
         "snapshot" => Some(Topic::Snapshot),
         "compare" => Some(Topic::Compare),
@@ -78,6 +80,8 @@ fn query_of<'a>(alloc: Global, call: &CommandCall<'a>) -> Result<Query<'a>, Word
         "lines" => Ok(Query::Lines(lines_request(alloc, call)?)),
         "show" => Ok(Query::Show(show_request(alloc, call)?)),
         "page" => Ok(Query::Page(page_request(alloc, call)?)),
+        "cat" => Ok(Query::Cat(cat_request(alloc, call)?)),
+        "patch" => Ok(Query::Patch(repair_request(alloc, call)?)),
         "check" => Ok(Query::Check(log_of(call)?)),
         "log" => Ok(Query::Log(case_of(call)?)),
         _ => Err(WordsFault::Bad(Problem::Words)),

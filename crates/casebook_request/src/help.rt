@@ -28,6 +28,10 @@ folder that it is told to restore, and spools.
         What would be without the lines of LIST.
     casebook page LOG --cancel LIST [--title TEXT] [--all]
         The same as a page for a browser: one HTML file, on standard output.
+    casebook cat LOG PATH|--line N --cancel LIST
+        One file as it would be, or what line N would print: the bytes themselves.
+    casebook patch LOG --cancel LIST
+        What would change in files, as a patch for `git apply`.
     casebook check DOCUMENT
         Whether a log is a recording, and if not, which line isn't as it notes; of
         another document, whether it is a case or a script, and why it is refused.
@@ -48,8 +52,8 @@ folder that it is told to restore, and spools.
         Whether the recorder works: since when, whose sessions, and what is missing.
     casebook log CASE
         A log that explains it, line by line, for retro.
-    casebook help [lines|show|page|check|snapshot|script|compare|restore|observe|
-                   import|status|log|lists|documents|refusals|profile]
+    casebook help [lines|show|page|cat|patch|check|snapshot|script|compare|restore|
+                   observe|import|status|log|lists|documents|refusals|profile]
         This text, or more on a command, on lists of lines, on the documents that
         casebook reads, on why it refuses them, or on what a line may be.
 
@@ -83,6 +87,7 @@ From a log to an answer:
     TELL     the sessions whose lines printed what would have been different, by
              the path that it came from: their users were misled, so tell them
     LEAKED   the cancelled lines that showed something: the intruder saw this
+    READ     the files and directories of which edited lines read what is in them
     CAUSES   what each edited line led to, and which paths it wrote
 
     --why adds why each line with another result was run again, --diff how files
@@ -241,6 +246,8 @@ The screen has these parts:
              have been different, since the path would have been
     LEAKED   cancelled lines that printed something, and how many bytes; of observed
              lines it isn't known
+    READ     the files and directories of which each edited line read what is in them,
+             printed or not; of an observed line those that it may have read
     CAUSES   each cancelled line, how many lines have another result because of it,
              how many were run again alike, and the paths that it wrote
 
@@ -277,6 +284,53 @@ Example:
     casebook page log.json --cancel @intruder.txt --title 'May 6' > incident.html
 ";
 
+/// Help on the command `cat`.
+const CAT: &str = "\
+casebook cat LOG PATH --cancel LIST
+casebook cat LOG --line N --cancel LIST
+
+Writes the bytes that the file at PATH would have at the end, without the lines of
+LIST, or what line N would print. PATH begins with a slash. It writes the bytes as
+they are, and an intruder may have made them: see them by `less` or `cat -v`, and
+not on a terminal itself.
+
+    --replace EDITS, --workers N, --cuts NUMBERS
+                  as in casebook help show
+
+Nothing is written, and the exit status is 1, if there would be no file at PATH: if
+nothing would be there, or a directory, or a link, a device or a file that a case
+doesn't keep. The same is so if line N is cancelled, or isn't there.
+
+With --replace '[]' in the place of --cancel no line is cancelled: the file is as it
+was at the end, and line N prints what it printed.
+
+Examples:
+
+    casebook cat log.json /srv/shop/prices --cancel 5:all,-41,-44 > prices
+    casebook cat log.json --line 183 --cancel @intruder.txt | less
+";
+
+/// Help on the command `patch`.
+const PATCH: &str = "\
+casebook patch LOG --cancel LIST
+
+Writes what would be different in files at the end, without the lines of LIST, as a
+patch in git's form: from what is recorded to what would be. In a copy of the folder
+that is the root of the log:
+
+    casebook patch log.json --cancel 5:all,-41,-44 > incident.patch
+    git apply --check incident.patch
+    git apply incident.patch
+    git apply -R incident.patch
+
+`patch -p1` takes it too where all files are text. A patch has no directories that
+are empty, no modes, and nothing of what a case doesn't keep: a line on standard
+error says how many paths it leaves out, and `casebook show` names them.
+
+    --replace EDITS, --workers N, --cuts NUMBERS
+                  as in casebook help show
+";
+
 /// Help on the command `check`.
 const CHECK: &str = "\
 casebook check DOCUMENT
@@ -301,6 +355,8 @@ pub fn help_text(topic: Topic) -> &'static str
         Topic::Lines => LINES,
         Topic::Show => SHOW,
         Topic::Page => PAGE,
+        Topic::Cat => CAT,
+        Topic::Patch => PATCH,
         Topic::Check => CHECK,
         Topic::Snapshot => SNAPSHOT,
         Topic::Compare => COMPARE,

@@ -60,7 +60,7 @@ pub use lines_request::LinesRequest;
 pub use path_filters::{NamedPath, PathFilters};
 pub use problem::Problem;
 pub use query::{Query, repair_sources};
-pub use repair_request::{PageRequest, RepairRequest, ShowRequest};
+pub use repair_request::{BytesOf, CatRequest, PageRequest, RepairRequest, ShowRequest};
 pub use request::{CompareRequest, FolderRepair, Request};
 pub use rounds::Rounds;
 pub use shown::{Extras, ShownPart};

@@ -52,7 +52,7 @@ fn path_of(alloc: Global, text: &str) -> Result<Option<NamedPath>, NoMem>
 }
 
 /// Returns the path of an option, if the option is given.
-fn path_option(
+pub(crate) fn path_option(
     alloc: Global,
     text: Option<&str>,
     problem: Problem,

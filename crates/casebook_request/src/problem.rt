@@ -45,6 +45,12 @@ pub enum Problem {
     Writes,
     /// The value of `--touches` isn't a path from the root.
     Touches,
+    /// What is named as a file isn't a path from the root.
+    Path,
+    /// Neither a path nor `--line` is given.
+    NoPath,
+    /// A path and `--line` are given.
+    PathAndLine,
     /// The value of `--line` isn't a number.
     Line,
     /// The value of `--format` isn't a format.
@@ -69,7 +75,10 @@ impl Problem {
         match self {
             Problem::NotText => "a word of the command line isn't UTF-8",
             Problem::Words => "these words are no command with its options; see casebook help",
-            Problem::Topic => "there is no help on this; see casebook help",
+            Problem::Topic => {
+                "no help on this, but on lines show page cat patch check snapshot compare restore \
+                 script observe import status log lists documents refusals profile"
+            }
             Problem::NoLog => "no LOG is given; see casebook help",
             Problem::NoCase => "no CASE is given; see casebook help log",
             Problem::InputTwice => "- is standard input, which can be named once",
@@ -84,6 +93,9 @@ impl Problem {
             Problem::Reads => "--reads: not a path from the root",
             Problem::Writes => "--writes: not a path from the root",
             Problem::Touches => "--touches: not a path from the root",
+            Problem::Path => "PATH: not a path from the root",
+            Problem::NoPath => "no PATH and no --line N is given; see casebook help cat",
+            Problem::PathAndLine => "PATH and --line N are two answers; give one",
             Problem::Line => "--line: not a number of a line",
             Problem::Format => "--format: not text, tsv or numbers",
             Problem::RepairFormat => "--format: not text or json",

@@ -4,7 +4,7 @@ ghost use Rattle.casebook_request.specs.Sources.{document_named, repair_sources,
 ghost use Rattle.casebook_request.specs.Views.{query_view, repair_view, sources_view};
 
 use crate::lines_request::LinesRequest;
-use crate::repair_request::{PageRequest, RepairRequest, ShowRequest};
+use crate::repair_request::{CatRequest, PageRequest, RepairRequest, ShowRequest};
 use crate::sources::Sources;
 
 /// A question about documents.
@@ -16,6 +16,10 @@ pub enum Query<'a> {
     Show(ShowRequest<'a>),
     /// What a repair would do, as a page.
     Page(PageRequest<'a>),
+    /// What a repair would have in a file, or print in a line.
+    Cat(CatRequest<'a>),
+    /// What a repair would do to files, as a patch.
+    Patch(RepairRequest<'a>),
     /// Whether the document with this name is a recording of its lines, or a script.
     Check(&'a str),
     /// Which log explains the case with this name.
@@ -53,6 +57,8 @@ impl<'a> Query<'a> {
             },
             Query::Show(request) => repair_sources(&request.repair),
             Query::Page(request) => repair_sources(&request.repair),
+            Query::Cat(request) => repair_sources(&request.repair),
+            Query::Patch(request) => repair_sources(request),
             Query::Check(log) => Sources {
                 log,
                 list: None,

@@ -1,19 +1,22 @@
 //! The requests of commands about repairs.
 ghost use Rattle.std.specs.Prelude.{◌≡◌, IfOk, option_map};
 ghost use Rattle.retro_edge.specs.Numbers.{numbers_in};
-ghost use Rattle.casebook_request.specs.Request.{cancel_given, page_request};
+ghost use Rattle.casebook_request.specs.Request.{bytes_given, bytes_with, cancel_given};
+ghost use Rattle.casebook_request.specs.Request.{cat_request, page_request};
 ghost use Rattle.casebook_request.specs.Request.{read_option, repair_request};
 ghost use Rattle.casebook_request.specs.Request.{replacements_given, rounds_given};
 ghost use Rattle.casebook_request.specs.Request.{rounds_with, show_format, show_request};
 ghost use Rattle.casebook_request.specs.Request.{shown_as, shown_of};
 ghost use Rattle.retro_edge.specs.Calls.{call_view};
-ghost use Rattle.casebook_request.specs.Views.{Means, page_view, repair_view, rounds_view};
-ghost use Rattle.casebook_request.specs.Views.{show_view};
+ghost use Rattle.casebook_request.specs.Views.{Means, cat_view, page_view, repair_view};
+ghost use Rattle.casebook_request.specs.Views.{rounds_view, show_view};
 
 use crate::NoMem;
 use crate::options::{check_input, is_given, log_of, number_option};
+use crate::path_filters::NamedPath;
+use crate::path_options::path_option;
 use crate::problem::Problem;
-use crate::repair_request::{PageRequest, RepairRequest, ShowRequest};
+use crate::repair_request::{BytesOf, CatRequest, PageRequest, RepairRequest, ShowRequest};
 use crate::rounds::Rounds;
 use crate::shown::{Extras, ShownPart};
 use crate::words::WordsFault;
@@ -187,4 +190,37 @@ pub(crate) fn page_request<'a>(
         title: call.text_of("title"),
         all: is_given(call, "all"),
     })
+}
+
+/// Returns of what bytes are wanted: of the file at a path, or of what a line prints.
+fn bytes_with(path: Option<NamedPath>, line: Option<u32>) -> Result<BytesOf, WordsFault>
+    ensures { Means (λ bytes. bytes) result (bytes_with path line) }
+{
+    match (path, line) {
+        (Some(named), None) => Ok(BytesOf::File(named.path)),
+        (None, Some(number)) => Ok(BytesOf::Output(number)),
+        (None, None) => Err(WordsFault::Bad(Problem::NoPath)),
+        (Some(_), Some(_)) => Err(WordsFault::Bad(Problem::PathAndLine)),
+    }
+}
+
+/// Returns of what the command `cat` is to write the bytes.
+fn bytes_given(alloc: Global, call: &CommandCall<'_>) -> Result<BytesOf, WordsFault>
+    ensures { Means (λ bytes. bytes) result (bytes_given (call_view call.now)) }
+{
+    let path = path_option(alloc, call.text_of("path"), Problem::Path)?;
+    let line = number_option(call.text_of("line"), Problem::Line)?;
+    bytes_with(path, line)
+}
+
+/// Returns the request of the command `cat`.
+pub(crate) fn cat_request<'a>(
+    alloc: Global,
+    call: &CommandCall<'a>,
+) -> Result<CatRequest<'a>, WordsFault>
+    ensures { Means cat_view result (cat_request (call_view call.now)) }
+{
+    let repair = repair_request(alloc, call)?;
+    let bytes = bytes_given(alloc, call)?;
+    Ok(CatRequest { repair, bytes })
 }

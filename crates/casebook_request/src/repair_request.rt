@@ -2,6 +2,7 @@
 use crate::rounds::Rounds;
 use crate::shown::ShownPart;
 use retro_keep::Edit;
+use retro_tree::Path;
 
 /// A request for a repair.
 #[derive(Drop)]
@@ -37,4 +38,22 @@ pub struct PageRequest<'a> {
     pub title: Option<&'a str>,
     /// Whether untouched lines have rows also if there are many lines.
     pub all: bool,
+}
+
+/// Of what the bytes are written.
+#[derive(Drop)]
+pub enum BytesOf {
+    /// The file at a path.
+    File(Path),
+    /// What the line with a number prints.
+    Output(u32),
+}
+
+/// A request for bytes of a repair.
+#[derive(Drop)]
+pub struct CatRequest<'a> {
+    /// The repair.
+    pub repair: RepairRequest<'a>,
+    /// Of what the bytes are written.
+    pub bytes: BytesOf,
 }

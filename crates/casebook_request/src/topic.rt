@@ -11,6 +11,10 @@ pub enum Topic {
     Show,
     /// The command `page`.
     Page,
+    /// The command `cat`.
+    Cat,
+    /// The command `patch`.
+    Patch,
     /// The command `check`.
     Check,
     /// The command `snapshot`.

@@ -6,10 +6,10 @@ ghost use Rattle.clap.specs.declared.builder.command.Command.TheViews.{out-Comma
 ghost use Rattle.retro_edge.specs.Calls.{Names, named_in};
 ghost use Rattle.retro_edge.specs.Rules.{command};
 ghost use Rattle.casebook_request.specs.Request.{folder_fault, recorder_fault};
-ghost use Rattle.casebook_request.specs.Words.{bare, check_rules, edit_rules, help_rules};
-ghost use Rattle.casebook_request.specs.Words.{lines_rules, log_rules, number_rules, page_rules};
-ghost use Rattle.casebook_request.specs.Words.{path_rules, pattern_rules, program, repair_rules};
-ghost use Rattle.casebook_request.specs.Words.{show_rules, without_recorder, without_repairs};
+ghost use Rattle.casebook_request.specs.Words.{bare, cat_rules, check_rules, edit_rules};
+ghost use Rattle.casebook_request.specs.Words.{help_rules, lines_rules, log_rules, number_rules};
+ghost use Rattle.casebook_request.specs.Words.{page_rules, path_rules, pattern_rules, program};
+ghost use Rattle.casebook_request.specs.Words.{repair_rules, show_rules, without_recorder, without_repairs};
 ghost use Rattle.casebook_request.specs.declared.words.WordsFault.TheVariants as faults;
 
 use crate::NoMem;
@@ -175,6 +175,26 @@ fn page_command<'a>(alloc: Global) -> Result<Command<'a>, NoMem>
         .arg(flag(alloc, "all"))
 }
 
+/// Returns the command that writes bytes of a repair.
+fn cat_command<'a>(alloc: Global) -> Result<Command<'a>, NoMem>
+    ensures shape { IfOk result (λ c.
+        app_of c ≡ record { top = command (codes "cat") cat_rules; subs = [] }) }
+    ensures local { IfOk result (λ c. (fields_of c).has_globals ≡ false) }
+{
+    repair_command(alloc, "cat")?
+        .arg(word(alloc, "path"))?
+        .arg(option(alloc, "line"))
+}
+
+/// Returns the command that writes a repair as a patch.
+fn patch_command<'a>(alloc: Global) -> Result<Command<'a>, NoMem>
+    ensures shape { IfOk result (λ c.
+        app_of c ≡ record { top = command (codes "patch") repair_rules; subs = [] }) }
+    ensures local { IfOk result (λ c. (fields_of c).has_globals ≡ false) }
+{
+    repair_command(alloc, "patch")
+}
+
 /// Returns the command that says whether a document is a recording.
 fn check_command<'a>(alloc: Global) -> Result<Command<'a>, NoMem>
     ensures shape { IfOk result (λ c.
@@ -234,7 +254,9 @@ fn program_command<'a>(alloc: Global) -> Result<Command<'a>, NoMem>
         .subcommand(recorder::observe_command(alloc)?)?
         .subcommand(recorder::import_command(alloc)?)?
         .subcommand(recorder::status_command(alloc)?)?
-        .subcommand(log_command(alloc)?)
+        .subcommand(log_command(alloc)?)?
+        .subcommand(cat_command(alloc)?)?
+        .subcommand(patch_command(alloc)?)
 }
 
 /// Returns the command that words name, as `clap` reads them, or `None` if they name none.

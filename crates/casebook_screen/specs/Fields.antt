@@ -6,9 +6,9 @@ use Rattle.casebook_view.specs.Rows.{RowValue}
 use Rattle.casebook_view.specs.declared.path_write.PathWrite.{PathWrite}
 use Rattle.casebook_view.specs.declared.path_write.WriteKind.{WriteKind}
 use Rattle.casebook_view.specs.declared.path_write.WriteKind.TheVariants.{Put, Append, Remove}
-use Rattle.casebook_words.specs.Labels.{name_words, time_words}
+use Rattle.casebook_about.specs.Labels.{name_words, time_words}
 use Rattle.casebook_words.specs.Words.{path_words}
-use Rattle.casebook_words.specs.declared.labels.Labels.{Labels}
+use Rattle.casebook_about.specs.declared.labels.Labels.{Labels}
 
 abbrev pub write_sign : WriteKind → List ℕ
 write_sign Put = codes "+"

@@ -4,8 +4,8 @@ use Rattle.casebook_text.specs.SafeLine.{safe_bytes}
 use Rattle.casebook_usage.specs.declared.obstacle.Obstacle.{Obstacle}
 use Rattle.casebook_view.specs.Rows.{RowValue}
 use Rattle.casebook_words.specs.Cut.{cut_words, first_text}
-use Rattle.casebook_words.specs.Labels.{time_words}
-use Rattle.casebook_words.specs.declared.labels.Labels.{Labels}
+use Rattle.casebook_about.specs.Labels.{time_words}
+use Rattle.casebook_about.specs.declared.labels.Labels.{Labels}
 use Rattle.casebook_screen.specs.Fields.{write_field}
 use Rattle.casebook_screen.specs.Told.{is_observed, name_told, obstacle_told, path_told, said, time_told}
 use Rattle.casebook_screen.specs.declared.piece.Piece.{Piece}

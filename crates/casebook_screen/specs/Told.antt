@@ -1,6 +1,6 @@
 -- What a terminal tells of a repair: the pieces that say something, in order.
 use Rattle.std.specs.Prelude.{ℕ, ◌+◌, ◌-◌, ◌==◌, Bool, true, false, ◌&&◌, List, [], ◌∷◌, ◌++◌, codes}
-use Rattle.std.specs.Prelude.{Option, Some, None, encode_utf8, flat_map, if◌then◌else◌, is_some, length, map, nat_le}
+use Rattle.std.specs.Prelude.{Option, Some, None, count_by, encode_utf8, flat_map, if◌then◌else◌, is_some, length, map, nat_le}
 use Rattle.std.specs.Prelude.{take}
 use Rattle.std.specs.List.{filter, slice_get}
 use Rattle.retro_tree.specs.Path.{PathValue}
@@ -22,6 +22,7 @@ use Rattle.casebook_summary.specs.Counts.{count_changed, count_of, numbers_with,
 use Rattle.casebook_summary.specs.Effects.{EffectValue, effect_value}
 use Rattle.casebook_summary.specs.Groups.{GroupValue, group_value}
 use Rattle.casebook_summary.specs.Words.{obstacle_words, played_words, subject_words}
+use Rattle.casebook_summary.specs.declared.effect.Effect.{Effect}
 use Rattle.casebook_summary.specs.declared.group.Group.{Group}
 use Rattle.casebook_summary.specs.declared.leak.Leak.{Leak}
 use Rattle.casebook_summary.specs.declared.notice.Notice.{Notice}
@@ -30,10 +31,10 @@ use Rattle.casebook_summary.specs.declared.restoration.Extent.TheVariants as ext
 use Rattle.casebook_summary.specs.declared.restoration.Restoration.{Restoration}
 use Rattle.casebook_summary.specs.declared.summary.Summary.{Summary}
 use Rattle.casebook_words.specs.Cut.{cut_words}
-use Rattle.casebook_words.specs.Labels.{name_words, time_words}
+use Rattle.casebook_about.specs.Labels.{name_words, time_words}
 use Rattle.casebook_words.specs.Obstacles.{obstacle_text}
 use Rattle.casebook_words.specs.Words.{path_words}
-use Rattle.casebook_words.specs.declared.labels.Labels.{Labels}
+use Rattle.casebook_about.specs.declared.labels.Labels.{Labels}
 use Rattle.casebook_screen.specs.declared.piece.Piece.{Piece}
 use Rattle.casebook_screen.specs.declared.piece.Piece.TheVariants.{Number, Text}
 
@@ -298,6 +299,26 @@ leaks_told r labels summary =
     ∷ (flat_map (leak_told r labels) summary.leaks.items
     ++ some_told (codes "  ? what other cancelled lines showed isn't recorded: lines") (unshown_in summary.lines))
 
+-- ---- what edited lines read
+
+-- the number of a line, and the first paths that it read, unless it read none
+abbrev pub read_by : ℕ → List PathValue → List Piece
+read_by number [] = []
+read_by number (p ∷ paths) = Number number ∷ paths_told (p ∷ paths)
+
+abbrev pub read_told : EffectValue → List Piece
+read_told effect = read_by effect.number effect.read
+
+abbrev pub has_paths : List PathValue → Bool
+has_paths [] = false
+has_paths (p ∷ paths) = true
+
+-- how many lines read something, and each of them
+abbrev pub reads_told : List Effect → List Piece
+reads_told effects =
+    Text (codes "READ  ") ∷ Number (count_by (λ effect. has_paths effect.read.items) effects)
+    ∷ flat_map (λ effect. read_told (effect_value effect)) effects
+
 -- ---- what edited lines led to
 
 -- a count, or a question mark if the line isn't understood
@@ -329,12 +350,13 @@ front_told source summary labels =
     head_told labels summary.lines ++ basis_told source summary.is_recording
     ++ unknown_told source summary.unknown.items summary.lines ++ counts_told summary.lines
 
--- whom to tell, who looked at what, what cancelled lines showed, and what edited lines led to
+-- whom to tell, who looked at what, what cancelled lines showed, and what edited lines read and led
+-- to
 abbrev pub about_told : RecordingValue → Summary → Labels → List Piece
 about_told r summary labels =
     tell_told labels summary.notices.items summary.told.items
     ++ looked_told labels summary.looks.items summary.looked.items
-    ++ leaks_told r labels summary ++ causes_told r summary
+    ++ leaks_told r labels summary ++ reads_told summary.effects.items ++ causes_told r summary
 
 abbrev pub summary_told : SourceValue → RecordingValue → Summary → Labels → List Piece
 summary_told source r summary labels =

@@ -14,9 +14,9 @@ use Rattle.casebook_view.specs.declared.reason.Reason.{Reason}
 use Rattle.casebook_summary.specs.Words.{why_words}
 use Rattle.casebook_summary.specs.declared.summary.Summary.{Summary}
 use Rattle.casebook_words.specs.FileLines.{shown_lines}
-use Rattle.casebook_words.specs.Labels.{time_words}
+use Rattle.casebook_about.specs.Labels.{time_words}
 use Rattle.casebook_words.specs.Words.{note_words}
-use Rattle.casebook_words.specs.declared.labels.Labels.{Labels}
+use Rattle.casebook_about.specs.declared.labels.Labels.{Labels}
 use Rattle.casebook_screen.specs.Told.{command_told, fate_words, name_told, obstacle_told, time_told}
 use Rattle.casebook_screen.specs.declared.piece.Piece.{Piece}
 use Rattle.casebook_screen.specs.declared.piece.Piece.TheVariants.{Number, Text}

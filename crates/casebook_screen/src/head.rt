@@ -13,10 +13,10 @@ ghost use Rattle.casebook_screen.specs.declared.piece.Piece.TheVariants.{Text as
 use crate::NoMem;
 use crate::screen::Screen;
 use crate::shown::push_first_numbers;
+use casebook_about::Labels;
 use casebook_summary::{Summary, played_words, sessions_of};
 use casebook_text::SafeLine;
 use casebook_view::{CaseLine, Fate, Seen, Source};
-use casebook_words::Labels;
 use retro_tree::Text;
 use std::alloc::Global;
 

@@ -4,8 +4,8 @@
 //!
 //! [`summary_lines`] shows a summary of `casebook_summary`, which says what a repair would do: which
 //! lines aren't understood, how many lines have which fate, what is to be restored, whom to tell
-//! about what, which cancelled lines showed something, and what each edited line led to. If a
-//! recorder saw the lines on a machine, it says which ones have to be run there for real in place
+//! about what, which cancelled lines showed something, and what each edited line read and led to. If
+//! a recorder saw the lines on a machine, it says which ones have to be run there for real in place
 //! of which ones aren't understood, and who looked at something by these. Rows mark the lines that
 //! stand as they were observed with an `o`.
 //!
@@ -47,6 +47,7 @@ mod leaked;
 mod lines;
 mod names;
 mod piece;
+mod reads;
 mod restore;
 mod rows;
 mod screen;

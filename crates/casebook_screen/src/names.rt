@@ -1,5 +1,5 @@
 //! What sessions and lines are called, in columns.
-use casebook_words::Labels;
+use casebook_about::Labels;
 
 /// What sessions and lines are called, and how wide the column of names is.
 #[derive(Drop, Clone, Copy)]

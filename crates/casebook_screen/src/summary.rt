@@ -9,6 +9,7 @@ use crate::counts::push_counts;
 use crate::head::{push_basis, push_head};
 use crate::leaked::push_leaked;
 use crate::names::Names;
+use crate::reads::push_reads;
 use crate::restore::push_restore;
 use crate::screen::Screen;
 use crate::tell::{push_looked, push_tell};
@@ -39,7 +40,7 @@ fn push_front(
 }
 
 /// Appends whom to tell about what, who looked at what, what cancelled lines showed, and what each
-/// edited line led to.
+/// edited line read and led to.
 fn push_about(
     screen: &mut Screen,
     alloc: Global,
@@ -53,13 +54,15 @@ fn push_about(
     push_tell(screen, alloc, names, summary)?;
     push_looked(screen, alloc, names, summary)?;
     push_leaked(screen, alloc, case.recording(), names, summary)?;
+    push_reads(screen, alloc, summary.effects.as_slice())?;
     push_causes(screen, alloc, case.recording(), summary)
 }
 
 /// Returns a summary as the lines that a terminal shows: what the log holds and what it rests on,
 /// which lines aren't understood or have to be run for real, how many lines have which fate, what
 /// is to be restored, whom to tell about what, who looked at what by lines that have to be run for
-/// real, which cancelled lines showed something or may have, and what each edited line led to.
+/// real, which cancelled lines showed something or may have, and what each edited line read and led
+/// to.
 pub fn summary_lines(
     alloc: Global,
     case: &Case<'_>,

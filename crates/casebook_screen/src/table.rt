@@ -9,9 +9,10 @@ ghost use Rattle.casebook_words.specs.Words.{path_words};
 
 use crate::NoMem;
 use crate::lines::{bytes_line, number_line};
+use casebook_about::Labels;
 use casebook_text::SafeLine;
 use casebook_view::{LineRow, PathWrite, WriteKind};
-use casebook_words::{Labels, push_path};
+use casebook_words::push_path;
 use retro_tree::Path;
 use std::alloc::Global;
 

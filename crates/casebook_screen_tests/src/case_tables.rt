@@ -29,6 +29,9 @@ given: edges :: 1 2, 4=echo for :: %(EMPTY) :: 1=May 05 09:30, 4=May 06 10:52 ::
 |
 | LEAKED  0 cancelled lines showed something
 |
+| READ  1 edited line read what is in files or directories
+|       1  /d/f /d/g …
+|
 | CAUSES  what each edited line led to: lines with another result, run again alike, paths it wrote
 |       1    0    0  echo x > /x; cat /x f /x > g; cp g f; rm /x g                 /x /d/g …
 |       2    1    0  echo b >> last; rm turned; mkdir turned made                  /d/last /d/turned …
@@ -87,9 +90,10 @@ given: edges :: 1 2, 4=echo for :: 1=1 :: %(EMPTY) :: log
   => [{"about":"path","lines":[3],"path":"/d/last","session":1,"user":"1","variable":null},\
   {"about":"text","lines":[4],"path":null,"session":1,"user":"1","variable":null}]
 - document: /causes
-  => [{"alike":0,"changed":0,"line":1,"paths":["/x","/d/g","/d/f"]},\
-  {"alike":0,"changed":1,"line":2,"paths":["/d/last","/d/turned","/d/made"]},\
-  {"alike":0,"changed":0,"line":4,"paths":[]}]
+  => [{"alike":0,"changed":0,"line":1,"paths":["/x","/d/g","/d/f"],"read":["/d/f","/d/g","/x"]},\
+  {"alike":0,"changed":1,"line":2,"paths":["/d/last","/d/turned","/d/made"],\
+  "read":[]},\
+  {"alike":0,"changed":0,"line":4,"paths":[],"read":[]}]
 - document: /lines/3
   => {"because_of":null,"fate":"changed","line":4,"note":null,"origin":4,"session":1,\
   "why":"replaced"}
@@ -111,9 +115,10 @@ given: kinds :: 1 2 6, 7=echo 'twice' :: %(EMPTY) :: %(EMPTY) :: recording
   {"about":"variable","lines":[4],"path":null,"session":1,"user":null,"variable":"X"},\
   {"about":"directory","lines":[5],"path":null,"session":1,"user":null,"variable":null}]
 - document: /causes
-  => [{"alike":0,"changed":1,"line":1,"paths":[]},{"alike":0,"changed":2,"line":2,"paths":[]},\
-  {"alike":1,"changed":0,"line":6,"paths":["/n","/f","/g","/d/t","/e","/m"]},\
-  {"alike":0,"changed":0,"line":7,"paths":[]}]
+  => [{"alike":0,"changed":1,"line":1,"paths":[],"read":[]},\
+  {"alike":0,"changed":2,"line":2,"paths":[],"read":[]},\
+  {"alike":1,"changed":0,"line":6,"paths":["/n","/f","/g","/d/t","/e","/m"],"read":["/d/t","/g"]},\
+  {"alike":0,"changed":0,"line":7,"paths":[],"read":[]}]
 - document: /lines/6
   => {"because_of":null,"fate":"alike","line":7,"note":null,"origin":7,"session":2,"why":"replaced"}
 - document: /lines/7
@@ -146,6 +151,8 @@ given: again :: 1, 3=echo b :: %(EMPTY) :: 5=May 06 10:52 :: log
 |
 | LEAKED  0 cancelled lines showed something
 |
+| READ  0 edited lines read what is in files or directories
+|
 | CAUSES  what each edited line led to: lines with another result, run again alike, paths it wrote
 |       1    0    0  mkdir d                                                       /d
 |       3    0    0  true
@@ -168,7 +175,8 @@ given: again :: 1, 3=echo b :: %(EMPTY) :: %(EMPTY) :: log
   {"about":"text","lines":[3],"path":null,"session":1,"user":null,"variable":null},\
   {"about":"path","lines":[4],"path":"/d/f","session":1,"user":null,"variable":null}]
 - document: /causes
-  => [{"alike":0,"changed":0,"line":1,"paths":["/d"]},{"alike":0,"changed":0,"line":3,"paths":[]}]
+  => [{"alike":0,"changed":0,"line":1,"paths":["/d"],"read":[]},\
+  {"alike":0,"changed":0,"line":3,"paths":[],"read":[]}]
 - document: /lines
   => [{"because_of":null,"fate":"cancelled","line":1,"note":null,"origin":null,"session":1,\
   "why":null},{"because_of":null,"fate":"changed","line":2,"note":null,"origin":2,"session":1,\

@@ -1,7 +1,7 @@
 //! What rows are given: recordings, edits, repairs and labels.
 use crate::logs::named;
+use casebook_about::Labels;
 use casebook_view::{Seen, Source};
-use casebook_words::Labels;
 use retro_keep::{Edit, Recording, Script, keep_alone};
 use retro_log::{read_log, read_script};
 use retro_redo::{Repair, repair_alone};

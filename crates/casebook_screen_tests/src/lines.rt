@@ -1,8 +1,8 @@
 //! What is shown of lines.
+use casebook_about::Labels;
 use casebook_screen::{Names, NoMem, row_lines, row_numbers, row_table};
 use casebook_text::{list_of_numbers, text_of_lines, text_of_rows};
 use casebook_view::{Filters, LineRow, LineTest, Source, rows};
-use casebook_words::Labels;
 use retro_keep::Recording;
 use retro_rows::text;
 use std::alloc::Global;

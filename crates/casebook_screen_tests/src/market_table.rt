@@ -37,6 +37,9 @@ given: market :: 3 6 9 13 18 :: 1=alice, 2=bob, 3=mallory :: %(EMPTY) :: recordi
 | LEAKED  1 cancelled line showed something
 |      18 mallory  cat /home/bob/report   (8 bytes)
 |
+| READ  1 edited line read what is in files or directories
+|      18  /home/bob/report
+|
 | CAUSES  what each edited line led to: lines with another result, run again alike, paths it wrote
 |       3    4    0  echo apple 1 > /srv/prices                                    /srv/prices
 |       6    2    0  echo Bob: see /tmp/offer >> /etc/motd                         /etc/motd
@@ -192,11 +195,11 @@ given: market :: 3 6 9 13 18 :: 1=alice, 2=bob, 3=mallory :: %(EMPTY) :: recordi
   {"about":"path","lines":[10],"path":"/tmp/offer","session":2,"user":"bob","variable":null}]
 - document: /leaked => [{"bytes":8,"line":18,"session":3,"user":"mallory"}]
 - document: /causes
-  => [{"alike":0,"changed":4,"line":3,"paths":["/srv/prices"]},\
-  {"alike":0,"changed":2,"line":6,"paths":["/etc/motd"]},\
-  {"alike":0,"changed":1,"line":9,"paths":["/tmp/offer"]},\
-  {"alike":0,"changed":2,"line":13,"paths":["/home/alice/notes"]},\
-  {"alike":0,"changed":0,"line":18,"paths":[]}]
+  => [{"alike":0,"changed":4,"line":3,"paths":["/srv/prices"],"read":[]},\
+  {"alike":0,"changed":2,"line":6,"paths":["/etc/motd"],"read":[]},\
+  {"alike":0,"changed":1,"line":9,"paths":["/tmp/offer"],"read":[]},\
+  {"alike":0,"changed":2,"line":13,"paths":["/home/alice/notes"],"read":[]},\
+  {"alike":0,"changed":0,"line":18,"paths":[],"read":["/home/bob/report"]}]
 - document: /lines/3
   => {"because_of":3,"fate":"changed","line":4,"note":3,"origin":3,"session":2,"why":"query"}
 - document: /lines/7

@@ -35,6 +35,9 @@ given: {"script":1,"tree":[["/f","610a"]],"sessions":[[1,"/",0,[]],[2,"/",0,[]]]
 |
 | LEAKED  0 cancelled lines showed something
 |
+| READ  1 edited line read what is in files or directories
+|       4  /f
+|
 | CAUSES  what each edited line led to: lines with another result, run again alike, paths it wrote
 |       1    2    0  echo b > f                                                    /f
 |       4    ?    ?  cat f
@@ -81,6 +84,8 @@ given: {"script":1,"tree":[["/f","610a"]],"sessions":[[1,"/",0,[]]],"lines":\
 |
 | LEAKED  0 cancelled lines showed something
 |
+| READ  0 edited lines read what is in files or directories
+|
 | CAUSES  what each edited line led to: lines with another result, run again alike, paths it wrote
 |       1    1    0  echo b > f                                                    /f
 
@@ -112,6 +117,8 @@ given: {"script":1,"tree":[["/f","610a"]],"sessions":[[1,"/",0,[]]],"lines":\
 |
 | LEAKED  0 cancelled lines showed something
 |
+| READ  0 edited lines read what is in files or directories
+|
 | CAUSES  what each edited line led to: lines with another result, run again alike, paths it wrote
 |       1    1    0  echo b > f                                                    /f
 
@@ -138,6 +145,8 @@ given: {"script":1,"tree":[["/f","610a"]],"sessions":[[1,"/",0,[]]],"lines":\
 |   1        /f                                   1x  lines 2
 |
 | LEAKED  0 cancelled lines showed something
+|
+| READ  0 edited lines read what is in files or directories
 |
 | CAUSES  what each edited line led to: lines with another result, run again alike, paths it wrote
 |       1    1    0  echo b > f                                                    /f

@@ -1,10 +1,10 @@
 //! What is shown of repairs: summaries, reasons, diffs, single lines, and documents.
+use casebook_about::Labels;
 use casebook_json::summary_json;
 use casebook_screen::{Names, NoMem, detail_lines, diff_lines, summary_lines, why_lines};
 use casebook_summary::Summary;
 use casebook_text::text_of_lines;
 use casebook_view::Case;
-use casebook_words::Labels;
 use retro_rows::{fail, text};
 use serde_json::Value;
 use std::alloc::Global;

@@ -66,13 +66,15 @@ given: {"script":1,"tree":[["/f","610a"]],"sessions":[[1,"/",0,[]]],"lines":\
 |
 | LEAKED  0 cancelled lines showed something
 |
+| READ  0 edited lines read what is in files or directories
+|
 | CAUSES  what each edited line led to: lines with another result, run again alike, paths it wrote
 |       1    1    0  echo b > f                                                    /f
 
 given: {"script":1,"tree":[["/f","610a"]],"sessions":[[1,"/",0,[]]],"lines":\
   [[1,1,"echo b > f"],[2,1,"cat f"]]} :: 1 :: %(EMPTY) :: %(EMPTY) :: observed 2
 - document: %(EMPTY)
-  => {"causes":[{"alike":0,"changed":1,"line":1,"paths":["/f"]}],\
+  => {"causes":[{"alike":0,"changed":1,"line":1,"paths":["/f"],"read":[]}],\
   "counts":{"alike":0,"cancelled":1,"changed":1,"kept":0,"untouched":0},"doubtful":[],\
   "incomplete":[],"leaked":[],\
   "lines":[{"because_of":null,"fate":"cancelled","line":1,"note":null,"origin":null,"session":1,\

@@ -34,6 +34,9 @@ given: unknown :: 2 3 5 10 :: 1=ann, 2=eve :: %(EMPTY) :: recording
 | LEAKED  1 cancelled line showed something
 |       3 eve      cat list   (2 bytes)
 |
+| READ  1 edited line read what is in files or directories
+|       3  /srv/list
+|
 | CAUSES  what each edited line led to: lines with another result, run again alike, paths it wrote
 |       2    ?    ?  sed -i s/a/b/ list
 |       3    0    0  cat list
@@ -87,6 +90,9 @@ given: unknown :: 6=ls :: 1=ann, 2=eve :: %(EMPTY) :: recording
 |
 | LEAKED  0 cancelled lines showed something
 |
+| READ  1 edited line read what is in files or directories
+|       6  /srv/list
+|
 | CAUSES  what each edited line led to: lines with another result, run again alike, paths it wrote
 |       6    ?    ?  cat /srv/list
 
@@ -111,6 +117,8 @@ given: {"script":1,"tree":[],"sessions":[[1,"/",0,[]]],"lines":[[1,1,"ls"],[2,1,
 | TELL  0 sessions about 0 screens
 |
 | LEAKED  0 cancelled lines showed something
+|
+| READ  0 edited lines read what is in files or directories
 |
 | CAUSES  what each edited line led to: lines with another result, run again alike, paths it wrote
 |       1    ?    ?  ls

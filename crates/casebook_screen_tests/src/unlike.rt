@@ -1,7 +1,7 @@
 //! Which line of a log isn't as noted.
+use casebook_about::Labels;
 use casebook_check::{NoMem, unlike_lines};
 use casebook_text::text_of_lines;
-use casebook_words::Labels;
 use retro_keep::{Noted, Recording, Unlike, first_unlike};
 use retro_rows::{fail, text};
 use retro_tree::{Bytes, Notes};

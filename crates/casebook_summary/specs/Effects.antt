@@ -7,6 +7,7 @@ use Rattle.retro_keep.specs.Recording.{RecordingValue}
 use Rattle.casebook_view.specs.FirstOfEach.{first_of_each}
 use Rattle.casebook_view.specs.NotePaths.{path_written}
 use Rattle.casebook_view.specs.Reasons.{notes_at}
+use Rattle.casebook_summary.specs.Reads.{paths_read}
 use Rattle.casebook_summary.specs.declared.effect.Effect.{Effect}
 use Rattle.casebook_view.specs.declared.case_line.CaseLine.{CaseLine}
 use Rattle.casebook_view.specs.declared.fate.Fate.{Fate}
@@ -19,10 +20,16 @@ use Rattle.casebook_view.specs.declared.why.Why.TheVariants.{Replaced, Query, Ru
 pub record EffectValue : Type 0 where
   pub number : ℕ
   pub led : List CaseLine
+  pub read : List PathValue
   pub wrote : List PathValue
 
 abbrev pub effect_value : Effect → EffectValue
-effect_value effect = record { number = effect.number; led = effect.led.items; wrote = effect.wrote.items }
+effect_value effect = record {
+  number = effect.number;
+  led = effect.led.items;
+  read = effect.read.items;
+  wrote = effect.wrote.items;
+}
 
 -- whether a reason says that a chain of causes ends at the line with a number
 abbrev pub ends_at : ℕ → Option Reason → Bool
@@ -60,7 +67,12 @@ abbrev pub paths_written : RecordingValue → ℕ → List PathValue
 paths_written r n = first_of_each path_eq (filter_map path_written (notes_at n r))
 
 abbrev pub effect_of : RecordingValue → List CaseLine → ℕ → EffectValue
-effect_of r lines n = record { number = n; led = filter (is_led_to n) lines; wrote = paths_written r n }
+effect_of r lines n = record {
+  number = n;
+  led = filter (is_led_to n) lines;
+  read = paths_read (notes_at n r);
+  wrote = paths_written r n;
+}
 
 -- the effects of the cancelled and replaced lines, in order
 abbrev pub effects_of : RecordingValue → List CaseLine → List EffectValue

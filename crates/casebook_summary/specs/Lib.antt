@@ -4,6 +4,7 @@ pub mod Restorations
 pub mod Subjects
 pub mod Summaries
 pub mod Words
+pub mod Reads
 pub mod Effects
 pub mod Groups
 pub mod Summary

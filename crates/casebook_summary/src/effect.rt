@@ -5,10 +5,13 @@ ghost use Rattle.casebook_summary.specs.Counts.{count_of};
 ghost use Rattle.casebook_summary.specs.Effects.{effect_of, effect_value, effects_of, has_replaced};
 ghost use Rattle.casebook_summary.specs.Effects.{is_led_to, is_origin, paths_written};
 ghost use Rattle.casebook_view.specs.declared.case_line.CaseLine.{CaseLine as LineValue};
+ghost use Rattle.casebook_summary.specs.Reads.{paths_read};
 ghost use Rattle.casebook_summary.specs.inner.LedLines.{led_at};
+ghost use Rattle.casebook_view.specs.Reasons.{notes_at};
 
 use crate::NoMem;
 use crate::led_lines::LedLines;
+use crate::reads::paths_read;
 use casebook_view::{Case, CaseLine, Fate, Reason, Why, written_paths};
 use retro_tree::Path;
 use std::alloc::Global;
@@ -21,6 +24,9 @@ pub struct Effect {
     /// The other lines that are run again because of it, in order. Each line is with the one at the
     /// end of its chain of causes.
     pub led: Vec<CaseLine>,
+    /// The paths of the files and directories whose contents it read, each once, in order. Of an
+    /// observed line these are those that it may have read.
+    pub read: Vec<Path>,
     /// The paths that it wrote, each once, in the order in which they first occur.
     pub wrote: Vec<Path>,
 }
@@ -66,6 +72,17 @@ fn wrote(alloc: Global, case: &Case<'_>, number: u32) -> Result<Vec<Path>, NoMem
     }
 }
 
+/// Returns the paths whose contents a line read.
+fn read(alloc: Global, case: &Case<'_>, number: u32) -> Result<Vec<Path>, NoMem>
+    ensures { IfOk result (λ paths.
+        paths.items ≡ paths_read (notes_at number case.now.recording)) }
+{
+    match case.recorded(number) {
+        Some(noted) => paths_read(alloc, noted.notes.as_slice()),
+        None => Ok(Vec::new(alloc)),
+    }
+}
+
 /// Returns what a line led to. The contract says this of all lines whose led ones these are.
 fn effect_of(alloc: Global, case: &Case<'_>, led: &LedLines, number: u32) -> Result<Effect, NoMem>
     ensures { (lines : List LineValue)
@@ -73,8 +90,14 @@ fn effect_of(alloc: Global, case: &Case<'_>, led: &LedLines, number: u32) -> Res
         effect_value effect ≡ effect_of case.now.recording lines number) }
 {
     let led = led.at(alloc, number)?;
+    let read = read(alloc, case, number)?;
     let wrote = wrote(alloc, case, number)?;
-    Ok(Effect { number, led, wrote })
+    Ok(Effect {
+        number,
+        led,
+        read,
+        wrote,
+    })
 }
 
 /// Returns what each cancelled or replaced line led to, in order.

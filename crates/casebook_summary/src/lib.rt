@@ -33,7 +33,7 @@
 //!   `looks` returns a notice for exactly each line that has to be run for real, in order.
 //! - `effects` returns the lines that are cancelled, and those that are run again since an edit
 //!   replaces their text, in order. Of each it names the other lines that are run again and whose
-//!   chains of causes end there, and the paths that it wrote.
+//!   chains of causes end there, the paths whose contents it read, and the paths that it wrote.
 //! - `grouped` returns a group for each session and subject that notices have, in order of sessions
 //!   and then of first lines, with the numbers of all its lines in order: an equation
 //!   (`specs/Groups.antt`).
@@ -48,6 +48,7 @@ mod leak;
 mod led_lines;
 mod notice;
 mod path_set;
+mod reads;
 mod restoration;
 mod saying;
 mod sessions;
@@ -59,6 +60,7 @@ pub use group::Group;
 pub use grouping::grouped;
 pub use leak::{Leak, leaks_of};
 pub use notice::{Notice, looks, notices};
+pub use reads::paths_read;
 pub use restoration::{Extent, LineCounts, Restoration, restorations};
 pub use saying::{obstacle_words, played_words, subject_line, why_line};
 pub use sessions::{sessions_of, sessions_told};

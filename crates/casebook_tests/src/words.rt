@@ -1,10 +1,10 @@
 //! Queries, notes, files and names in words.
 use crate::diffs::sign;
 use crate::values::{answer, ask, node, variable};
+use casebook_about::Labels;
 use casebook_text::SafeLine;
 use casebook_words::{
-    FileLines, Labels, count_added, count_removed, push_difference, push_first_line, push_note,
-    push_query,
+    FileLines, count_added, count_removed, push_difference, push_first_line, push_note, push_query,
 };
 use retro_rows::{fail, numbered, path, text};
 use retro_tree::{Answer, Ask, Bytes, Change, NoMem, Note, State, Text};

@@ -3,6 +3,5 @@ pub mod Cut
 pub mod Words
 pub mod Difference
 pub mod FileLines
-pub mod Labels
 pub mod inner
 pub mod Obstacles

@@ -3,8 +3,8 @@
 //! [`push_query`], [`push_answer`], [`push_change`] and [`push_note`] say what a line read and
 //! wrote, [`push_path`] a path, and [`push_cut`] bytes up to a limit. [`push_difference`] says how
 //! two answers to a query differ. [`FileLines`] has the lines of a file before and after, and
-//! merges them. [`Labels`] has the names of sessions and the times of lines. [`obstacle_text`] and
-//! [`obstacles_text`] say why it isn't known what one line does, and what several do.
+//! merges them. [`obstacle_text`] and [`obstacles_text`] say why it isn't known what one line does,
+//! and what several do.
 //!
 //! All that is appended is a `SafeLine`, so no byte of a log gets into it but as `casebook_text`
 //! shows it. In contracts a line is the list of its bytes.
@@ -26,8 +26,6 @@
 //!   marked `Same` and `Removed` are the old text's [`old`], those marked `Same` and `Added` the
 //!   new one's [`new`], and equal texts have no other mark than `Same` [`equal`]. `count_added` and
 //!   `count_removed` count marks.
-//! - `Labels` keeps the last name of each session and the last time of each line: equations on
-//!   finite maps. `name_of` and `time_of` show them.
 //! - What all these return is a `SafeLine`, so its characters are harmless.
 #![tactic(auto)]
 
@@ -38,8 +36,6 @@ mod difference;
 mod file_lines;
 mod first_line;
 mod first_name;
-mod label_map;
-mod labels;
 mod laws;
 mod note_words;
 mod obstacle_words;
@@ -50,7 +46,6 @@ pub use answer_words::{push_answer, push_count};
 pub use cut::{push_cut, push_first_line};
 pub use difference::push_difference;
 pub use file_lines::{FileLines, count_added, count_removed, shown_lines};
-pub use labels::Labels;
 pub use laws::{first_differences_are_first, lines_make_the_text};
 pub use note_words::{push_change, push_note};
 pub use obstacle_words::{obstacle_text, obstacles_text};

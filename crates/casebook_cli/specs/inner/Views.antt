@@ -7,7 +7,7 @@ use Rattle.casebook_view.specs.Filters.{FiltersValue}
 use Rattle.casebook_view.specs.Rows.{RowValue, rows_of}
 use Rattle.casebook_view.specs.Sources.{SourceValue}
 use Rattle.casebook_view.specs.declared.line_test.LineTest.{LineTest}
-use Rattle.casebook_words.specs.declared.labels.Labels.{Labels}
+use Rattle.casebook_about.specs.declared.labels.Labels.{Labels}
 use Rattle.casebook_request.specs.Request.{LinesRequest}
 use Rattle.casebook_repairs.specs.Views.{document_view}
 use Rattle.casebook_cli.specs.Answers.{AnswerValue}

@@ -9,19 +9,19 @@ use Rattle.casebook_cli.specs.inner.Views.{filters_by}
 use Rattle.casebook_cli.proofs.lines_answer.lines_text.Goals as goal
 
 pub returns-in_err-found-clause-err : goal.returns-in_err-found-clause-err
-returns-in_err-found-clause-err c =
+returns-in_err-found-clause-err g c =
     let p = err_from_is_err_and c.from_residual-in_err-found.result c.from_residual-in_err-found.ensures.1 in
     rw (p.1, p.2)
     (no_user c.in_ok-account.account c.in_ok-known.known.labels c.in_ok-account.ensures.ok
     c.in_ok-known.ensures.labels c.in_err-found.ensures.err)
 
 pub returns-in_err-known-clause-err : goal.returns-in_err-known-clause-err
-returns-in_err-known-clause-err c =
+returns-in_err-known-clause-err g c =
     let p = err_from_is_err_and c.from_residual-in_err-known.result c.from_residual-in_err-known.ensures.1 in
     rw (p.1, p.2) (no_labels c.in_ok-account.account c.in_ok-account.ensures.ok c.in_err-known.ensures.err)
 
 pub returns-then-lacks_times-clause-err : goal.returns-then-lacks_times-clause-err
-returns-then-lacks_times-clause-err c =
+returns-then-lacks_times-clause-err g c =
     let bounds = c.args.request.bounds in
     no_times c.in_ok-account.account c.in_ok-account.ensures.ok
     (sym (c.lacks_times.ensures
@@ -30,17 +30,22 @@ returns-then-lacks_times-clause-err c =
     ∙ c.if-lacks_times.true) refl
 
 pub returns-in_err-widest_name-clause-err : goal.returns-in_err-widest_name-clause-err
-returns-in_err-widest_name-clause-err c =
+returns-in_err-widest_name-clause-err g c =
     let p = err_from_is_err_and c.from_residual-in_err-widest_name.result c.from_residual-in_err-widest_name.ensures.1 in
     rw (p.1) (no_memory p.2)
 
+pub returns-in_err-tell_none-clause-err : goal.returns-in_err-tell_none-clause-err
+returns-in_err-tell_none-clause-err g c =
+    let p = err_from_is_err_and c.from_residual-in_err-tell_none.result c.from_residual-in_err-tell_none.ensures.1 in
+    rw (p.1) (no_memory p.2)
+
 pub returns-in_err-rows_text-clause-err : goal.returns-in_err-rows_text-clause-err
-returns-in_err-rows_text-clause-err c =
+returns-in_err-rows_text-clause-err g c =
     let p = err_from_is_err_and c.from_residual-in_err-rows_text.result c.from_residual-in_err-rows_text.ensures.1 in
     rw (p.1) (no_memory p.2)
 
 pub returns-clause-ok : goal.returns-clause-ok
-returns-clause-ok c =
+returns-clause-ok g c =
     let request = c.args.request in
     let labels = c.in_ok-known.known.labels in
     let account = c.in_ok-account.account in

@@ -1,6 +1,6 @@
 use Rattle.std.proofs.Common.{drop, map}
 use Rattle.casebook_about.specs.Rows.{time_view}
-use Rattle.casebook_words.specs.declared.labels.Labels.{Labels}
+use Rattle.casebook_about.specs.declared.labels.Labels.{Labels}
 use Rattle.casebook_repairs.specs.Labels.{AreTimesAdded}
 use Rattle.casebook_repairs.proofs.labels.add_times.Given as goal
 

@@ -1,5 +1,5 @@
 use Rattle.std.proofs.Common.{[], subst, sym}
-use Rattle.casebook_words.specs.Labels.{no_labels}
+use Rattle.casebook_about.specs.Labels.{no_labels}
 use Rattle.casebook_repairs.specs.Labels.{AreTimesAdded}
 use Rattle.casebook_repairs.proofs.labels.own_knowledge.Goals as goal
 

@@ -2,7 +2,7 @@ use Rattle.std.proofs.Common.{ap, map, rules, ◌∙◌}
 use Rattle.serde_json.specs.Data.{Data}
 use Rattle.casebook_summary.specs.Groups.{group_value}
 use Rattle.casebook_summary.specs.declared.group.Group.{Group}
-use Rattle.casebook_words.specs.declared.labels.Labels.{Labels}
+use Rattle.casebook_about.specs.declared.labels.Labels.{Labels}
 use Rattle.casebook_json.specs.Tell.{group_data}
 use Rattle.casebook_json.proofs.parts.Parts.of.Goals as goal
 

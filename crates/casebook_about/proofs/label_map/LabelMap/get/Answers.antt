@@ -2,7 +2,7 @@ use Rattle.std.proofs.Common.{sym, ap, ◌∙◌}
 use Rattle.std.specs.FinMap as map
 use Rattle.std.specs.Cmp.{nat_cmp_total}
 use Rattle.retro_tree.proofs.MapLemmas.{get_made}
-use Rattle.casebook_words.proofs.label_map.LabelMap.get.Goals as goal
+use Rattle.casebook_about.proofs.label_map.LabelMap.get.Goals as goal
 
 pub returns : goal.returns
 returns c =

@@ -1,8 +1,8 @@
 //! What sessions and lines are called.
 ghost use Rattle.std.specs.Prelude.{◌≡◌, IfOk, OnErr, OnOk, string_bytes};
 ghost use Rattle.std.specs.Option.{option_copied};
-ghost use Rattle.casebook_words.specs.Labels.{name_in, name_words, named, no_labels, time_words};
-ghost use Rattle.casebook_words.specs.Labels.{timed};
+ghost use Rattle.casebook_about.specs.Labels.{is_named, name_in, name_words, named, no_labels};
+ghost use Rattle.casebook_about.specs.Labels.{time_words, timed};
 
 use crate::NoMem;
 use crate::label_map::LabelMap;
@@ -51,6 +51,16 @@ impl Labels {
         ensures { option_copied result ≡ name_in session self.now }
     {
         self.names.get(session)
+    }
+
+    /// Returns whether a session has a name, or has none and this is its number.
+    pub fn is_named(&self, alloc: Global, name: &str, session: u32) -> Result<bool, NoMem>
+        ensures { IfOk result (λ same. same ≡ is_named self.now name.now session) }
+    {
+        match self.names.get(session) {
+            Some(known) => Ok(known.as_str() == name),
+            None => Ok(format!(in alloc; "{session}")?.as_str() == name),
+        }
     }
 
     /// Returns the name of a session, or its number if it has none. Spaces in a name are shown by
