@@ -8,7 +8,7 @@ use Rattle.casebook_real.specs.declared.based.BasedText.{BasedText}
 
 -- the notes on which a text rests hold in the state before it
 abbrev pub HasItsBasis : RecordingValue → BasedText → Type 0
-HasItsBasis r text = Holds text.basis.now (recorded_before text.number r)
+HasItsBasis r text = Holds text.basis (recorded_before text.number r)
 
 -- the index of the first item that hasn't a property, or None if each has it
 abbrev pub IsFirstWithout : {A : Type 0} → (A → Type 0) → List A → Option ℕ → Type 0
