@@ -4,6 +4,15 @@ import subprocess
 import sys
 
 
+def newest_source(top):
+    """When a source was changed last."""
+    names = [f"{top}/crates.txt"]
+    for folder, folders, files in os.walk(f"{top}/crates"):
+        folders[:] = [name for name in folders if name != "out"]
+        names += [f"{folder}/{name}" for name in files if name.endswith((".rt", ".antt"))]
+    return max(os.stat(name).st_mtime_ns for name in names)
+
+
 def launched(at):
     """The program itself: `at` may be a launcher, which builds it."""
     at = os.path.abspath(at)
@@ -14,5 +23,6 @@ def launched(at):
     if said.returncode == 70:
         sys.exit(said.stderr.decode())
     top, name = os.path.split(at)
-    tried = b"not proved on this machine" in said.stderr
-    return f"{top}/out/{name}" if tried else f"{top}/crates/{name}/out/{name}"
+    proved = f"{top}/crates/{name}/out/{name}"
+    is_proved = os.path.exists(proved) and os.stat(proved).st_mtime_ns >= newest_source(top)
+    return proved if is_proved else f"{top}/out/{name}"
